@@ -11,12 +11,10 @@
 -- - the type denoter, for an initial state
 -- - the type denoter without its initial state, for `bindable`
 -- - the type itself, for `packed`, for what is no name, no subrange, no enumeration and no structure, for a name with a tuple, and for a name that is not built
--- - the structure, for a set
 -- - the variant part of a record
 -- - the statement, for an assignment to something else than a name that is built, alone or with indexes and fields, or with these behind one pair of parentheses, for a call of something else, for a `for` with bounds whose control variable has a name that is not built, for a `for` over the members of a set, and for what is no assignment, call, compound, empty, `if`, `case`, `while`, `repeat` or `for` statement
 -- - the structured value, with the name of its type or without
--- - the expression, the simple expression or the term, for an operator that is not built
--- - the factor, for `nil`, for a set, and for a character string of another length than one that is not the whole value of an argument of a `write` or `writeln` statement
+-- - the factor, for `nil`, and for a character string of another length than one that is not the whole value of an argument of a `write` or `writeln` statement
 -- - the access, for a name that is not built, and for other selectors than indexes and fields, alone or behind one pair of parentheses.
 --
 -- An identifier that is spelled as a required one counts as the required one, also where the text declares it anew. Only uses of names count, and not their declarations.
@@ -27,9 +25,7 @@ use Rattle.std.specs.Str.{bytes_eq}
 use Rattle.ep_tree.specs.Shapes.{bare}
 use Rattle.ep_tree.specs.declared.operator.QualifiedName.{QualifiedName}
 use Rattle.ep_tree.specs.declared.operator.RelationalOperator.{RelationalOperator}
-use Rattle.ep_tree.specs.declared.operator.RelationalOperator.TheVariants as relation_is
 use Rattle.ep_tree.specs.declared.operator.AddingOperator.{AddingOperator}
-use Rattle.ep_tree.specs.declared.operator.AddingOperator.TheVariants as adding_is
 use Rattle.ep_tree.specs.declared.operator.MultiplyingOperator.{MultiplyingOperator}
 use Rattle.ep_tree.specs.declared.expression.ComponentValue.TheOpen.{ComponentValue-F, Element-F, Factor-F, Selector-F, Access-F, Addend-F, Argument-F, Comparison-F, Expression-F, Label-F, Multiplier-F, Simple-F, Term-F, Values-F}
 use Rattle.ep_tree.specs.declared.expression.ComponentValue.{ComponentValue, fold-ComponentValue}
@@ -85,7 +81,7 @@ is_among names name = list_any (bytes_eq name) names
 
 -- the required functions (ISO 10206, 6.7.6) that are not built
 unfoldable pub later_functions : List (List ℕ)
-later_functions = codes "card" ∷ codes "length" ∷ codes "index" ∷ codes "substr" ∷ codes "trim" ∷ codes "eq" ∷ codes "ne" ∷ codes "lt" ∷ codes "gt" ∷ codes "le" ∷ codes "ge" ∷ codes "eof" ∷ codes "eoln" ∷ codes "binding" ∷ []
+later_functions = codes "length" ∷ codes "index" ∷ codes "substr" ∷ codes "trim" ∷ codes "eq" ∷ codes "ne" ∷ codes "lt" ∷ codes "gt" ∷ codes "le" ∷ codes "ge" ∷ codes "eof" ∷ codes "eoln" ∷ codes "binding" ∷ []
 
 -- the required procedures (ISO 10206, 6.7.5) that are not built
 unfoldable pub later_procedures : List (List ℕ)
@@ -173,12 +169,6 @@ built_core (Core-F.Enumeration line names) = true
 built_core (Core-F.Structured line packed structure) = not packed
 built_core _ = false
 
--- a structure is an array or a record (ISO 10206, 6.4.3.2 and 6.4.3.4)
-abbrev pub built_structure : {A B C D E F G H : Type 0} → Structure-F A B C D E F G H → Bool
-built_structure (Structure-F.Array line indexes component) = true
-built_structure (Structure-F.Record line fields) = true
-built_structure (Structure-F.Set line base) = false
-
 -- the variants of a record
 abbrev pub variants_are_built : Bool
 variants_are_built = false
@@ -246,14 +236,12 @@ built_statement (Statement-F.Repeat line statements condition) = true
 built_statement (Statement-F.For line variable start direction end body) = built_control variable
 built_statement _ = false
 
--- all relational operators but `in`
+-- all relational operators
 abbrev pub built_relation : RelationalOperator → Bool
-built_relation relation_is.In = false
 built_relation _ = true
 
--- all adding operators but `><`
+-- all adding operators
 abbrev pub built_adding : AddingOperator → Bool
-built_adding adding_is.SymmetricDifference = false
 built_adding _ = true
 
 -- all multiplying operators
@@ -272,6 +260,7 @@ built_factor (Factor-F.Number line number) = int_le (pos 0) number
 built_factor (Factor-F.Text line text) = is_character text
 built_factor (Factor-F.Parenthesized line inner) = true
 built_factor (Factor-F.Not line inner) = true
+built_factor (Factor-F.Set line labels) = true
 built_factor _ = false
 
 -- an access is a name that is built, alone or called (ISO 10206, 6.8.5), with indexes and fields or without (6.5.3 and 6.8.6)
@@ -492,7 +481,7 @@ values_unbuilt = fold-Values Found Found Found Selecting Placed Belonging Found 
 abbrev pub access_unbuilt : Access → Found
 access_unbuilt a = (placed_access a).1
 
--- ---- types. Nothing inside a tuple, a variant part or a set is reached while none of their forms is built.
+-- ---- types. Nothing inside a tuple or a variant part is reached while none of their forms is built.
 
 -- what is known of a node that is not reached
 abbrev pub Skipped : Type 0
@@ -518,21 +507,11 @@ core_line (Core-F.TypeOf line name) = line
 abbrev pub at_core : Core-F Found Found Found Found Found Found Skipped Found → Found
 at_core c = at_node (built_core c) (core_line c) (in_core c)
 
--- the index types before the type of the components, or the fields
-abbrev pub in_structure : Structure-F Found Found Found Found Found Found Skipped Found → Found
-in_structure (Structure-F.Array line indexes component) = option_or (first_in indexes) component
-in_structure (Structure-F.Record line fields) = fields
-in_structure (Structure-F.Set line base) = None
-
--- the line of a structure
-abbrev pub structure_line : Structure-F Found Found Found Found Found Found Skipped Found → ℕ
-structure_line (Structure-F.Array line indexes component) = line
-structure_line (Structure-F.Record line fields) = line
-structure_line (Structure-F.Set line base) = line
-
--- a structure before what stands in it
+-- what stands in a structure: the index types before the type of the components, or the fields, or the base type
 abbrev pub at_structure : Structure-F Found Found Found Found Found Found Skipped Found → Found
-at_structure s = at_node (built_structure s) (structure_line s) (in_structure s)
+at_structure (Structure-F.Array line indexes component) = option_or (first_in indexes) component
+at_structure (Structure-F.Record line fields) = fields
+at_structure (Structure-F.Set line base) = base
 
 -- the type of fields
 abbrev pub at_field_section : FieldSection-F Found Found Found Found Found Found Skipped Found → Found

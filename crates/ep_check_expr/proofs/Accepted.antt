@@ -3,7 +3,7 @@ use Rattle.std.proofs.Common.{ℕ, List, [], ◌∷◌, map, Option, Some, None,
 use Rattle.std.specs.Prelude.{⊤}
 use Rattle.ep_tree.specs.Nodes.{comparison_node, simple_node, addend_node, term_node, multiplier_node, access_node, argument_node}
 use Rattle.ep_tree.specs.declared.expression.ComponentValue.TheFolds.{fold-roll-ComponentValue, fold-roll-Factor, fold-roll-Selector, ind-Expression}
-use Rattle.ep_tree.specs.declared.expression.ComponentValue.TheOpen.{ComponentValue-F, Expression-F, Factor-F, Selector-F}
+use Rattle.ep_tree.specs.declared.expression.ComponentValue.TheOpen.{ComponentValue-F, Expression-F, Factor-F, Label-F, Selector-F}
 use Rattle.ep_tree.specs.declared.expression.ComponentValue.{ComponentValue, out-ComponentValue, roll-ComponentValue, roll-out-ComponentValue}
 use Rattle.ep_tree.specs.declared.expression.Access.{Access, roll-Access}
 use Rattle.ep_tree.specs.declared.expression.Addend.{Addend, roll-Addend}
@@ -12,7 +12,7 @@ use Rattle.ep_tree.specs.declared.expression.Comparison.{Comparison, roll-Compar
 use Rattle.ep_tree.specs.declared.expression.Element.{Element}
 use Rattle.ep_tree.specs.declared.expression.Expression.{Expression, map-Expression, roll-Expression}
 use Rattle.ep_tree.specs.declared.expression.Factor.{Factor, map-Factor, roll-Factor}
-use Rattle.ep_tree.specs.declared.expression.Label.{Label}
+use Rattle.ep_tree.specs.declared.expression.Label.{Label, map-Label, roll-Label}
 use Rattle.ep_tree.specs.declared.expression.Multiplier.{Multiplier, roll-Multiplier}
 use Rattle.ep_tree.specs.declared.expression.Selector.{Selector, map-Selector, roll-Selector}
 use Rattle.ep_tree.specs.declared.expression.Simple.{Simple, roll-Simple}
@@ -23,13 +23,13 @@ use Rattle.ep_tree.specs.declared.operator.MultiplyingOperator.{MultiplyingOpera
 use Rattle.ep_tree.specs.declared.operator.RelationalOperator.{RelationalOperator}
 use Rattle.ep_tree.specs.declared.operator.Sign.{Sign}
 use Rattle.ep_scope.specs.Scopes.{Region}
-use Rattle.ep_check_expr.specs.Expressions.{judged, judged_value, simple_judged, term_judged, factor_judged, addend_judged, multiplier_judged, comparison_judged, name_judged, selected, given}
+use Rattle.ep_check_expr.specs.Expressions.{judged, judged_value, simple_judged, term_judged, factor_judged, addend_judged, multiplier_judged, comparison_judged, labelled, name_judged, selected, given}
 use Rattle.ep_check_expr.specs.Judgements.{Accepts, Typed, when_accepted}
 use Rattle.ep_check_expr.specs.Names.{parenthesized}
 use Rattle.ep_check_expr.specs.Operators.{signed, negated, added, multiplied}
-use Rattle.ep_check_expr.proofs.Nodes.{access_expression, access-alone, expression-judged, compared-judged, second-judged, access-judged, simple-judged, addend-judged, term-judged, multiplier-judged, argument-judged, wide-judged}
+use Rattle.ep_check_expr.proofs.Nodes.{access_expression, access-alone, expression-judged, compared-judged, second-judged, access-judged, range-labelled, simple-judged, value-labelled, addend-judged, term-judged, multiplier-judged, argument-judged, wide-judged}
 use Rattle.ep_check_expr.proofs.Parts.{AreIndexes, AreOperands, IsSelected, AreSelected, when_accepted-fits, chained-fits, comparison_of-fits, string_judged-fits, access_judged-fits}
-use Rattle.ep_check_expr.proofs.Keeping.{AreGiven, IsKept, Satisfies}
+use Rattle.ep_check_expr.proofs.Keeping.{AreGiven, AreLabels, IsHigh, IsKept, Satisfies}
 
 module _ (Q : Typed → Type 0) (scopes : List Region) (kept : IsKept Q scopes) where
   -- what is accepted of a node has the property
@@ -53,6 +53,9 @@ module _ (Q : Typed → Type 0) (scopes : List Region) (kept : IsKept Q scopes) 
 
   abbrev IsExpression : Expression → Type 0
   IsExpression e = Satisfies Q (judged scopes e)
+
+  abbrev IsLabel : Label → Type 0
+  IsLabel l = Satisfies Q (labelled scopes l).low × IsHigh Q (labelled scopes l).high
 
   abbrev IsMultiplier : Multiplier → Type 0
   IsMultiplier m = Satisfies Q (multiplier_judged scopes m).operand
@@ -95,8 +98,8 @@ module _ (Q : Typed → Type 0) (scopes : List Region) (kept : IsKept Q scopes) 
   abbrev ValidExpression : Type 0
   ValidExpression = (e : Expression) × IsExpression e
 
-  abbrev AnyLabel : Type 0
-  AnyLabel = (l : Label) × Any l
+  abbrev ValidLabel : Type 0
+  ValidLabel = (l : Label) × IsLabel l
 
   abbrev ValidMultiplier : Type 0
   ValidMultiplier = (m : Multiplier) × IsMultiplier m
@@ -111,14 +114,17 @@ module _ (Q : Typed → Type 0) (scopes : List Region) (kept : IsKept Q scopes) 
   AnyValues = (v : Values) × Any v
 
   -- layers of such nodes, without what holds of them
-  abbrev factor_layer : Factor-F AnyValue AnyElement ValidFactor ValidSelector ValidAccess ValidAddend ValidArgument ValidComparison ValidExpression AnyLabel ValidMultiplier ValidSimple ValidTerm AnyValues → Factor-F ComponentValue Element Factor Selector Access Addend Argument Comparison Expression Label Multiplier Simple Term Values
-  factor_layer = map-Factor AnyValue AnyElement ValidFactor ValidSelector ValidAccess ValidAddend ValidArgument ValidComparison ValidExpression AnyLabel ValidMultiplier ValidSimple ValidTerm AnyValues ComponentValue Element Factor Selector Access Addend Argument Comparison Expression Label Multiplier Simple Term Values (λ e. e.0) (λ e. e.0) (λ e. e.0) (λ e. e.0) (λ e. e.0) (λ e. e.0) (λ e. e.0) (λ e. e.0) (λ e. e.0) (λ e. e.0) (λ e. e.0) (λ e. e.0) (λ e. e.0) (λ e. e.0)
+  abbrev factor_layer : Factor-F AnyValue AnyElement ValidFactor ValidSelector ValidAccess ValidAddend ValidArgument ValidComparison ValidExpression ValidLabel ValidMultiplier ValidSimple ValidTerm AnyValues → Factor-F ComponentValue Element Factor Selector Access Addend Argument Comparison Expression Label Multiplier Simple Term Values
+  factor_layer = map-Factor AnyValue AnyElement ValidFactor ValidSelector ValidAccess ValidAddend ValidArgument ValidComparison ValidExpression ValidLabel ValidMultiplier ValidSimple ValidTerm AnyValues ComponentValue Element Factor Selector Access Addend Argument Comparison Expression Label Multiplier Simple Term Values (λ e. e.0) (λ e. e.0) (λ e. e.0) (λ e. e.0) (λ e. e.0) (λ e. e.0) (λ e. e.0) (λ e. e.0) (λ e. e.0) (λ e. e.0) (λ e. e.0) (λ e. e.0) (λ e. e.0) (λ e. e.0)
 
-  abbrev selector_layer : Selector-F AnyValue AnyElement ValidFactor ValidSelector ValidAccess ValidAddend ValidArgument ValidComparison ValidExpression AnyLabel ValidMultiplier ValidSimple ValidTerm AnyValues → Selector-F ComponentValue Element Factor Selector Access Addend Argument Comparison Expression Label Multiplier Simple Term Values
-  selector_layer = map-Selector AnyValue AnyElement ValidFactor ValidSelector ValidAccess ValidAddend ValidArgument ValidComparison ValidExpression AnyLabel ValidMultiplier ValidSimple ValidTerm AnyValues ComponentValue Element Factor Selector Access Addend Argument Comparison Expression Label Multiplier Simple Term Values (λ e. e.0) (λ e. e.0) (λ e. e.0) (λ e. e.0) (λ e. e.0) (λ e. e.0) (λ e. e.0) (λ e. e.0) (λ e. e.0) (λ e. e.0) (λ e. e.0) (λ e. e.0) (λ e. e.0) (λ e. e.0)
+  abbrev selector_layer : Selector-F AnyValue AnyElement ValidFactor ValidSelector ValidAccess ValidAddend ValidArgument ValidComparison ValidExpression ValidLabel ValidMultiplier ValidSimple ValidTerm AnyValues → Selector-F ComponentValue Element Factor Selector Access Addend Argument Comparison Expression Label Multiplier Simple Term Values
+  selector_layer = map-Selector AnyValue AnyElement ValidFactor ValidSelector ValidAccess ValidAddend ValidArgument ValidComparison ValidExpression ValidLabel ValidMultiplier ValidSimple ValidTerm AnyValues ComponentValue Element Factor Selector Access Addend Argument Comparison Expression Label Multiplier Simple Term Values (λ e. e.0) (λ e. e.0) (λ e. e.0) (λ e. e.0) (λ e. e.0) (λ e. e.0) (λ e. e.0) (λ e. e.0) (λ e. e.0) (λ e. e.0) (λ e. e.0) (λ e. e.0) (λ e. e.0) (λ e. e.0)
 
-  abbrev expression_layer : Expression-F AnyValue AnyElement ValidFactor ValidSelector ValidAccess ValidAddend ValidArgument ValidComparison ValidExpression AnyLabel ValidMultiplier ValidSimple ValidTerm AnyValues → Expression-F ComponentValue Element Factor Selector Access Addend Argument Comparison Expression Label Multiplier Simple Term Values
-  expression_layer = map-Expression AnyValue AnyElement ValidFactor ValidSelector ValidAccess ValidAddend ValidArgument ValidComparison ValidExpression AnyLabel ValidMultiplier ValidSimple ValidTerm AnyValues ComponentValue Element Factor Selector Access Addend Argument Comparison Expression Label Multiplier Simple Term Values (λ e. e.0) (λ e. e.0) (λ e. e.0) (λ e. e.0) (λ e. e.0) (λ e. e.0) (λ e. e.0) (λ e. e.0) (λ e. e.0) (λ e. e.0) (λ e. e.0) (λ e. e.0) (λ e. e.0) (λ e. e.0)
+  abbrev expression_layer : Expression-F AnyValue AnyElement ValidFactor ValidSelector ValidAccess ValidAddend ValidArgument ValidComparison ValidExpression ValidLabel ValidMultiplier ValidSimple ValidTerm AnyValues → Expression-F ComponentValue Element Factor Selector Access Addend Argument Comparison Expression Label Multiplier Simple Term Values
+  expression_layer = map-Expression AnyValue AnyElement ValidFactor ValidSelector ValidAccess ValidAddend ValidArgument ValidComparison ValidExpression ValidLabel ValidMultiplier ValidSimple ValidTerm AnyValues ComponentValue Element Factor Selector Access Addend Argument Comparison Expression Label Multiplier Simple Term Values (λ e. e.0) (λ e. e.0) (λ e. e.0) (λ e. e.0) (λ e. e.0) (λ e. e.0) (λ e. e.0) (λ e. e.0) (λ e. e.0) (λ e. e.0) (λ e. e.0) (λ e. e.0) (λ e. e.0) (λ e. e.0)
+
+  abbrev label_layer : Label-F AnyValue AnyElement ValidFactor ValidSelector ValidAccess ValidAddend ValidArgument ValidComparison ValidExpression ValidLabel ValidMultiplier ValidSimple ValidTerm AnyValues → Label-F ComponentValue Element Factor Selector Access Addend Argument Comparison Expression Label Multiplier Simple Term Values
+  label_layer = map-Label AnyValue AnyElement ValidFactor ValidSelector ValidAccess ValidAddend ValidArgument ValidComparison ValidExpression ValidLabel ValidMultiplier ValidSimple ValidTerm AnyValues ComponentValue Element Factor Selector Access Addend Argument Comparison Expression Label Multiplier Simple Term Values (λ e. e.0) (λ e. e.0) (λ e. e.0) (λ e. e.0) (λ e. e.0) (λ e. e.0) (λ e. e.0) (λ e. e.0) (λ e. e.0) (λ e. e.0) (λ e. e.0) (λ e. e.0) (λ e. e.0) (λ e. e.0)
 
   -- rows of such nodes
   addends-fit : (more : List ValidAddend) → AreOperands Q (map (addend_judged scopes) (map (λ e. e.0) more))
@@ -137,22 +143,26 @@ module _ (Q : Typed → Type 0) (scopes : List Region) (kept : IsKept Q scopes) 
   indexes-fit [] = tt
   indexes-fit (e ∷ more) = (e.1, indexes-fit more)
 
+  labels-fit : (more : List ValidLabel) → AreLabels Q (map (labelled scopes) (map (λ e. e.0) more))
+  labels-fit [] = tt
+  labels-fit (l ∷ more) = (l.1, labels-fit more)
+
   selectors-fit : (more : List ValidSelector) → AreSelected Q (map (selected scopes) (map (λ e. e.0) more))
   selectors-fit [] = tt
   selectors-fit (s ∷ more) = (s.1, selectors-fit more)
 
   -- each node, where its parts have it
-  factor-fits : (f : Factor-F AnyValue AnyElement ValidFactor ValidSelector ValidAccess ValidAddend ValidArgument ValidComparison ValidExpression AnyLabel ValidMultiplier ValidSimple ValidTerm AnyValues) → IsFactor (roll-Factor (factor_layer f))
+  factor-fits : (f : Factor-F AnyValue AnyElement ValidFactor ValidSelector ValidAccess ValidAddend ValidArgument ValidComparison ValidExpression ValidLabel ValidMultiplier ValidSimple ValidTerm AnyValues) → IsFactor (roll-Factor (factor_layer f))
   factor-fits (Factor-F.Access a) = rw fold-roll-Factor a.1
   factor-fits (Factor-F.Number at n) = rw fold-roll-Factor (kept.number n)
   factor-fits (Factor-F.Text at bytes) = rw fold-roll-Factor (string_judged-fits Q scopes kept bytes)
   factor-fits (Factor-F.Nil at) = rw fold-roll-Factor tt
   factor-fits (Factor-F.Parenthesized at e) = rw fold-roll-Factor (when_accepted-fits Q (λ x. Accepts (parenthesized x)) kept.parenthesizes (judged scopes e.0) e.1)
   factor-fits (Factor-F.Not at f) = rw fold-roll-Factor (when_accepted-fits Q negated kept.negates (factor_judged scopes f.0) f.1)
-  factor-fits (Factor-F.Set at labels) = rw fold-roll-Factor tt
+  factor-fits (Factor-F.Set at labels) = rw fold-roll-Factor (kept.constructs (map (labelled scopes) (map (λ e. e.0) labels)) (labels-fit labels))
   factor-fits (Factor-F.Structured at name values) = rw fold-roll-Factor tt
 
-  selector-fits : (s : Selector-F AnyValue AnyElement ValidFactor ValidSelector ValidAccess ValidAddend ValidArgument ValidComparison ValidExpression AnyLabel ValidMultiplier ValidSimple ValidTerm AnyValues) → HasArguments (roll-Selector (selector_layer s))
+  selector-fits : (s : Selector-F AnyValue AnyElement ValidFactor ValidSelector ValidAccess ValidAddend ValidArgument ValidComparison ValidExpression ValidLabel ValidMultiplier ValidSimple ValidTerm AnyValues) → HasArguments (roll-Selector (selector_layer s))
   selector-fits (Selector-F.Field at name) = rw fold-roll-Selector tt
   selector-fits (Selector-F.Index at indexes) = rw fold-roll-Selector (indexes-fit indexes)
   selector-fits (Selector-F.Dereference at) = rw fold-roll-Selector tt
@@ -188,13 +198,17 @@ module _ (Q : Typed → Type 0) (scopes : List Region) (kept : IsKept Q scopes) 
   argument-fits at e None = subst (λ z. Satisfies Q z.value) (sym (argument-judged scopes at e.0)) e.1
   argument-fits at e (Some w) = subst (λ z. Satisfies Q z.value) (sym (wide-judged scopes at e.0 w)) e.1
 
+  label-fits : (at : ℕ) (low : ValidExpression) (high : Option ValidExpression) → IsLabel (roll-Label (label_layer (record { line = at; low = low; high = high })))
+  label-fits at low None = subst (λ z. Satisfies Q z.low × IsHigh Q z.high) (sym (value-labelled scopes at low.0)) (low.1, tt)
+  label-fits at low (Some high) = subst (λ z. Satisfies Q z.low × IsHigh Q z.high) (sym (range-labelled scopes at low.0 high.0)) (low.1, high.1)
+
   access-fits : (at : ℕ) (name : List ℕ) (more : List ValidSelector) → IsAccess (access_node at name (map (λ e. e.0) more))
   access-fits at name more =
       subst (Satisfies Q) (sym (access-judged scopes at name (map (λ e. e.0) more))) (access_judged-fits Q scopes kept name (map (selected scopes) (map (λ e. e.0) more)) (selectors-fit more))
 
   -- so every expression that is accepted has it
   pub expressions-fit : (e : Expression) → Satisfies Q (judged scopes e)
-  expressions-fit = ind-Expression Any Any IsFactor HasArguments IsAccess IsAddend IsArgument IsComparison IsExpression Any IsMultiplier IsSimple IsTerm Any
+  expressions-fit = ind-Expression Any Any IsFactor HasArguments IsAccess IsAddend IsArgument IsComparison IsExpression IsLabel IsMultiplier IsSimple IsTerm Any
       (λ x y is. tt)
       (λ x y is. tt)
       (λ x y is. subst (λ z. IsFactor (roll-Factor z)) is (factor-fits y))
@@ -204,7 +218,7 @@ module _ (Q : Typed → Type 0) (scopes : List Region) (kept : IsKept Q scopes) 
       (λ x y is. subst (λ z. IsArgument (roll-Argument z)) is (argument-fits y.line y.value _))
       (λ x y is. subst (λ z. IsComparison (roll-Comparison z)) is (comparison-fits y.operator y.right))
       (λ x y is. subst (λ z. IsExpression (roll-Expression z)) is (expression-fits y.line y.left y.right))
-      (λ x y is. tt)
+      (λ x y is. subst (λ z. IsLabel (roll-Label z)) is (label-fits y.line y.low y.high))
       (λ x y is. subst (λ z. IsMultiplier (roll-Multiplier z)) is (multiplier-fits y.operator y.factor))
       (λ x y is. subst (λ z. IsSimple (roll-Simple z)) is (simple-fits y.line y.sign y.first y.more))
       (λ x y is. subst (λ z. IsTerm (roll-Term z)) is (term-fits y.line y.first y.more))

@@ -7,7 +7,7 @@ use Rattle.ep_typed.specs.Trees.{Denoter, Expr, FieldValue, IndexedValue, Place,
 use Rattle.ep_typed.specs.TypeValues as type
 use Rattle.ep_typed.specs.TypeValues.{ComponentTypes, TypeValue, type_among}
 use Rattle.ep_typed.specs.Valid as valid
-use Rattle.ep_typed.specs.Valid.{Declarations, IsExpr, IsTypeOfKind}
+use Rattle.ep_typed.specs.Valid.{Declarations, IsExpr, IsOfKind, IsTypeOfKind}
 use Rattle.ep_typed.specs.declared.unit.UnitType.{UnitType}
 use Rattle.ep_scope.specs.declared.kind.Kind.{Kind}
 use Rattle.ep_scope.specs.declared.kind.Kind.TheVariants as kind
@@ -42,6 +42,8 @@ module _ (declared : Declarations) (types : TypeValues) (structures : List Struc
   unbuilt-form : (k : Kind) → HasComponents k → (list : List UnitType) → All (HoldsStructure types list) structures → IsFormOf declared types structures k None
   unbuilt-form (kind.Ordinal h) some list all = (some list all).1.0
   unbuilt-form (kind.Structured m) some list all = (list, all)
+  unbuilt-form (kind.Set h) some list all = (some list all).1.0
+  unbuilt-form kind.EmptySet some list all = tt
   unbuilt-form kind.Text some list all = tt
   unbuilt-form kind.File some list all = (some list all).1
 
@@ -55,6 +57,10 @@ module _ (declared : Declarations) (types : TypeValues) (structures : List Struc
         )
     built-form (kind.Structured m) at =
         place_wider declared (IsComponent declared types structures of (kind.Structured m)) (λ list d. HasKind types list d (kind.Structured m) × All (HoldsStructure types list) structures) place (λ list d c. (c.0.0, c.1)) at
+    built-form (kind.Set h) at =
+        let p = place_at declared (IsComponent declared types structures of (kind.Set h)) place at in
+        (p.2.0.0.0, place_wider declared (IsComponent declared types structures of (kind.Set h)) (IsOfKind (valid.Set (typed_host h))) place (λ list d c. c.0.0.1) at)
+    built-form kind.EmptySet at = absurd (place_at declared (IsComponent declared types structures of kind.EmptySet) place at).2.0.0
     built-form kind.Text at = absurd (place_at declared (IsComponent declared types structures of kind.Text) place at).2.0.0
     built-form kind.File at = absurd (place_at declared (IsComponent declared types structures of kind.File) place at).2.0.0
 
@@ -95,6 +101,8 @@ module _ (declared : Declarations) (types : TypeValues) (structures : List Struc
   abbrev IsTaken : Kind → Expr → Type 0
   IsTaken (kind.Ordinal h) x = IsHost h × IsExpr declared (valid.Ordinal (typed_host h)) x
   IsTaken (kind.Structured m) x = IsStructuredValue declared types structures m x
+  IsTaken (kind.Set h) x = IsHost h × IsExpr declared (valid.Set (typed_host h)) x
+  IsTaken kind.EmptySet x = ⊥
   IsTaken kind.Text x = ⊥
   IsTaken kind.File x = ⊥
 
@@ -102,18 +110,24 @@ module _ (declared : Declarations) (types : TypeValues) (structures : List Struc
   taken-value : (k : Kind) (t : TypeValue) (x : Expr) → IsValueOfKind types k t → AreHeld types structures → ((w : valid.Kind) → IsTypeOfKind w t → IsExpr declared w x) → IsTaken k x
   taken-value (kind.Ordinal h) t x v held is = (v.0, is (valid.Ordinal (typed_host h)) v.1)
   taken-value (kind.Structured m) t x v held is = ((t, v, is (valid.Structured t) (refl, v.1)), held)
+  taken-value (kind.Set h) t x v held is = (v.0, is (valid.Set (typed_host h)) v.1)
+  taken-value kind.EmptySet t x v held is = v
   taken-value kind.Text t x v held is = v
   taken-value kind.File t x v held is = v
 
   indexed-form : (k : Kind) (array index : Expr) → IsTaken k (IndexedValue array index) → IsFormOf declared types structures k (Some (IndexedValue array index))
   indexed-form (kind.Ordinal h) array index p = p
   indexed-form (kind.Structured m) array index p = p
+  indexed-form (kind.Set h) array index p = p
+  indexed-form kind.EmptySet array index p = absurd p
   indexed-form kind.Text array index p = absurd p
   indexed-form kind.File array index p = absurd p
 
   field-form : (k : Kind) (whole : Expr) (number : ℕ) → IsTaken k (FieldValue whole number) → IsFormOf declared types structures k (Some (FieldValue whole number))
   field-form (kind.Ordinal h) whole number p = p
   field-form (kind.Structured m) whole number p = p
+  field-form (kind.Set h) whole number p = p
+  field-form kind.EmptySet whole number p = absurd p
   field-form kind.Text whole number p = absurd p
   field-form kind.File whole number p = absurd p
 

@@ -1,7 +1,7 @@
 -- What the name of a field gives of a valid form is valid.
 use Rattle.std.proofs.Common.{◌≡◌, ℕ, suc, nat_le, List, [], ◌∷◌, slice_get, Option, Some, None, refl, subst, sym}
 use Rattle.std.specs.Prelude.{All}
-use Rattle.ep_typed.specs.Trees.{Place, Expr, Constant, Text, Read, One, Two, Short, Step, Function, IndexedValue, FieldValue, Field}
+use Rattle.ep_typed.specs.Trees.{Place, Expr, Constant, Text, Read, One, Two, Short, Step, Function, IndexedValue, FieldValue, SetOf, OnSets, Card, Field}
 use Rattle.ep_typed.specs.Valid.{Declarations}
 use Rattle.ep_typed.specs.declared.unit.UnitType.{UnitType}
 use Rattle.ep_scope.specs.Fields.{field_number}
@@ -46,6 +46,8 @@ module _ (Q : Typed → Type 0) (scopes : List Region) where
   field-given (kind.Ordinal h) name x c = tt
   field-given (kind.Structured n) name x c = field_within-given n (structure_in scopes n) refl name x (λ fs number f. c n fs number f refl)
   field-given kind.Text name x c = tt
+  field-given (kind.Set base) name x c = tt
+  field-given kind.EmptySet name x c = tt
   field-given kind.File name x c = tt
 
 -- ---- valid forms
@@ -87,6 +89,9 @@ module _ (declared : Declarations) (types : TypeValues) (structures : List Struc
     field-valid (Some (Two operation x y)) g whole h = absurd g
     field-valid (Some (Short operation x y)) g whole h = absurd g
     field-valid (Some (Step down low high x y)) g whole h = absurd g
+    field-valid (Some (SetOf members)) g whole h = absurd g
+    field-valid (Some (OnSets operation x y)) g whole h = absurd g
+    field-valid (Some (Card x)) g whole h = absurd g
 
     -- a field of a valid record is valid
     field-fits : (x : Typed) → IsFormOf declared types structures (kind.Structured n) x.form → IsAccessOf declared types x.access x.form → Holds (field_typed number f x)

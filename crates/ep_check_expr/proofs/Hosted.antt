@@ -10,9 +10,10 @@ use Rattle.ep_tree.specs.declared.operator.RelationalOperator.{RelationalOperato
 use Rattle.ep_tree.specs.declared.operator.RelationalOperator.TheVariants as relation
 use Rattle.ep_tree.specs.declared.operator.Sign.{Sign}
 use Rattle.ep_typed.specs.Hosts.{is_of_host}
-use Rattle.ep_typed.specs.Trees.{Callee, Expr, Constant}
+use Rattle.ep_typed.specs.Trees.{Callee, Designator, Expr, Constant}
 use Rattle.ep_typed.specs.declared.operations.Unary.{Unary}
 use Rattle.ep_typed.specs.declared.operations.Binary.{Binary}
+use Rattle.ep_typed.specs.declared.operations.SetOperation.{SetOperation}
 use Rattle.ep_typed.specs.declared.operations.ShortOperation.{ShortOperation}
 use Rattle.ep_scope.specs.Fields.{field_number}
 use Rattle.ep_scope.specs.Required.{look_up, required_of}
@@ -40,18 +41,20 @@ use Rattle.ep_scope.specs.declared.thing.Thing.TheVariants as thing
 use Rattle.ep_scope.specs.declared.rule.TheConstants as rule
 use Rattle.ep_check_expr.specs.declared.access.Access.TheVariants as access
 use Rattle.ep_check_expr.specs.Arguments.{Taken, arguments_judged, callee_at, function_typed}
+use Rattle.ep_check_expr.specs.Constructors.{Label, Members, extended, joined_by, may_join, no_member, set_judged, set_kind}
 use Rattle.ep_check_expr.specs.Expressions.{spelled}
 use Rattle.ep_check_expr.specs.FieldDesignators.{field_typed}
-use Rattle.ep_check_expr.specs.Functions.{Given, applied_one, applied_two, ordinal_by, other_argument, step_typed, stepped_by, one}
+use Rattle.ep_check_expr.specs.Functions.{Given, applied_one, applied_two, card_by, ordinal_by, other_argument, step_typed, stepped_by, one}
 use Rattle.ep_check_expr.specs.Hosts.{typed_host}
 use Rattle.ep_check_expr.specs.Indexing.{component_depth, component_typed}
 use Rattle.ep_check_expr.specs.Judgements.{Judged, Accepts, Breaks, Typed, unbuilt, when_accepted}
 use Rattle.ep_check_expr.specs.Names.{call_declared, leaf, value_declared, value_named, value_required}
-use Rattle.ep_check_expr.specs.Operators.{added, are_compatible, arithmetic, binary_typed, boolean, character, compared, comparison, integer, is_boolean, is_integer, is_string, logical, misfit, multiplied, short_circuit, short_typed, sign_of, signed, unary_typed, unbuilt_typed, within_depth}
+use Rattle.ep_check_expr.specs.Operators.{added, are_compatible, are_sets, combined, joint_kind, may_be_in, on_sets_typed, related, sum_typed, arithmetic, binary_typed, boolean, character, compared, comparison, integer, is_boolean, is_integer, is_string, logical, misfit, multiplied, short_circuit, short_typed, sign_of, signed, unary_typed, unbuilt_typed, within_depth}
 use Rattle.ep_check_expr.specs.Origins.{CompositionHasHost, DeclaresHost, EntriesHaveHost, FieldsHaveHost, HasHost, StructuresHaveHost, InterfacesHaveHost, IsKnownHost, IsKnownKind, RecordsHaveHost, ScopesHaveHost, ThingHasHost}
+use Rattle.ep_check_expr.proofs.Labels.{set-has}
 use Rattle.ep_check_expr.proofs.Designated.{field-given}
 use Rattle.ep_check_expr.proofs.Indexed.{index-given}
-use Rattle.ep_check_expr.proofs.Keeping.{IsCalled, IsKept, Satisfies, if-satisfies}
+use Rattle.ep_check_expr.proofs.Keeping.{AreLabels, IsCalled, IsKept, Satisfies, if-satisfies}
 
 -- ---- names
 
@@ -204,6 +207,8 @@ module _ (scopes : List Region) where
   kind_comes : (k : Kind) → ((h : Host) → HasHost k h → ScopesHaveHost scopes h) → IsKnownKind scopes k
   kind_comes (kind.Ordinal h) f = inr (f h refl)
   kind_comes (kind.Structured n) f = tt
+  kind_comes (kind.Set h) f = inr (f h refl)
+  kind_comes kind.EmptySet f = tt
   kind_comes kind.Text f = tt
   kind_comes kind.File f = tt
 
@@ -278,19 +283,34 @@ module _ (scopes : List Region) where
   short_comes : (operation : ShortOperation) (x y : Typed) → Comes (short_circuit operation x y)
   short_comes operation x y = if-satisfies IsKnown (is_boolean x.kind && is_boolean y.kind) (short_typed operation boolean x y) misfit (λ e. depth_comes _ boolean _ (inl tt)) tt
 
-  added_comes : (o : AddingOperator) (x y : Typed) → Comes (added o x y)
-  added_comes adding.Plus x y = unbuilt_comes (is_string x.kind && is_string y.kind) kind.Text x y (arithmetic _ x y) tt (arithmetic_comes _ x y)
-  added_comes adding.Minus x y = arithmetic_comes _ x y
-  added_comes adding.Or x y = logical_comes _ x y
-  added_comes adding.SymmetricDifference x y = tt
-  added_comes adding.OrElse x y = short_comes _ x y
+  -- the host of the kind of a set of two is that of one of them
+  joint_known : (k l : Kind) → IsKnownKind scopes k → IsKnownKind scopes l → IsKnownKind scopes (joint_kind k l)
+  joint_known (kind.Ordinal h) l p q = p
+  joint_known (kind.Structured n) l p q = p
+  joint_known (kind.Set h) l p q = p
+  joint_known kind.EmptySet l p q = q
+  joint_known kind.Text l p q = p
+  joint_known kind.File l p q = p
 
-  multiplied_comes : (o : MultiplyingOperator) (x y : Typed) → Comes (multiplied o x y)
-  multiplied_comes multiplying.Times x y = arithmetic_comes _ x y
-  multiplied_comes multiplying.Div x y = arithmetic_comes _ x y
-  multiplied_comes multiplying.Mod x y = arithmetic_comes _ x y
-  multiplied_comes multiplying.And x y = logical_comes _ x y
-  multiplied_comes multiplying.AndThen x y = short_comes _ x y
+  combined_comes : (operation : SetOperation) (other : Judged Typed) (x y : Typed) → IsKnown x → IsKnown y → Comes other → Comes (combined operation other x y)
+  combined_comes operation other x y p q o = if-satisfies IsKnown (are_sets x.kind y.kind) (on_sets_typed operation (joint_kind x.kind y.kind) x y) other (λ e. depth_comes _ (joint_kind x.kind y.kind) _ (joint_known x.kind y.kind p q)) o
+
+  related_comes : (operation : SetOperation) (other : Judged Typed) (x y : Typed) → Comes other → Comes (related operation other x y)
+  related_comes operation other x y o = if-satisfies IsKnown (are_sets x.kind y.kind) (on_sets_typed operation boolean x y) other (λ e. depth_comes _ boolean _ (inl tt)) o
+
+  added_comes : (o : AddingOperator) (x y : Typed) → IsKnown x → IsKnown y → Comes (added o x y)
+  added_comes adding.Plus x y p q = combined_comes _ (sum_typed x y) x y p q (unbuilt_comes (is_string x.kind && is_string y.kind) kind.Text x y (arithmetic _ x y) tt (arithmetic_comes _ x y))
+  added_comes adding.Minus x y p q = combined_comes _ (arithmetic _ x y) x y p q (arithmetic_comes _ x y)
+  added_comes adding.Or x y p q = logical_comes _ x y
+  added_comes adding.SymmetricDifference x y p q = combined_comes _ misfit x y p q tt
+  added_comes adding.OrElse x y p q = short_comes _ x y
+
+  multiplied_comes : (o : MultiplyingOperator) (x y : Typed) → IsKnown x → IsKnown y → Comes (multiplied o x y)
+  multiplied_comes multiplying.Times x y p q = combined_comes _ (arithmetic _ x y) x y p q (arithmetic_comes _ x y)
+  multiplied_comes multiplying.Div x y p q = arithmetic_comes _ x y
+  multiplied_comes multiplying.Mod x y p q = arithmetic_comes _ x y
+  multiplied_comes multiplying.And x y p q = logical_comes _ x y
+  multiplied_comes multiplying.AndThen x y p q = short_comes _ x y
 
   comparison_comes : (operation : Binary) (x y : Typed) → Comes (comparison operation x y)
   comparison_comes operation x y =
@@ -298,25 +318,70 @@ module _ (scopes : List Region) where
       (unbuilt_comes (is_string x.kind && is_string y.kind) boolean x y misfit (inl tt) tt)
 
   compared_comes : (o : RelationalOperator) (x y : Typed) → Comes (compared o x y)
-  compared_comes relation.Equal x y = comparison_comes _ x y
-  compared_comes relation.NotEqual x y = comparison_comes _ x y
+  compared_comes relation.Equal x y = related_comes _ (comparison _ x y) x y (comparison_comes _ x y)
+  compared_comes relation.NotEqual x y = related_comes _ (comparison _ x y) x y (comparison_comes _ x y)
   compared_comes relation.Less x y = comparison_comes _ x y
   compared_comes relation.Greater x y = comparison_comes _ x y
-  compared_comes relation.AtMost x y = comparison_comes _ x y
-  compared_comes relation.AtLeast x y = comparison_comes _ x y
-  compared_comes relation.In x y = tt
+  compared_comes relation.AtMost x y = related_comes _ (comparison _ x y) x y (comparison_comes _ x y)
+  compared_comes relation.AtLeast x y = related_comes _ (comparison _ x y) x y (comparison_comes _ x y)
+  compared_comes relation.In x y = if-satisfies IsKnown (may_be_in x.kind y.kind) (on_sets_typed _ boolean x y) misfit (λ e. depth_comes _ boolean _ (inl tt)) tt
 
   ordinal_comes : (k : Kind) (x : Typed) → Comes (ordinal_by k x)
   ordinal_comes (kind.Ordinal h) x = depth_comes _ integer _ (inl tt)
   ordinal_comes (kind.Structured n) x = tt
+  ordinal_comes (kind.Set base) x = tt
+  ordinal_comes kind.EmptySet x = tt
   ordinal_comes kind.Text x = tt
   ordinal_comes kind.File x = tt
 
   stepped_comes : (k : Kind) (down : Bool) (x count : Typed) → IsKnownKind scopes k → Comes (stepped_by k down x count)
   stepped_comes (kind.Ordinal h) down x count p = if-satisfies IsKnown (is_integer count.kind) (step_typed down h x count) other_argument (λ e. depth_comes _ (kind.Ordinal h) _ p) tt
   stepped_comes (kind.Structured n) down x count p = tt
+  stepped_comes (kind.Set base) down x count p = tt
+  stepped_comes kind.EmptySet down x count p = tt
   stepped_comes kind.Text down x count p = tt
   stepped_comes kind.File down x count p = tt
+
+  card_comes : (k : Kind) (x : Typed) → Comes (card_by k x)
+  card_comes (kind.Set h) x = depth_comes _ integer _ (inl tt)
+  card_comes kind.EmptySet x = depth_comes _ integer _ (inl tt)
+  card_comes (kind.Ordinal h) x = tt
+  card_comes (kind.Structured n) x = tt
+  card_comes kind.Text x = tt
+  card_comes kind.File x = tt
+
+  -- the host of members is that of one of them
+  abbrev IsKnownIf : Option Host → Type 0
+  IsKnownIf None = ⊤
+  IsKnownIf (Some h) = IsKnownHost scopes h
+
+  abbrev IsKnownOf : Members → Type 0
+  IsKnownOf ms = IsKnownIf ms.host
+
+  joined_if : (b : Bool) (h : Host) (ms : Members) (d : Option Designator) (depth : ℕ) → IsKnownHost scopes h → Satisfies IsKnownOf (if b then Accepts (extended ms d depth h) else no_member)
+  joined_if true h ms d depth p = p
+  joined_if false h ms d depth p = tt
+
+  joined_comes : (k : Kind) (ms : Members) (d : Option Designator) (depth : ℕ) → IsKnownKind scopes k → Satisfies IsKnownOf (joined_by k ms d depth)
+  joined_comes (kind.Ordinal h) ms d depth p = joined_if (may_join ms.host h) h ms d depth p
+  joined_comes (kind.Structured n) ms d depth p = tt
+  joined_comes (kind.Set h) ms d depth p = tt
+  joined_comes kind.EmptySet ms d depth p = tt
+  joined_comes kind.Text ms d depth p = tt
+  joined_comes kind.File ms d depth p = tt
+
+  range_if : (b : Bool) (J : Judged Members) → Satisfies IsKnownOf J → Satisfies IsKnownOf (if b then J else no_member)
+  range_if true J p = p
+  range_if false J p = tt
+
+  made_known : (o : Option Host) → IsKnownIf o → IsKnownKind scopes (set_kind o)
+  made_known None p = tt
+  made_known (Some h) p = p
+
+  set_comes : (ls : List Label) → AreLabels IsKnown ls → Comes (set_judged ls)
+  set_comes ls q =
+      set-has IsKnown IsKnownOf (λ ms x p k. joined_comes x.kind ms _ x.depth k) (λ ms x y p k l. range_if (are_compatible x.kind y.kind) _ (joined_comes x.kind ms _ _ k))
+      IsKnown tt (λ ms p. depth_comes _ (set_kind ms.host) _ (made_known ms.host p)) ls q
 
   one_comes : (f : Function) (x : Typed) → IsKnown x → Comes (applied_one f x)
   one_comes function.Absolute x p = unary_comes (is_integer x.kind) _ integer x other_argument (inl tt) tt
@@ -326,6 +391,7 @@ module _ (scopes : List Region) where
   one_comes function.Character x p = unary_comes (is_integer x.kind) _ (kind.Ordinal host.Char) x other_argument (inl tt) tt
   one_comes function.Successor x p = stepped_comes x.kind false x one p
   one_comes function.Predecessor x p = stepped_comes x.kind true x one p
+  one_comes function.Cardinality x p = card_comes x.kind x
 
   two_comes : (f : Function) (x y : Typed) → IsKnown x → Comes (applied_two f x y)
   two_comes function.Successor x y p = stepped_comes x.kind false x y p
@@ -335,6 +401,7 @@ module _ (scopes : List Region) where
   two_comes function.Odd x y p = tt
   two_comes function.Ordinal x y p = tt
   two_comes function.Character x y p = tt
+  two_comes function.Cardinality x y p = tt
 
   component_comes : (n : ℕ) (a : ArrayType) (x i : Typed) → structure_in scopes n ≡ Some (composition.Array a) → Comes (component_typed a x i)
   component_comes n a x i e =
@@ -358,8 +425,9 @@ module _ (scopes : List Region) where
     parenthesizes = λ x p. p;
     signs = signed_comes;
     negates = λ x p. unary_comes (is_boolean x.kind) _ boolean x misfit (inl tt) tt;
-    adds = λ o x y p q. added_comes o x y;
-    multiplies = λ o x y p q. multiplied_comes o x y;
+    adds = λ o x y p q. added_comes o x y p q;
+    multiplies = λ o x y p q. multiplied_comes o x y p q;
+    constructs = set_comes;
     compares = λ o x y p q. compared_comes o x y;
     applies_one = one_comes;
     applies_two = λ f x y p q. two_comes f x y p;

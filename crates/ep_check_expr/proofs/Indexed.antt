@@ -1,7 +1,7 @@
 -- What an index gives of a valid form is valid.
 use Rattle.std.proofs.Common.{◌≡◌, true, ℕ, suc, max, nat_le, List, [], ◌∷◌, Option, Some, None, refl, subst, sym}
 use Rattle.std.specs.Prelude.{All}
-use Rattle.ep_typed.specs.Trees.{Place, Expr, Constant, Text, Read, One, Two, Short, Step, Function, IndexedValue, FieldValue, Indexed}
+use Rattle.ep_typed.specs.Trees.{Place, Expr, Constant, Text, Read, One, Two, Short, Step, Function, IndexedValue, FieldValue, SetOf, OnSets, Card, Indexed}
 use Rattle.ep_typed.specs.Valid.{Declarations}
 use Rattle.ep_typed.specs.declared.unit.UnitType.{UnitType}
 use Rattle.ep_scope.specs.Scopes.{Region, structure_in}
@@ -38,6 +38,8 @@ module _ (Q : Typed → Type 0) (scopes : List Region) where
       → Satisfies Q (unbuilt_typed character x i) → Satisfies Q (indexed_by scopes k x i)
   index-given (kind.Ordinal h) x i c u = tt
   index-given (kind.Structured n) x i c u = component-given n (structure_in scopes n) refl x i (λ a. c n a refl)
+  index-given (kind.Set base) x i c u = tt
+  index-given kind.EmptySet x i c u = tt
   index-given kind.Text x i c u = if-satisfies Q (is_integer i.kind) (unbuilt_typed character x i) no_index (λ e. u) tt
   index-given kind.File x i c u = tt
 
@@ -83,6 +85,9 @@ module _ (declared : Declarations) (types : TypeValues) (structures : List Struc
     element-valid (Some (Two operation x y)) i f g whole h = absurd f
     element-valid (Some (Short operation x y)) i f g whole h = absurd f
     element-valid (Some (Step down low high x y)) i f g whole h = absurd f
+    element-valid (Some (SetOf members)) i f g whole h = absurd f
+    element-valid (Some (OnSets operation x y)) i f g whole h = absurd f
+    element-valid (Some (Card x)) i f g whole h = absurd f
 
     -- a component of a valid array at a valid index is valid
     component-fits : (x i : Typed) → IsFormOf declared types structures (kind.Structured n) x.form → IsFormOf declared types structures (kind.Ordinal a.index) i.form → IsAccessOf declared types x.access x.form → Holds (component_typed a x i)

@@ -1,5 +1,5 @@
 -- Properties of typed forms that each rule keeps: a form has them where its parts do.
-use Rattle.std.proofs.Common.{◌≡◌, ℕ, ℤ, Bool, true, false, List, [], ◌∷◌, Option, refl}
+use Rattle.std.proofs.Common.{◌≡◌, ℕ, ℤ, Bool, true, false, List, [], ◌∷◌, Option, Some, None, refl}
 use Rattle.std.specs.Prelude.{⊤, if◌then◌else◌}
 use Rattle.ep_tree.specs.declared.operator.AddingOperator.{AddingOperator}
 use Rattle.ep_tree.specs.declared.operator.MultiplyingOperator.{MultiplyingOperator}
@@ -12,6 +12,7 @@ use Rattle.ep_scope.specs.declared.kind.Host.TheVariants as host
 use Rattle.ep_scope.specs.declared.kind.Kind.TheVariants as kind
 use Rattle.ep_scope.specs.declared.required.Function.{Function}
 use Rattle.ep_check_expr.specs.declared.access.Access.TheVariants as access
+use Rattle.ep_check_expr.specs.Constructors.{Label, set_judged}
 use Rattle.ep_check_expr.specs.Expressions.{spelled}
 use Rattle.ep_check_expr.specs.FieldDesignators.{designated}
 use Rattle.ep_check_expr.specs.Functions.{Given, applied_one, applied_two}
@@ -58,6 +59,15 @@ abbrev pub AreGiven : (Typed → Type 0) → List Given → Type 0
 AreGiven Q [] = ⊤
 AreGiven Q (g ∷ gs) = Satisfies Q g.value × AreGiven Q gs
 
+-- both values of a label have it
+abbrev pub IsHigh : (Typed → Type 0) → Option (Judged Typed) → Type 0
+IsHigh Q None = ⊤
+IsHigh Q (Some high) = Satisfies Q high
+
+abbrev pub AreLabels : (Typed → Type 0) → List Label → Type 0
+AreLabels Q [] = ⊤
+AreLabels Q (l ∷ ls) = (Satisfies Q l.low × IsHigh Q l.high) × AreLabels Q ls
+
 -- what is declared has it with arguments that have it, in code of a depth
 abbrev pub IsCalled : ℕ → (Typed → Type 0) → Meant → Type 0
 IsCalled depth Q (Declares d) = (gs : List Given) → AreGiven Q gs → Satisfies Q (call_declared depth d d.what gs)
@@ -83,4 +93,5 @@ pub record IsKept (Q : Typed → Type 0) (scopes : List Region) : Type 0 where
   pub multiplies : (o : MultiplyingOperator) (x y : Typed) → Q x → Q y → Satisfies Q (multiplied o x y)
   pub compares : (o : RelationalOperator) (x y : Typed) → Q x → Q y → Satisfies Q (compared o x y)
   pub applies_one : (f : Function) (x : Typed) → Q x → Satisfies Q (applied_one f x)
+  pub constructs : (ls : List Label) → AreLabels Q ls → Satisfies Q (set_judged ls)
   pub applies_two : (f : Function) (x y : Typed) → Q x → Q y → Satisfies Q (applied_two f x y)

@@ -5,13 +5,15 @@ use Rattle.std.specs.Prelude.{⊤, if◌then◌else◌, ◌-ℤ◌, unsigned_abs
 use Rattle.ep_typed.specs.Hosts.{Host, least, greatest, is_of_host}
 use Rattle.ep_typed.specs.Hosts as host
 use Rattle.ep_typed.specs.Operations.{Answer, Number, Fault, is_integer, decides, within, ordinal_of, unary_answer, binary_answer, step_answer}
-use Rattle.ep_typed.specs.Trees.{Expr, Constant, Text, Read, One, Two, Short, Step, Function, IndexedValue, FieldValue}
-use Rattle.ep_typed.specs.Valid.{Declarations, IsExpr, IsUnary, IsBinary}
+use Rattle.ep_typed.specs.Trees.{Expr, Constant, Text, Read, One, Two, Short, Step, Function, IndexedValue, FieldValue, SetOf, OnSets, Card}
+use Rattle.ep_typed.specs.Valid.{Declarations, IsExpr, IsUnary, IsBinary, IsOnSets}
 use Rattle.ep_typed.specs.Valid as valid
 use Rattle.ep_typed.specs.declared.operations.Unary.{Unary}
 use Rattle.ep_typed.specs.declared.operations.Unary.TheVariants as unary
 use Rattle.ep_typed.specs.declared.operations.Binary.{Binary}
 use Rattle.ep_typed.specs.declared.operations.Binary.TheVariants as binary
+use Rattle.ep_typed.specs.declared.operations.SetOperation.{SetOperation}
+use Rattle.ep_typed.specs.declared.operations.SetOperation.TheVariants as on_sets
 use Rattle.ep_typed.specs.declared.operations.ShortOperation.{ShortOperation}
 use Rattle.ep_typed.specs.declared.run_error.TheConstants as run_error
 use Rattle.ep_scope.specs.declared.structure.StructuredType.{StructuredType}
@@ -23,9 +25,9 @@ use Rattle.ep_check_expr.specs.Constants.{constant_of, constant_folded}
 use Rattle.ep_check_expr.specs.Hosts.{typed_host}
 use Rattle.ep_check_expr.specs.Judgements.{Judged, Accepts, Breaks}
 use Rattle.ep_check_expr.specs.declared.constants.ConstantForm.{ConstantForm}
-use Rattle.ep_check_expr.specs.Folding.{answered, one_folded, two_folded, short_folded, folded}
+use Rattle.ep_check_expr.specs.Folding.{answered, beside, folded_members, one_folded, two_folded, short_folded, folded, together}
 use Rattle.ep_check_expr.specs.declared.folding.Folded.{Folded}
-use Rattle.ep_check_expr.specs.declared.folding.Folded.TheVariants.{Known, Varies, Errs}
+use Rattle.ep_check_expr.specs.declared.folding.Folded.TheVariants.{Known, Varies, Errs, Unbuilt}
 
 -- a number that is known is an integer, and the one that was answered
 record IsAnswer (a : Answer) (z : ℤ) : Type 0 where
@@ -47,6 +49,7 @@ host_in : valid.Kind → Host
 host_in (valid.Ordinal h) = h
 host_in valid.Bytes = host.Integer
 host_in (valid.Structured t) = host.Integer
+host_in (valid.Set h) = host.Integer
 
 as_host : (h k : Host) (z : ℤ) → valid.Ordinal h ≡ valid.Ordinal k → IsTrue (is_of_host k z) → IsTrue (is_of_host h z)
 unfolding host_in
@@ -84,6 +87,7 @@ abbrev pub OfKind : valid.Kind → ℤ → Type 0
 OfKind (valid.Ordinal h) z = IsTrue (is_of_host h z)
 OfKind valid.Bytes z = ⊤
 OfKind (valid.Structured t) z = ⊤
+OfKind (valid.Set h) z = ⊤
 
 -- an operation of a known number
 one-of_host : (operation : Unary) (k : valid.Kind) (h : Host) (y z : ℤ) → IsUnary operation k (valid.Ordinal h) → OfKind k y → IsAnswer (unary_answer operation y) z → IsTrue (is_of_host h z)
@@ -129,6 +133,12 @@ two_folded-known f Varies s z e = cc
 two_folded-known f Errs (Known y) z e = cc
 two_folded-known f Errs Varies z e = cc
 two_folded-known f Errs Errs z e = cc
+two_folded-known f (Known x) Unbuilt z e = cc
+two_folded-known f Errs Unbuilt z e = cc
+two_folded-known f Unbuilt (Known y) z e = cc
+two_folded-known f Unbuilt Varies z e = cc
+two_folded-known f Unbuilt Errs z e = cc
+two_folded-known f Unbuilt Unbuilt z e = cc
 
 -- what is known of an operation whose right operand may not be evaluated is what is known of one of both
 short_folded-known : (P : ℤ → Type 0) (operation : ShortOperation) (r s : Folded) (z : ℤ) → ((y : ℤ) → r ≡ Known y → P y) → ((y : ℤ) → s ≡ Known y → P y) → short_folded operation r s ≡ Known z → P z
@@ -147,17 +157,45 @@ short_folded-known P operation Varies s z f g e = cc
 short_folded-known P operation Errs (Known y) z f g e = cc
 short_folded-known P operation Errs Varies z f g e = cc
 short_folded-known P operation Errs Errs z f g e = cc
+short_folded-known P operation (Known x) Unbuilt z f g e = chosen (decides operation x) e
+  where
+    chosen : (b : Bool) → (if b then Known x else Unbuilt) ≡ Known z → P z
+    chosen true e = f z e
+    chosen false e = cc
+short_folded-known P operation Errs Unbuilt z f g e = cc
+short_folded-known P operation Unbuilt (Known y) z f g e = cc
+short_folded-known P operation Unbuilt Varies z f g e = cc
+short_folded-known P operation Unbuilt Errs z f g e = cc
+short_folded-known P operation Unbuilt Unbuilt z f g e = cc
+
+-- nothing is known of what is made of sets
+beside-known : (r : Folded) (z : ℤ) → beside r ≡ Known z → ⊥
+beside-known (Known y) z e = cc
+beside-known Varies z e = cc
+beside-known Errs z e = cc
+beside-known Unbuilt z e = cc
+
+together-known : (r s : Folded) (z : ℤ) → together r s ≡ Known z → ⊥
+together-known (Known y) s z e = beside-known s z e
+together-known Varies s z e = cc
+together-known Errs (Known y) z e = cc
+together-known Errs Varies z e = cc
+together-known Errs Errs z e = cc
+together-known Errs Unbuilt z e = cc
+together-known Unbuilt s z e = beside-known s z e
 
 one_folded-known : (operation : Unary) (k : valid.Kind) (h : Host) (r : Folded) (z : ℤ) → IsUnary operation k (valid.Ordinal h) → ((y : ℤ) → r ≡ Known y → OfKind k y) → one_folded (unary_answer operation) r ≡ Known z → IsTrue (is_of_host h z)
 one_folded-known operation k h (Known y) z u s e = one-of_host operation k h y z u (s y refl) (answered-known (unary_answer operation y) z e)
 one_folded-known operation k h Varies z u s e = cc
 one_folded-known operation k h Errs z u s e = cc
+one_folded-known operation k h Unbuilt z u s e = cc
 
 module _ (declared : Declarations) where
   -- a known number of a valid form is of the form's kind
   pub known-of_kind : (e : Expr) (k : valid.Kind) (z : ℤ) → IsExpr declared k e → folded e ≡ Known z → OfKind k z
   known-of_kind e valid.Bytes z v f = tt
   known-of_kind e (valid.Structured t) z v f = tt
+  known-of_kind e (valid.Set h) z v f = tt
   known-of_kind (Constant w) (valid.Ordinal h) z v f =
       let is : w ≡ z = cc in
       as_host h v.0 z v.1 (subst (λ x. IsTrue (is_of_host v.0 x)) is v.2)
@@ -171,6 +209,9 @@ module _ (declared : Declarations) where
   known-of_kind (Function callee given) (valid.Ordinal h) z v f = cc
   known-of_kind (IndexedValue array index) (valid.Ordinal h) z v f = cc
   known-of_kind (FieldValue whole number) (valid.Ordinal h) z v f = cc
+  known-of_kind (SetOf members) (valid.Ordinal h) z v f = let e = v.1 in cc
+  known-of_kind (OnSets operation x y) (valid.Ordinal h) z v f = absurd (together-known (folded x) (folded y) z f)
+  known-of_kind (Card x) (valid.Ordinal h) z v f = absurd (beside-known (folded x) z f)
 
   -- of a valid form of a host it is a value of the host
   pub known-of_host : (e : Expr) (h : Host) (z : ℤ) → IsExpr declared (valid.Ordinal h) e → folded e ≡ Known z → IsTrue (is_of_host h z)
@@ -209,6 +250,17 @@ binary-bytes binary.Greater k l u = let e = u.1 in cc
 binary-bytes binary.AtMost k l u = let e = u.1 in cc
 binary-bytes binary.AtLeast k l u = let e = u.1 in cc
 
+sets-bytes : (operation : SetOperation) (k l : valid.Kind) → IsOnSets operation k l valid.Bytes → ⊥
+sets-bytes on_sets.Union k l u = let e = u.3 in cc
+sets-bytes on_sets.Difference k l u = let e = u.3 in cc
+sets-bytes on_sets.Intersection k l u = let e = u.3 in cc
+sets-bytes on_sets.SymmetricDifference k l u = let e = u.3 in cc
+sets-bytes on_sets.Equal k l u = let e = u.1 in cc
+sets-bytes on_sets.Unequal k l u = let e = u.1 in cc
+sets-bytes on_sets.Subset k l u = let e = u.1 in cc
+sets-bytes on_sets.Superset k l u = let e = u.1 in cc
+sets-bytes on_sets.In k l u = let e = u.1 in cc
+
 -- what is accepted is of its kind
 abbrev pub IsJudgedConstant : Judged ConstantForm → Type 0
 IsJudgedConstant (Accepts c) = IsConstantOf c.kind c.value
@@ -219,6 +271,19 @@ module _ (declared : Declarations) (types : TypeValues) (structures : List Struc
   folded-constant h x (Known z) e s v = (s, known-of_host declared x (typed_host h) z v e)
   folded-constant h x Varies e s v = tt
   folded-constant h x Errs e s v = tt
+  folded-constant h x Unbuilt e s v = (s, zero_of_host (typed_host h))
+
+  set-constant : (h : scope.Host) (r : Folded) → IsHost h → IsJudgedConstant (constant_folded (kind.Set h) r)
+  set-constant h (Known z) s = s
+  set-constant h Varies s = tt
+  set-constant h Errs s = tt
+  set-constant h Unbuilt s = s
+
+  empty-constant : (r : Folded) → IsJudgedConstant (constant_folded kind.EmptySet r)
+  empty-constant (Known z) = tt
+  empty-constant Varies = tt
+  empty-constant Errs = tt
+  empty-constant Unbuilt = tt
 
   -- a valid form is a constant of its kind, if it is one
   pub constant-fits : (k : Kind) (form : Option Expr) → IsFormOf declared types structures k form → IsJudgedConstant (constant_of k form)
@@ -233,6 +298,9 @@ module _ (declared : Declarations) (types : TypeValues) (structures : List Struc
   constant-fits (kind.Ordinal h) (Some (Function callee given)) s = tt
   constant-fits (kind.Ordinal h) (Some (IndexedValue array index)) s = tt
   constant-fits (kind.Ordinal h) (Some (FieldValue whole number)) s = tt
+  constant-fits (kind.Ordinal h) (Some (SetOf members)) s = folded-constant h (SetOf members) (folded (SetOf members)) refl s.0 s.1
+  constant-fits (kind.Ordinal h) (Some (OnSets operation x y)) s = folded-constant h (OnSets operation x y) (folded (OnSets operation x y)) refl s.0 s.1
+  constant-fits (kind.Ordinal h) (Some (Card x)) s = folded-constant h (Card x) (folded (Card x)) refl s.0 s.1
   constant-fits (kind.Structured n) None s = tt
   constant-fits (kind.Structured n) (Some (Text bytes)) s = absurd s
   constant-fits (kind.Structured n) (Some (Constant z)) s = absurd s
@@ -244,6 +312,37 @@ module _ (declared : Declarations) (types : TypeValues) (structures : List Struc
   constant-fits (kind.Structured n) (Some (Function callee given)) s = tt
   constant-fits (kind.Structured n) (Some (IndexedValue array index)) s = tt
   constant-fits (kind.Structured n) (Some (FieldValue whole number)) s = tt
+  constant-fits (kind.Structured n) (Some (SetOf members)) s = absurd s
+  constant-fits (kind.Structured n) (Some (OnSets operation x y)) s = absurd s
+  constant-fits (kind.Structured n) (Some (Card x)) s = absurd s
+  constant-fits (kind.Set h) None s = s
+  constant-fits (kind.Set h) (Some (Text bytes)) s = s.0
+  constant-fits (kind.Set h) (Some (Constant z)) s = set-constant h (folded (Constant z)) s.0
+  constant-fits (kind.Set h) (Some (Read place)) s = set-constant h (folded (Read place)) s.0
+  constant-fits (kind.Set h) (Some (One operation x)) s = set-constant h (folded (One operation x)) s.0
+  constant-fits (kind.Set h) (Some (Two operation x y)) s = set-constant h (folded (Two operation x y)) s.0
+  constant-fits (kind.Set h) (Some (Short operation x y)) s = set-constant h (folded (Short operation x y)) s.0
+  constant-fits (kind.Set h) (Some (Step down low high x y)) s = set-constant h (folded (Step down low high x y)) s.0
+  constant-fits (kind.Set h) (Some (Function callee given)) s = set-constant h (folded (Function callee given)) s.0
+  constant-fits (kind.Set h) (Some (IndexedValue array index)) s = set-constant h (folded (IndexedValue array index)) s.0
+  constant-fits (kind.Set h) (Some (FieldValue whole number)) s = set-constant h (folded (FieldValue whole number)) s.0
+  constant-fits (kind.Set h) (Some (SetOf members)) s = set-constant h (folded (SetOf members)) s.0
+  constant-fits (kind.Set h) (Some (OnSets operation x y)) s = set-constant h (folded (OnSets operation x y)) s.0
+  constant-fits (kind.Set h) (Some (Card x)) s = set-constant h (folded (Card x)) s.0
+  constant-fits kind.EmptySet None s = tt
+  constant-fits kind.EmptySet (Some (Text bytes)) s = tt
+  constant-fits kind.EmptySet (Some (Constant z)) s = empty-constant (folded (Constant z))
+  constant-fits kind.EmptySet (Some (Read place)) s = empty-constant (folded (Read place))
+  constant-fits kind.EmptySet (Some (One operation x)) s = empty-constant (folded (One operation x))
+  constant-fits kind.EmptySet (Some (Two operation x y)) s = empty-constant (folded (Two operation x y))
+  constant-fits kind.EmptySet (Some (Short operation x y)) s = empty-constant (folded (Short operation x y))
+  constant-fits kind.EmptySet (Some (Step down low high x y)) s = empty-constant (folded (Step down low high x y))
+  constant-fits kind.EmptySet (Some (Function callee given)) s = empty-constant (folded (Function callee given))
+  constant-fits kind.EmptySet (Some (IndexedValue array index)) s = empty-constant (folded (IndexedValue array index))
+  constant-fits kind.EmptySet (Some (FieldValue whole number)) s = empty-constant (folded (FieldValue whole number))
+  constant-fits kind.EmptySet (Some (SetOf members)) s = empty-constant (folded (SetOf members))
+  constant-fits kind.EmptySet (Some (OnSets operation x y)) s = empty-constant (folded (OnSets operation x y))
+  constant-fits kind.EmptySet (Some (Card x)) s = empty-constant (folded (Card x))
   constant-fits kind.Text None s = tt
   constant-fits kind.Text (Some (Text bytes)) s = tt
   constant-fits kind.Text (Some (Constant z)) s = let e = s.1 in cc
@@ -255,6 +354,9 @@ module _ (declared : Declarations) (types : TypeValues) (structures : List Struc
   constant-fits kind.Text (Some (Function callee given)) s = tt
   constant-fits kind.Text (Some (IndexedValue array index)) s = tt
   constant-fits kind.Text (Some (FieldValue whole number)) s = tt
+  constant-fits kind.Text (Some (SetOf members)) s = let e = s.1 in cc
+  constant-fits kind.Text (Some (OnSets operation x y)) s = absurd (sets-bytes operation s.0 s.1 s.2)
+  constant-fits kind.Text (Some (Card x)) s = let e = s.1 in cc
   constant-fits kind.File None s = absurd s
   constant-fits kind.File (Some (Text bytes)) s = absurd s
   constant-fits kind.File (Some (Constant z)) s = absurd s
@@ -266,3 +368,6 @@ module _ (declared : Declarations) (types : TypeValues) (structures : List Struc
   constant-fits kind.File (Some (Function callee given)) s = absurd s
   constant-fits kind.File (Some (IndexedValue array index)) s = absurd s
   constant-fits kind.File (Some (FieldValue whole number)) s = absurd s
+  constant-fits kind.File (Some (SetOf members)) s = absurd s
+  constant-fits kind.File (Some (OnSets operation x y)) s = absurd s
+  constant-fits kind.File (Some (Card x)) s = absurd s

@@ -2,7 +2,7 @@
 use Rattle.std.proofs.Common.{◌≡◌, ℕ, ℤ, Bool, true, false, List, ◌∷◌, [], Option, Some, None, map, refl, ap, sym, subst}
 use Rattle.std.specs.Prelude.{if◌then◌else◌}
 use Rattle.ep_typed.specs.Hosts.{is_of_host}
-use Rattle.ep_typed.specs.Trees.{Expr, Constant, Text, Read, One, Two, Short, Step, Function, IndexedValue, FieldValue}
+use Rattle.ep_typed.specs.Trees.{Expr, Constant, Text, Read, One, Two, Short, Step, Function, IndexedValue, FieldValue, SetOf, OnSets, Card}
 use Rattle.ep_typed.specs.Valid.{Declarations}
 use Rattle.ep_typed.specs.declared.value.Value.TheVariants as value
 use Rattle.ep_tree.specs.declared.expression.Access.{Access}
@@ -25,8 +25,9 @@ use Rattle.ep_check_expr.specs.Laws.{ExpressionsAreSound, AccessesAreSound, Vari
 use Rattle.ep_check_expr.specs.Origins.{IsKnownKind}
 use Rattle.ep_check_expr.specs.Folding.{folded}
 use Rattle.ep_check_expr.specs.declared.folding.Folded.{Folded}
-use Rattle.ep_check_expr.specs.declared.folding.Folded.TheVariants.{Known, Varies, Errs}
+use Rattle.ep_check_expr.specs.declared.folding.Folded.TheVariants.{Known, Varies, Errs, Unbuilt}
 use Rattle.ep_check_expr.specs.declared.access.Access.TheVariants as access
+use Rattle.ep_check_expr.specs.Constructors.{set_judged}
 use Rattle.ep_check_expr.specs.Functions.{applied_one, applied_two}
 use Rattle.ep_check_expr.specs.Operators.{signed, negated, added, multiplied, compared}
 use Rattle.ep_check_expr.specs.Names.{leaf}
@@ -41,6 +42,8 @@ use Rattle.ep_check_expr.proofs.Indexed.{indexed-fits}
 use Rattle.ep_check_expr.proofs.Keeping.{AreGiven, IsKept, Satisfies, if-satisfies, pair-satisfies, weaker-satisfies}
 use Rattle.ep_check_expr.proofs.Known.{IsJudgedConstant, constant-fits}
 use Rattle.ep_check_expr.proofs.Meant.{called-fits, meant-declared, meant_in-declared, value_named-fits}
+use Rattle.ep_check_expr.proofs.Labels.{constructed-plain, labels-weaker}
+use Rattle.ep_check_expr.proofs.Constructed.{constructed-fits}
 use Rattle.ep_check_expr.proofs.Sound.{Fits, signed-fits, negated-fits, added-fits, multiplied-fits, compared-fits, applied_one-fits, applied_two-fits}
 
 -- a number or a character of the text
@@ -95,6 +98,7 @@ module _ (declared : Declarations) (types : TypeValues) (scopes : List Region) w
       multiplies = λ o x y p q. holds (multiplied o x y) (multiplied-fits declared types (structures_of scopes) o x y p.0 q.0) (multiplied-plain IsRead plain o x y);
       compares = λ o x y p q. holds (compared o x y) (compared-fits declared types (structures_of scopes) o x y p.0 q.0) (compared-plain IsRead plain o x y);
       applies_one = λ f x p. holds (applied_one f x) (applied_one-fits declared types (structures_of scopes) f x p.0) (applied_one-plain IsRead plain f x);
+      constructs = λ ls p. holds (set_judged ls) (constructed-fits declared types (structures_of scopes) ls (labels-weaker IsValid (λ t. IsFormOf declared types (structures_of scopes) t.kind t.form) (λ t q. q.0) ls p)) (constructed-plain IsRead plain ls);
       applies_two = λ f x y p q. holds (applied_two f x y) (applied_two-fits declared types (structures_of scopes) f x y p.0 q.0) (applied_two-plain IsRead plain f x y);
     }
 
@@ -183,10 +187,13 @@ folded_kind : (k : Kind) (f : Folded) (c : ConstantForm) → constant_folded k f
 folded_kind k (Known z) c e = let is : record { value = value.Word z; kind = k; built = true } ≡ c = cc in ap (λ x. x.kind) is
 folded_kind k Varies c e = cc
 folded_kind k Errs c e = cc
+folded_kind k Unbuilt c e = let is : record { value = stand_in k; kind = k; built = false } ≡ c = cc in ap (λ x. x.kind) is
 
 unbuilt_kind : (k : Kind) (c : ConstantForm) → unbuilt_constant k ≡ Accepts c → k ≡ c.kind
 unbuilt_kind (kind.Ordinal h) c e = let is : record { value = stand_in (kind.Ordinal h); kind = kind.Ordinal h; built = false } ≡ c = cc in ap (λ x. x.kind) is
 unbuilt_kind (kind.Structured n) c e = cc
+unbuilt_kind (kind.Set h) c e = let is : record { value = stand_in (kind.Set h); kind = kind.Set h; built = false } ≡ c = cc in ap (λ x. x.kind) is
+unbuilt_kind kind.EmptySet c e = let is : record { value = stand_in kind.EmptySet; kind = kind.EmptySet; built = false } ≡ c = cc in ap (λ x. x.kind) is
 unbuilt_kind kind.Text c e = let is : record { value = stand_in kind.Text; kind = kind.Text; built = false } ≡ c = cc in ap (λ x. x.kind) is
 unbuilt_kind kind.File c e = let is : record { value = stand_in kind.File; kind = kind.File; built = false } ≡ c = cc in ap (λ x. x.kind) is
 
@@ -202,6 +209,9 @@ same_kind k (Some (Step down low high x y)) c e = folded_kind k (folded (Step do
 same_kind k (Some (Function callee given)) c e = folded_kind k (folded (Function callee given)) c e
 same_kind k (Some (IndexedValue array index)) c e = folded_kind k (folded (IndexedValue array index)) c e
 same_kind k (Some (FieldValue whole number)) c e = folded_kind k (folded (FieldValue whole number)) c e
+same_kind k (Some (SetOf members)) c e = folded_kind k (folded (SetOf members)) c e
+same_kind k (Some (OnSets operation x y)) c e = folded_kind k (folded (OnSets operation x y)) c e
+same_kind k (Some (Card x)) c e = folded_kind k (folded (Card x)) c e
 
 -- a constant has the kind of its expression
 known_constant : (scopes : List Region) (kind : Kind) (form : Option Expr) → IsKnownKind scopes kind → (c : ConstantForm) → constant_of kind form ≡ Accepts c → IsKnownKind scopes c.kind

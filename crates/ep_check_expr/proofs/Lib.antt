@@ -3,6 +3,9 @@ pub mod Plain
 pub mod Passing
 pub mod Breaking
 pub mod Calls
+pub mod Constructed
+pub mod Labels
+pub mod SetForms
 pub mod Examples
 pub mod Folds
 pub mod Hosted

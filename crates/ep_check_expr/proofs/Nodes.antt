@@ -1,8 +1,8 @@
 -- What the rules say of the nodes of expressions by their parts: an equation for each node.
 use Rattle.std.proofs.Common.{◌≡◌, ℕ, ℤ, List, [], map, Option, Some, None, refl, sym, ap, ◌∙◌}
 use Rattle.ep_scope.specs.Scopes.{Region}
-use Rattle.ep_tree.specs.Nodes.{expression_node, comparison_node, simple_node, addend_node, term_node, multiplier_node, access_node, argument_node}
-use Rattle.ep_tree.specs.declared.expression.ComponentValue.TheFolds.{fold-roll-Factor, fold-roll-Selector, fold-roll-Access, fold-roll-Addend, fold-roll-Argument, fold-roll-Comparison, fold-roll-Expression, fold-roll-Multiplier, fold-roll-Simple, fold-roll-Term}
+use Rattle.ep_tree.specs.Nodes.{expression_node, comparison_node, simple_node, addend_node, term_node, multiplier_node, access_node, argument_node, label_node}
+use Rattle.ep_tree.specs.declared.expression.ComponentValue.TheFolds.{fold-roll-Factor, fold-roll-Selector, fold-roll-Access, fold-roll-Addend, fold-roll-Argument, fold-roll-Comparison, fold-roll-Expression, fold-roll-Label, fold-roll-Multiplier, fold-roll-Simple, fold-roll-Term}
 use Rattle.ep_tree.specs.declared.expression.Access.{Access}
 use Rattle.ep_tree.specs.declared.expression.Addend.{Addend}
 use Rattle.ep_tree.specs.declared.expression.Argument.{Argument, out-Argument, roll-out-Argument}
@@ -20,7 +20,7 @@ use Rattle.ep_tree.specs.declared.operator.MultiplyingOperator.{MultiplyingOpera
 use Rattle.ep_tree.specs.declared.operator.RelationalOperator.{RelationalOperator}
 use Rattle.ep_tree.specs.declared.operator.Sign.{Sign}
 use Rattle.ep_scope.specs.declared.kind.Host.TheVariants as host
-use Rattle.ep_check_expr.specs.Expressions.{Arguments, Field, Indexes, chained, spelled, string_judged, access_judged, judged, simple_judged, term_judged, factor_judged, addend_judged, multiplier_judged, comparison_judged, name_judged, selected, given}
+use Rattle.ep_check_expr.specs.Expressions.{Arguments, Field, Indexes, chained, spelled, string_judged, access_judged, judged, simple_judged, term_judged, factor_judged, addend_judged, multiplier_judged, comparison_judged, labelled, name_judged, selected, given}
 use Rattle.ep_check_expr.specs.Judgements.{Judged, Accepts, Breaks, Typed, both, when_accepted}
 use Rattle.ep_check_expr.specs.Names.{parenthesized}
 use Rattle.ep_check_expr.specs.Operators.{signed, added, multiplied, compared}
@@ -87,6 +87,13 @@ module _ (scopes : List Region) where
       in_node : (w : Option Expression) → (given scopes (argument_node (out-Argument a).line (out-Argument a).value w)).value ≡ judged scopes (out-Argument a).value
       in_node None = ap (λ g. g.value) (argument-judged (out-Argument a).line (out-Argument a).value)
       in_node (Some w) = ap (λ g. g.value) (wide-judged (out-Argument a).line (out-Argument a).value w)
+
+  -- a label of a set constructor, of one value and of two
+  pub value-labelled : (at : ℕ) (low : Expression) → labelled scopes (label_node at low None) ≡ record { low = judged scopes low; high = None }
+  value-labelled at low = simp fold-roll-Label
+
+  pub range-labelled : (at : ℕ) (low high : Expression) → labelled scopes (label_node at low (Some high)) ≡ record { low = judged scopes low; high = Some (judged scopes high) }
+  range-labelled at low high = simp fold-roll-Label
 
   pub number-judged : (at : ℕ) (n : ℤ) → factor_judged scopes (factor.Number at n) ≡ spelled host.Integer n
   number-judged at n = ap (factor_judged scopes) (sym (factor.rolls-Number at n)) ∙ simp fold-roll-Factor

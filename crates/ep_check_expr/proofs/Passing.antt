@@ -77,6 +77,20 @@ module _ (declared : Declarations) (types : TypeValues) (structures : List Struc
       array_fits host.Integer value = tt
       array_fits host.Boolean value = tt
       array_fits (host.Enumeration e) value = tt
+  given-fits (kind.Set base) value f = set_fits h value
+    where
+      set_fits : (h : Host) (value : Option Expr) → Satisfies (IfForm P) (given_to form (kind.Ordinal h) (kind.Set base) value)
+      set_fits host.Char value = tt
+      set_fits host.Integer value = tt
+      set_fits host.Boolean value = tt
+      set_fits (host.Enumeration e) value = tt
+  given-fits kind.EmptySet value f = empty_fits h value
+    where
+      empty_fits : (h : Host) (value : Option Expr) → Satisfies (IfForm P) (given_to form (kind.Ordinal h) kind.EmptySet value)
+      empty_fits host.Char value = tt
+      empty_fits host.Integer value = tt
+      empty_fits host.Boolean value = tt
+      empty_fits (host.Enumeration e) value = tt
   given-fits kind.Text value f = text_fits h value
     where
       text_fits : (h : Host) (value : Option Expr) → Satisfies (IfForm P) (given_to form (kind.Ordinal h) kind.Text value)
@@ -104,6 +118,9 @@ structured-expr declared types structures n (tree.One operation x) f = absurd f
 structured-expr declared types structures n (tree.Two operation x y) f = absurd f
 structured-expr declared types structures n (tree.Short operation x y) f = absurd f
 structured-expr declared types structures n (tree.Step down low high x y) f = absurd f
+structured-expr declared types structures n (tree.SetOf members) f = absurd f
+structured-expr declared types structures n (tree.OnSets operation x y) f = absurd f
+structured-expr declared types structures n (tree.Card x) f = absurd f
 
 -- a structured type has one type value
 pub one-value : (types : TypeValues) (m n : ℕ) (t u : TypeValue) → m ≡ n → IsValueOf types m t → IsValueOf types n u → t ≡ u
@@ -124,8 +141,32 @@ module _ (declared : Declarations) (types : TypeValues) (structures : List Struc
   pub structured-fits : (from : Kind) (value : Option Expr) → IsFormOf declared types structures from value → Satisfies (IfForm P) (given_to form (kind.Structured m) from value)
   structured-fits (kind.Ordinal h) value f = tt
   structured-fits (kind.Structured n) value f = structured-if (m == n) n value refl f
+  structured-fits (kind.Set base) value f = tt
+  structured-fits kind.EmptySet value f = tt
   structured-fits kind.Text value f = tt
   structured-fits kind.File value f = tt
+
+module _ (declared : Declarations) (types : TypeValues) (structures : List StructuredType) {A : Type 0} (P : A → Type 0) (form : Expr → A) (h : Host) (fits : (x : Expr) → IsExpr declared (valid.Set (typed_host h)) x → P (form x)) where
+  set_form : (g : Host) (value : Option Expr) → same_host h g ≡ true → IsFormOf declared types structures (kind.Set g) value → IfForm P (option_map form value)
+  set_form g None s f = tt
+  set_form g (Some x) s f = fits x (subst (λ k. IsExpr declared (valid.Set k) x) (host_same h g s) f.1)
+
+  set_if : (same : Bool) (g : Host) (value : Option Expr) → same_host h g ≡ same → IsFormOf declared types structures (kind.Set g) value → Satisfies (IfForm P) (if same then Accepts (option_map form value) else Breaks (rule.ASSIGNMENT ∷ []))
+  set_if true g value s f = set_form g value s f
+  set_if false g value s f = tt
+
+  empty_form : (value : Option Expr) → IsFormOf declared types structures kind.EmptySet value → IfForm P (option_map form value)
+  empty_form None f = tt
+  empty_form (Some x) f = fits x (f (typed_host h))
+
+  -- alike what is made of a value that is given to something of a set type
+  pub set-fits : (from : Kind) (value : Option Expr) → IsFormOf declared types structures from value → Satisfies (IfForm P) (given_to form (kind.Set h) from value)
+  set-fits (kind.Ordinal g) value f = tt
+  set-fits (kind.Structured n) value f = tt
+  set-fits (kind.Set g) value f = set_if (same_host h g) g value refl f
+  set-fits kind.EmptySet value f = empty_form value f
+  set-fits kind.Text value f = tt
+  set-fits kind.File value f = tt
 
 module _ (declared : Declarations) (types : TypeValues) (structures : List StructuredType) where
   -- a valid form of its kind, read of a variable of its type where it is the bare name of one
@@ -161,6 +202,8 @@ module _ (declared : Declarations) (types : TypeValues) (structures : List Struc
       kind-given (kind.Ordinal h) has v x = given-fits declared types structures (IsGiven declared list mode.Value f) tree.Evaluated h (λ e q. (valid.Ordinal (typed_host h), has.1, q)) v.kind v.form x.0
       kind-given (kind.Structured m) has v x =
           structured-fits declared types structures (IsGiven declared list mode.Value f) tree.Evaluated m has.1.0 has.1.1 (λ e q. (valid.Structured has.1.0, (has.1.2, has.1.1.1), q)) v.kind v.form x.0
+      kind-given (kind.Set h) has v x = set-fits declared types structures (IsGiven declared list mode.Value f) tree.Evaluated h (λ e q. (valid.Set (typed_host h), has.1, q)) v.kind v.form x.0
+      kind-given kind.EmptySet has v x = absurd has
       kind-given kind.Text has v x = absurd has
       kind-given kind.File has v x = absurd has
 
@@ -228,6 +271,9 @@ module _ (declared : Declarations) (types : TypeValues) (structures : List Struc
   function-form callee ps (kind.Structured n) s (Some xs) x =
       let v = s.2.2.1 in
       ((v.0, v.1, (s.0, s.1, record { result = s.2.0; has_result = s.2.1; has_kind = (v.2, v.1.1) }, x)), (declared.types callee.unit, s.2.3))
+  function-form callee ps (kind.Set h) s None x = s.2.1
+  function-form callee ps (kind.Set h) s (Some xs) x = (s.2.1, (s.0, s.1, s.2.0, x))
+  function-form callee ps kind.EmptySet s xs x = absurd s.2
   function-form callee ps kind.Text s xs x = absurd s.2
   function-form callee ps kind.File s xs x = absurd s.2
 

@@ -37,6 +37,7 @@ use Rattle.ep_check_expr.proofs.Accepted.{accesses-fit, expressions-fit}
 use Rattle.ep_check_expr.proofs.Designated.{field-given}
 use Rattle.ep_check_expr.proofs.Indexed.{index-given}
 use Rattle.ep_check_expr.proofs.Plain.{deep-plain, spelled-plain, signed-plain, negated-plain, added-plain, multiplied-plain, compared-plain, applied_one-plain, applied_two-plain}
+use Rattle.ep_check_expr.proofs.Labels.{constructed-plain}
 use Rattle.ep_check_expr.proofs.Keeping.{IsCalled, IsKept, Satisfies, if-satisfies}
 use Rattle.ep_check_expr.proofs.Nodes.{given-value}
 
@@ -135,6 +136,7 @@ placing_is_kept scopes = record {
   multiplies = λ o x y p q. multiplied-plain IsPlaced plain o x y;
   compares = λ o x y p q. compared-plain IsPlaced plain o x y;
   applies_one = λ f x p. applied_one-plain IsPlaced plain f x;
+  constructs = λ ls p. constructed-plain IsPlaced plain ls;
   applies_two = λ f x y p q. applied_two-plain IsPlaced plain f x y;
 }
 

@@ -1,10 +1,11 @@
 -- Declarations that hold what scopes declare, under which typed forms are valid.
 use Rattle.std.specs.Prelude.{◌≡◌, ℕ, ℤ, pos, All, List, [], ◌∷◌, ◌++◌, slice_get, Option, Some, None, IsTrue, int_le, ⊤}
-use Rattle.ep_typed.specs.Denoters.{ArrayParts, array_of, host_of, record_of, type_of}
+use Rattle.ep_typed.specs.Denoters.{ArrayParts, array_of, base_of, host_of, record_of, type_of}
 use Rattle.ep_typed.specs.Hosts.{greatest, is_of_host}
+use Rattle.ep_typed.specs.Hosts as typed
 use Rattle.ep_typed.specs.Operations.{maxint}
-use Rattle.ep_typed.specs.Trees.{Denoter, Denoters, Named, no_denoter, next_denoter, Callee, Place, Variable, Field, entire, Expr, Constant, Text, Read, One, Two, Short, Step, Function, IndexedValue, FieldValue, Actual, actuals}
-use Rattle.ep_typed.specs.Valid.{Declarations, AreGiven, IsCallee, IsFunction, IsPlace, IsPlaceWhere, IsExpr, IsProcedure, IsStructured, IsTypeOf, IsVariableOf}
+use Rattle.ep_typed.specs.Trees.{Denoter, Denoters, Named, no_denoter, next_denoter, Callee, Place, Variable, Field, entire, Expr, Constant, Text, Read, One, Two, Short, Step, Function, IndexedValue, FieldValue, SetOf, OnSets, Card, Actual, actuals}
+use Rattle.ep_typed.specs.Valid.{Declarations, AreGiven, IsCallee, IsFunction, IsOfKind, IsPlace, IsPlaceWhere, IsExpr, IsProcedure, IsSetOf, IsStructured, IsTypeOf, IsVariableOf}
 use Rattle.ep_typed.specs.Valid as valid
 use Rattle.ep_typed.specs.Viewed.{denoter_of}
 use Rattle.ep_typed.specs.declared.interface.Formal.{Formal}
@@ -46,14 +47,18 @@ IsHost h = IsTrue (int_le (greatest (typed_host h)) (pos maxint))
 abbrev pub IsKind : Kind → Type 0
 IsKind (kind.Ordinal h) = IsHost h
 IsKind (kind.Structured n) = ⊤
+IsKind (kind.Set h) = IsHost h
+IsKind kind.EmptySet = ⊤
 IsKind kind.Text = ⊤
 IsKind kind.File = ⊤
 
--- the constant is of its kind; none is of a structured type so far
+-- the constant is of its kind; none is of a structured type so far, and none of a set type is built
 abbrev pub IsConstantOf : Kind → Value → Type 0
 IsConstantOf (kind.Ordinal h) (value.Word z) = IsHost h × IsTrue (is_of_host (typed_host h) z)
 IsConstantOf (kind.Ordinal h) (value.Text bytes) = ⊥
 IsConstantOf (kind.Structured n) v = ⊥
+IsConstantOf (kind.Set h) v = IsHost h
+IsConstantOf kind.EmptySet v = ⊤
 IsConstantOf kind.Text (value.Word z) = ⊥
 IsConstantOf kind.Text (value.Text bytes) = ⊤
 IsConstantOf kind.File v = ⊥
@@ -70,6 +75,9 @@ IsFile (Step down low high x y) = ⊥
 IsFile (Function callee given) = ⊥
 IsFile (IndexedValue array index) = ⊥
 IsFile (FieldValue whole number) = ⊥
+IsFile (SetOf members) = ⊥
+IsFile (OnSets operation x y) = ⊥
+IsFile (Card x) = ⊥
 
 -- the type value of each type, where it has one
 abbrev pub TypeValues : Type 0
@@ -99,6 +107,8 @@ IsValueOf types n t = (types (type_name.Entry n) ≡ Some t) × IsStructured t
 abbrev pub HasKind : TypeValues → List UnitType → Denoter → Kind → Type 0
 HasKind types list d (kind.Ordinal h) = IsHost h × (host_of list d ≡ Some (typed_host h))
 HasKind types list d (kind.Structured n) = IsStructuredDenoter list d n × ((t : TypeValue) × IsValueOf types n t × (type_of list d ≡ Some t))
+HasKind types list d (kind.Set h) = IsHost h × ((base : Denoter) × (base_of list d ≡ Some base) × (host_of list base ≡ Some (typed_host h)))
+HasKind types list d kind.EmptySet = ⊥
 HasKind types list d kind.Text = ⊥
 HasKind types list d kind.File = ⊥
 
@@ -109,6 +119,8 @@ module _ (types : TypeValues) where
   abbrev pub IsValueOfKind : Kind → TypeValue → Type 0
   IsValueOfKind (kind.Ordinal h) t = IsHost h × IsTypeOf (typed_host h) t
   IsValueOfKind (kind.Structured n) t = IsValueOf types n t
+  IsValueOfKind (kind.Set h) t = IsHost h × IsSetOf (typed_host h) t
+  IsValueOfKind kind.EmptySet t = ⊥
   IsValueOfKind kind.Text t = ⊥
   IsValueOfKind kind.File t = ⊥
 
@@ -195,6 +207,8 @@ module _ (declared : Declarations) (types : TypeValues) (structures : List Struc
   abbrev pub IsStoredIn : Place → Kind → Type 0
   IsStoredIn place (kind.Ordinal h) = IsHost h × IsPlace declared (typed_host h) place
   IsStoredIn place (kind.Structured n) = IsStructuredAt n place
+  IsStoredIn place (kind.Set h) = IsHost h × IsPlaceWhere declared (IsOfKind (valid.Set (typed_host h))) place
+  IsStoredIn place kind.EmptySet = ⊥
   IsStoredIn place kind.Text = ⊥
   IsStoredIn place kind.File = ⊤
 
@@ -214,13 +228,20 @@ module _ (declared : Declarations) (types : TypeValues) (structures : List Struc
   IsStructuredForm n (Function callee given) = IsStructuredValue n (Function callee given)
   IsStructuredForm n (IndexedValue array index) = IsStructuredValue n (IndexedValue array index)
   IsStructuredForm n (FieldValue whole number) = IsStructuredValue n (FieldValue whole number)
+  IsStructuredForm n (SetOf members) = ⊥
+  IsStructuredForm n (OnSets operation x y) = ⊥
+  IsStructuredForm n (Card x) = ⊥
 
-  -- the form is a valid expression of the kind
+  -- the form is a valid expression of the kind; the empty set is one over each host
   abbrev pub IsFormOf : Kind → Option Expr → Type 0
   IsFormOf (kind.Ordinal h) None = IsHost h
   IsFormOf (kind.Ordinal h) (Some x) = IsHost h × IsExpr declared (valid.Ordinal (typed_host h)) x
   IsFormOf (kind.Structured n) None = AreHeld types structures
   IsFormOf (kind.Structured n) (Some x) = IsStructuredForm n x
+  IsFormOf (kind.Set h) None = IsHost h
+  IsFormOf (kind.Set h) (Some x) = IsHost h × IsExpr declared (valid.Set (typed_host h)) x
+  IsFormOf kind.EmptySet None = ⊤
+  IsFormOf kind.EmptySet (Some x) = (h : typed.Host) → IsExpr declared (valid.Set h) x
   IsFormOf kind.Text None = ⊤
   IsFormOf kind.Text (Some x) = IsExpr declared valid.Bytes x
   IsFormOf kind.File None = ⊥
@@ -248,6 +269,8 @@ module _ (declared : Declarations) (types : TypeValues) (structures : List Struc
   abbrev pub IsFunctionWith : List UnitType → Kind → RoutineEntry → Type 0
   IsFunctionWith list (kind.Ordinal h) r = IsFunction list (valid.Ordinal (typed_host h)) r × IsHost h
   IsFunctionWith list (kind.Structured n) r = (result : RoutineResult) × (r.result ≡ Some result) × HasKind types list (denoter_of result.denoter) (kind.Structured n) × All (HoldsStructure types list) structures
+  IsFunctionWith list (kind.Set h) r = IsFunction list (valid.Set (typed_host h)) r × IsHost h
+  IsFunctionWith list kind.EmptySet r = ⊥
   IsFunctionWith list kind.Text r = ⊥
   IsFunctionWith list kind.File r = ⊥
 

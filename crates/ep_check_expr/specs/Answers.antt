@@ -2,14 +2,16 @@
 use Rattle.std.specs.Prelude.{◌≡◌, ℕ, suc, nat_eq, nat_le, true, false, map, None, Result, Ok, Err, IsTrue, ⊤}
 use Rattle.std.specs.List.{list_any}
 use Rattle.std.specs.Option.{option_map}
-use Rattle.ep_typed.specs.Viewed.{actual_of, expr_of}
+use Rattle.ep_typed.specs.Viewed.{actual_of, designator_of, expr_of}
 use Rattle.ep_check_expr.specs.Arguments as arguments
+use Rattle.ep_check_expr.specs.Constructors as constructors
 use Rattle.ep_check_expr.specs.Functions.{Given, given_faults}
 use Rattle.ep_check_expr.specs.Judgements as spec
 use Rattle.ep_check_expr.specs.Judgements.{Judged, Accepts, breaks}
 use Rattle.ep_scope.specs.declared.rule.TheConstants as rules
 use Rattle.ep_check_expr.specs.declared.forms.TheConstants as limit
 use Rattle.ep_check_expr.specs.declared.arguments.Taken.{Taken}
+use Rattle.ep_check_expr.specs.declared.constructors.Members.{Members}
 use Rattle.ep_check_expr.specs.declared.forms.Typed.{Typed}
 use Rattle.ep_check_expr.specs.declared.forms.Refusal.{Refusal}
 use Rattle.ep_check_expr.specs.declared.forms.Refusal.TheVariants.{Rule, NoMemory}
@@ -21,6 +23,10 @@ typed_of t = record { form = option_map expr_of t.form; kind = t.kind; depth = t
 -- the plain data of what is given for formal parameters
 abbrev pub taken_of : Taken → arguments.Taken
 taken_of t = record { actuals = option_map (map actual_of) t.actuals; depth = t.depth }
+
+-- the plain data of what is gathered of member designators
+abbrev pub members_of : Members → constructors.Members
+members_of m = record { designators = option_map (map designator_of) m.designators; host = m.host; depth = m.depth }
 
 -- the form exactly where it is accepted, or a rule that fails
 abbrev pub AnswersJudged : {T A : Type 0} → (T → A) → Result T Refusal → Judged A → Type 0

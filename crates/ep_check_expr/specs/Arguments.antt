@@ -39,11 +39,13 @@ callee_at depth d = record { unit = d.unit; number = d.number; levels = callee_l
 
 -- ---- values that are given (ISO 10206, 6.4.6)
 
--- What is made of a value that is given to something of a kind: of an ordinal type whose host is the same, or of the same structured type. A text that is given to a char is not built.
+-- What is made of a value that is given to something of a kind: of an ordinal type whose host is the same, of the same structured type, or a set over the same host. A text that is given to a char is not built.
 abbrev pub given_to : {A : Type 0} → (Expr → A) → Kind → Kind → Option Expr → Judged (Option A)
 given_to form (kind.Ordinal h) (kind.Ordinal g) value = if same_host h g then Accepts (option_map form value) else Breaks (rule.ASSIGNMENT ∷ [])
 given_to form (kind.Ordinal host.Char) kind.Text value = Accepts None
 given_to form (kind.Structured m) (kind.Structured n) value = if m == n then Accepts (option_map form value) else Breaks (rule.ASSIGNMENT ∷ [])
+given_to form (kind.Set h) (kind.Set g) value = if same_host h g then Accepts (option_map form value) else Breaks (rule.ASSIGNMENT ∷ [])
+given_to form (kind.Set h) kind.EmptySet value = Accepts (option_map form value)
 given_to form kind.File from value = Breaks (rule.FILE_TYPE ∷ rule.ASSIGNMENT ∷ [])
 given_to form to kind.File value = Breaks (rule.FILE_TYPE ∷ rule.ASSIGNMENT ∷ [])
 given_to form to from value = Breaks (rule.ASSIGNMENT ∷ [])
@@ -134,10 +136,12 @@ arguments_judged ps gs = Breaks (rule.ARGUMENTS ∷ [])
 
 -- ---- function designators (ISO 10206, 6.8.5)
 
--- what is built of a call of a function with a result of this kind: the call where that is ordinal or structured, and so far nothing else
+-- what is built of a call of a function with a result of this kind: the call where that is ordinal, structured or a set, and so far nothing else
 abbrev pub call_form : Callee → Kind → Option (List Actual) → Option Expr
 call_form callee (kind.Ordinal h) given = option_map (λ xs. tree.Function callee (actuals xs)) given
 call_form callee (kind.Structured n) given = option_map (λ xs. tree.Function callee (actuals xs)) given
+call_form callee (kind.Set h) given = option_map (λ xs. tree.Function callee (actuals xs)) given
+call_form callee kind.EmptySet given = None
 call_form callee kind.Text given = None
 call_form callee kind.File given = None
 

@@ -17,12 +17,14 @@ use Rattle.ep_check_expr.specs.Folding.{folded}
 use Rattle.ep_check_expr.specs.Judgements.{Judged, Accepts, Breaks, Typed, when_accepted}
 use Rattle.ep_check_expr.specs.declared.constants.ConstantForm.{ConstantForm}
 use Rattle.ep_check_expr.specs.declared.folding.Folded.{Folded}
-use Rattle.ep_check_expr.specs.declared.folding.Folded.TheVariants.{Known, Varies, Errs}
+use Rattle.ep_check_expr.specs.declared.folding.Folded.TheVariants.{Known, Varies, Errs, Unbuilt}
 
 -- the value of a form that is not built stands for none: the number 0, or the empty text (own)
 abbrev pub stand_in : Kind → Value
 stand_in (kind.Ordinal h) = value.Word (pos 0)
 stand_in (kind.Structured n) = value.Text []
+stand_in (kind.Set h) = value.Text []
+stand_in kind.EmptySet = value.Text []
 stand_in kind.Text = value.Text []
 stand_in kind.File = value.Text []
 
@@ -30,16 +32,21 @@ stand_in kind.File = value.Text []
 abbrev pub known : Kind → Value → Judged ConstantForm
 known kind v = Accepts (record { value = v; kind = kind; built = true })
 
--- a constant expression is constant, and no error
+-- a constant without its value
+abbrev pub unbuilt_of : Kind → Judged ConstantForm
+unbuilt_of k = Accepts (record { value = stand_in k; kind = k; built = false })
+
+-- a constant expression is constant, and no error; what is made of sets is not built
 abbrev pub constant_folded : Kind → Folded → Judged ConstantForm
 constant_folded kind (Known z) = known kind (value.Word z)
 constant_folded kind Varies = Breaks (rule.CONSTANT ∷ [])
 constant_folded kind Errs = Breaks (rule.CONSTANT ∷ [])
+constant_folded kind Unbuilt = unbuilt_of kind
 
 -- A constant that is not built. A structured value is that of a variable or of a function so far, which is not constant.
 abbrev pub unbuilt_constant : Kind → Judged ConstantForm
 unbuilt_constant (kind.Structured n) = Breaks (rule.CONSTANT ∷ [])
-unbuilt_constant k = Accepts (record { value = stand_in k; kind = k; built = false })
+unbuilt_constant k = unbuilt_of k
 
 abbrev pub constant_of : Kind → Option Expr → Judged ConstantForm
 constant_of kind None = unbuilt_constant kind
@@ -55,6 +62,7 @@ abbrev pub is_varying : Folded → Bool
 is_varying (Known z) = false
 is_varying Varies = true
 is_varying Errs = false
+is_varying Unbuilt = false
 
 abbrev pub varies : Typed → Bool
 varies t = option_map_or (λ x. is_varying (folded x)) t.form false

@@ -12,6 +12,7 @@ use Rattle.ep_tree.specs.declared.expression.Addend.{Addend, fold-Addend}
 use Rattle.ep_tree.specs.declared.expression.Argument.{Argument, fold-Argument}
 use Rattle.ep_tree.specs.declared.expression.Comparison.{Comparison, fold-Comparison}
 use Rattle.ep_tree.specs.declared.expression.Expression.{Expression, fold-Expression}
+use Rattle.ep_tree.specs.declared.expression.Label.{Label as LabelTree, fold-Label}
 use Rattle.ep_tree.specs.declared.expression.Multiplier.{Multiplier, fold-Multiplier}
 use Rattle.ep_tree.specs.declared.expression.Simple.{Simple, fold-Simple}
 use Rattle.ep_tree.specs.declared.expression.Term.{Term, fold-Term}
@@ -22,6 +23,7 @@ use Rattle.ep_scope.specs.declared.kind.Host.{Host}
 use Rattle.ep_scope.specs.declared.kind.Host.TheVariants as host
 use Rattle.ep_scope.specs.declared.kind.Kind.TheVariants as kind
 use Rattle.ep_check_expr.specs.declared.access.Access.TheVariants as access
+use Rattle.ep_check_expr.specs.Constructors.{Label, set_judged}
 use Rattle.ep_check_expr.specs.FieldDesignators.{designated}
 use Rattle.ep_check_expr.specs.Functions.{Given}
 use Rattle.ep_check_expr.specs.Hosts.{typed_host}
@@ -95,93 +97,97 @@ module _ (scopes : List Region) where
   access_judged name selectors = selected_all (value_named (depth_in scopes) name (meant scopes name)) selectors
 
   -- the results of the parts of a node
-  abbrev pub at_component_value : ComponentValue-F Result Skipped Result Selected Result Addition Given Relation Result Skipped Multiplication Result Result Skipped → Judged Typed
+  abbrev pub at_component_value : ComponentValue-F Result Skipped Result Selected Result Addition Given Relation Result Label Multiplication Result Result Skipped → Judged Typed
   at_component_value (ComponentValue-F.Expression e) = e
   at_component_value (ComponentValue-F.Bracketed line values) = unbuilt
 
-  abbrev pub at_element : Element-F Result Skipped Result Selected Result Addition Given Relation Result Skipped Multiplication Result Result Skipped → Unit {0}
+  abbrev pub at_element : Element-F Result Skipped Result Selected Result Addition Given Relation Result Label Multiplication Result Result Skipped → Unit {0}
   at_element e = tt
 
-  abbrev pub at_factor : Factor-F Result Skipped Result Selected Result Addition Given Relation Result Skipped Multiplication Result Result Skipped → Judged Typed
+  abbrev pub at_factor : Factor-F Result Skipped Result Selected Result Addition Given Relation Result Label Multiplication Result Result Skipped → Judged Typed
   at_factor (Factor-F.Access access) = access
   at_factor (Factor-F.Number line number) = spelled host.Integer number
   at_factor (Factor-F.Text line bytes) = string_judged bytes
   at_factor (Factor-F.Nil line) = unbuilt
   at_factor (Factor-F.Parenthesized line inner) = when_accepted (λ x. Accepts (parenthesized x)) inner
   at_factor (Factor-F.Not line inner) = when_accepted negated inner
-  at_factor (Factor-F.Set line labels) = unbuilt
+  at_factor (Factor-F.Set line labels) = set_judged labels
   at_factor (Factor-F.Structured line name values) = unbuilt
 
-  abbrev pub at_selector : Selector-F Result Skipped Result Selected Result Addition Given Relation Result Skipped Multiplication Result Result Skipped → Selected
+  abbrev pub at_selector : Selector-F Result Skipped Result Selected Result Addition Given Relation Result Label Multiplication Result Result Skipped → Selected
   at_selector (Selector-F.Field line name) = Field name
   at_selector (Selector-F.Index line indexes) = Indexes indexes
   at_selector (Selector-F.Dereference line) = Other
   at_selector (Selector-F.Arguments line arguments) = Arguments arguments
 
-  abbrev pub at_access : Access-F Result Skipped Result Selected Result Addition Given Relation Result Skipped Multiplication Result Result Skipped → Judged Typed
+  abbrev pub at_access : Access-F Result Skipped Result Selected Result Addition Given Relation Result Label Multiplication Result Result Skipped → Judged Typed
   at_access a = access_judged a.name a.selectors
 
-  abbrev pub at_addend : Addend-F Result Skipped Result Selected Result Addition Given Relation Result Skipped Multiplication Result Result Skipped → Operand AddingOperator
+  abbrev pub at_addend : Addend-F Result Skipped Result Selected Result Addition Given Relation Result Label Multiplication Result Result Skipped → Operand AddingOperator
   at_addend a = record { operator = a.operator; operand = a.term }
 
-  abbrev pub at_argument : Argument-F Result Skipped Result Selected Result Addition Given Relation Result Skipped Multiplication Result Result Skipped → Given
+  abbrev pub at_argument : Argument-F Result Skipped Result Selected Result Addition Given Relation Result Label Multiplication Result Result Skipped → Given
   at_argument a = record { value = a.value; width = a.width }
 
-  abbrev pub at_comparison : Comparison-F Result Skipped Result Selected Result Addition Given Relation Result Skipped Multiplication Result Result Skipped → Operand RelationalOperator
+  abbrev pub at_comparison : Comparison-F Result Skipped Result Selected Result Addition Given Relation Result Label Multiplication Result Result Skipped → Operand RelationalOperator
   at_comparison c = record { operator = c.operator; operand = c.right }
 
-  abbrev pub at_expression : Expression-F Result Skipped Result Selected Result Addition Given Relation Result Skipped Multiplication Result Result Skipped → Judged Typed
+  abbrev pub at_expression : Expression-F Result Skipped Result Selected Result Addition Given Relation Result Label Multiplication Result Result Skipped → Judged Typed
   at_expression e = compared_if e.left e.right
 
-  abbrev pub at_label : Label-F Result Skipped Result Selected Result Addition Given Relation Result Skipped Multiplication Result Result Skipped → Unit {0}
-  at_label l = tt
+  abbrev pub at_label : Label-F Result Skipped Result Selected Result Addition Given Relation Result Label Multiplication Result Result Skipped → Label
+  at_label l = record { low = l.low; high = l.high }
 
-  abbrev pub at_multiplier : Multiplier-F Result Skipped Result Selected Result Addition Given Relation Result Skipped Multiplication Result Result Skipped → Operand MultiplyingOperator
+  abbrev pub at_multiplier : Multiplier-F Result Skipped Result Selected Result Addition Given Relation Result Label Multiplication Result Result Skipped → Operand MultiplyingOperator
   at_multiplier m = record { operator = m.operator; operand = m.factor }
 
   -- a sign belongs to the first term (ISO 10206, 6.8.3.2)
-  abbrev pub at_simple : Simple-F Result Skipped Result Selected Result Addition Given Relation Result Skipped Multiplication Result Result Skipped → Judged Typed
+  abbrev pub at_simple : Simple-F Result Skipped Result Selected Result Addition Given Relation Result Label Multiplication Result Result Skipped → Judged Typed
   at_simple s = chained added (when_accepted (signed s.sign) s.first) s.more
 
-  abbrev pub at_term : Term-F Result Skipped Result Selected Result Addition Given Relation Result Skipped Multiplication Result Result Skipped → Judged Typed
+  abbrev pub at_term : Term-F Result Skipped Result Selected Result Addition Given Relation Result Label Multiplication Result Result Skipped → Judged Typed
   at_term t = chained multiplied t.first t.more
 
-  abbrev pub at_values : Values-F Result Skipped Result Selected Result Addition Given Relation Result Skipped Multiplication Result Result Skipped → Unit {0}
+  abbrev pub at_values : Values-F Result Skipped Result Selected Result Addition Given Relation Result Label Multiplication Result Result Skipped → Unit {0}
   at_values v = tt
 
   -- what the rules say of an expression
   abbrev pub judged : Expression → Judged Typed
-  judged = fold-Expression Result Skipped Result Selected Result Addition Given Relation Result Skipped Multiplication Result Result Skipped at_component_value at_element at_factor at_selector at_access at_addend at_argument at_comparison at_expression at_label at_multiplier at_simple at_term at_values
+  judged = fold-Expression Result Skipped Result Selected Result Addition Given Relation Result Label Multiplication Result Result Skipped at_component_value at_element at_factor at_selector at_access at_addend at_argument at_comparison at_expression at_label at_multiplier at_simple at_term at_values
 
   -- of the parts of expressions
   abbrev pub simple_judged : Simple → Judged Typed
-  simple_judged = fold-Simple Result Skipped Result Selected Result Addition Given Relation Result Skipped Multiplication Result Result Skipped at_component_value at_element at_factor at_selector at_access at_addend at_argument at_comparison at_expression at_label at_multiplier at_simple at_term at_values
+  simple_judged = fold-Simple Result Skipped Result Selected Result Addition Given Relation Result Label Multiplication Result Result Skipped at_component_value at_element at_factor at_selector at_access at_addend at_argument at_comparison at_expression at_label at_multiplier at_simple at_term at_values
 
   abbrev pub term_judged : Term → Judged Typed
-  term_judged = fold-Term Result Skipped Result Selected Result Addition Given Relation Result Skipped Multiplication Result Result Skipped at_component_value at_element at_factor at_selector at_access at_addend at_argument at_comparison at_expression at_label at_multiplier at_simple at_term at_values
+  term_judged = fold-Term Result Skipped Result Selected Result Addition Given Relation Result Label Multiplication Result Result Skipped at_component_value at_element at_factor at_selector at_access at_addend at_argument at_comparison at_expression at_label at_multiplier at_simple at_term at_values
 
   abbrev pub factor_judged : Factor → Judged Typed
-  factor_judged = fold-Factor Result Skipped Result Selected Result Addition Given Relation Result Skipped Multiplication Result Result Skipped at_component_value at_element at_factor at_selector at_access at_addend at_argument at_comparison at_expression at_label at_multiplier at_simple at_term at_values
+  factor_judged = fold-Factor Result Skipped Result Selected Result Addition Given Relation Result Label Multiplication Result Result Skipped at_component_value at_element at_factor at_selector at_access at_addend at_argument at_comparison at_expression at_label at_multiplier at_simple at_term at_values
 
   abbrev pub addend_judged : Addend → Operand AddingOperator
-  addend_judged = fold-Addend Result Skipped Result Selected Result Addition Given Relation Result Skipped Multiplication Result Result Skipped at_component_value at_element at_factor at_selector at_access at_addend at_argument at_comparison at_expression at_label at_multiplier at_simple at_term at_values
+  addend_judged = fold-Addend Result Skipped Result Selected Result Addition Given Relation Result Label Multiplication Result Result Skipped at_component_value at_element at_factor at_selector at_access at_addend at_argument at_comparison at_expression at_label at_multiplier at_simple at_term at_values
 
   abbrev pub multiplier_judged : Multiplier → Operand MultiplyingOperator
-  multiplier_judged = fold-Multiplier Result Skipped Result Selected Result Addition Given Relation Result Skipped Multiplication Result Result Skipped at_component_value at_element at_factor at_selector at_access at_addend at_argument at_comparison at_expression at_label at_multiplier at_simple at_term at_values
+  multiplier_judged = fold-Multiplier Result Skipped Result Selected Result Addition Given Relation Result Label Multiplication Result Result Skipped at_component_value at_element at_factor at_selector at_access at_addend at_argument at_comparison at_expression at_label at_multiplier at_simple at_term at_values
 
   abbrev pub comparison_judged : Comparison → Operand RelationalOperator
-  comparison_judged = fold-Comparison Result Skipped Result Selected Result Addition Given Relation Result Skipped Multiplication Result Result Skipped at_component_value at_element at_factor at_selector at_access at_addend at_argument at_comparison at_expression at_label at_multiplier at_simple at_term at_values
+  comparison_judged = fold-Comparison Result Skipped Result Selected Result Addition Given Relation Result Label Multiplication Result Result Skipped at_component_value at_element at_factor at_selector at_access at_addend at_argument at_comparison at_expression at_label at_multiplier at_simple at_term at_values
 
   abbrev pub name_judged : Access → Judged Typed
-  name_judged = fold-Access Result Skipped Result Selected Result Addition Given Relation Result Skipped Multiplication Result Result Skipped at_component_value at_element at_factor at_selector at_access at_addend at_argument at_comparison at_expression at_label at_multiplier at_simple at_term at_values
+  name_judged = fold-Access Result Skipped Result Selected Result Addition Given Relation Result Label Multiplication Result Result Skipped at_component_value at_element at_factor at_selector at_access at_addend at_argument at_comparison at_expression at_label at_multiplier at_simple at_term at_values
 
   abbrev pub selected : Selector → Selected
-  selected = fold-Selector Result Skipped Result Selected Result Addition Given Relation Result Skipped Multiplication Result Result Skipped at_component_value at_element at_factor at_selector at_access at_addend at_argument at_comparison at_expression at_label at_multiplier at_simple at_term at_values
+  selected = fold-Selector Result Skipped Result Selected Result Addition Given Relation Result Label Multiplication Result Result Skipped at_component_value at_element at_factor at_selector at_access at_addend at_argument at_comparison at_expression at_label at_multiplier at_simple at_term at_values
+
+  -- of a label of a set constructor
+  abbrev pub labelled : LabelTree → Label
+  labelled = fold-Label Result Skipped Result Selected Result Addition Given Relation Result Label Multiplication Result Result Skipped at_component_value at_element at_factor at_selector at_access at_addend at_argument at_comparison at_expression at_label at_multiplier at_simple at_term at_values
 
   -- of an argument of a call
   abbrev pub given : Argument → Given
-  given = fold-Argument Result Skipped Result Selected Result Addition Given Relation Result Skipped Multiplication Result Result Skipped at_component_value at_element at_factor at_selector at_access at_addend at_argument at_comparison at_expression at_label at_multiplier at_simple at_term at_values
+  given = fold-Argument Result Skipped Result Selected Result Addition Given Relation Result Label Multiplication Result Result Skipped at_component_value at_element at_factor at_selector at_access at_addend at_argument at_comparison at_expression at_label at_multiplier at_simple at_term at_values
 
   -- of the value of a definition or of an assignment
   abbrev pub judged_value : ComponentValue → Judged Typed
-  judged_value = fold-ComponentValue Result Skipped Result Selected Result Addition Given Relation Result Skipped Multiplication Result Result Skipped at_component_value at_element at_factor at_selector at_access at_addend at_argument at_comparison at_expression at_label at_multiplier at_simple at_term at_values
+  judged_value = fold-ComponentValue Result Skipped Result Selected Result Addition Given Relation Result Label Multiplication Result Result Skipped at_component_value at_element at_factor at_selector at_access at_addend at_argument at_comparison at_expression at_label at_multiplier at_simple at_term at_values

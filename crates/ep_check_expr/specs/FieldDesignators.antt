@@ -55,6 +55,8 @@ module _ (scopes : List Region) where
   designated_by (kind.Structured n) name x = field_within (structure_in scopes n) name x
   designated_by (kind.Ordinal h) name x = no_field
   designated_by kind.Text name x = no_field
+  designated_by (kind.Set h) name x = no_field
+  designated_by kind.EmptySet name x = no_field
   designated_by kind.File name x = no_field
 
   abbrev pub designated : List ℕ → Typed → Judged Typed

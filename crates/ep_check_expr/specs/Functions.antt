@@ -1,12 +1,13 @@
 -- The rules of calls of the required functions (ISO 10206, 6.7.6).
 use Rattle.std.specs.Prelude.{ℕ, pos, suc, max, Bool, true, false, ◌==◌, ◌&&◌, ◌||◌, List, [], ◌∷◌, ◌++◌, length, Option, Some, None, if◌then◌else◌}
+use Rattle.std.specs.Option.{option_map}
 use Rattle.ep_typed.specs.Hosts.{least, greatest}
-use Rattle.ep_typed.specs.Trees.{Constant, Step}
+use Rattle.ep_typed.specs.Trees.{Card, Constant, Step}
 use Rattle.ep_typed.specs.declared.operations.Unary.{Unary}
 use Rattle.ep_typed.specs.declared.operations.Unary.TheVariants as unary
 use Rattle.ep_scope.specs.declared.kind.Host.{Host}
 use Rattle.ep_scope.specs.declared.kind.Kind.{Kind}
-use Rattle.ep_scope.specs.declared.kind.Kind.TheVariants.{Ordinal, Structured, Text, File}
+use Rattle.ep_scope.specs.declared.kind.Kind.TheVariants.{Ordinal, Structured, Set, EmptySet, Text, File}
 use Rattle.ep_scope.specs.declared.required.Function.{Function}
 use Rattle.ep_scope.specs.declared.required.Function.TheVariants as function
 use Rattle.ep_scope.specs.declared.rule.TheConstants as rule
@@ -55,6 +56,8 @@ of_integer operation kind x = if is_integer x.kind then unary_typed operation ki
 abbrev pub ordinal_by : Kind → Typed → Judged Typed
 ordinal_by (Ordinal h) x = unary_typed unary.Same integer x
 ordinal_by (Structured n) x = other_argument
+ordinal_by (Set h) x = other_argument
+ordinal_by EmptySet x = other_argument
 ordinal_by Text x = other_argument
 ordinal_by File x = other_argument
 
@@ -66,6 +69,8 @@ step_typed down h x count =
 abbrev pub stepped_by : Kind → Bool → Typed → Typed → Judged Typed
 stepped_by (Ordinal h) down x count = if is_integer count.kind then step_typed down h x count else other_argument
 stepped_by (Structured n) down x count = other_argument
+stepped_by (Set h) down x count = other_argument
+stepped_by EmptySet down x count = other_argument
 stepped_by Text down x count = other_argument
 stepped_by File down x count = other_argument
 
@@ -76,6 +81,18 @@ stepped down x count = stepped_by x.kind down x count
 abbrev pub one : Typed
 one = record { form = Some (Constant (pos 1)); kind = integer; depth = 1; access = access.Value }
 
+-- `card` of a set (ISO 10206, 6.7.6.8)
+abbrev pub card_typed : Typed → Judged Typed
+card_typed x = within_depth (option_map Card x.form) integer (suc x.depth)
+
+abbrev pub card_by : Kind → Typed → Judged Typed
+card_by (Set h) x = card_typed x
+card_by EmptySet x = card_typed x
+card_by (Ordinal h) x = other_argument
+card_by (Structured n) x = other_argument
+card_by Text x = other_argument
+card_by File x = other_argument
+
 -- a call of one argument
 abbrev pub applied_one : Function → Typed → Judged Typed
 applied_one function.Absolute = of_integer unary.Absolute integer
@@ -85,6 +102,7 @@ applied_one function.Ordinal = λ x. ordinal_by x.kind x
 applied_one function.Character = of_integer unary.Character character
 applied_one function.Successor = λ x. stepped false x one
 applied_one function.Predecessor = λ x. stepped true x one
+applied_one function.Cardinality = λ x. card_by x.kind x
 
 -- a call of two arguments, of a function that takes a count
 abbrev pub applied_two : Function → Typed → Typed → Judged Typed

@@ -67,6 +67,8 @@ module _ (scopes : List Region) where
   abbrev pub indexed_by : Kind → Typed → Typed → Judged Typed
   indexed_by (kind.Ordinal h) x i = no_index
   indexed_by (kind.Structured n) x i = indexed_if (structure_in scopes n) x i
+  indexed_by (kind.Set h) x i = no_index
+  indexed_by kind.EmptySet x i = no_index
   indexed_by kind.Text x i = indexed_text x i
   indexed_by kind.File x i = no_index
 

@@ -2,6 +2,7 @@ pub mod Agreement
 pub mod Answers
 pub mod Arguments
 pub mod Constants
+pub mod Constructors
 pub mod Expressions
 pub mod FieldDesignators
 pub mod Folding

@@ -1,5 +1,5 @@
 -- What names stand for as values and as functions (ISO 10206, 6.7.1 and 6.8.1).
-use Rattle.std.specs.Prelude.{ℕ, pos, nat_eq, Bool, true, false, ◌||◌, List, [], ◌∷◌, ◌++◌, codes, Some, if◌then◌else◌}
+use Rattle.std.specs.Prelude.{ℕ, pos, nat_eq, Bool, true, false, ◌||◌, List, [], ◌∷◌, ◌++◌, codes, Option, Some, None, if◌then◌else◌}
 use Rattle.std.specs.List.{list_any}
 use Rattle.std.specs.Str.{bytes_eq}
 use Rattle.ep_typed.specs.Operations.{maxint, last_char}
@@ -40,6 +40,15 @@ abbrev pub value_form : Value → Expr
 value_form (value.Word z) = Constant z
 value_form (value.Text bytes) = Text bytes
 
+-- a constant; none of a set type is built
+abbrev pub constant_form : Kind → Value → Option Expr
+constant_form (kind.Set h) v = None
+constant_form kind.EmptySet v = None
+constant_form k v = Some (value_form v)
+
+abbrev pub constant_typed : Kind → Value → Judged Typed
+constant_typed k v = Accepts (record { form = constant_form k v; kind = k; depth = 1; access = access.Constant })
+
 -- the value of a variable stands above its place
 abbrev pub reading : Expr → Kind → Access → Judged Typed
 reading form kind access = Accepts (record { form = Some form; kind = kind; depth = 2; access = access })
@@ -54,7 +63,7 @@ field_read f = Accepts (record { form = Some (Read (field_place f)); kind = f.ki
 
 -- what is declared as a value, in code of a depth
 abbrev pub value_declared : ℕ → Declared → Declaration → Judged Typed
-value_declared depth d (declaration.Constant kind value) = leaf (value_form value) kind access.Constant
+value_declared depth d (declaration.Constant kind value) = constant_typed kind value
 value_declared depth d (declaration.«Type» of host nodes) = Breaks (rule.OTHER_THING ∷ [])
 value_declared depth d (declaration.Variable of kind) = reading (Read (Variable d.unit d.number)) kind (access.Variable of protection.Unprotected)
 value_declared depth d (declaration.Own of kind guarded) = reading (Read (own_place depth d)) kind (access.Variable of guarded)

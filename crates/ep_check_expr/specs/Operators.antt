@@ -9,19 +9,21 @@ use Rattle.ep_tree.specs.declared.operator.MultiplyingOperator.{MultiplyingOpera
 use Rattle.ep_tree.specs.declared.operator.MultiplyingOperator.TheVariants as multiplying
 use Rattle.ep_tree.specs.declared.operator.RelationalOperator.{RelationalOperator}
 use Rattle.ep_tree.specs.declared.operator.RelationalOperator.TheVariants as relation
-use Rattle.ep_typed.specs.Trees.{Expr, One, Two, Short}
+use Rattle.ep_typed.specs.Trees.{Expr, One, Two, Short, OnSets}
 use Rattle.ep_typed.specs.declared.operations.Unary.{Unary}
 use Rattle.ep_typed.specs.declared.operations.Unary.TheVariants as unary
 use Rattle.ep_typed.specs.declared.operations.Binary.{Binary}
 use Rattle.ep_typed.specs.declared.operations.Binary.TheVariants as binary
 use Rattle.ep_typed.specs.declared.operations.ShortOperation.{ShortOperation}
 use Rattle.ep_typed.specs.declared.operations.ShortOperation.TheVariants as short
+use Rattle.ep_typed.specs.declared.operations.SetOperation.{SetOperation}
+use Rattle.ep_typed.specs.declared.operations.SetOperation.TheVariants as on_sets
 use Rattle.ep_scope.specs.Kinds.{same_host}
 use Rattle.ep_scope.specs.declared.kind.Host.TheVariants as host
 use Rattle.ep_scope.specs.declared.kind.Kind.{Kind}
-use Rattle.ep_scope.specs.declared.kind.Kind.TheVariants.{Ordinal, Text}
+use Rattle.ep_scope.specs.declared.kind.Kind.TheVariants.{Ordinal, Set, EmptySet, Text}
 use Rattle.ep_scope.specs.declared.rule.TheConstants as rule
-use Rattle.ep_check_expr.specs.Judgements.{Judged, Accepts, Breaks, Typed, unbuilt}
+use Rattle.ep_check_expr.specs.Judgements.{Judged, Accepts, Breaks, Typed}
 use Rattle.ep_check_expr.specs.declared.access.Access.TheVariants as access
 use Rattle.ep_check_expr.specs.declared.forms.TheConstants as limit
 
@@ -54,6 +56,25 @@ abbrev pub are_compatible : Kind → Kind → Bool
 are_compatible (Ordinal x) (Ordinal y) = same_host x y
 are_compatible _ _ = false
 
+-- two sets over one host; the empty set is one over each (ISO 10206, 6.4.5)
+abbrev pub are_sets : Kind → Kind → Bool
+are_sets (Set x) (Set y) = same_host x y
+are_sets (Set x) EmptySet = true
+are_sets EmptySet (Set y) = true
+are_sets EmptySet EmptySet = true
+are_sets _ _ = false
+
+-- the kind of a set of what such sets have
+abbrev pub joint_kind : Kind → Kind → Kind
+joint_kind EmptySet k = k
+joint_kind k l = k
+
+-- a value, and a set over its host
+abbrev pub may_be_in : Kind → Kind → Bool
+may_be_in (Ordinal x) (Set y) = same_host x y
+may_be_in (Ordinal x) EmptySet = true
+may_be_in _ _ = false
+
 -- at most so many typed nodes stand one below the other
 abbrev pub within_depth : Option Expr → Kind → ℕ → Judged Typed
 within_depth form kind depth = if nat_le depth limit.DEPTH then Accepts (record { form = form; kind = kind; depth = depth; access = access.Value }) else Breaks (rule.TOO_DEEP ∷ [])
@@ -70,6 +91,9 @@ binary_typed operation kind x y = within_depth (map_both (Two operation) x.form 
 
 abbrev pub short_typed : ShortOperation → Kind → Typed → Typed → Judged Typed
 short_typed operation kind x y = within_depth (map_both (Short operation) x.form y.form) kind (suc (max x.depth y.depth))
+
+abbrev pub on_sets_typed : SetOperation → Kind → Typed → Typed → Judged Typed
+on_sets_typed operation kind x y = within_depth (map_both (OnSets operation) x.form y.form) kind (suc (max x.depth y.depth))
 
 -- accepted, but its code is not built yet
 abbrev pub unbuilt_typed : Kind → Typed → Typed → Judged Typed
@@ -108,15 +132,19 @@ short_circuit operation x y = if is_boolean x.kind && is_boolean y.kind then sho
 abbrev pub sum_typed : Typed → Typed → Judged Typed
 sum_typed x y = if is_string x.kind && is_string y.kind then unbuilt_typed Text x y else arithmetic binary.Add x y
 
+-- two sets over one host give a set (ISO 10206, 6.8.3.4), and what they are else is told by another rule
+abbrev pub combined : SetOperation → Judged Typed → Typed → Typed → Judged Typed
+combined operation other x y = if are_sets x.kind y.kind then on_sets_typed operation (joint_kind x.kind y.kind) x y else other
+
 abbrev pub added : AddingOperator → Typed → Typed → Judged Typed
-added adding.Plus = sum_typed
-added adding.Minus = arithmetic binary.Subtract
+added adding.Plus = λ x y. combined on_sets.Union (sum_typed x y) x y
+added adding.Minus = λ x y. combined on_sets.Difference (arithmetic binary.Subtract x y) x y
 added adding.Or = logical binary.Or
-added adding.SymmetricDifference = λ x y. unbuilt
+added adding.SymmetricDifference = λ x y. combined on_sets.SymmetricDifference misfit x y
 added adding.OrElse = short_circuit short.OrElse
 
 abbrev pub multiplied : MultiplyingOperator → Typed → Typed → Judged Typed
-multiplied multiplying.Times = arithmetic binary.Multiply
+multiplied multiplying.Times = λ x y. combined on_sets.Intersection (arithmetic binary.Multiply x y) x y
 multiplied multiplying.Div = arithmetic binary.Divide
 multiplied multiplying.Mod = arithmetic binary.Modulo
 multiplied multiplying.And = logical binary.And
@@ -127,11 +155,19 @@ abbrev pub comparison : Binary → Typed → Typed → Judged Typed
 comparison operation x y =
     if are_compatible x.kind y.kind then binary_typed operation boolean x y else (if is_string x.kind && is_string y.kind then unbuilt_typed boolean x y else misfit)
 
+-- so do two sets over one host, which are not compared by `<` and `>` (ISO 10206, 6.8.3.5)
+abbrev pub related : SetOperation → Judged Typed → Typed → Typed → Judged Typed
+related operation other x y = if are_sets x.kind y.kind then on_sets_typed operation boolean x y else other
+
+-- `in` looks for a value in a set over its host (ISO 10206, 6.8.3.5)
+abbrev pub membership : Typed → Typed → Judged Typed
+membership x y = if may_be_in x.kind y.kind then on_sets_typed on_sets.In boolean x y else misfit
+
 abbrev pub compared : RelationalOperator → Typed → Typed → Judged Typed
-compared relation.Equal = comparison binary.Equal
-compared relation.NotEqual = comparison binary.Unequal
+compared relation.Equal = λ x y. related on_sets.Equal (comparison binary.Equal x y) x y
+compared relation.NotEqual = λ x y. related on_sets.Unequal (comparison binary.Unequal x y) x y
 compared relation.Less = comparison binary.Less
 compared relation.Greater = comparison binary.Greater
-compared relation.AtMost = comparison binary.AtMost
-compared relation.AtLeast = comparison binary.AtLeast
-compared relation.In = λ x y. unbuilt
+compared relation.AtMost = λ x y. related on_sets.Subset (comparison binary.AtMost x y) x y
+compared relation.AtLeast = λ x y. related on_sets.Superset (comparison binary.AtLeast x y) x y
+compared relation.In = membership

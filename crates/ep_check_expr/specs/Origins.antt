@@ -21,10 +21,12 @@ IsRequiredHost host.Char = ⊤
 IsRequiredHost host.Boolean = ⊤
 IsRequiredHost (host.Enumeration e) = ⊥
 
--- the kind is ordinal with this host
+-- the kind is ordinal with this host, or a set over it
 abbrev pub HasHost : Kind → Host → Type 0
 HasHost (kind.Ordinal g) h = g ≡ h
 HasHost (kind.Structured n) h = ⊥
+HasHost (kind.Set g) h = g ≡ h
+HasHost kind.EmptySet h = ⊥
 HasHost kind.Text h = ⊥
 HasHost kind.File h = ⊥
 
@@ -82,5 +84,7 @@ IsKnownHost scopes h = IsRequiredHost h ⊎ ScopesHaveHost scopes h
 abbrev pub IsKnownKind : List Region → Kind → Type 0
 IsKnownKind scopes (kind.Ordinal h) = IsKnownHost scopes h
 IsKnownKind scopes (kind.Structured n) = ⊤
+IsKnownKind scopes (kind.Set h) = IsKnownHost scopes h
+IsKnownKind scopes kind.EmptySet = ⊤
 IsKnownKind scopes kind.Text = ⊤
 IsKnownKind scopes kind.File = ⊤

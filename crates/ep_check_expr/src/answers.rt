@@ -12,7 +12,7 @@ use crate::expressions::typed_expression;
 use crate::forms::Refusal;
 use ep_base::Line;
 use ep_built::expression_unbuilt;
-use ep_scope::View;
+use ep_scope::{Scope, View};
 use ep_tree::Expression;
 use ep_typed::{TypedExpr, Value};
 use std::alloc::Global;
@@ -46,6 +46,32 @@ pub enum ExpressionRefusal {
 pub fn expression(
     alloc: Global,
     tree: &Expression,
+    scopes: &[Scope],
+) -> Result<TypedExpr, ExpressionRefusal>
+    ensures judged { UnlessUnbuilt (expression_unbuilt tree.now) result
+        (AnswersExpression result (out-Expression tree.now).line (judged scopes.now tree.now)) }
+    ensures valid { IfOk result (λ e. IsValidForm scopes.now (judged scopes.now tree.now)) }
+{
+    expression_in_view(alloc, tree, &View::of(scopes))
+}
+
+/// The value of a constant expression. The refusals come as those of `expression`.
+pub fn constant(
+    alloc: Global,
+    tree: &Expression,
+    scopes: &[Scope],
+) -> Result<Value, ExpressionRefusal>
+    ensures judged { UnlessUnbuilt (expression_unbuilt tree.now) result
+        (AnswersConstant result (out-Expression tree.now).line (constant_expression scopes.now tree.now)) }
+    ensures valid { IfOk result (λ v. IsValidConstant scopes.now (constant_expression scopes.now tree.now)) }
+{
+    constant_in_view(alloc, tree, &View::of(scopes))
+}
+
+/// The typed form of an expression in view of these scopes.
+fn expression_in_view(
+    alloc: Global,
+    tree: &Expression,
     scopes: &View<'_>,
 ) -> Result<TypedExpr, ExpressionRefusal>
     ensures judged { UnlessUnbuilt (expression_unbuilt tree.now) result
@@ -64,8 +90,8 @@ pub fn expression(
     }
 }
 
-/// The value of a constant expression. The refusals come as those of `expression`.
-pub fn constant(
+/// The value of a constant expression in view of these scopes.
+fn constant_in_view(
     alloc: Global,
     tree: &Expression,
     scopes: &View<'_>,

@@ -45,6 +45,8 @@ pub fn given_value(to: Kind, value: Typed) -> Result<Option<Boxed<TypedExpr>>, R
         (Kind::Structured(left), Kind::Structured(right)) if left == right => {
             Ok(value.into_form())
         }
+        (Kind::Set(left), Kind::Set(right)) if same_host(left, right) => Ok(value.into_form()),
+        (Kind::Set(_), Kind::EmptySet) => Ok(value.into_form()),
         _ => Err(Refusal::Rule(rule::ASSIGNMENT)),
     }
 }

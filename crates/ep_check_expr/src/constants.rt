@@ -3,7 +3,7 @@
 ghost use Rattle.std.specs.Prelude.{◌≡◌, None, false};
 ghost use Rattle.ep_built.specs.Built.{component_value_unbuilt, expression_unbuilt};
 ghost use Rattle.ep_check_expr.specs.Answers.{typed_of, AnswersJudged};
-ghost use Rattle.ep_check_expr.specs.Constants.{as_constant, constant_judged, constant_expression, bound_judged, label_judged, known, unbuilt_constant, varies};
+ghost use Rattle.ep_check_expr.specs.Constants.{as_constant, constant_judged, constant_expression, bound_judged, label_judged, known, unbuilt_constant, unbuilt_of, varies};
 ghost use Rattle.ep_check_expr.specs.Judgements.{Accepts};
 
 use crate::expressions::typed_expression;
@@ -137,6 +137,7 @@ pub(crate) fn as_constant(alloc: Global, t: &Typed) -> Result<ConstantForm, Refu
         }
         other => match folded_form(other) {
             Folded::Known(z) => Ok(known(t.kind, Value::Word(z))),
+            Folded::Unbuilt => Ok(unbuilt_of(alloc, t.kind)),
             _ => Err(Refusal::Rule(rule::CONSTANT)),
         },
     }
@@ -153,19 +154,31 @@ fn known(kind: Kind, value: Value) -> ConstantForm
     }
 }
 
-/// A constant that is not built, with what stands for its value.
+/// A constant that is not built; a structured value is none.
 fn unbuilt_constant(alloc: Global, kind: Kind) -> Result<ConstantForm, Refusal>
     ensures { AnswersJudged (λ c. c) result (unbuilt_constant kind) }
 {
+    match kind {
+        Kind::Structured(_) => Err(Refusal::Rule(rule::CONSTANT)),
+        _ => Ok(unbuilt_of(alloc, kind)),
+    }
+}
+
+/// A constant that is not built, with what stands for its value.
+fn unbuilt_of(alloc: Global, kind: Kind) -> ConstantForm
+    ensures { unbuilt_of kind ≡ Accepts result }
+{
     let value = match kind {
         Kind::Ordinal(_) => Value::Word(0),
-        Kind::Structured(_) => return Err(Refusal::Rule(rule::CONSTANT)),
+        Kind::Structured(_) => Value::Text(Bytes::new(alloc)),
+        Kind::Set(_) => Value::Text(Bytes::new(alloc)),
+        Kind::EmptySet => Value::Text(Bytes::new(alloc)),
         Kind::Text => Value::Text(Bytes::new(alloc)),
         Kind::File => Value::Text(Bytes::new(alloc)),
     };
-    Ok(ConstantForm {
+    ConstantForm {
         value,
         kind,
         built: false,
-    })
+    }
 }

@@ -3,12 +3,13 @@
 ghost use Rattle.std.specs.Prelude.{◌≡◌, true, None, IfOk, map};
 ghost use Rattle.std.specs.List.{list_all};
 ghost use Rattle.std.specs.Option.{option_map};
-ghost use Rattle.ep_built.specs.Built.{component_value_unbuilt, expression_unbuilt, simple_unbuilt, term_unbuilt, factor_unbuilt, access_unbuilt, argument_unbuilt, addend_belonging, multiplier_belonging, form_told, is_component, selector_belonging, written_unbuilt, written_value_unbuilt, all_are_built, lines_in, first_in};
+ghost use Rattle.ep_built.specs.Built.{component_value_unbuilt, expression_unbuilt, simple_unbuilt, term_unbuilt, factor_unbuilt, access_unbuilt, argument_unbuilt, addend_belonging, multiplier_belonging, form_told, is_component, label_unbuilt, selector_belonging, written_unbuilt, written_value_unbuilt, lines_in, first_in};
 ghost use Rattle.ep_typed.specs.Viewed.{expr_of};
 ghost use Rattle.ep_scope.specs.Scopes.{depth_in, meant};
-ghost use Rattle.ep_check_expr.specs.Answers.{taken_of, typed_of, AnswersJudged, AnswersTyped, AnswersGiven};
+ghost use Rattle.ep_check_expr.specs.Answers.{members_of, taken_of, typed_of, AnswersJudged, AnswersTyped, AnswersGiven};
 ghost use Rattle.ep_check_expr.specs.Arguments.{IsReading, arguments_judged};
-ghost use Rattle.ep_check_expr.specs.Expressions.{chained, judged, judged_value, addend_judged, multiplier_judged, simple_judged, term_judged, factor_judged, name_judged, selected, selected_all, given, string_judged};
+ghost use Rattle.ep_check_expr.specs.Constructors.{set_judged, with_label};
+ghost use Rattle.ep_check_expr.specs.Expressions.{chained, labelled, judged, judged_value, addend_judged, multiplier_judged, simple_judged, term_judged, factor_judged, name_judged, selected, selected_all, given, string_judged};
 ghost use Rattle.ep_check_expr.specs.Functions.{applied};
 ghost use Rattle.ep_check_expr.specs.Indexing.{indexed_all};
 ghost use Rattle.ep_check_expr.specs.Judgements.{Accepts};
@@ -16,6 +17,7 @@ ghost use Rattle.ep_check_expr.specs.Names.{call_declared, call_named};
 ghost use Rattle.ep_check_expr.specs.Operators.{added, multiplied};
 
 use crate::arguments::Taken;
+use crate::constructors::Members;
 use crate::fields::designated;
 use crate::forms::{Refusal, Typed};
 use crate::functions::{applied_to_one, applied_to_two, takes};
@@ -29,8 +31,8 @@ use ep_scope::{
     meaning_of, rule,
 };
 use ep_tree::{
-    Access, Addend, Argument, ComponentValue, Expression, Factor, Multiplier, Selector, Simple,
-    Term,
+    Access, Addend, Argument, ComponentValue, Expression, Factor, Label, Multiplier, Selector,
+    Simple, Term,
 };
 use std::alloc::Global;
 
@@ -114,7 +116,6 @@ fn simple(alloc: Global, s: &Simple, scopes: &View<'_>) -> Result<Typed, Refusal
 /// `{ adding-operator term }`, after the terms before it
 #[cycle(typed)]
 fn addends(alloc: Global, first: Typed, all: &[Addend], scopes: &View<'_>) -> Result<Typed, Refusal>
-    requires operators { all_are_built (map addend_belonging all.now) ≡ true }
     requires operands { lines_in (map addend_belonging all.now) ≡ None }
     ensures { AnswersTyped result (chained added (Accepts (typed_of first)) (map (addend_judged scopes.now) all.now)) }
 {
@@ -144,7 +145,6 @@ fn multipliers(
     all: &[Multiplier],
     scopes: &View<'_>,
 ) -> Result<Typed, Refusal>
-    requires operators { all_are_built (map multiplier_belonging all.now) ≡ true }
     requires operands { lines_in (map multiplier_belonging all.now) ≡ None }
     ensures { AnswersTyped result (chained multiplied (Accepts (typed_of first))
         (map (multiplier_judged scopes.now) all.now)) }
@@ -176,8 +176,43 @@ fn factor(alloc: Global, f: &Factor, scopes: &View<'_>) -> Result<Typed, Refusal
             negated(alloc, operand)
         }
         Factor::Nil(_) => unreachable!(),
-        Factor::Set(_, _) => unreachable!(),
+        Factor::Set(_, labels) => set(alloc, labels.items(), scopes),
         Factor::Structured(_, _, _) => unreachable!(),
+    }
+}
+
+/// `"[" [ label { "," label } ] "]"`
+#[cycle(typed)]
+fn set(alloc: Global, all: &[Label], scopes: &View<'_>) -> Result<Typed, Refusal>
+    requires built { first_in (map label_unbuilt all.now) ≡ None }
+    ensures { AnswersTyped result (set_judged (map (labelled scopes.now) all.now)) }
+{
+    let mut members = Members::nothing(alloc);
+    for label in all {
+        members = with_label(alloc, members, label, scopes)?;
+    }
+    members.constructed(alloc)
+}
+
+/// `label`, after those before it
+#[cycle(typed)]
+fn with_label(
+    alloc: Global,
+    before: Members,
+    label: &Label,
+    scopes: &View<'_>,
+) -> Result<Members, Refusal>
+    requires built { label_unbuilt label.now ≡ None }
+    ensures { AnswersJudged members_of result
+        (with_label (Accepts (members_of before)) (labelled scopes.now label.now)) }
+{
+    let low = typed_expression(alloc, label.low.get(), scopes)?;
+    match &label.high {
+        None => before.with_single(low),
+        Some(last) => {
+            let high = typed_expression(alloc, last.get(), scopes)?;
+            before.with_range(low, high)
+        }
     }
 }
 

@@ -1,13 +1,14 @@
 //! What is known of typed forms as constants, by the operations that a run has.
 
-ghost use Rattle.std.specs.Prelude.{◌≡◌, MatchOption};
+ghost use Rattle.std.specs.Prelude.{◌≡◌, MatchOption, map};
 ghost use Rattle.ep_typed.specs.Operations.{Number, ordinal_of, within, modulo, decides, unary_answer, binary_answer, step_answer};
 ghost use Rattle.ep_typed.specs.declared.run_error.TheConstants as run_error;
-ghost use Rattle.ep_typed.specs.Viewed.{expr_of};
-ghost use Rattle.ep_check_expr.specs.Folding.{AnswersPair, answered, folded, short_folded};
-ghost use Rattle.ep_check_expr.specs.declared.folding.Folded.TheVariants.{Errs};
+ghost use Rattle.ep_typed.specs.Trees.{designators};
+ghost use Rattle.ep_typed.specs.Viewed.{designator_of, expr_of};
+ghost use Rattle.ep_check_expr.specs.Folding.{AnswersPair, answered, beside, folded, folded_member, folded_members, short_folded, together};
+ghost use Rattle.ep_check_expr.specs.declared.folding.Folded.TheVariants.{Errs, Unbuilt};
 
-use ep_typed::{Binary, ShortOperation, TypedExpr, Unary};
+use ep_typed::{Binary, MemberDesignator, ShortOperation, TypedExpr, Unary};
 
 /// What a typed form is as a constant.
 #[derive(Clone, Copy, Drop)]
@@ -18,6 +19,8 @@ pub enum Folded {
     Varies,
     /// No constant, since there would be an error.
     Errs,
+    /// A constant that is made of sets, which are not computed.
+    Unbuilt,
 }
 
 /// What is known of a typed form. It takes no memory.
@@ -57,6 +60,59 @@ pub fn folded_form(e: &TypedExpr) -> Folded
                 Err(other) => other,
             }
         }
+        TypedExpr::Set(designators) => members(designators.items()),
+        TypedExpr::OnSets(_, left, right) => {
+            together(folded_form(left.get()), folded_form(right.get()))
+        }
+        TypedExpr::Card(operand) => beside(folded_form(operand.get())),
+    }
+}
+
+/// What is known of a member designator.
+#[cycle(folded)]
+fn member(designator: &MemberDesignator) -> Folded
+    ensures { result ≡ folded_member (designator_of designator.now) }
+{
+    match designator {
+        MemberDesignator::Single(value) => beside(folded_form(value.get())),
+        MemberDesignator::Range(first, last) => {
+            together(folded_form(first.get()), folded_form(last.get()))
+        }
+    }
+}
+
+/// What is known of member designators.
+#[cycle(folded)]
+fn members(all: &[MemberDesignator]) -> Folded
+    ensures { result ≡ folded_members Unbuilt (designators (map designator_of all.now)) }
+{
+    let mut found = Folded::Unbuilt;
+    for designator in all {
+        found = together(found, member(designator));
+    }
+    found
+}
+
+/// What is known of a set that has such a part.
+fn beside(part: Folded) -> Folded
+    ensures { result ≡ beside part }
+{
+    match part {
+        Folded::Known(_) => Folded::Unbuilt,
+        other => other,
+    }
+}
+
+/// What is known of a form of two such parts.
+fn together(left: Folded, right: Folded) -> Folded
+    ensures { result ≡ together left right }
+{
+    match (left, right) {
+        (Folded::Varies, _) => Folded::Varies,
+        (_, Folded::Varies) => Folded::Varies,
+        (Folded::Errs, _) => Folded::Errs,
+        (_, Folded::Errs) => Folded::Errs,
+        _ => Folded::Unbuilt,
     }
 }
 
@@ -68,7 +124,9 @@ fn pair(left: Folded, right: Folded) -> Result<(i64, i64), Folded>
         (Folded::Known(x), Folded::Known(y)) => Ok((x, y)),
         (Folded::Varies, _) => Err(Folded::Varies),
         (_, Folded::Varies) => Err(Folded::Varies),
-        _ => Err(Folded::Errs),
+        (Folded::Errs, _) => Err(Folded::Errs),
+        (_, Folded::Errs) => Err(Folded::Errs),
+        _ => Err(Folded::Unbuilt),
     }
 }
 
@@ -80,16 +138,13 @@ fn short(operation: ShortOperation, left: Folded, right: Folded) -> Folded
         (Folded::Known(x), Folded::Known(y)) => {
             Folded::Known(if decides(operation, x) { x } else { y })
         }
-        (Folded::Known(x), Folded::Errs) => {
-            if decides(operation, x) {
-                left
-            } else {
-                Folded::Errs
-            }
+        (Folded::Known(x), Folded::Errs | Folded::Unbuilt) => {
+            if decides(operation, x) { left } else { right }
         }
         (Folded::Varies, _) => Folded::Varies,
         (_, Folded::Varies) => Folded::Varies,
-        _ => Folded::Errs,
+        (Folded::Errs, _) => Folded::Errs,
+        _ => Folded::Unbuilt,
     }
 }
 

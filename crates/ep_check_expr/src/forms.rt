@@ -1,15 +1,15 @@
 //! Typed forms under construction.
 
-ghost use Rattle.std.specs.Prelude.{◌≡◌, IsTrue, Some};
+ghost use Rattle.std.specs.Prelude.{◌≡◌, IsTrue, None, Some};
 ghost use Rattle.std.specs.Option.{option_map};
 ghost use Rattle.ep_typed.specs.Trees.{Constant};
 ghost use Rattle.ep_scope.specs.declared.kind.Kind.TheVariants as kind;
 ghost use Rattle.ep_check_expr.specs.Answers.{taken_of, typed_of, AnswersTyped, AnswersDepth};
 ghost use Rattle.ep_check_expr.specs.Arguments.{IsReadingIf, callee_at, function_typed, place_read};
 ghost use Rattle.ep_check_expr.specs.Expressions.{spelled};
-ghost use Rattle.ep_check_expr.specs.Operators.{unary_typed, binary_typed, short_typed, unbuilt_typed};
-ghost use Rattle.ep_check_expr.specs.Functions.{step_typed};
-ghost use Rattle.ep_check_expr.specs.Names.{leaf, parenthesized, reading, value_form};
+ghost use Rattle.ep_check_expr.specs.Operators.{unary_typed, binary_typed, on_sets_typed, short_typed, unbuilt_typed};
+ghost use Rattle.ep_check_expr.specs.Functions.{card_typed, step_typed};
+ghost use Rattle.ep_check_expr.specs.Names.{constant_typed, leaf, parenthesized, reading};
 ghost use Rattle.ep_check_expr.specs.declared.access.Access.TheVariants as access;
 ghost use Rattle.ep_check_expr.specs.Hosts.{typed_host};
 ghost use Rattle.ep_typed.specs.Hosts as hosts;
@@ -22,7 +22,7 @@ use crate::arguments::Taken;
 use crate::levels::callee_at;
 use ep_base::{Boxed, Bytes, NoMemory};
 use ep_scope::{Declared, Host, Kind, rule};
-use ep_typed::{Binary, ShortOperation, TypedExpr, TypedPlace, Unary, Value};
+use ep_typed::{Binary, SetOperation, ShortOperation, TypedExpr, TypedPlace, Unary, Value};
 use std::alloc::{AllocError, Global};
 
 /// The greatest number of typed nodes of an expression that stand one below the other.
@@ -161,10 +161,25 @@ impl Typed {
         Typed::leaf(alloc, TypedExpr::Text(copy), Kind::Text, Access::Value)
     }
 
+    /// A constant of a set type, which is not built.
+    fn set_constant(kind: Kind) -> Typed
+        ensures { typed_of result ≡ record { form = None; kind = kind; depth = 1; access = access.Constant } }
+    {
+        Typed {
+            form: None,
+            kind,
+            depth: 1,
+            access: Access::Constant,
+        }
+    }
+
     /// The value of a constant.
     pub(crate) fn value(alloc: Global, value: &Value, kind: Kind) -> Result<Typed, Refusal>
-        ensures { AnswersTyped result (leaf (value_form value.now) kind access.Constant) }
+        ensures { AnswersTyped result (constant_typed kind value.now) }
     {
+        if matches!(kind, Kind::Set(_) | Kind::EmptySet) {
+            return Ok(Typed::set_constant(kind));
+        }
         match value {
             Value::Word(word) => Typed::constant(alloc, *word, kind, Access::Constant),
             Value::Text(bytes) => {
@@ -264,6 +279,48 @@ impl Typed {
         })
     }
 
+    /// An operation of two operands of which the right one at least is a set.
+    pub(crate) fn on_sets(
+        alloc: Global,
+        operation: SetOperation,
+        kind: Kind,
+        x: Typed,
+        y: Typed,
+    ) -> Result<Typed, Refusal>
+        ensures { AnswersTyped result (on_sets_typed operation kind (typed_of x) (typed_of y)) }
+    {
+        let depth = above(x.depth.max(y.depth))?;
+        let form = match (x.into_form(), y.into_form()) {
+            (Some(left), Some(right)) => {
+                Some(Boxed::new(alloc, TypedExpr::OnSets(operation, left, right))?)
+            }
+            _ => None,
+        };
+        Ok(Typed {
+            form,
+            kind,
+            depth,
+            access: Access::Value,
+        })
+    }
+
+    /// How many members a set has.
+    pub(crate) fn cardinality(alloc: Global, x: Typed) -> Result<Typed, Refusal>
+        ensures { AnswersTyped result (card_typed (typed_of x)) }
+    {
+        let depth = above(x.depth)?;
+        let form = match x.into_form() {
+            None => None,
+            Some(operand) => Some(Boxed::new(alloc, TypedExpr::Card(operand))?),
+        };
+        Ok(Typed {
+            form,
+            kind: Kind::Ordinal(Host::Integer),
+            depth,
+            access: Access::Value,
+        })
+    }
+
     /// A form of two operands that has no code yet.
     pub(crate) fn unbuilt(kind: Kind, x: Typed, y: Typed) -> Result<Typed, Refusal>
         ensures { AnswersTyped result (unbuilt_typed kind (typed_of x) (typed_of y)) }
@@ -277,7 +334,7 @@ impl Typed {
         })
     }
 
-    /// A call of a function, whose result is of this kind, in code of a depth. It is built where that is ordinal or structured.
+    /// A call of a function, whose result is of this kind, in code of a depth. It is built where that is ordinal, structured or a set.
     pub(crate) fn function(
         alloc: Global,
         depth: u32,
@@ -289,7 +346,7 @@ impl Typed {
     {
         let nesting = above(given.depth)?;
         let form = match (kind, given.into_actuals()) {
-            (Kind::Ordinal(_) | Kind::Structured(_), Some(actuals)) => {
+            (Kind::Ordinal(_) | Kind::Structured(_) | Kind::Set(_), Some(actuals)) => {
                 let callee = callee_at(alloc, depth, d)?;
                 Some(Boxed::new(alloc, TypedExpr::Function(callee, actuals))?)
             }

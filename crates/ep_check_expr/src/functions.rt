@@ -2,7 +2,7 @@
 
 ghost use Rattle.std.specs.Prelude.{◌≡◌};
 ghost use Rattle.ep_check_expr.specs.Answers.{typed_of, AnswersTyped};
-ghost use Rattle.ep_check_expr.specs.Functions.{takes, takes_count, of_integer, ordinal_by, stepped, applied_one, applied_two, one};
+ghost use Rattle.ep_check_expr.specs.Functions.{takes, takes_count, card_by, of_integer, ordinal_by, stepped, applied_one, applied_two, one};
 
 use crate::access::Access;
 use crate::forms::{Refusal, Typed};
@@ -47,6 +47,8 @@ fn ordinal(alloc: Global, x: Typed) -> Result<Typed, Refusal>
     match x.kind {
         Kind::Ordinal(_) => Typed::unary(alloc, Unary::Same, Kind::Ordinal(Host::Integer), x),
         Kind::Structured(_) => Err(Refusal::Rule(rule::REQUIRED_ARGUMENT)),
+        Kind::Set(_) => Err(Refusal::Rule(rule::REQUIRED_ARGUMENT)),
+        Kind::EmptySet => Err(Refusal::Rule(rule::REQUIRED_ARGUMENT)),
         Kind::Text => Err(Refusal::Rule(rule::REQUIRED_ARGUMENT)),
         Kind::File => Err(Refusal::Rule(rule::REQUIRED_ARGUMENT)),
     }
@@ -74,6 +76,16 @@ fn stepped_by_one(alloc: Global, down: bool, x: Typed) -> Result<Typed, Refusal>
     stepped(alloc, down, x, count)
 }
 
+/// `card` of a set.
+fn cardinality(alloc: Global, x: Typed) -> Result<Typed, Refusal>
+    ensures { AnswersTyped result (card_by x.kind (typed_of x)) }
+{
+    match x.kind {
+        Kind::Set(_) | Kind::EmptySet => Typed::cardinality(alloc, x),
+        _ => Err(Refusal::Rule(rule::REQUIRED_ARGUMENT)),
+    }
+}
+
 /// A call of one argument.
 pub(crate) fn applied_to_one(alloc: Global, function: Function, x: Typed) -> Result<Typed, Refusal>
     ensures { AnswersTyped result (applied_one function (typed_of x)) }
@@ -87,6 +99,7 @@ pub(crate) fn applied_to_one(alloc: Global, function: Function, x: Typed) -> Res
         Function::Character => { of_integer(alloc, Unary::Character, Kind::Ordinal(Host::Char), x) }
         Function::Successor => stepped_by_one(alloc, false, x),
         Function::Predecessor => stepped_by_one(alloc, true, x),
+        Function::Cardinality => cardinality(alloc, x),
     }
 }
 

@@ -4,14 +4,15 @@
 //! that fails in it; `constant_value`, `bound_value` and `label_value` the value of a constant expression;
 //! `typed_arguments` what is given for the formal parameters of a procedure or function of a unit.
 //! specs/Expressions.antt says which typed form an expression has and which rules fail, by one clause for each
-//! production; specs/Operators.antt, specs/Functions.antt, specs/Arguments.antt, specs/Indexing.antt, specs/Names.antt
-//! and specs/Constants.antt have the rules, on parts that are accepted. By `laws_of_expressions` what they accept is valid.
+//! production; specs/Operators.antt, specs/Functions.antt, specs/Arguments.antt, specs/Indexing.antt,
+//! specs/Constructors.antt, specs/Names.antt and specs/Constants.antt have the rules, on parts that are accepted. By `laws_of_expressions` what they accept is valid.
 #![tactic(auto)]
 
 mod access;
 mod answers;
 mod arguments;
 mod constants;
+mod constructors;
 mod expressions;
 mod fields;
 mod folding;

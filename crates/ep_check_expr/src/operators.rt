@@ -1,15 +1,15 @@
 //! The rules of operators, on operands that are accepted.
 
 ghost use Rattle.std.specs.Prelude.{◌≡◌, true};
-ghost use Rattle.ep_built.specs.Built.{built_adding, built_multiplying, built_relation};
+ghost use Rattle.ep_tree.specs.declared.operator.MultiplyingOperator.TheVariants as times;
 ghost use Rattle.ep_check_expr.specs.Answers.{typed_of, AnswersTyped};
 ghost use Rattle.ep_check_expr.specs.Operators as spec;
-ghost use Rattle.ep_check_expr.specs.Operators.{signed, negated, arithmetic, logical, short_circuit, sum_typed, comparison, added, multiplied, compared, are_compatible};
+ghost use Rattle.ep_check_expr.specs.Operators.{signed, negated, arithmetic, logical, short_circuit, sum_typed, comparison, added, multiplied, compared, are_compatible, are_sets, joint_kind, may_be_in, membership, on_sets_typed, related};
 
 use crate::forms::{Refusal, Typed};
 use ep_scope::{Host, Kind, rule, same_host};
 use ep_tree::{AddingOperator, MultiplyingOperator, RelationalOperator, Sign};
-use ep_typed::{Binary, ShortOperation, Unary};
+use ep_typed::{Binary, SetOperation, ShortOperation, Unary};
 use std::alloc::Global;
 
 /// Whether a value is an integer.
@@ -49,6 +49,40 @@ pub(crate) fn are_compatible(x: Kind, y: Kind) -> bool
 {
     match (x, y) {
         (Kind::Ordinal(left), Kind::Ordinal(right)) => same_host(left, right),
+        _ => false,
+    }
+}
+
+/// Whether two values are sets over one host; the empty set is one over each.
+pub(crate) fn are_sets(x: Kind, y: Kind) -> bool
+    ensures { result ≡ are_sets x y }
+{
+    match (x, y) {
+        (Kind::Set(left), Kind::Set(right)) => same_host(left, right),
+        (Kind::Set(_), Kind::EmptySet) => true,
+        (Kind::EmptySet, Kind::Set(_)) => true,
+        (Kind::EmptySet, Kind::EmptySet) => true,
+        _ => false,
+    }
+}
+
+/// The kind of a set of what two such sets have.
+fn joint_kind(x: Kind, y: Kind) -> Kind
+    ensures { result ≡ joint_kind x y }
+{
+    match x {
+        Kind::EmptySet => y,
+        _ => x,
+    }
+}
+
+/// Whether a value may be in a set, which is one over its host.
+fn may_be_in(x: Kind, y: Kind) -> bool
+    ensures { result ≡ may_be_in x y }
+{
+    match (x, y) {
+        (Kind::Ordinal(left), Kind::Set(right)) => same_host(left, right),
+        (Kind::Ordinal(_), Kind::EmptySet) => true,
         _ => false,
     }
 }
@@ -130,6 +164,27 @@ fn sum(alloc: Global, x: Typed, y: Typed) -> Result<Typed, Refusal>
     }
 }
 
+/// An operation that makes a set of two over one host.
+fn combined(alloc: Global, operation: SetOperation, x: Typed, y: Typed) -> Result<Typed, Refusal>
+    requires { are_sets x.kind y.kind ≡ true }
+    ensures { AnswersTyped result
+        (on_sets_typed operation (joint_kind x.kind y.kind) (typed_of x) (typed_of y)) }
+{
+    let kind = joint_kind(x.kind, y.kind);
+    Typed::on_sets(alloc, operation, kind, x, y)
+}
+
+/// `in`
+fn membership(alloc: Global, x: Typed, y: Typed) -> Result<Typed, Refusal>
+    ensures { AnswersTyped result (membership (typed_of x) (typed_of y)) }
+{
+    if may_be_in(x.kind, y.kind) {
+        Typed::on_sets(alloc, SetOperation::In, Kind::Ordinal(Host::Boolean), x, y)
+    } else {
+        Err(Refusal::Rule(rule::OPERANDS))
+    }
+}
+
 /// A comparison of two values of one host, or of two strings.
 fn comparison(alloc: Global, operation: Binary, x: Typed, y: Typed) -> Result<Typed, Refusal>
     ensures { AnswersTyped result (comparison operation (typed_of x) (typed_of y)) }
@@ -143,6 +198,22 @@ fn comparison(alloc: Global, operation: Binary, x: Typed, y: Typed) -> Result<Ty
     }
 }
 
+/// `simple adding-operator term` of two sets.
+fn added_sets(alloc: Global, operator: AddingOperator, x: Typed, y: Typed) -> Result<Typed, Refusal>
+    requires { are_sets x.kind y.kind ≡ true }
+    ensures { AnswersTyped result (added operator (typed_of x) (typed_of y)) }
+{
+    match operator {
+        AddingOperator::Plus => combined(alloc, SetOperation::Union, x, y),
+        AddingOperator::Minus => combined(alloc, SetOperation::Difference, x, y),
+        AddingOperator::Or => logical(alloc, Binary::Or, x, y),
+        AddingOperator::SymmetricDifference => {
+            combined(alloc, SetOperation::SymmetricDifference, x, y)
+        }
+        AddingOperator::OrElse => short_circuit(alloc, ShortOperation::OrElse, x, y),
+    }
+}
+
 /// `simple adding-operator term`
 pub(crate) fn added(
     alloc: Global,
@@ -150,15 +221,28 @@ pub(crate) fn added(
     x: Typed,
     y: Typed,
 ) -> Result<Typed, Refusal>
-    requires { built_adding operator ≡ true }
     ensures { AnswersTyped result (added operator (typed_of x) (typed_of y)) }
 {
+    if are_sets(x.kind, y.kind) {
+        return added_sets(alloc, operator, x, y);
+    }
     match operator {
         AddingOperator::Plus => sum(alloc, x, y),
         AddingOperator::Minus => arithmetic(alloc, Binary::Subtract, x, y),
         AddingOperator::Or => logical(alloc, Binary::Or, x, y),
-        AddingOperator::SymmetricDifference => unreachable!(),
+        AddingOperator::SymmetricDifference => Err(Refusal::Rule(rule::OPERANDS)),
         AddingOperator::OrElse => short_circuit(alloc, ShortOperation::OrElse, x, y),
+    }
+}
+
+/// `*`
+fn product(alloc: Global, x: Typed, y: Typed) -> Result<Typed, Refusal>
+    ensures { AnswersTyped result (multiplied times.Times (typed_of x) (typed_of y)) }
+{
+    if are_sets(x.kind, y.kind) {
+        combined(alloc, SetOperation::Intersection, x, y)
+    } else {
+        arithmetic(alloc, Binary::Multiply, x, y)
     }
 }
 
@@ -169,15 +253,32 @@ pub(crate) fn multiplied(
     x: Typed,
     y: Typed,
 ) -> Result<Typed, Refusal>
-    requires { built_multiplying operator ≡ true }
     ensures { AnswersTyped result (multiplied operator (typed_of x) (typed_of y)) }
 {
     match operator {
-        MultiplyingOperator::Times => arithmetic(alloc, Binary::Multiply, x, y),
+        MultiplyingOperator::Times => product(alloc, x, y),
         MultiplyingOperator::Div => arithmetic(alloc, Binary::Divide, x, y),
         MultiplyingOperator::Mod => arithmetic(alloc, Binary::Modulo, x, y),
         MultiplyingOperator::And => logical(alloc, Binary::And, x, y),
         MultiplyingOperator::AndThen => short_circuit(alloc, ShortOperation::AndThen, x, y),
+    }
+}
+
+/// A comparison of two sets over one host, or else of what may be compared alike.
+fn related(
+    alloc: Global,
+    on_sets: SetOperation,
+    operation: Binary,
+    x: Typed,
+    y: Typed,
+) -> Result<Typed, Refusal>
+    ensures { AnswersTyped result (related on_sets
+        (comparison operation (typed_of x) (typed_of y)) (typed_of x) (typed_of y)) }
+{
+    if are_sets(x.kind, y.kind) {
+        Typed::on_sets(alloc, on_sets, Kind::Ordinal(Host::Boolean), x, y)
+    } else {
+        comparison(alloc, operation, x, y)
     }
 }
 
@@ -188,16 +289,19 @@ pub(crate) fn compared(
     x: Typed,
     y: Typed,
 ) -> Result<Typed, Refusal>
-    requires { built_relation operator ≡ true }
     ensures { AnswersTyped result (compared operator (typed_of x) (typed_of y)) }
 {
     match operator {
-        RelationalOperator::Equal => comparison(alloc, Binary::Equal, x, y),
-        RelationalOperator::NotEqual => comparison(alloc, Binary::Unequal, x, y),
+        RelationalOperator::Equal => related(alloc, SetOperation::Equal, Binary::Equal, x, y),
+        RelationalOperator::NotEqual => {
+            related(alloc, SetOperation::Unequal, Binary::Unequal, x, y)
+        }
         RelationalOperator::Less => comparison(alloc, Binary::Less, x, y),
         RelationalOperator::Greater => comparison(alloc, Binary::Greater, x, y),
-        RelationalOperator::AtMost => comparison(alloc, Binary::AtMost, x, y),
-        RelationalOperator::AtLeast => comparison(alloc, Binary::AtLeast, x, y),
-        RelationalOperator::In => unreachable!(),
+        RelationalOperator::AtMost => related(alloc, SetOperation::Subset, Binary::AtMost, x, y),
+        RelationalOperator::AtLeast => {
+            related(alloc, SetOperation::Superset, Binary::AtLeast, x, y)
+        }
+        RelationalOperator::In => membership(alloc, x, y),
     }
 }

@@ -18,6 +18,8 @@ use Rattle.ep_check_stmt.specs.Statements.{Context, FunctionResult, Locals, Pass
 abbrev pub IsResultAt : Declarations → TypeValues → Kind → Place → Type 0
 IsResultAt declared types (kind.Ordinal h) place = IsHost h × IsPlace declared (typed_host h) place
 IsResultAt declared types (kind.Structured n) place = (t : TypeValue) × IsValueOf types n t × IsPlaceWhere declared (IsOfKind (valid.Structured t)) place
+IsResultAt declared types (kind.Set h) place = IsHost h × IsPlaceWhere declared (IsOfKind (valid.Set (typed_host h))) place
+IsResultAt declared types kind.EmptySet place = ⊤
 IsResultAt declared types kind.Text place = ⊤
 IsResultAt declared types kind.File place = ⊤
 

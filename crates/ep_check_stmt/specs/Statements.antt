@@ -178,6 +178,8 @@ printed (kind.Ordinal host.Char) = Accepts print.Char
 printed (kind.Ordinal host.Boolean) = Accepts print.Boolean
 printed (kind.Ordinal (host.Enumeration e)) = Breaks (rule.WRITTEN_TYPE ∷ [])
 printed (kind.Structured n) = Breaks (rule.WRITTEN_TYPE ∷ [])
+printed (kind.Set h) = Breaks (rule.WRITTEN_TYPE ∷ [])
+printed kind.EmptySet = Breaks (rule.WRITTEN_TYPE ∷ [])
 printed kind.Text = Accepts print.Text
 printed kind.File = Breaks (rule.WRITTEN_TYPE ∷ [])
 

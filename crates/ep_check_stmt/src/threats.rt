@@ -5,7 +5,7 @@ ghost use Rattle.std.specs.Prelude.{◌≡◌, IfOk, nat_eq, map, position, slic
 ghost use Rattle.ep_typed.specs.Trees as tree;
 ghost use Rattle.ep_typed.specs.Trees.{entire, stmts};
 ghost use Rattle.ep_typed.specs.Viewed as viewed;
-ghost use Rattle.ep_typed.specs.Viewed.{actual_of, arm_of, expr_of, item_of, place_of, stmt_of};
+ghost use Rattle.ep_typed.specs.Viewed.{actual_of, arm_of, designator_of, expr_of, item_of, place_of, stmt_of};
 ghost use Rattle.ep_check_stmt.specs.Answers.{entire_of};
 ghost use Rattle.ep_check_stmt.specs.RoutineForms.{formals_at, formals_if, routine_form};
 ghost use Rattle.ep_check_stmt.specs.Threats as spec;
@@ -14,8 +14,8 @@ ghost use Rattle.ep_check_stmt.specs.Threats.{any_assigns, arm_assigns, statemen
 use ep_base::{Name, NoMemory};
 use ep_tree::{Access, Arm, Compound, Statement};
 use ep_typed::{
-    Actual, CaseArm, EntireVariable, Formal, FormalMode, TypedExpr, TypedPlace, TypedStmt,
-    UnitRoutine, WriteItem,
+    Actual, CaseArm, EntireVariable, Formal, FormalMode, MemberDesignator, TypedExpr, TypedPlace,
+    TypedStmt, UnitRoutine, WriteItem,
 };
 use std::alloc::{AllocError, Global};
 
@@ -262,7 +262,50 @@ pub(crate) fn expr_threatens(x: &TypedExpr, routines: &[UnitRoutine], variable: 
                 || expr_threatens(index.get(), routines, variable)
         }
         TypedExpr::FieldValue(whole, _) => expr_threatens(whole.get(), routines, variable),
+        TypedExpr::Set(designators) => members_threaten(designators.items(), routines, variable),
+        TypedExpr::OnSets(_, left, right) => {
+            expr_threatens(left.get(), routines, variable)
+                || expr_threatens(right.get(), routines, variable)
+        }
+        TypedExpr::Card(operand) => expr_threatens(operand.get(), routines, variable),
     }
+}
+
+/// Whether a value of a member designator does.
+#[cycle(threats_in_expressions)]
+fn member_threatens(
+    designator: &MemberDesignator,
+    routines: &[UnitRoutine],
+    variable: Entire<'_>,
+) -> bool
+    ensures { result ≡ spec.member_threatens (formals_at (map routine_form routines.now)) (entire_of variable.entry)
+        (designator_of designator.now) }
+{
+    match designator {
+        MemberDesignator::Single(value) => expr_threatens(value.get(), routines, variable),
+        MemberDesignator::Range(first, last) => {
+            expr_threatens(first.get(), routines, variable)
+                || expr_threatens(last.get(), routines, variable)
+        }
+    }
+}
+
+/// Whether member designators do.
+#[cycle(threats_in_expressions)]
+fn members_threaten(
+    all: &[MemberDesignator],
+    routines: &[UnitRoutine],
+    variable: Entire<'_>,
+) -> bool
+    ensures { result ≡ spec.members_threaten (formals_at (map routine_form routines.now)) (entire_of variable.entry)
+        (tree.designators (map designator_of all.now)) }
+{
+    for designator in all {
+        if member_threatens(designator, routines, variable) {
+            return true;
+        }
+    }
+    false
 }
 
 /// Whether an index in a place does.

@@ -31,6 +31,8 @@ fn printed(kind: Kind) -> Result<Print, Refusal>
         Kind::Ordinal(Host::Boolean) => Ok(Print::Boolean),
         Kind::Ordinal(Host::Enumeration(_)) => Err(Refusal::Rule(rule::WRITTEN_TYPE)),
         Kind::Structured(_) => Err(Refusal::Rule(rule::WRITTEN_TYPE)),
+        Kind::Set(_) => Err(Refusal::Rule(rule::WRITTEN_TYPE)),
+        Kind::EmptySet => Err(Refusal::Rule(rule::WRITTEN_TYPE)),
         Kind::Text => Ok(Print::Text),
         Kind::File => Err(Refusal::Rule(rule::WRITTEN_TYPE)),
     }

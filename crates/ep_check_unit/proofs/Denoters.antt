@@ -15,7 +15,7 @@ use Rattle.ep_tree.specs.declared.types.Variant.{Variant}
 use Rattle.ep_tree.specs.declared.types.VariantPart.{VariantPart}
 use Rattle.ep_check_expr.specs.Constants.{bound_judged}
 use Rattle.ep_check_expr.specs.Judgements.{both}
-use Rattle.ep_check_unit.specs.Declarations.{Part, Passed, Section, array_part, array_written, at_core, at_field_section, at_fields, at_plain, at_structure, at_type_denoter, core_part, enumeration, fields_part, plain_part, range, record_written, scopes_of, section_part, structure_part, structured, type_named, unbuilt_part}
+use Rattle.ep_check_unit.specs.Declarations.{Part, Passed, Section, array_part, array_written, at_core, at_field_section, at_fields, at_plain, at_structure, at_type_denoter, core_part, enumeration, fields_part, plain_part, range, record_written, scopes_of, set_written, section_part, structure_part, structured, type_named, unbuilt_part}
 
 -- the part of a denoter with or without an initial state
 abbrev pub denoter_part : TypeDenoter → Part
@@ -37,6 +37,9 @@ over_part index of = record { is_name = false; written = array_written index of 
 abbrev pub record_part : List Section → Part
 record_part sections = record { is_name = false; written = record_written sections }
 
+abbrev pub set_part : Part → Part
+set_part base = record { is_name = false; written = set_written base }
+
 -- the types of all sections have it
 abbrev pub AreKept : (Part → Type 0) → List Section → Type 0
 AreKept P [] = ⊤
@@ -50,6 +53,7 @@ pub record KeptByDenoters (P : Part → Type 0) : Type 0 where
   pub others : P unbuilt_part
   pub arrays : (index of : Part) → P index → P of → P (over_part index of)
   pub records : (sections : List Section) → AreKept P sections → P (record_part sections)
+  pub sets : (base : Part) → P base → P (set_part base)
   pub structures : (p : Part) → P p → P (structured p)
 
 module _ (P : Part → Type 0) (kept : KeptByDenoters P) where
@@ -141,7 +145,7 @@ module _ (P : Part → Type 0) (kept : KeptByDenoters P) where
   structure_kept : (y : Structure-F KeptCore KeptStructure KeptSection KeptFields KeptPlain KeptDenoter AnyVariant AnyVariants) → OfStructure (roll-Structure (structure_layer y))
   structure_kept (Structure-F.Array at indexes component) = subst P (sym (fold-roll-Structure Part Part Section Part Part Part Passed Passed at_core at_structure at_field_section at_fields at_plain at_type_denoter (λ v. tt) (λ v. tt) (Structure-F.Array at (map (λ p. p.0) indexes) component.0))) (kept.structures (array_part (plain_part component.0) (map plain_part (map (λ p. p.0) indexes))) (arrays_kept (plain_part component.0) component.1 indexes))
   structure_kept (Structure-F.Record at fields) = subst P (sym (fold-roll-Structure Part Part Section Part Part Part Passed Passed at_core at_structure at_field_section at_fields at_plain at_type_denoter (λ v. tt) (λ v. tt) (Structure-F.Record at fields.0))) (kept.structures (fields_part fields.0) fields.1)
-  structure_kept (Structure-F.Set at base) = subst P (sym (fold-roll-Structure Part Part Section Part Part Part Passed Passed at_core at_structure at_field_section at_fields at_plain at_type_denoter (λ v. tt) (λ v. tt) (Structure-F.Set at base.0))) kept.others
+  structure_kept (Structure-F.Set at base) = subst P (sym (fold-roll-Structure Part Part Section Part Part Part Passed Passed at_core at_structure at_field_section at_fields at_plain at_type_denoter (λ v. tt) (λ v. tt) (Structure-F.Set at base.0))) (kept.sets (plain_part base.0) base.1)
 
   section_kept : (y : FieldSection-F KeptCore KeptStructure KeptSection KeptFields KeptPlain KeptDenoter AnyVariant AnyVariants) → OfSection (roll-FieldSection (section_layer y))
   section_kept y = subst (λ (s : Section). P s.of) (sym (fold-roll-FieldSection Part Part Section Part Part Part Passed Passed at_core at_structure at_field_section at_fields at_plain at_type_denoter (λ v. tt) (λ v. tt) (section_layer y))) y.of.1

@@ -8,10 +8,12 @@ use Rattle.ep_tree.specs.declared.statement.Compound.{Compound, roll-Compound}
 use Rattle.ep_tree.specs.declared.statement.Statement.TheFolds.{fold-roll-Compound}
 use Rattle.ep_typed.specs.Trees as tree
 use Rattle.ep_typed.specs.declared.denoter.Denoter.TheVariants as denoter
+use Rattle.ep_typed.specs.declared.denoter.RequiredType.{RequiredType}
 use Rattle.ep_typed.specs.declared.denoter.RequiredType.TheVariants as simple
 use Rattle.ep_typed.specs.declared.interface.FormalMode.TheVariants as mode
 use Rattle.ep_scope.specs.Required.{look_up}
 use Rattle.ep_scope.specs.declared.kind.Host.TheVariants as host
+use Rattle.ep_scope.specs.declared.kind.Kind.{Kind}
 use Rattle.ep_scope.specs.declared.kind.Kind.TheVariants as kind
 use Rattle.ep_scope.specs.declared.parameter.FormalParameter.{FormalParameter}
 use Rattle.ep_scope.specs.declared.parameter.Protection.TheVariants as protection
@@ -24,7 +26,7 @@ use Rattle.ep_check_expr.specs.Judgements.{Judged, Accepts, Breaks}
 use Rattle.ep_check_stmt.specs.Statements.{OfRoutine}
 use Rattle.ep_check_stmt.specs.Threats.{assigns, in_arm, in_compound, in_otherwise, in_statement}
 use Rattle.ep_check_unit.specs.Blocks.{Block, own_count}
-use Rattle.ep_check_unit.specs.Declarations.{own_thing, with_own_variable}
+use Rattle.ep_check_unit.specs.Declarations.{own_thing, set_on, with_own_variable}
 use Rattle.ep_check_unit.specs.Functions.{is_assigned, is_in_view, is_threatened}
 use Rattle.ep_check_unit.specs.Routines.{Headed, PartJudged, assigns_among, context_of, function_identified, headed_first, headed_over, heading_entered, locals_of, of_body, of_part, of_routine, result_judged, scope_opened, with_body}
 use Rattle.ep_check_unit.specs.Units.{first_block}
@@ -248,3 +250,21 @@ threatened_inside = refl
 -- it assigns to a variable of its own
 threatened_nowhere : threatened 0 ≡ false
 threatened_nowhere = refl
+
+-- ---- base types of sets
+
+-- a required type in the block of f
+abbrev required_base : RequiredType → Kind → List ℕ
+required_base r k = verdict (set_on (record { denoter = denoter.Required r; of = type_name.Required r; kind = k; nodes = 1; block = inside_f }))
+
+-- set of char
+set_of_chars : required_base simple.Char (kind.Ordinal host.Char) ≡ []
+set_of_chars = refl
+
+-- set of integer
+set_of_integers : required_base simple.Integer (kind.Ordinal host.Integer) ≡ rule.SET_BASE ∷ []
+set_of_integers = refl
+
+-- set of set of Boolean
+set_of_sets : required_base simple.Boolean (kind.Set host.Boolean) ≡ rule.ORDINAL ∷ []
+set_of_sets = refl

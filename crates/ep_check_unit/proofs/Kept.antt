@@ -41,14 +41,14 @@ use Rattle.ep_check_expr.specs.Names.{undeclared}
 use Rattle.ep_check_expr.specs.declared.constants.ConstantForm.{ConstantForm}
 use Rattle.ep_check_stmt.proofs.judged.Fits.{Any, Fits, fits_then, fits_both, fits_any}
 use Rattle.ep_check_stmt.specs.Statements.{Judgement, Passes, Waits, Fails, compound_judged}
-use Rattle.ep_check_unit.specs.Declarations.{unless_large, Fielded, Part as DenoterPart, Section, field_of, fields_named, record_over, section_written, sections_written, all_variables_declared, and_then, array_over, at_line, common_host, constant_definition, constant_entered, constants_declared, core_of, core_part, core_written, declaration_ended, declared_type, entered, enumerated, enumeration, index_host, next_enumeration, noted, ordered, range, scopes_of, settled, settled_part, settled_type, Standing, Stands, Falls, subrange, type_definition, type_definitions, type_entered, type_meant, type_named, type_written, unused, variable_declaration, variable_entered, variables_declared, variables_entered, with_constant, with_name, with_type, is_outermost, with_own_variable, with_unit_variable, with_variable, own_thing, Written}
+use Rattle.ep_check_unit.specs.Declarations.{unless_large, Fielded, Part as DenoterPart, Section, field_of, fields_named, record_over, section_written, sections_written, set_on, set_over, unless_wide, all_variables_declared, and_then, array_over, at_line, common_host, constant_definition, constant_entered, constants_declared, core_of, core_part, core_written, declaration_ended, declared_type, entered, enumerated, enumeration, index_host, next_enumeration, noted, ordered, range, scopes_of, settled, settled_part, settled_type, Standing, Stands, Falls, subrange, type_definition, type_definitions, type_entered, type_meant, type_named, type_written, unused, variable_declaration, variable_entered, variables_declared, variables_entered, with_constant, with_name, with_type, is_outermost, with_own_variable, with_unit_variable, with_variable, own_thing, Written}
 use Rattle.ep_check_unit.specs.Functions.{if_given, in_block, is_assigned, is_in_view, own_name_entered, result_entered, routine_declaration, row_gives, same_result}
 use Rattle.ep_check_unit.specs.Routines.{BodyJudged, Headed, PartJudged, all_declared, assigns_among, block_declared, body_closed, body_declared, body_ended, context_of, declared_routine, formals_entered, forwarded, has_body, heading_entered, inside_declared, is_repeated, headed_again, headed_first, headed_over, headed_then, identified_again, identified_over, of_body, of_part, of_routine, part_judged, parts_declared, result_headed, result_judged, routine_body_judged, routine_judged, routine_there, sections_judged, scope_opened, start_headed, start_name, with_routine}
 use Rattle.ep_check_unit.specs.declared.functions.HeadingResult.{HeadingResult}
 use Rattle.ep_check_unit.specs.Units.{parameter_entered, parameters_entered, standard_file}
 use Rattle.ep_check_unit.specs.Blocks.{Block}
 use Rattle.ep_check_unit.specs.declared.types.TheConstants as limit
-use Rattle.ep_check_unit.proofs.Denoters.{AreKept, KeptByDenoters, each_denoter, over_part, record_part}
+use Rattle.ep_check_unit.proofs.Denoters.{AreKept, KeptByDenoters, each_denoter, over_part, record_part, set_part}
 use Rattle.ep_check_unit.specs.declared.block.OwnResult.{OwnResult}
 use Rattle.ep_check_unit.specs.declared.block.OwnVariables.{OwnVariables}
 
@@ -69,6 +69,8 @@ module _ (n : List ℕ) where
   with_constant-kept : (name : List ℕ) (k : Kind) (v : Value) (b : Block) → IsOf b → IsOf (with_constant name k v b)
   with_constant-kept name (kind.Ordinal h) v b i = i
   with_constant-kept name (kind.Structured m) v b i = i
+  with_constant-kept name (kind.Set h) v b i = i
+  with_constant-kept name kind.EmptySet v b i = i
   with_constant-kept name kind.Text v b i = i
   with_constant-kept name kind.File v b i = i
 
@@ -132,6 +134,12 @@ module _ (n : List ℕ) where
       (λ w j. fits_then Any IsIn (λ host. when_accepted (λ below. Accepts (array_over w.denoter w.nodes host below)) (settled_part of line w.block)) (index_host w.kind) (fits_any (index_host w.kind))
       (λ host k. fits_then IsIn IsIn (λ below. Accepts (array_over w.denoter w.nodes host below)) (settled_part of line w.block) (settled_part-kept of g line w.block j) (λ below l. l)))
 
+  set_written-kept : (base : DenoterPart) → IsKeptPart base → IsKeptPart (set_part base)
+  set_written-kept base h line b i =
+      fits_then IsIn IsIn set_on (settled_part base line b) (settled_part-kept base h line b i)
+      (λ w j. fits_then Any IsIn (λ host. when_accepted (λ _. Accepts (set_over host w)) (unless_wide w)) (index_host w.kind) (fits_any (index_host w.kind))
+      (λ host k. fits_then Any IsIn (λ _. Accepts (set_over host w)) (unless_wide w) (fits_any (unless_wide w)) (λ done l. j)))
+
   abbrev IsInFields : Fielded → Type 0
   IsInFields f = IsOf f.block
 
@@ -158,6 +166,7 @@ module _ (n : List ℕ) where
     others = λ line b i. tt;
     arrays = array_written-kept;
     records = record_written-kept;
+    sets = set_written-kept;
     structures = λ p h line b i. h line b i;
   }
 

@@ -2,7 +2,7 @@
 --
 -- Items are taken in the order of the text. A constant definition and a variable declaration are items, on the line of their first token, and a type part is one, on the line of the word `type`. A name means what is declared before its use, or outside of the block: a later declaration of it plays no part (own).
 use Rattle.std.specs.List.{list_any}
-use Rattle.std.specs.Prelude.{ℕ, nat_eq, nat_le, ◌==◌, ◌+◌, ℤ, pos, suc, int_le, Bool, true, false, ◌&&◌, ◌||◌, List, [], ◌∷◌, ◌++◌, length, map, Option, Some, None, if◌then◌else◌}
+use Rattle.std.specs.Prelude.{ℕ, nat_eq, nat_le, ◌==◌, ◌+◌, ℤ, pos, suc, int_le, Bool, true, false, ◌&&◌, ◌||◌, List, [], ◌∷◌, ◌++◌, length, slice_get, map, Option, Some, None, if◌then◌else◌}
 use Rattle.std.specs.Option.{option_or}
 use Rattle.std.specs.Str.{bytes_eq}
 use Rattle.ep_tree.specs.declared.types.Core.TheOpen.{Core-F, FieldSection-F, Fields-F, Plain-F, Structure-F, TypeDenoter-F}
@@ -15,12 +15,18 @@ use Rattle.ep_tree.specs.declared.types.TypeDenoter.{TypeDenoter, out-TypeDenote
 use Rattle.ep_tree.specs.declared.declaration.ConstantDefinition.{ConstantDefinition}
 use Rattle.ep_tree.specs.declared.declaration.TypeDefinition.{TypeDefinition}
 use Rattle.ep_tree.specs.declared.declaration.VariableDeclaration.{VariableDeclaration}
+use Rattle.ep_typed.specs.Denoters.{enumeration_type, found_of, required_type, subrange_type}
+use Rattle.ep_typed.specs.Sets.{is_ordinal}
+use Rattle.ep_typed.specs.Trees as tree
+use Rattle.ep_typed.specs.TypeValues as type
+use Rattle.ep_typed.specs.TypeValues.{TypeValue}
 use Rattle.ep_typed.specs.declared.denoter.Bound.TheVariants.{Constant as Fixed}
 use Rattle.ep_typed.specs.declared.denoter.Denoter.{Denoter}
 use Rattle.ep_typed.specs.declared.denoter.Denoter.TheVariants as denoter
 use Rattle.ep_typed.specs.declared.denoter.RecordField.{RecordField, roll-RecordField}
 use Rattle.ep_typed.specs.declared.denoter.RequiredType.{RequiredType}
 use Rattle.ep_typed.specs.declared.denoter.RequiredType.TheVariants as simple
+use Rattle.ep_typed.specs.declared.unit.UnitType.{UnitType}
 use Rattle.ep_typed.specs.declared.unit.UnitVariable.{UnitVariable}
 use Rattle.ep_typed.specs.declared.value.Value.{Value}
 use Rattle.ep_typed.specs.declared.value.Value.TheVariants as value
@@ -245,7 +251,7 @@ pub record Part : Type 0 where
 abbrev pub settled_part : Part → ℕ → Block → Judged Written
 settled_part p line b = when_accepted (λ w. Accepts (if p.is_name then w else settled line w)) (p.written line b)
 
--- an index type is ordinal (ISO 10206, 6.4.3.2)
+-- an index type is ordinal (ISO 10206, 6.4.3.2), and so is a base type (ISO 10206, 6.4.3.5)
 abbrev pub index_host : Kind → Judged Host
 index_host (kind.Ordinal h) = Accepts h
 index_host _ = Breaks (rule.ORDINAL ∷ [])
@@ -274,6 +280,43 @@ array_written index of line b =
 abbrev pub array_part : Part → List Part → Part
 array_part of [] = of
 array_part of (i ∷ is) = record { is_name = false; written = array_written i (array_part of is) }
+
+-- the type value of a subrange or an enumeration, by its own denoter
+abbrev pub ordinal_value : tree.Denoter → Option TypeValue
+ordinal_value (tree.Subrange host low high) = subrange_type low high
+ordinal_value (tree.Enumeration names) = enumeration_type names
+ordinal_value _ = None
+
+-- that of an ordinal type, which is required or has an entry in the list of types
+abbrev pub value_of : List UnitType → TypeName → Option TypeValue
+value_of types (type_name.Required r) = Some (required_type r)
+value_of types (type_name.Entry number) = found_of ordinal_value (slice_get types number)
+
+-- whether the values of a type may be members of sets: all of them have ordinal numbers of 0 to 255 (own)
+abbrev pub are_members : Option TypeValue → Bool
+are_members (Some (type.Ordinal low high)) = is_ordinal low && is_ordinal high
+are_members _ = false
+
+abbrev pub unless_wide : Written → Judged (Unit {0})
+unless_wide w = if are_members (value_of w.block.types w.of) then Accepts tt else Breaks (rule.SET_BASE ∷ [])
+
+-- the set type of a base type with this host
+abbrev pub set_over : Host → Written → Written
+set_over h base =
+    record {
+      denoter = denoter.Set base.denoter;
+      of = next_type base.block;
+      kind = kind.Set h;
+      nodes = counted 1 base.nodes;
+      block = base.block;
+    }
+
+-- the set type of a base type (ISO 10206, 6.4.3.5)
+abbrev pub set_on : Written → Judged Written
+set_on w = when_accepted (λ h. when_accepted (λ _. Accepts (set_over h w)) (unless_wide w)) (index_host w.kind)
+
+abbrev pub set_written : Part → ℕ → Block → Judged Written
+set_written base line b = when_accepted set_on (settled_part base line b)
 
 -- a field of a record: its name, the denoter of its type, which type it is, its kind and how many nodes it has
 pub record Field : Type 0 where
@@ -370,11 +413,11 @@ at_plain p = p.core
 abbrev pub at_type_denoter : TypeDenoter-F Part Part Section Part Part Part Passed Passed → Part
 at_type_denoter t = t.plain
 
--- a structure, which is an array or a record
+-- a structure, which is an array, a record or a set
 abbrev pub at_structure : Structure-F Part Part Section Part Part Part Passed Passed → Part
 at_structure (Structure-F.Array at indexes component) = structured (array_part component indexes)
 at_structure (Structure-F.Record at fields) = structured fields
-at_structure (Structure-F.Set at base) = unbuilt_part
+at_structure (Structure-F.Set at base) = record { is_name = false; written = set_written base }
 
 -- a denoter
 abbrev pub at_core : Core-F Part Part Section Part Part Part Passed Passed → Part

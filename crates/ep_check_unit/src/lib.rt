@@ -16,6 +16,7 @@ mod functions;
 mod headings;
 mod records;
 mod routines;
+mod sets;
 mod types;
 
 pub use component::{Checked, check};

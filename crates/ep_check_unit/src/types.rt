@@ -257,7 +257,7 @@ impl Block {
     }
 
     /// A type that is not there yet, which is the next one of the unit.
-    fn next_type(&self) -> Result<TypeName, Refusal>
+    pub(crate) fn next_type(&self) -> Result<TypeName, Refusal>
         ensures { AnswersForm (λ t. t) result (Accepts (next_type (block_of self.now))) }
     {
         Ok(TypeName::Entry(number(self.types.items().len())?))
@@ -372,7 +372,7 @@ impl Block {
         self.written_type(alloc, line, &plain.core)
     }
 
-    /// `struct`, which is an array or a record.
+    /// `struct`, which is an array, a record or a set.
     #[cycle(denoters)]
     fn structure(
         &mut self,
@@ -395,7 +395,10 @@ impl Block {
                 self.array_over(alloc, *first, below)
             }
             Structure::Record(_, fields) => self.record(alloc, line, fields),
-            Structure::Set(_, _) => unreachable!(),
+            Structure::Set(_, base) => {
+                let of = self.settled_plain(alloc, line, base.get())?;
+                self.set_on(alloc, of)
+            }
         }
     }
 
@@ -591,8 +594,8 @@ impl Block {
     }
 }
 
-/// The host of an index type, which is ordinal (ISO 10206, 6.4.3.2).
-fn index_host(kind: Kind) -> Result<Host, Refusal>
+/// The host of an index type (ISO 10206, 6.4.3.2) or of a base type (ISO 10206, 6.4.3.5), which are ordinal.
+pub(crate) fn index_host(kind: Kind) -> Result<Host, Refusal>
     ensures { AnswersForm (λ h. h) result (index_host kind) }
 {
     match kind {

@@ -36,8 +36,8 @@ use Rattle.ep_typed.specs.Printing as result
 use Rattle.ep_typed.specs.Denoters.{type_of}
 use Rattle.ep_typed.specs.Steps.{Component, Computation, bind, give, spend, component, component_number, type_at, own_variable, has_ended}
 use Rattle.ep_typed.specs.Steps as meaning
-use Rattle.ep_typed.specs.Trees.{Callee, Place, Variable, Own, Standard, Indexed, Field, Expr, Constant, Text, Read, One, Two, Short, Step, Function, IndexedValue, FieldValue, Actual, Evaluated, Accessed, Actuals, no_actual, next_actual}
-use Rattle.ep_typed.specs.Valid.{Declarations, Kind, Ordinal, Bytes, Structured, IsUnary, IsBinary, IsTypeOfKind, IsExpr, AreGiven, IsDeclaredUp, Level, variables_at, variables_up}
+use Rattle.ep_typed.specs.Trees.{Callee, Place, Variable, Own, Standard, Indexed, Field, Expr, Constant, Text, Read, One, Two, Short, Step, Function, IndexedValue, FieldValue, SetOf, OnSets, Card, Designator, Single, Range, Designators, no_member, next_member, Actual, Evaluated, Accessed, Actuals, no_actual, next_actual}
+use Rattle.ep_typed.specs.Valid.{Declarations, Kind, Ordinal, Bytes, Structured, Set, IsUnary, IsBinary, IsTypeOfKind, IsExpr, AreDesignators, AreGiven, IsDesignator, IsDeclaredUp, Level, variables_at, variables_up}
 use Rattle.ep_typed.specs.declared.interface.Formal.{Formal}
 use Rattle.ep_typed.specs.declared.interface.RoutineEntry.{RoutineEntry}
 use Rattle.ep_typed.specs.declared.unit.UnitType.{UnitType}
@@ -50,7 +50,7 @@ use Rattle.ep_typed.specs.TypeValues.{ComponentTypes, TypeValue, type_among}
 use Rattle.ep_typed.specs.TypeValues as type
 use Rattle.ep_typed.specs.declared.unit.UnitVariable.{UnitVariable}
 use Rattle.ep_gen_expr.specs.Following.{least_credit, HasPlaceType, IsValidPlace}
-use Rattle.ep_gen_expr.specs.ExprCode.{IsPlaceCode, IsExprCode, IsActualCode, AreActualsCode, reference, instr, push, bare, one_code, two_code, keep_code, step_code}
+use Rattle.ep_gen_expr.specs.ExprCode.{IsPlaceCode, IsExprCode, IsActualCode, AreActualsCode, IsDesignatorCode, AreDesignatorsCode, reference, instr, push, bare, one_code, set_code, two_code, keep_code, step_code}
 use Rattle.ep_gen_expr.proofs.Answering.{Evaluates, IsFollowed, IsPlaceFollowed}
 use Rattle.ep_gen_expr.proofs.Arguments.{Fits, fits, IsArgumentFollowed, AreArgumentsFollowed, value_follows, accessed_follows, none_follows, next_follows}
 use Rattle.ep_gen_expr.proofs.Calls.{passed_then, function_follows}
@@ -58,6 +58,7 @@ use Rattle.ep_gen_expr.proofs.ShortCircuit.{kept_follows}
 use Rattle.ep_gen_expr.proofs.OneOperand.{UnaryFollows, unary_follows}
 use Rattle.ep_gen_expr.proofs.Placed.{code_front, code_back, text_at, variable_at}
 use Rattle.ep_gen_expr.proofs.PlaceTypes.{IsArrayWhere, IsRecordWhere, valid_place, typed_place, kind_place, variable_type}
+use Rattle.ep_gen_expr.proofs.Sets.{IsDesignatorFollowed, AreDesignatorsFollowed, card_follows, constructor_follows, next_member_follows, no_member_follows, on_sets_follows, range_follows, single_follows}
 use Rattle.ep_gen_expr.proofs.Stepping.{step_follows}
 use Rattle.ep_gen_expr.proofs.TwoOperands.{BinaryFollows, binary_follows}
 use Rattle.ep_gen_expr.proofs.ValueParts.{field_value_follows, indexed_value_follows}
@@ -376,6 +377,64 @@ module _ {declared : Declarations} {G : Image} {untouched : Slots} {Here : Facts
             (field_value_follows ps p references call steady_call g unit line n kind ts k of among_types of_kind x at xs
             (expression_follows (Structured (type.Record ts)) x is_x line at xs x_code (code_front G ps p references at xs (field ∷ []) all) (omega (arith, ends, inside)))
             (code_back G ps p references at xs (field ∷ []) all))
+        expression_follows kind (SetOf ds) (h, is_kind, are) line at code (xs, members, is) stands inside =
+            let none : Instr = bare line op.SET_NONE in
+            let all : CodeStands G ps p references at (none ∷ xs) = subst (λ c. CodeStands G ps p references at c) is stands in
+            let ends : length code ≡ 1 + length xs = omega (arith, ap length is) in
+            followed_as n kind (Set h) (SetOf ds) line at code (none ∷ xs) is_kind is
+            (constructor_follows ps p references call steady_call g unit line n h ds at xs all.0
+            (designators_follow h ds are line (at + 1) xs members all.1 (omega (arith, ends, inside))))
+        expression_follows kind (OnSets operation x y) (k, l, kinds, is_x, is_y) line at code (xs, ys, x_code, y_code, is) stands inside =
+            let operate : Instr = set_code line operation in
+            let all : CodeStands G ps p references at (xs ++ (ys ++ operate ∷ [])) = subst (λ c. CodeStands G ps p references at c) is stands in
+            let rest : CodeStands G ps p references (at + length xs) (ys ++ operate ∷ []) = code_back G ps p references at xs (ys ++ operate ∷ []) all in
+            let ends : length code ≡ length xs + length ys + 1 = omega (arith, ap length is, length-append xs (ys ++ operate ∷ []), length-append ys (operate ∷ [])) in
+            followed_as n kind kind (OnSets operation x y) line at code (xs ++ (ys ++ operate ∷ [])) refl is
+            (on_sets_follows ps p references call steady_call g unit line n operation x y k l kind kinds at xs ys
+            (expression_follows k x is_x line at xs x_code (code_front G ps p references at xs (ys ++ operate ∷ []) all) (omega (arith, ends, inside)))
+            (expression_follows l y is_y line (at + length xs) ys y_code (code_front G ps p references (at + length xs) ys (operate ∷ []) rest) (omega (arith, ends, inside)))
+            (code_back G ps p references (at + length xs) ys (operate ∷ []) rest))
+        expression_follows kind (Card x) (h, is_kind, is_x) line at code (xs, x_code, is) stands inside =
+            let card : Instr = bare line op.CARD in
+            let all : CodeStands G ps p references at (xs ++ card ∷ []) = subst (λ c. CodeStands G ps p references at c) is stands in
+            let ends : length code ≡ length xs + 1 = omega (arith, ap length is, length-append xs (card ∷ [])) in
+            let last : CodeStands G ps p references (at + length xs) (card ∷ []) = code_back G ps p references at xs (card ∷ []) all in
+            followed_as n kind (Ordinal host.Integer) (Card x) line at code (xs ++ card ∷ []) is_kind is
+            (card_follows ps p references call steady_call g unit line n h x at xs
+            (expression_follows (Set h) x is_x line at xs x_code (code_front G ps p references at xs (card ∷ []) all) (omega (arith, ends, inside))) last.0)
+
+        -- a member designator
+        designator_follows : (h : Host) (d : Designator) → IsDesignator declared h d → (line at : ℕ) (is : List Instr) → IsDesignatorCode texts references line at d is → CodeStands G ps p references at is → at + length is < p.instructions.own
+            → IsDesignatorFollowed declared G untouched Here p call g unit line n d at is
+        designator_follows h (Single x) is_x line at code (xs, x_code, is) stands inside =
+            let add : Instr = bare line op.SET_ADD in
+            let all : CodeStands G ps p references at (xs ++ add ∷ []) = subst (λ c. CodeStands G ps p references at c) is stands in
+            let ends : length code ≡ length xs + 1 = omega (arith, ap length is, length-append xs (add ∷ [])) in
+            let last : CodeStands G ps p references (at + length xs) (add ∷ []) = code_back G ps p references at xs (add ∷ []) all in
+            subst (λ c. IsDesignatorFollowed declared G untouched Here p call g unit line n (Single x) at c) (sym is)
+            (single_follows ps p references call steady_call g unit line n h x at xs
+            (expression_follows (Ordinal h) x is_x line at xs x_code (code_front G ps p references at xs (add ∷ []) all) (omega (arith, ends, inside))) last.0)
+        designator_follows h (Range x y) (is_x, is_y) line at code (xs, ys, x_code, y_code, is) stands inside =
+            let span : Instr = bare line op.SET_SPAN in
+            let all : CodeStands G ps p references at (xs ++ (ys ++ span ∷ [])) = subst (λ c. CodeStands G ps p references at c) is stands in
+            let rest : CodeStands G ps p references (at + length xs) (ys ++ span ∷ []) = code_back G ps p references at xs (ys ++ span ∷ []) all in
+            let ends : length code ≡ length xs + length ys + 1 = omega (arith, ap length is, length-append xs (ys ++ span ∷ []), length-append ys (span ∷ [])) in
+            let last : CodeStands G ps p references (at + length xs + length ys) (span ∷ []) = code_back G ps p references (at + length xs) ys (span ∷ []) rest in
+            subst (λ c. IsDesignatorFollowed declared G untouched Here p call g unit line n (Range x y) at c) (sym is)
+            (range_follows ps p references call steady_call g unit line n h x y at xs ys
+            (expression_follows (Ordinal h) x is_x line at xs x_code (code_front G ps p references at xs (ys ++ span ∷ []) all) (omega (arith, ends, inside)))
+            (expression_follows (Ordinal h) y is_y line (at + length xs) ys y_code (code_front G ps p references (at + length xs) ys (span ∷ []) rest) (omega (arith, ends, inside))) last.0)
+
+        -- member designators, from left to right
+        designators_follow : (h : Host) (ds : Designators) → AreDesignators declared h ds → (line at : ℕ) (is : List Instr) → AreDesignatorsCode texts references line at ds is → CodeStands G ps p references at is → at + length is < p.instructions.own
+            → AreDesignatorsFollowed declared G untouched Here p call g unit line n ds at is
+        designators_follow h no_member valid line at is code stands inside = no_member_follows ps p references call steady_call g unit line n at is code
+        designators_follow h (next_member d ds) (valid, others) line at is (xs, ys, d_code, ds_code, parts) stands inside =
+            let all : CodeStands G ps p references at (xs ++ ys) = subst (λ c. CodeStands G ps p references at c) parts stands in
+            let ends : length is ≡ length xs + length ys = omega (arith, ap length parts, length-append xs ys) in
+            next_member_follows ps p references call steady_call g unit line n d ds at xs ys is parts
+            (designator_follows h d valid line at xs d_code (code_front G ps p references at xs ys all) (omega (arith, ends, inside)))
+            (designators_follow h ds others line (at + length xs) ys ds_code (code_back G ps p references at xs ys all) (omega (arith, ends, inside)))
 
         -- an actual parameter
         argument_follows : (k : Passing) (a : Actual) → Fits declared k a → (line at : ℕ) (is : List Instr) → IsActualCode texts references line at a is → CodeStands G ps p references at is → at + length is < p.instructions.own → IsArgumentFollowed declared G untouched Here p call g unit n k a line at is

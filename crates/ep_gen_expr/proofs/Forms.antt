@@ -60,10 +60,10 @@ grows_step down low high p q r = after_two (λ line. push line low ∷ push line
 place_part : {a b c : Code} {is : List Instr} (x : Place) (p : AppendsPlace a b x) → Grows b c is → IsPlaceCode c.texts c.references a.line (length a.instructions) x p.code
 place_part {a = a} {b = b} {c = c} x p q = place_code_stays b.texts c.texts b.references c.references a.line q.texts.begins q.references.begins (length a.instructions) x p.code p.is_code
 
-first_part : {a b c : Code} {is : List Instr} (x : Expr) (p : AppendsExpr a b x) → Grows b c is → IsExprCode c.texts c.references a.line (length a.instructions) x p.code
+pub first_part : {a b c : Code} {is : List Instr} (x : Expr) (p : AppendsExpr a b x) → Grows b c is → IsExprCode c.texts c.references a.line (length a.instructions) x p.code
 first_part {a = a} {b = b} {c = c} x p q = expr_code_stays b.texts c.texts b.references c.references a.line q.texts.begins q.references.begins (length a.instructions) x p.code p.is_code
 
-second_part : {a b c d : Code} {is js : List Instr} (x : Expr) → Grows a b is → (p : AppendsExpr b c x) → Grows c d js → IsExprCode d.texts d.references a.line (length a.instructions + length is) x p.code
+pub second_part : {a b c d : Code} {is js : List Instr} (x : Expr) → Grows a b is → (p : AppendsExpr b c x) → Grows c d js → IsExprCode d.texts d.references a.line (length a.instructions + length is) x p.code
 second_part {a = a} {b = b} {d = d} x g p q =
     subst (λ at. IsExprCode d.texts d.references a.line at x p.code) (grows_length g) (subst (λ line. IsExprCode d.texts d.references line (length b.instructions) x p.code) g.line (first_part x p q))
 
@@ -100,7 +100,7 @@ appends_one {a = a} operation x p q =
     whole_expr (One operation x) (p.code ++ one_code a.line operation) (p.code, first_part x p q, refl) (grows_at (λ line. one_code line operation) p.grows q)
 
 -- what comes after two operands
-after_parts : (f : ℕ → List Instr) {a b c d : Code} {is js : List Instr} → Grows a b is → Grows b c js → Grows c d (f c.line) → Grows a d (is ++ (js ++ f a.line))
+pub after_parts : (f : ℕ → List Instr) {a b c d : Code} {is js : List Instr} → Grows a b is → Grows b c js → Grows c d (f c.line) → Grows a d (is ++ (js ++ f a.line))
 after_parts f {a = a} {d = d} {is = is} {js = js} p q r = subst (λ l. Grows a d l) (append_assoc is js (f a.line)) (grows_at f (grows_then p q) r)
 
 pub appends_indexed : {a b c d : Code} (array : Place) (index : Expr) → AppendsPlace a b array → AppendsExpr b c index → Grows c d (bare c.line op.INDEX ∷ []) → AppendsPlace a d (Indexed array index)

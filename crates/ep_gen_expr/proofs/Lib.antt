@@ -6,6 +6,8 @@ pub mod Landing
 pub mod ShortCircuit
 pub mod Placed
 pub mod ActualForms
+pub mod SetForms
+pub mod Sets
 pub mod PlaceTypes
 pub mod Arguments
 pub mod Calls

@@ -3,13 +3,13 @@ use Rattle.std.proofs.Common.{◌≡◌, ℕ, ℤ, pos, ◌+◌, ◌*◌, ◌≤
 use Rattle.ep_outside.specs.Known.{IsPrefix}
 use Rattle.ep_object.specs.declared.code.Instr.{Instr}
 use Rattle.ep_object.specs.declared.code.Reference.{Reference}
-use Rattle.ep_typed.specs.Trees.{Place, Variable, Own, Standard, Indexed, Field, Expr, Constant, Text, Read, One, Two, Short, Step, Function, IndexedValue, FieldValue, Actual, Evaluated, Accessed, Actuals, no_actual, next_actual}
+use Rattle.ep_typed.specs.Trees.{Place, Variable, Own, Standard, Indexed, Field, Expr, Constant, Text, Read, One, Two, Short, Step, Function, IndexedValue, FieldValue, SetOf, OnSets, Card, Designator, Single, Range, Designators, no_member, next_member, Actual, Evaluated, Accessed, Actuals, no_actual, next_actual}
 use Rattle.ep_typed.specs.declared.operations.Unary.{Unary}
 use Rattle.ep_typed.specs.declared.operations.Unary.TheVariants as unary
 use Rattle.ep_typed.specs.declared.operations.ShortOperation.{ShortOperation}
 use Rattle.ep_typed.specs.declared.operations.ShortOperation.TheVariants as short
-use Rattle.ep_typed.specs.Nodes.{place_nodes, expr_nodes, actual_nodes, actuals_nodes}
-use Rattle.ep_gen_expr.specs.ExprCode.{IsPlaceCode, IsExprCode, IsActualCode, AreActualsCode, instr, reference, one_code, two_code, keep_code, step_code, bare}
+use Rattle.ep_typed.specs.Nodes.{place_nodes, expr_nodes, actual_nodes, actuals_nodes, designator_nodes, designators_nodes}
+use Rattle.ep_gen_expr.specs.ExprCode.{IsPlaceCode, IsExprCode, IsActualCode, AreActualsCode, IsDesignatorCode, AreDesignatorsCode, instr, reference, one_code, set_code, two_code, keep_code, step_code, bare}
 use Rattle.ep_gen_expr.proofs.Pushed.{get_later}
 use Rattle.ep_object.specs.declared.op.TheConstants as op
 
@@ -36,6 +36,18 @@ module _ (ts us : List (List ℕ)) (rs ss : List Reference) (line : ℕ) (a : Is
     expr_code_stays at (Function callee given) is h = (h.0, h.1, actuals_code_stays at given h.0 h.2, get_later h.1 (reference callee.unit callee.number) b h.3, h.4)
     expr_code_stays at (IndexedValue x y) is h = (h.0, h.1, expr_code_stays at x h.0 h.2, expr_code_stays (at + length h.0) y h.1 h.3, h.4)
     expr_code_stays at (FieldValue x number) is h = (h.0, expr_code_stays at x h.0 h.1, h.2)
+    expr_code_stays at (SetOf ds) is h = (h.0, designators_code_stays (at + 1) ds h.0 h.1, h.2)
+    expr_code_stays at (OnSets operation x y) is h = (h.0, h.1, expr_code_stays at x h.0 h.2, expr_code_stays (at + length h.0) y h.1 h.3, h.4)
+    expr_code_stays at (Card x) is h = (h.0, expr_code_stays at x h.0 h.1, h.2)
+
+    -- that of member designators
+    pub designator_code_stays : (at : ℕ) (d : Designator) (is : List Instr) → IsDesignatorCode ts rs line at d is → IsDesignatorCode us ss line at d is
+    designator_code_stays at (Single x) is h = (h.0, expr_code_stays at x h.0 h.1, h.2)
+    designator_code_stays at (Range x y) is h = (h.0, h.1, expr_code_stays at x h.0 h.2, expr_code_stays (at + length h.0) y h.1 h.3, h.4)
+
+    pub designators_code_stays : (at : ℕ) (ds : Designators) (is : List Instr) → AreDesignatorsCode ts rs line at ds is → AreDesignatorsCode us ss line at ds is
+    designators_code_stays at no_member is h = h
+    designators_code_stays at (next_member d more) is h = (h.0, h.1, designator_code_stays at d h.0 h.2, designators_code_stays (at + length h.0) more h.1 h.3, h.4)
 
     -- that of an actual parameter
     pub actual_code_stays : (at : ℕ) (x : Actual) (is : List Instr) → IsActualCode ts rs line at x is → IsActualCode us ss line at x is
@@ -101,7 +113,21 @@ module _ (ts : List (List ℕ)) (rs : List Reference) (line : ℕ) where
     expr_code_short at (Function callee given) is h = call_short h.0 _ _ is h.4 (actuals_nodes given) (actuals_code_short at given h.0 h.2)
     expr_code_short at (IndexedValue x y) is h =
         omega (arith, ap length h.4, length-append h.0 (h.1 ++ bare line op.INDEX ∷ []), length-append h.1 (bare line op.INDEX ∷ []), expr_code_short at x h.0 h.2, expr_code_short (at + length h.0) y h.1 h.3)
+    expr_code_short at (SetOf ds) is h = omega (arith, ap length h.2, designators_code_short (at + 1) ds h.0 h.1)
+    expr_code_short at (OnSets operation x y) is h =
+        omega (arith, ap length h.4, length-append h.0 (h.1 ++ set_code line operation ∷ []), length-append h.1 (set_code line operation ∷ []), expr_code_short at x h.0 h.2, expr_code_short (at + length h.0) y h.1 h.3)
+    expr_code_short at (Card x) is h = omega (arith, ap length h.2, length-append h.0 (bare line op.CARD ∷ []), expr_code_short at x h.0 h.1)
     expr_code_short at (FieldValue x number) is h = omega (arith, ap length h.2, length-append h.0 (instr op.FIELD (pos number) 0 line ∷ []), expr_code_short at x h.0 h.1)
+
+    -- that of member designators
+    pub designator_code_short : (at : ℕ) (d : Designator) (is : List Instr) → IsDesignatorCode ts rs line at d is → length is ≤ 32 * designator_nodes d
+    designator_code_short at (Single x) is h = omega (arith, ap length h.2, length-append h.0 (bare line op.SET_ADD ∷ []), expr_code_short at x h.0 h.1)
+    designator_code_short at (Range x y) is h =
+        omega (arith, ap length h.4, length-append h.0 (h.1 ++ bare line op.SET_SPAN ∷ []), length-append h.1 (bare line op.SET_SPAN ∷ []), expr_code_short at x h.0 h.2, expr_code_short (at + length h.0) y h.1 h.3)
+
+    pub designators_code_short : (at : ℕ) (ds : Designators) (is : List Instr) → AreDesignatorsCode ts rs line at ds is → length is ≤ 32 * designators_nodes ds
+    designators_code_short at no_member is h = omega (arith, ap length h)
+    designators_code_short at (next_member d more) is h = omega (arith, ap length h.4, length-append h.0 h.1, designator_code_short at d h.0 h.2, designators_code_short (at + length h.0) more h.1 h.3)
 
     -- that of an actual parameter
     pub actual_code_short : (at : ℕ) (x : Actual) (is : List Instr) → IsActualCode ts rs line at x is → length is ≤ 32 * actual_nodes x

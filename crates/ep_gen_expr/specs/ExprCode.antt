@@ -6,11 +6,13 @@ pub use Rattle.ep_object.specs.Table.{instr}
 use Rattle.ep_object.specs.declared.code.Instr.{Instr}
 use Rattle.ep_object.specs.declared.code.Reference.{Reference}
 use Rattle.ep_typed.specs.Operations.{last_char}
-use Rattle.ep_typed.specs.Trees.{Place, Variable, Own, Standard, Indexed, Field, Expr, Constant, Text, Read, One, Two, Short, Step, Function, IndexedValue, FieldValue, Actual, Evaluated, Accessed, Actuals, no_actual, next_actual}
+use Rattle.ep_typed.specs.Trees.{Place, Variable, Own, Standard, Indexed, Field, Expr, Constant, Text, Read, One, Two, Short, Step, Function, IndexedValue, FieldValue, SetOf, OnSets, Card, Designator, Single, Range, Designators, no_member, next_member, Actual, Evaluated, Accessed, Actuals, no_actual, next_actual}
 use Rattle.ep_typed.specs.declared.operations.Unary.{Unary}
 use Rattle.ep_typed.specs.declared.operations.Unary.TheVariants as unary
 use Rattle.ep_typed.specs.declared.operations.Binary.{Binary}
 use Rattle.ep_typed.specs.declared.operations.Binary.TheVariants as binary
+use Rattle.ep_typed.specs.declared.operations.SetOperation.{SetOperation}
+use Rattle.ep_typed.specs.declared.operations.SetOperation.TheVariants as set
 use Rattle.ep_typed.specs.declared.operations.ShortOperation.{ShortOperation}
 use Rattle.ep_typed.specs.declared.operations.ShortOperation.TheVariants as short
 use Rattle.ep_object.specs.declared.op.TheConstants as op
@@ -62,6 +64,18 @@ module _ (line : ℕ) where
   two_code binary.Greater = compare cmp.GREATER
   two_code binary.AtMost = compare cmp.AT_MOST
   two_code binary.AtLeast = compare cmp.AT_LEAST
+
+  -- after both operands, of which the right one at least is a set: `SetOp`, `SetCmp` or `In`
+  abbrev pub set_code : SetOperation → Instr
+  set_code set.Union = instr op.SET_OP cmp.UNION 0 line
+  set_code set.Difference = instr op.SET_OP cmp.DIFFERENCE 0 line
+  set_code set.Intersection = instr op.SET_OP cmp.INTERSECTION 0 line
+  set_code set.SymmetricDifference = instr op.SET_OP cmp.SYMMETRIC_DIFFERENCE 0 line
+  set_code set.Equal = instr op.SET_CMP cmp.EQUAL 0 line
+  set_code set.Unequal = instr op.SET_CMP cmp.UNEQUAL 0 line
+  set_code set.Subset = instr op.SET_CMP cmp.AT_MOST 0 line
+  set_code set.Superset = instr op.SET_CMP cmp.AT_LEAST 0 line
+  set_code set.In = bare op.IN
 
   -- after a left operand: it stands there twice, and the upper one is true where the operand decides nothing
   abbrev pub keep_code : ShortOperation → List Instr
@@ -117,6 +131,21 @@ module _ (texts : List (List ℕ)) (references : List Reference) (line : ℕ) wh
     -- (6.8.6.3).
     IsExprCode at (IndexedValue x y) is = (xs ys : List Instr) × IsExprCode at x xs × IsExprCode (at + length xs) y ys × (is ≡ xs ++ (ys ++ bare line op.INDEX ∷ []))
     IsExprCode at (FieldValue x number) is = (xs : List Instr) × IsExprCode at x xs × (is ≡ xs ++ instr op.FIELD (pos number) 0 line ∷ [])
+    -- A set constructor (ISO 10206, 6.8.7.4): the empty set, to which each member designator adds what it gives.
+    IsExprCode at (SetOf ds) is = (xs : List Instr) × AreDesignatorsCode (at + 1) ds xs × (is ≡ bare line op.SET_NONE ∷ xs)
+    IsExprCode at (OnSets operation x y) is = (xs ys : List Instr) × IsExprCode at x xs × IsExprCode (at + length xs) y ys × (is ≡ xs ++ (ys ++ set_code line operation ∷ []))
+    IsExprCode at (Card x) is = (xs : List Instr) × IsExprCode at x xs × (is ≡ xs ++ bare line op.CARD ∷ [])
+
+    -- the code of a member designator: the value and `SetAdd`, or the first and the last value and `SetSpan`
+    pub IsDesignatorCode : ℕ → Designator → List Instr → Type 0
+    IsDesignatorCode at (Single x) is = (xs : List Instr) × IsExprCode at x xs × (is ≡ xs ++ bare line op.SET_ADD ∷ [])
+    IsDesignatorCode at (Range x y) is = (xs ys : List Instr) × IsExprCode at x xs × IsExprCode (at + length xs) y ys × (is ≡ xs ++ (ys ++ bare line op.SET_SPAN ∷ []))
+
+    -- member designators, from left to right
+    pub AreDesignatorsCode : ℕ → Designators → List Instr → Type 0
+    AreDesignatorsCode at no_member is = is ≡ []
+    AreDesignatorsCode at (next_member d more) is =
+        (xs ys : List Instr) × IsDesignatorCode at d xs × AreDesignatorsCode (at + length xs) more ys × (is ≡ xs ++ ys)
 
     -- the code of an actual parameter: that of the value, or of the variable (ISO 10206, 6.7.3)
     pub IsActualCode : ℕ → Actual → List Instr → Type 0

@@ -3,8 +3,8 @@ use Rattle.std.specs.Prelude.{◌≡◌, ℕ, ◌*◌, ◌^◌, ◌+◌, ◌<◌
 use Rattle.ep_outside.specs.Known.{IsPrefix}
 use Rattle.ep_object.specs.declared.code.Instr.{Instr}
 use Rattle.ep_object.specs.declared.code.Reference.{Reference}
-use Rattle.ep_typed.specs.Trees.{Place, Expr, Actual, Actuals}
-use Rattle.ep_gen_expr.specs.ExprCode.{bare, keep_code, IsPlaceCode, IsExprCode, IsActualCode, AreActualsCode}
+use Rattle.ep_typed.specs.Trees.{Place, Expr, Actual, Actuals, Designator}
+use Rattle.ep_gen_expr.specs.ExprCode.{bare, keep_code, IsPlaceCode, IsExprCode, IsActualCode, AreActualsCode, IsDesignatorCode}
 use Rattle.ep_typed.specs.declared.operations.ShortOperation.{ShortOperation}
 use Rattle.ep_object.specs.declared.op.TheConstants as op
 use Rattle.ep_typed.specs.Nodes.{place_nodes, expr_nodes}
@@ -76,6 +76,12 @@ pub record AppendsExpr (old new : Code) (x : Expr) : Type 0 where
 pub record AppendsActual (old new : Code) (a : Actual) : Type 0 where
   pub code : List Instr
   pub is_code : IsActualCode new.texts new.references old.line (length old.instructions) a code
+  pub grows : Grows old new code
+
+-- the code of the member designator is appended
+pub record AppendsDesignator (old new : Code) (d : Designator) : Type 0 where
+  pub code : List Instr
+  pub is_code : IsDesignatorCode new.texts new.references old.line (length old.instructions) d code
   pub grows : Grows old new code
 
 -- the code of the actual parameters is appended

@@ -2,19 +2,20 @@
 
 ghost use Rattle.std.specs.Prelude.{OnOk, map};
 ghost use Rattle.ep_typed.specs.Trees as tree;
-ghost use Rattle.ep_typed.specs.Trees.{entire, Constant, Field, FieldValue, Function, Indexed, IndexedValue, One, Own, Read, Short, Step, Text, Two, Variable};
-ghost use Rattle.ep_typed.specs.Viewed.{actual_of, callee_of, entire_of, expr_of, place_of};
-ghost use Rattle.ep_gen_expr.specs.Growth.{AppendsActual, AppendsActuals, AppendsExpr, AppendsPlace};
+ghost use Rattle.ep_typed.specs.Trees.{entire, Card, Constant, Field, FieldValue, Function, Indexed, IndexedValue, One, OnSets, Own, Range, Read, SetOf, Short, Single, Step, Text, Two, Variable};
+ghost use Rattle.ep_typed.specs.Viewed.{actual_of, callee_of, designator_of, entire_of, expr_of, place_of};
+ghost use Rattle.ep_gen_expr.specs.Growth.{AppendsActual, AppendsActuals, AppendsDesignator, AppendsExpr, AppendsPlace};
 
 use crate::code::{Code, emit};
 use crate::jumps::{land, next_place};
-use crate::operations::{apply_binary, apply_step, apply_unary, keep_operand};
+use crate::operations::{apply_binary, apply_on_sets, apply_step, apply_unary, keep_operand};
 use crate::standard::standard_code;
 use crate::tables::{reference_number, text_number};
 use ep_base::{Name, NoMemory};
 use ep_object::op;
 use ep_typed::{
-    Actual, Binary, Callee, EntireVariable, ShortOperation, TypedExpr, TypedPlace, Unary,
+    Actual, Binary, Callee, EntireVariable, MemberDesignator, SetOperation, ShortOperation,
+    TypedExpr, TypedPlace, Unary,
 };
 use std::alloc::Global;
 
@@ -117,6 +118,11 @@ pub fn expression_code(alloc: Global, e: &TypedExpr, code: &mut Code) -> Result<
         TypedExpr::FieldValue(whole, number) => {
             field_value_code(alloc, whole.get(), *number, code)
         }
+        TypedExpr::Set(members) => constructor_code(alloc, members.items(), code),
+        TypedExpr::OnSets(operation, left, right) => {
+            on_sets_code(alloc, *operation, left.get(), right.get(), code)
+        }
+        TypedExpr::Card(operand) => card_code(alloc, operand.get(), code),
     }
 }
 
@@ -274,6 +280,90 @@ fn field_value_code(
 {
     expression_code(alloc, whole, code)?;
     emit(code, op::FIELD, number as i64, 0)
+}
+
+/// Appends the code of a set constructor: the empty set, and what each member designator adds to it.
+#[cycle(expression)]
+fn constructor_code(
+    alloc: Global,
+    members: &[MemberDesignator],
+    code: &mut Code,
+) -> Result<(), NoMemory>
+    ensures { OnOk result (AppendsExpr code.old code.new (SetOf (tree.designators (map designator_of members.now)))) }
+{
+    emit(code, op::SET_NONE, 0, 0)?;
+    for designator in members {
+        designator_code(alloc, designator, code)?;
+    }
+    Ok(())
+}
+
+/// Appends the code of a member designator, which adds what it gives to the set on top.
+#[cycle(expression)]
+fn designator_code(
+    alloc: Global,
+    designator: &MemberDesignator,
+    code: &mut Code,
+) -> Result<(), NoMemory>
+    ensures { OnOk result (AppendsDesignator code.old code.new (designator_of designator.now)) }
+{
+    match designator {
+        MemberDesignator::Single(value) => single_code(alloc, value.get(), code),
+        MemberDesignator::Range(first, last) => range_code(alloc, first.get(), last.get(), code),
+    }
+}
+
+/// Appends the code of a value that is a member.
+#[cycle(expression)]
+#[tactic(auto, using(crate::proofs::SetForms::designator_forms))]
+fn single_code(alloc: Global, value: &TypedExpr, code: &mut Code) -> Result<(), NoMemory>
+    ensures { OnOk result (AppendsDesignator code.old code.new (Single (expr_of value.now))) }
+{
+    expression_code(alloc, value, code)?;
+    emit(code, op::SET_ADD, 0, 0)
+}
+
+/// Appends the code of the first and the last of values that are members.
+#[cycle(expression)]
+#[tactic(auto, using(crate::proofs::SetForms::designator_forms))]
+fn range_code(
+    alloc: Global,
+    first: &TypedExpr,
+    last: &TypedExpr,
+    code: &mut Code,
+) -> Result<(), NoMemory>
+    ensures { OnOk result (AppendsDesignator code.old code.new (Range (expr_of first.now) (expr_of last.now))) }
+{
+    expression_code(alloc, first, code)?;
+    expression_code(alloc, last, code)?;
+    emit(code, op::SET_SPAN, 0, 0)
+}
+
+/// Appends the code of an operation of two operands, of which the right one at least is a set.
+#[cycle(expression)]
+#[tactic(auto, using(crate::proofs::SetForms::set_forms))]
+fn on_sets_code(
+    alloc: Global,
+    operation: SetOperation,
+    left: &TypedExpr,
+    right: &TypedExpr,
+    code: &mut Code,
+) -> Result<(), NoMemory>
+    ensures { OnOk result (AppendsExpr code.old code.new (OnSets operation (expr_of left.now) (expr_of right.now))) }
+{
+    expression_code(alloc, left, code)?;
+    expression_code(alloc, right, code)?;
+    apply_on_sets(operation, code)
+}
+
+/// Appends the code of the number of a set's members.
+#[cycle(expression)]
+#[tactic(auto, using(crate::proofs::SetForms::set_forms))]
+fn card_code(alloc: Global, operand: &TypedExpr, code: &mut Code) -> Result<(), NoMemory>
+    ensures { OnOk result (AppendsExpr code.old code.new (Card (expr_of operand.now))) }
+{
+    expression_code(alloc, operand, code)?;
+    emit(code, op::CARD, 0, 0)
 }
 
 /// Appends the code of actual parameters one after another.

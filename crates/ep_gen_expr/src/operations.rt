@@ -1,7 +1,7 @@
 //! The instructions of operations, after the code of their operands.
 
 ghost use Rattle.std.specs.Prelude.{[], ◌∷◌, IfOk, OnOk};
-ghost use Rattle.ep_gen_expr.specs.ExprCode.{bare, push, one_code, two_code, keep_code, count_code, step_code};
+ghost use Rattle.ep_gen_expr.specs.ExprCode.{bare, push, one_code, set_code, two_code, keep_code, count_code, step_code};
 ghost use Rattle.ep_gen_expr.specs.Growth.{Grows, KeepsOperand};
 ghost use Rattle.ep_object.specs.declared.op.TheConstants.{DROP, DUP};
 
@@ -9,7 +9,7 @@ use crate::code::{Code, emit};
 use crate::jumps::leave_hole;
 use ep_base::NoMemory;
 use ep_object::op;
-use ep_typed::{Binary, ShortOperation, Unary, run_error};
+use ep_typed::{Binary, SetOperation, ShortOperation, Unary, run_error};
 
 /// How `Cmp` compares.
 const EQUAL: i64 = 0;
@@ -23,6 +23,15 @@ const GREATER: i64 = 3;
 const AT_MOST: i64 = 4;
 
 const AT_LEAST: i64 = 5;
+
+/// What `SetOp` makes of two sets.
+const UNION: i64 = 0;
+
+const DIFFERENCE: i64 = 1;
+
+const INTERSECTION: i64 = 2;
+
+const SYMMETRIC_DIFFERENCE: i64 = 3;
 
 /// The ordinal number of the last char.
 const LAST_CHAR: i64 = 255;
@@ -80,6 +89,23 @@ pub fn apply_binary(operation: Binary, code: &mut Code) -> Result<(), NoMemory>
         Binary::Greater => emit(code, op::CMP, GREATER, 0),
         Binary::AtMost => emit(code, op::CMP, AT_MOST, 0),
         Binary::AtLeast => emit(code, op::CMP, AT_LEAST, 0),
+    }
+}
+
+/// Appends what an operation does with its two operands, of which the right one at least is a set.
+pub fn apply_on_sets(operation: SetOperation, code: &mut Code) -> Result<(), NoMemory>
+    ensures { OnOk result (Grows code.old code.new (set_code code.old.line operation ∷ [])) }
+{
+    match operation {
+        SetOperation::Union => emit(code, op::SET_OP, UNION, 0),
+        SetOperation::Difference => emit(code, op::SET_OP, DIFFERENCE, 0),
+        SetOperation::Intersection => emit(code, op::SET_OP, INTERSECTION, 0),
+        SetOperation::SymmetricDifference => emit(code, op::SET_OP, SYMMETRIC_DIFFERENCE, 0),
+        SetOperation::Equal => emit(code, op::SET_CMP, EQUAL, 0),
+        SetOperation::Unequal => emit(code, op::SET_CMP, UNEQUAL, 0),
+        SetOperation::Subset => emit(code, op::SET_CMP, AT_MOST, 0),
+        SetOperation::Superset => emit(code, op::SET_CMP, AT_LEAST, 0),
+        SetOperation::In => emit(code, op::IN, 0, 0),
     }
 }
 

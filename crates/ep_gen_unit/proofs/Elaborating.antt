@@ -15,19 +15,20 @@ use Rattle.ep_object.specs.declared.code.Reference.{Reference}
 use Rattle.ep_object.proofs.following.Fragments.{inside_bind, fragment_from, fragment_give, fragment_to, fragment_less, fragment_waits, fragment_credit}
 use Rattle.ep_object.proofs.following.Losing.{fragment_counted}
 use Rattle.ep_object.proofs.matching.Growing.{describes-grown, inside_here}
-use Rattle.ep_object.proofs.rows.NewTypes.{AreDescribed, TypeOnTop, stacked, ord_does, arr_does, rec_does}
+use Rattle.ep_object.proofs.rows.NewTypes.{AreDescribed, TypeOnTop, stacked, ord_does, arr_does, rec_does, set_does}
 use Rattle.ep_object.proofs.rows.Rows.{push_pushes}
 use Rattle.ep_typed.specs.Steady.{Steady, IsSteadyHandler}
 use Rattle.ep_typed.specs.declared.denoter.RequiredType.TheVariants as simple
 use Rattle.ep_typed.specs.Calls.{Handler}
-use Rattle.ep_typed.proofs.Denoters.{of_array, of_next, of_record}
+use Rattle.ep_typed.proofs.Denoters.{of_array, of_next, of_record, of_set}
+use Rattle.ep_typed.specs.Sets.{is_ordinal}
 use Rattle.std.proofs.lemmas.Option.{same_Some}
 use Rattle.ep_typed.proofs.Steady.{grows_refl, steady_bind, steady_give, steady_elaborate_each, steady_elaborate_step, steady_elaborate_within, steady_elaborated, steady_elaborated_where}
-use Rattle.ep_typed.specs.Denoters.{required_type, enumeration_type, array_type, definition_of, found_of, type_of, type_step, types_step, type_within}
+use Rattle.ep_typed.specs.Denoters.{required_type, enumeration_type, array_type, set_type, definition_of, found_of, type_of, type_step, types_step, type_within}
 use Rattle.ep_typed.specs.Meaning.{elaborated, elaborated_where, elaborated_found, elaborate, elaborate_each, elaborate_step, elaborate_within}
 use Rattle.ep_typed.specs.Steps.{Computation, bind, give, with_type}
 use Rattle.ep_typed.specs.Valid.{Declarations, AreTypeValues, IsTypeValue}
-use Rattle.ep_typed.specs.Trees.{Fixed, Denoter, Required, Named, Subrange, Enumeration, Array, Record, Denoters, no_denoter, next_denoter}
+use Rattle.ep_typed.specs.Trees.{Fixed, Denoter, Required, Named, Subrange, Enumeration, Array, Record, Set, Denoters, no_denoter, next_denoter}
 use Rattle.ep_typed.specs.TypeValues.{ComponentTypes, TypeValue}
 use Rattle.ep_typed.specs.TypeValues as type
 use Rattle.ep_typed.specs.declared.denoter.RequiredType.{RequiredType}
@@ -73,6 +74,14 @@ module _ (declared : Declarations) (G : Image) (untouched : Slots) (Here : Facts
       → Fragment declared G Here n (point injection memory (p.instructions.before + at) (Word (pos component) ∷ Word (pos index) ∷ below)) (elaborated call g unit (type.Array low high of)) (p.instructions.before + at + 1) (λ a. Inside untouched injection memory (TypeOnTop (type.Array low high of) below a)) d (λ a. d)
   array_elaborates at low high of index component injection memory below d enough index_is component_is stands =
       fragment_less {n = suc n} (omega arith) (fragment_counted {weight = 0} 0 (with_type (type.Array low high of)) (λ s. s) (type.Array low high of) (λ s. refl) grows_refl (λ s matches here. arr_does declared G (p.instructions.before + at) line below low high of index component stands.0 lasts injection memory s index_is component_is matches here) (omega (arith, enough)) (omega (arith, enough)) (omega (arith, enough)) (omega (arith, enough)))
+
+  -- `TSet`, over the base type
+  set_elaborates : (at : ℕ) (low high : ℤ) (base : ℕ) → IsTrue (is_ordinal low) → IsTrue (is_ordinal high) → (injection : Injection) (memory : Memory) (below : List Operand) (d : ℕ) → least_credit ≤ d
+      → Describes memory.types base (type.Ordinal low high)
+      → CodeStands G ps p references at (bare line op.T_SET ∷ [])
+      → Fragment declared G Here n (point injection memory (p.instructions.before + at) (Word (pos base) ∷ below)) (elaborated call g unit (type.Set low high)) (p.instructions.before + at + 1) (λ a. Inside untouched injection memory (TypeOnTop (type.Set low high) below a)) d (λ a. d)
+  set_elaborates at low high base from to injection memory below d enough base_is stands =
+      fragment_less {n = suc n} (omega arith) (fragment_counted {weight = 0} 0 (with_type (type.Set low high)) (λ s. s) (type.Set low high) (λ s. refl) grows_refl (λ s matches here. set_does declared G (p.instructions.before + at) line below low high base from to stands.0 lasts injection memory s base_is matches here) (omega (arith, enough)) (omega (arith, enough)) (omega (arith, enough)) (omega (arith, enough)))
 
   -- `TRec`, over the types of the components
   record_elaborates : (at count : ℕ) (ts given : ComponentTypes) (injection : Injection) (memory : Memory) (below pushed : List Operand) (d : ℕ) → least_credit ≤ d
@@ -155,6 +164,9 @@ module _ (declared : Declarations) (G : Image) (untouched : Slots) (Here : Facts
             required_elaborates simple.Integer (type.Record ts) is valid = cc
             required_elaborates simple.Char (type.Record ts) is valid = cc
             required_elaborates simple.Boolean (type.Record ts) is valid = cc
+            required_elaborates simple.Integer (type.Set low high) is valid = cc
+            required_elaborates simple.Char (type.Set low high) is valid = cc
+            required_elaborates simple.Boolean (type.Set low high) is valid = cc
         step_elaborates at (Named index []) t is valid = found_elaborates at (slice_get types index) t is valid
         step_elaborates at (Named index (b ∷ bs)) t is valid = cc
         step_elaborates at (Subrange host (Fixed l) (Fixed h)) t is valid = of_bounds t is valid
@@ -164,6 +176,7 @@ module _ (declared : Declarations) (G : Image) (untouched : Slots) (Here : Facts
             of_bounds type.Text is valid = absurd valid
             of_bounds (type.Array low high of) is valid = cc
             of_bounds (type.Record ts) is valid = cc
+            of_bounds (type.Set low high) is valid = cc
         step_elaborates at (Enumeration names) t is valid = of_names t is valid
           where
             of_names : (t : TypeValue) → enumeration_type names ≡ Some t → IsTypeValue t → IsElaborated at (simple_code line (enumeration_type names)) t (elaborated_where call g unit (enumeration_type names))
@@ -179,6 +192,11 @@ module _ (declared : Declarations) (G : Image) (untouched : Slots) (Here : Facts
                 no_record : (names : List (List ℕ)) → enumeration_type names ≡ Some (type.Record ts) → ⊥
                 no_record [] e = cc
                 no_record (x ∷ xs) e = cc
+            of_names (type.Set low high) is valid = absurd (no_set names is)
+              where
+                no_set : (names : List (List ℕ)) → enumeration_type names ≡ Some (type.Set low high) → ⊥
+                no_set [] e = cc
+                no_set (x ∷ xs) e = cc
         step_elaborates at (Array index component) t is valid = λ stands injection memory below d enough.
             let parts = of_array (type_step types find index) (type_step types find component) t is in
             let array_is : t ≡ type.Array parts.0 parts.1 parts.2 = parts.5 in
@@ -206,6 +224,22 @@ module _ (declared : Declarations) (G : Image) (untouched : Slots) (Here : Facts
             (each_elaborates at ds fields.0 fields.1 v (code_front G ps p references at xs (last ∷ []) stands) injection memory below d enough)
             (λ us longer after pushed grown routine top.
             fragment_to ends (record_elaborates (at + length xs) (how_many ds) fields.0 us longer after below pushed d enough top (code_back G ps p references at xs (last ∷ []) stands))))
+        step_elaborates at (Set base) t is valid = λ stands injection memory below d enough.
+            let parts = of_set (type_step types find base) t is in
+            let set_is : t ≡ type.Set parts.0 parts.1 = parts.3 in
+            let v : IsTypeValue (type.Set parts.0 parts.1) = subst IsTypeValue set_is valid in
+            let xs : List Instr = step_code types line code base in
+            let last : Instr = bare line op.T_SET in
+            let middle : ℕ = p.instructions.before + (at + length xs) in
+            let end : ℕ = p.instructions.before + (at + length (xs ++ last ∷ [])) in
+            let ends : middle + 1 ≡ end = omega (arith, length-append xs (last ∷ [])) in
+            subst (λ u. Fragment declared G Here n (point injection memory (p.instructions.before + at) below) (elaborate_step call g unit types does (Set base)) end (λ a. Inside untouched injection memory (TypeOnTop u below a)) d (λ a. d + 4)) (sym set_is)
+            (inside_bind {e = λ a. d + 4} (λ a. steady_elaborated_where call steady_call g unit (set_type (Some a)))
+            (step_elaborates at base (type.Ordinal parts.0 parts.1) parts.2 v.0 (code_front G ps p references at xs (last ∷ []) stands) injection memory below d enough)
+            (λ a longer after pushed grown routine top.
+            subst (λ o. Fragment declared G Here n (point longer after middle o) (elaborated_where call g unit (set_type (Some a))) end (λ b. Inside untouched longer after (TypeOnTop (type.Set parts.0 parts.1) below b)) (d + 4) (λ b. d + 4)) (sym top.is)
+            (subst (λ u. Fragment declared G Here n (point longer after middle (Word (pos top.number) ∷ below)) (elaborated_where call g unit (set_type (Some u))) end (λ b. Inside untouched longer after (TypeOnTop (type.Set parts.0 parts.1) below b)) (d + 4) (λ b. d + 4)) (sym top.type_is)
+            (fragment_to ends (set_elaborates (at + length xs) parts.0 parts.1 top.number v.1 v.2 longer after below (d + 4) (omega (arith, enough)) top.described (code_back G ps p references at xs (last ∷ []) stands))))))
 
         each_elaborates : (at : ℕ) (ds : Denoters) (ts : ComponentTypes) → types_step types find ds ≡ Some ts → AreTypeValues ts → IsElaboratedEach at ds ts
         each_elaborates at no_denoter ts is valid = none_elaborate at ts is

@@ -63,6 +63,7 @@ MovesOwn declared G untouched first start p n at to c =
 value_fits : (injection : Injection) (memory : Memory) (k : Kind) (t : TypeValue) (r : Result) (o : Operand) → IsTypeOfKind k t → IsValueOf injection memory k r o → weight_of r ≤ size_of t
 value_fits injection memory (kind.Ordinal h) t r o of_kind (z, r_is, of_host, o_is) = let none : weight_of r ≡ 0 = ap weight_of r_is in omega (arith, none)
 value_fits injection memory kind.Bytes t r o of_kind v = absurd of_kind
+value_fits injection memory (kind.Set h) t r o of_kind (ms, r_is, is_set, o_is) = let none : weight_of r ≡ 0 = ap weight_of r_is in omega (arith, none)
 value_fits injection memory (kind.Structured u) t r o of_kind v = let same : weight_of r ≡ size_of t = ap weight_of v.is_structure ∙ ap size_of of_kind.0 in omega (arith, same)
 
 credit_fits : (t : TypeValue) (w d : ℕ) → w ≤ size_of t → d + 3 + 2 * w ≤ d + 3 + 3 * size_of t

@@ -13,7 +13,7 @@ use Rattle.ep_gen_unit.specs.UnitCode.{IsProgramCode, own_code, its_end, entry_o
 use Rattle.ep_gen_unit.proofs.Declared.{name_same, same_name, own_types, slice_get-either, variables_valid}
 use Rattle.ep_gen_unit.proofs.OwnMakes.{make_all_own_moves, make_sized_moves, takes_all_moves}
 use Rattle.ep_gen_unit.proofs.Parts.{code_stands-parts}
-use Rattle.ep_gen_unit.proofs.Results.{result_moves, structure_moves}
+use Rattle.ep_gen_unit.proofs.Results.{result_moves, set_moves, structure_moves}
 use Rattle.ep_gen_unit.proofs.StmtMoves.{statement_moves}
 use Rattle.ep_gen_unit.proofs.WithMoves.{own_binds_follow}
 use Rattle.ep_gen_unit.proofs.Units.{of_object, room, routine_there, scene_of, moved_own}
@@ -53,13 +53,14 @@ use Rattle.ep_typed.specs.Routines.{made_variables, result_name, result_variable
 use Rattle.ep_typed.specs.Steps.{Computation, bind}
 use Rattle.ep_typed.specs.Denoters.{host_of, type_of}
 use Rattle.ep_typed.specs.Hosts.{Host}
+use Rattle.ep_typed.specs.TypeValues as type
 use Rattle.ep_typed.specs.TypeValues.{TypeValue, size_of}
-use Rattle.ep_typed.proofs.ValueKinds.{kinds_are_one}
+use Rattle.ep_typed.proofs.ValueKinds.{kinds_are_one, typed_of_kind}
 use Rattle.ep_object.proofs.rows.OwnRows.{StillBare}
 use Rattle.ep_typed.specs.Steps as meaning
 use Rattle.ep_typed.specs.Trees.{Callee, Denoter}
 use Rattle.ep_typed.specs.Valid as kind
-use Rattle.ep_typed.specs.Valid.{Declarations, IsOfKind, IsStructured, Kind, in_block, levels_of, around_in, variables_in, variables_at, variables_up, IsResult, IsDenoter, IsFormal, IsFormalBy, IsValid, IsRoutine, IsVariable, formal_variable, variables_of, heading_of, own}
+use Rattle.ep_typed.specs.Valid.{Declarations, IsOfKind, IsSetOf, IsStructured, Kind, in_block, levels_of, around_in, variables_in, variables_at, variables_up, IsResult, IsDenoter, IsFormal, IsFormalBy, IsValid, IsRoutine, IsVariable, formal_variable, variables_of, heading_of, own}
 use Rattle.ep_typed.specs.Steady.{Steady, IsSteadyHandler}
 use Rattle.ep_typed.specs.Viewed.{denoter_of, stmt_of}
 use Rattle.ep_typed.specs.declared.interface.Formal.{Formal}
@@ -406,11 +407,36 @@ module _ (u : TypedUnit) (o : Object) (is : IsProgramCode u o) (valid : IsValid 
               (result_of_name y) (result_is y is_some) (types_are_instances u.types (denoter_of y.denoter) t has_type) longer after below 63 (omega arith) home);
         }
 
+    -- of one whose result is a set
+    set_ends : (y : RoutineResult) (h : Host) (d : IsDenoter u.types (denoter_of y.denoter)) (t : TypeValue) → d.type_value ≡ t → IsSetOf h t → r.result ≡ Some y
+        → CodeStands G ps p o.references end (structure_code line_of (length formals)) → Ends (Some y) (kind.Set h ∷ []) (3 * size_of d.type_value)
+    set_ends y h d (type.Ordinal low high) is of_host is_some end_stands = absurd of_host
+    set_ends y h d type.Text is of_host is_some end_stands = absurd of_host
+    set_ends y h d (type.Array low high of) is of_host is_some end_stands = absurd of_host
+    set_ends y h d (type.Record ts) is of_host is_some end_stands = absurd of_host
+    set_ends y h d (type.Set low high) is of_host is_some end_stands =
+        record {
+          place = p.instructions.before + end + 2;
+          instruction = bare line_of op.RETURN;
+          stands_there = instr_at G (omega arith) end_stands.1.1.0;
+          returns = refl;
+          first_field = refl;
+          second_field = refl;
+          moves = λ knows longer after below home.
+              fragment_credit {d = 63} {e = λ rs. 1 + credit_of rs} (omega arith) (λ rs. omega arith)
+              (set_moves untouched knows ps p o.references m u.name (length formals) line_of end h low high of_host end_stands
+              (result_of_name y) (result_is y is_some) (types_are_instances u.types (denoter_of y.denoter) (type.Set low high) (d.has_type ∙ ap Some is)) longer after below 63 (omega arith) home);
+        }
+
     function_ends : (y : RoutineResult) (k : Kind) → IsOfKind k u.types (denoter_of y.denoter) → (d : IsDenoter u.types (denoter_of y.denoter)) → r.result ≡ Some y → (w : Option Host) → host_of u.types (denoter_of y.denoter) ≡ w
         → CodeStands G ps p o.references end (function_end w line_of (length formals) end) → end + length (function_end w line_of (length formals) end) ≤ p.instructions.own → Ends (Some y) (k ∷ []) (3 * size_of d.type_value)
     function_ends y (kind.Ordinal h) of_kind d is_some None has end_stands room_for = absurd (let e : ◌≡◌ {A = Option Host} None (Some h) = sym has ∙ of_kind in cc)
     function_ends y (kind.Ordinal h) of_kind d is_some (Some i) has end_stands room_for = ordinal_ends y h of_kind d is_some end_stands (omega (arith, room_for))
     function_ends y kind.Bytes of_kind d is_some w has end_stands room_for = absurd of_kind
+    function_ends y (kind.Set h) of_kind d is_some None has end_stands room_for =
+        set_ends y h d d.type_value refl (typed_of_kind u.types (denoter_of y.denoter) d.type_value (kind.Set h) d.typed of_kind) is_some end_stands
+    function_ends y (kind.Set h) of_kind d is_some (Some i) has end_stands room_for =
+        absurd (let e : kind.Ordinal i ≡ kind.Set h = kinds_are_one u.types (denoter_of y.denoter) (kind.Ordinal i) (kind.Set h) has of_kind in cc)
     function_ends y (kind.Structured t) of_kind d is_some None has end_stands room_for = structure_ends y t of_kind.0 of_kind.1 d is_some end_stands
     function_ends y (kind.Structured t) of_kind d is_some (Some i) has end_stands room_for =
         absurd (let e : kind.Ordinal i ≡ kind.Structured t = kinds_are_one u.types (denoter_of y.denoter) (kind.Ordinal i) (kind.Structured t) has of_kind in cc)

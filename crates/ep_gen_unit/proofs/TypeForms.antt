@@ -54,6 +54,10 @@ module _ (types : List UnitType) (a : Code) where
   by_parts left index component p q r =
       grows_at (λ line. code_within types line (suc left) component ++ bare line op.T_ARR ∷ []) p (grows_at (λ line. bare line op.T_ARR ∷ []) q r)
 
+  -- the base type of a set, and then the set
+  pub by_base : {b c : Code} (left : ℕ) (base : tree.Denoter) → Grows a b (code_within types a.line (suc left) base) → Grows b c (bare b.line op.T_SET ∷ []) → Grows a c (code_within types a.line (suc left) (tree.Set base))
+  by_base left base p q = grows_at (λ line. bare line op.T_SET ∷ []) p q
+
   -- the components of a record, and then the record
   pub by_components : {b c : Code} (left : ℕ) (ds : tree.Denoters) → Grows a b (each_code types a.line (code_within types a.line left) ds) → Grows b c (instr op.T_REC (pos (how_many ds)) 0 b.line ∷ []) → Grows a c (code_within types a.line (suc left) (tree.Record ds))
   by_components left ds p q = grows_at (λ line. instr op.T_REC (pos (how_many ds)) 0 line ∷ []) p q

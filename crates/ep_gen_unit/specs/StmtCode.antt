@@ -202,11 +202,11 @@ result_code line number at =
     instr op.SLOT (pos number) 0 line ∷ bare line op.DUP ∷ bare line op.DEFINED ∷ instr op.JUMP_FALSE (pos (at + 6)) 0 line ∷ bare line op.LOAD ∷ bare line op.RETURN
     ∷ instr op.FAIL (pos run_error.RESULT_UNDEFINED) 0 line ∷ []
 
--- the same of a function whose result is an array or a record, which it leaves with its components as they are
+-- the same of a function whose result is an array or a record, which it leaves with its components as they are, or a set
 abbrev pub structure_code : ℕ → ℕ → List Instr
 structure_code line number = instr op.SLOT (pos number) 0 line ∷ bare line op.LOAD ∷ bare line op.RETURN ∷ []
 
--- the end of a function, by the host of its result, which an array or a record has not
+-- the end of a function, by the host of its result, which an array, a record or a set has not
 abbrev pub function_end : Option Host → ℕ → ℕ → ℕ → List Instr
 function_end None line number at = structure_code line number
 function_end (Some h) line number at = result_code line number at

@@ -1,10 +1,10 @@
 -- The code that elaborates types, which leaves the type's number. It has the order of the elaboration: the parts of an array
--- or a record in the order of the text, and then the array or the record.
+-- or a record in the order of the text, or the base type of a set, and then the array, the record or the set.
 use Rattle.std.specs.Prelude.{ℕ, ℤ, pos, zero, suc, List, [], ◌∷◌, ◌++◌, length, slice_get, Option, Some, None}
 use Rattle.ep_gen_expr.specs.ExprCode.{bare, instr, push}
 use Rattle.ep_object.specs.declared.code.Instr.{Instr}
 use Rattle.ep_typed.specs.Denoters.{definition_of, enumeration_type, required_type, subrange_type}
-use Rattle.ep_typed.specs.Trees.{Denoter, Required, Named, Subrange, Enumeration, Array, Record, Denoters, no_denoter, next_denoter}
+use Rattle.ep_typed.specs.Trees.{Denoter, Required, Named, Subrange, Enumeration, Array, Record, Set, Denoters, no_denoter, next_denoter}
 use Rattle.ep_typed.specs.TypeValues as type
 use Rattle.ep_typed.specs.TypeValues.{TypeValue}
 use Rattle.ep_typed.specs.declared.unit.UnitType.{UnitType}
@@ -39,6 +39,7 @@ module _ (types : List UnitType) (line : ℕ) where
     step_code find (Enumeration names) = simple_code line (enumeration_type names)
     step_code find (Array index component) = step_code find index ++ (step_code find component ++ bare line op.T_ARR ∷ [])
     step_code find (Record ds) = each_code find ds ++ instr op.T_REC (pos (how_many ds)) 0 line ∷ []
+    step_code find (Set base) = step_code find base ++ bare line op.T_SET ∷ []
 
     -- one after another
     pub each_code : (Denoter → List Instr) → Denoters → List Instr

@@ -2,7 +2,7 @@
 
 ghost use Rattle.std.specs.Prelude.{◌≡◌, OnOk, suc, is_some, map, Some};
 ghost use Rattle.ep_typed.specs.Denoters as denoters;
-ghost use Rattle.ep_typed.specs.Trees.{denoters as in_order, Array, Named, Record};
+ghost use Rattle.ep_typed.specs.Trees.{denoters as in_order, Array, Named, Record, Set};
 ghost use Rattle.ep_typed.specs.Viewed.{bound_of, denoter_of};
 ghost use Rattle.ep_gen_expr.specs.Growth.{Grows};
 ghost use Rattle.ep_gen_unit.specs.TypeCode.{code_within, each_code, ordinal_code, simple_code, type_code};
@@ -44,6 +44,7 @@ fn elaborate_within(
             array_code(types, left, index.get(), component.get(), code)
         }
         Denoter::Record(fields) => record_code(types, left, fields.items(), code),
+        Denoter::Set(base) => set_code(types, left, base.get(), code),
     }
 }
 
@@ -84,6 +85,21 @@ fn array_code(
     elaborate_within(types, left, index, code)?;
     elaborate_within(types, left, component, code)?;
     emit(code, op::T_ARR, 0, 0)
+}
+
+/// Appends the code of a set, behind that of its base type.
+#[cycle(denoters)]
+fn set_code(
+    types: &[UnitType],
+    left: usize,
+    base: &Denoter,
+    code: &mut Code,
+) -> Result<(), NoMemory>
+    ensures { OnOk result (Grows code.old code.new
+        (code_within types.now code.old.line (suc left) (Set (denoter_of base.now)))) }
+{
+    elaborate_within(types, left, base, code)?;
+    emit(code, op::T_SET, 0, 0)
 }
 
 /// Appends the code of a record, behind that of its components.
@@ -137,7 +153,7 @@ fn is_ordinal_within(types: &[UnitType], left: usize, denoter: &Denoter) -> bool
         Denoter::Named(index, tuple) => is_ordinal_name(types, left, *index, tuple.items()),
         Denoter::Subrange(host, _, _) => is_ordinal_within(types, left, host.get()),
         Denoter::Enumeration(names) => !names.items().is_empty(),
-        Denoter::Array(_, _) | Denoter::Record(_) => false,
+        Denoter::Array(_, _) | Denoter::Record(_) | Denoter::Set(_) => false,
     }
 }
 

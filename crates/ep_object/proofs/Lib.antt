@@ -7,6 +7,7 @@ pub mod Limits
 pub mod matching
 pub mod rows
 pub mod Sets
+pub mod SetWords
 mod Spinning
 pub mod Tells
 pub mod Ticks

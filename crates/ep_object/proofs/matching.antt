@@ -12,6 +12,7 @@ pub mod Names
 pub mod NewSegments
 pub mod NewVariables
 pub mod OwnVariables
+pub mod SetValues
 pub mod Standing
 pub mod TypeTables
 pub mod Values

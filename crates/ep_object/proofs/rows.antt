@@ -12,4 +12,5 @@ pub mod PartRows
 pub mod Pieces
 pub mod PlaceRows
 pub mod Rows
+pub mod SetRows
 pub mod TextRows

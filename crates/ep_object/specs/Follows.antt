@@ -2,7 +2,7 @@
 use Rattle.std.specs.Prelude.{◌≡◌, ℕ, ℤ, suc, ◌+◌, ◌*◌, ◌≤◌, ◌<◌, ◌⊎◌, IsTrue, List, [], ◌∷◌, ◌++◌, length, slice_get, ⊤}
 use Rattle.ep_outside.specs.Known.{IsPrefix}
 use Rattle.ep_typed.specs.Events.{Trace}
-use Rattle.ep_typed.specs.Printing.{Result, Number, Bytes, Structure}
+use Rattle.ep_typed.specs.Printing.{Result, Number, Bytes, Structure, Members}
 use Rattle.ep_typed.specs.Steps.{Component, Outcome, Gives, Ends, Cut, Computation, state_of}
 use Rattle.ep_typed.specs.Steps.{Value as ValueOf}
 use Rattle.ep_typed.specs.Steps as meaning
@@ -11,7 +11,8 @@ use Rattle.ep_typed.specs.Valid.{Declarations, Kind}
 use Rattle.ep_typed.specs.Hosts.{Host, is_of_host}
 use Rattle.ep_typed.specs.TypeValues.{TypeValue, size_of}
 use Rattle.ep_object.specs.Matching.{Memory, at, Injection, Matches, Slots, own_slot, Grown, IsSpot, Describes, HasAt}
-use Rattle.ep_object.specs.Operands.{Operand, Word, Place, Text, Value}
+use Rattle.ep_object.specs.Operands.{Operand, Word, Place, Text, Value, Set}
+use Rattle.ep_object.specs.Sets.{IsSet}
 use Rattle.ep_object.specs.Runs.{run, tick}
 use Rattle.ep_object.specs.State.{State, Frame, Frames, End, Running, Stopped, Normal, Halt, Error}
 use Rattle.ep_object.specs.declared.code.Image.{Image}
@@ -241,11 +242,20 @@ pub record StructureOnTop (type : TypeValue) (below : List Operand) (r : Result)
   pub holds : IsStructure type r injection memory operand
   pub is : operands ≡ operand ∷ below
 
+-- a set on top
+pub record SetOnTop (below : List Operand) (r : Result) (injection : Injection) (memory : Memory)
+    (operands : List Operand) : Type 0 where
+  pub members : List ℕ
+  pub is_members : r ≡ Members members
+  pub is_set : IsSet members
+  pub is : operands ≡ Set members ∷ below
+
 -- a result of the kind on top
 abbrev pub OnTop : Kind → List Operand → Result → Operands
 OnTop (kind.Ordinal host) below r = NumberOnTop host below r
 OnTop kind.Bytes below r = TextOnTop below r
 OnTop (kind.Structured type) below r = StructureOnTop type below r
+OnTop (kind.Set host) below r = SetOnTop below r
 
 -- a place of the variable on top, whose type describes the type value
 pub record PlaceOnTop (type : TypeValue) (below : List Operand) (variable : Component) (injection : Injection)

@@ -10,14 +10,15 @@ use Rattle.ep_typed.specs.Steps.{Value, Undefined, Component, Allocation, Resour
 use Rattle.ep_typed.specs.Steps as meaning
 use Rattle.ep_typed.specs.Valid.{Declarations}
 use Rattle.ep_typed.specs.Viewed.{denoter_of}
+use Rattle.ep_typed.specs.Sets.{are_between}
 use Rattle.ep_typed.specs.TypeValues.{ComponentTypes, TypeValue}
 use Rattle.ep_typed.specs.TypeValues as type
 use Rattle.ep_typed.specs.declared.unit.UnitVariable.{UnitVariable}
 use Rattle.ep_object.specs.Frames.{slots_over}
 use Rattle.ep_object.specs.Operands.{Operand}
-use Rattle.ep_object.specs.Sets.{set_size}
+use Rattle.ep_object.specs.Sets.{IsSet, set_size, words_of_set}
 use Rattle.ep_object.specs.State.{Frames, Segments, TypeTable, State, text_entry, first_types, undefined}
-use Rattle.ep_object.specs.Types.{ordinal_entry, array_entry, record_entry}
+use Rattle.ep_object.specs.Types.{ordinal_entry, array_entry, record_entry, set_entry}
 use Rattle.ep_object.specs.declared.code.Image.{Image}
 use Rattle.ep_object.specs.declared.code.ImageUnit.{ImageUnit}
 use Rattle.ep_object.specs.declared.state.Kind.{Kind}
@@ -80,6 +81,7 @@ abbrev mutual
       (c : ℕ) × (slice_get types n ≡ Some (array_entry low high c (size_of (type.Array low high of)))) × Describes types c of
   Describes types n (type.Record ts) =
       (ps : List RecordPart) × (slice_get types n ≡ Some (record_entry ps (size_of (type.Record ts)))) × DescribeEach types 0 ps ts
+  Describes types n (type.Set low high) = slice_get types n ≡ Some (set_entry low high)
 
   -- components behind so many words have types that describe these, one for one, and stand one behind the other
   pub DescribeEach : TypeTable → ℕ → List RecordPart → ComponentTypes → Type 0
@@ -109,6 +111,7 @@ part_of (type.Ordinal low high) k = None
 part_of type.Text k = None
 part_of (type.Array low high of) k = cond (ltb k (count_of low high)) (Some (record { offset = k * size_of of; type_value = of })) None
 part_of (type.Record ts) k = part_among 0 ts k
+part_of (type.Set low high) k = None
 
 -- the part at a path, of a part that begins behind so many words
 abbrev pub part_along : Option Part → List ℕ → Option Part
@@ -129,6 +132,7 @@ abbrev pub WordAt : TypeValue → Value → Option ℤ → Type 0
 WordAt t Undefined word = word ≡ Some undefined
 WordAt t (meaning.Word w) word = (word ≡ Some w) × IsTrue (is_within t w)
 WordAt t (meaning.Components of) word = ⊥
+WordAt t (meaning.Members ms) word = ⊥
 
 -- a word is a value of the ordinal type with these bounds, which are integers
 pub record OrdinalAt (low high : ℤ) (value : Value) (word : Option ℤ) : Type 0 where
@@ -141,6 +145,20 @@ abbrev pub FileAt : Value → Option ℤ → Type 0
 FileAt Undefined word = word ≡ Some undefined
 FileAt (meaning.Word w) word = ⊥
 FileAt (meaning.Components of) word = ⊥
+FileAt (meaning.Members ms) word = ⊥
+
+-- the words from an offset on are those of the set, whose members lie within the bounds
+pub record MembersAt (low high : ℤ) (ms : List ℕ) (words : Words) (offset : ℕ) : Type 0 where
+  pub is_set : IsSet ms
+  pub within : IsTrue (are_between low high ms)
+  pub told : (k : ℕ) → k < set_size → words (offset + k) ≡ slice_get (words_of_set ms) k
+
+-- the words from an offset on are a value of the set type with these bounds: those of a set, or each the undefined word
+abbrev pub SetAt : ℤ → ℤ → Value → Words → ℕ → Type 0
+SetAt low high Undefined words offset = (k : ℕ) → k < set_size → words (offset + k) ≡ Some undefined
+SetAt low high (meaning.Word w) words offset = ⊥
+SetAt low high (meaning.Components of) words offset = ⊥
+SetAt low high (meaning.Members ms) words offset = MembersAt low high ms words offset
 
 -- The words from an offset on hold the value, and it is one of the type. Words that the value leaves free may be any.
 -- Where a value is a pointer, the injection says which segment its word is the number of.
@@ -151,6 +169,7 @@ abbrev mutual
   HasAt injection (type.Array low high of) value words offset =
       (k : ℕ) → k < count_of low high → HasAt injection of (component_of value k) words (offset + k * size_of of)
   HasAt injection (type.Record ts) value words offset = HaveAt injection ts (component_of value) words offset
+  HasAt injection (type.Set low high) value words offset = SetAt low high value words offset
 
   -- so do those of components, which stand one behind the other
   pub HaveAt : Injection → ComponentTypes → (ℕ → Value) → Words → ℕ → Type 0

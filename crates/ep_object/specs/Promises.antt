@@ -11,7 +11,8 @@ use Rattle.ep_typed.specs.TypeValues.{TypeValue}
 use Rattle.ep_object.specs.Follows.{end_of, IsStructure, Operands, point, state_at, Fragment, Since, Lands, Inside, GivesUp}
 use Rattle.ep_object.specs.Activations.{IsCallable}
 use Rattle.ep_object.specs.Matching.{Memory, Injection, Matches, IsSpot, Describes, kept_slots}
-use Rattle.ep_object.specs.Operands.{Operand, Place, Text, Word}
+use Rattle.ep_object.specs.Operands.{Operand, Place, Set, Text, Word}
+use Rattle.ep_object.specs.Sets.{IsSet}
 use Rattle.ep_object.specs.Runs.{run, unit_in}
 use Rattle.ep_object.specs.Simulates.{KeepPace, StaysIn, EndsAfter, StaysAfter}
 use Rattle.ep_object.specs.State.{State, Running}
@@ -23,7 +24,7 @@ use Rattle.ep_object.specs.declared.state.Place.{Place as PlaceOf}
 use Rattle.ep_object.specs.Placing.{Placement, placed_call}
 use Rattle.ep_typed.specs.Calls.{Argument, Value, Variable, Handler}
 use Rattle.ep_typed.specs.Hosts.{is_of_host}
-use Rattle.ep_typed.specs.Printing.{Result, Number, Bytes}
+use Rattle.ep_typed.specs.Printing.{Result, Number, Bytes, Members}
 use Rattle.ep_typed.specs.Results.{weight_of}
 use Rattle.ep_typed.specs.Steps.{Outcome, Gives, Ends, Cut, Computation, state_of}
 use Rattle.ep_typed.specs.Steps as meaning
@@ -57,6 +58,7 @@ abbrev pub IsValueOf : Injection → Memory → Kind → Result → Operand → 
 IsValueOf injection memory (kind.Ordinal host) r o = (z : ℤ) × (r ≡ Number z) × IsTrue (is_of_host host z) × (o ≡ Word z)
 IsValueOf injection memory kind.Bytes r o = (bytes : List ℕ) × (r ≡ Bytes bytes) × (o ≡ Text bytes)
 IsValueOf injection memory (kind.Structured t) r o = IsStructure t r injection memory o
+IsValueOf injection memory (kind.Set host) r o = (ms : List ℕ) × (r ≡ Members ms) × IsSet ms × (o ≡ Set ms)
 
 -- an operand is that of an argument: the value, or a place of the variable
 abbrev pub IsArgument : Injection → Memory → Passing → Argument → Operand → Type 0

@@ -29,7 +29,7 @@ required_types = (codes "integer", type.Integer) ∷ (codes "char", type.Char) �
 abbrev pub required_functions : List (List ℕ × Function)
 required_functions =
     (codes "abs", function.Absolute) ∷ (codes "sqr", function.Square) ∷ (codes "odd", function.Odd) ∷ (codes "ord", function.Ordinal) ∷ (codes "chr", function.Character)
-    ∷ (codes "succ", function.Successor) ∷ (codes "pred", function.Predecessor) ∷ []
+    ∷ (codes "succ", function.Successor) ∷ (codes "pred", function.Predecessor) ∷ (codes "card", function.Cardinality) ∷ []
 
 -- the required procedures (ISO 10206, 6.7.5 and 6.10)
 abbrev pub required_procedures : List (List ℕ × Procedure)

@@ -32,6 +32,10 @@ pub enum Kind {
     Ordinal(Host),
     /// The structured type of this number among the types of the unit, an array or a record (ISO 10206, 6.4.3.1).
     Structured(u32),
+    /// A set type over this host (ISO 10206, 6.4.3.5).
+    Set(Host),
+    /// That of the empty set, which is a value of every set type (ISO 10206, 6.8.7.4).
+    EmptySet,
     /// A string type but `char` (ISO 10206, 6.4.3.3).
     Text,
     /// The type of text files (ISO 10206, 6.4.3.6).

@@ -49,6 +49,8 @@ pub enum Function {
     Successor,
     /// `pred`
     Predecessor,
+    /// `card`
+    Cardinality,
 }
 
 /// A required procedure (ISO 10206, 6.7.5 and 6.10).
@@ -138,6 +140,8 @@ fn required_function(name: &[u8]) -> Option<Function>
         Some(Function::Successor)
     } else if is(name, b"pred".as_slice()) {
         Some(Function::Predecessor)
+    } else if is(name, b"card".as_slice()) {
+        Some(Function::Cardinality)
     } else {
         None
     }

@@ -3,7 +3,7 @@
 use crate::texts::parsed;
 use ep_base::Name;
 use ep_check_expr::{ExpressionRefusal, constant, expression};
-use ep_scope::{Declaration, Declared, Host, Kind, Scope, Thing, TypeName, View};
+use ep_scope::{Declaration, Declared, Host, Kind, Scope, Thing, TypeName};
 use ep_tree::{Component, ComponentValue, Expression, Statement};
 use ep_typed::{RequiredType, Value};
 use std::alloc::{AllocError, Global};
@@ -22,9 +22,10 @@ const EXPRESSIONS: &[(&str, &str)] = &[
     ("i.d", "rule 2 at 2, rule 2 at 2"),
     ("1 +\n'a'", "rule 32 at 2, rule 32 at 2"),
     ("'a' +\n'b'", "not built at 2, not built at 2"),
-    ("[1]", "not built at 2, not built at 2"),
+    ("[1]", "form, not built at 2"),
+    ("x^", "not built at 2, not built at 2"),
     ("x[1]", "rule 35 at 2, rule 35 at 2"),
-    ("y + 1 +\n[2]", "not built at 3, not built at 3"),
+    ("y + 1 +\nx^", "not built at 3, not built at 3"),
 ];
 
 /// A declaration of the unit `m`.
@@ -85,7 +86,7 @@ fn tell_form(
     alloc: Global,
     out: &mut String,
     e: &Expression,
-    scopes: &View<'_>,
+    scopes: &[Scope],
 ) -> Result<(), AllocError> {
     match expression(alloc, e, scopes) {
         Ok(_) => write!(out, "form, "),
@@ -101,7 +102,7 @@ fn tell_constant(
     alloc: Global,
     out: &mut String,
     e: &Expression,
-    scopes: &View<'_>,
+    scopes: &[Scope],
 ) -> Result<(), AllocError> {
     match &constant(alloc, e, scopes) {
         Ok(Value::Word(value)) => write!(out, "{value}"),
@@ -111,7 +112,7 @@ fn tell_constant(
 }
 
 /// What is answered of the expression that a text assigns.
-fn answers(alloc: Global, text: &str, scopes: &View<'_>) -> Result<String, AllocError> {
+fn answers(alloc: Global, text: &str, scopes: &[Scope]) -> Result<String, AllocError> {
     let mut out = String::new(alloc);
     if let Some(found) = parsed(alloc, text) {
         if let Some(e) = assigned(found.as_slice()) {
@@ -123,7 +124,7 @@ fn answers(alloc: Global, text: &str, scopes: &View<'_>) -> Result<String, Alloc
 }
 
 /// Tells of each row of the table that is not answered as is wanted.
-fn told(alloc: Global, scopes: &View<'_>) -> Result<String, AllocError> {
+fn told(alloc: Global, scopes: &[Scope]) -> Result<String, AllocError> {
     let mut out = String::new(alloc);
     for (text, want) in EXPRESSIONS {
         let whole = format!(in alloc; "program p; begin x :=\n{text} end.")?;
@@ -139,7 +140,7 @@ fn told(alloc: Global, scopes: &View<'_>) -> Result<String, AllocError> {
 fn of_an_expression_on_its_own(rt: HostRuntime) -> Result<(), Fail> {
     let scope = scope(rt.alloc());
     let out = match &scope {
-        Some(scope) => told(rt.alloc(), &View::of(std::slice::from_ref(scope)))?,
+        Some(scope) => told(rt.alloc(), std::slice::from_ref(scope))?,
         None => String::from_str(rt.alloc(), "no scope")?,
     };
     assert_eq!(rt; out.as_str(), "");

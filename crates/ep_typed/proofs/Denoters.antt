@@ -1,9 +1,9 @@
 -- What is found for a denoter is its type value, and a denoter has at most one.
 use Rattle.std.proofs.Common.{◌≡◌, ℕ, ℤ, pos, zero, suc, List, [], ◌∷◌, length, Option, Some, None, slice_get, refl, sym, ap, ◌∙◌, subst}
 use Rattle.std.proofs.lemmas.Option.{same_Some}
-use Rattle.ep_typed.specs.Denoters.{AreInstances, IsInstance, required, named, subrange, enumeration, array, components, none, one_more, required_type, definition_of, array_type, record_type, next_type, found_of, type_step, types_step, type_within}
+use Rattle.ep_typed.specs.Denoters.{AreInstances, IsInstance, required, named, subrange, enumeration, array, components, set, none, one_more, required_type, definition_of, array_type, set_type, record_type, next_type, found_of, type_step, types_step, type_within}
 use Rattle.ep_typed.specs.Laws.{TypesAreInstances, InstancesAreOne}
-use Rattle.ep_typed.specs.Trees.{Fixed, Denoter, Denoters, Required, Named, Subrange, Enumeration, Array, Record, no_denoter, next_denoter}
+use Rattle.ep_typed.specs.Trees.{Fixed, Denoter, Denoters, Required, Named, Subrange, Enumeration, Array, Record, Set, no_denoter, next_denoter}
 use Rattle.ep_typed.specs.declared.unit.UnitType.{UnitType}
 use Rattle.ep_typed.specs.TypeValues as type
 use Rattle.ep_typed.specs.TypeValues.{ComponentTypes, TypeValue, Ordinal}
@@ -17,6 +17,16 @@ of_array (Some (Ordinal low high)) (Some of) v e = (low, high, of, refl, refl, s
 of_array (Some type.Text) p v e = cc
 of_array (Some (type.Array l h t)) p v e = cc
 of_array (Some (type.Record ts)) p v e = cc
+of_array (Some (type.Set l h)) p v e = cc
+
+-- and that of a set from that of its base type, alike
+pub of_set : (o : Option TypeValue) (v : TypeValue) → set_type o ≡ Some v → (low high : ℤ) × (o ≡ Some (Ordinal low high)) × (v ≡ type.Set low high)
+of_set None v e = cc
+of_set (Some (Ordinal low high)) v e = (low, high, refl, same_Some v (type.Set low high) (sym e))
+of_set (Some type.Text) v e = cc
+of_set (Some (type.Array l h t)) v e = cc
+of_set (Some (type.Record ts)) v e = cc
+of_set (Some (type.Set l h)) v e = cc
 
 -- that of a record comes from those of its components
 pub of_record : (o : Option ComponentTypes) (v : TypeValue) → record_type o ≡ Some v → (ts : ComponentTypes) × (o ≡ Some ts) × (v ≡ type.Record ts)
@@ -50,6 +60,9 @@ module _ (types : List UnitType) where
     instance_step find h (Record ds) v e =
         let p = of_record (types_step types find ds) v e in
         subst (λ w. IsInstance types (Record ds) w) (sym p.2) (components ds p.0 (instances_step find h ds p.0 p.1))
+    instance_step find h (Set base) v e =
+        let p = of_set (type_step types find base) v e in
+        subst (λ w. IsInstance types (Set base) w) (sym p.3) (set base p.0 p.1 (instance_step find h base (Ordinal p.0 p.1) p.2))
 
     instances_step : (find : Denoter → Option TypeValue) → ((d : Denoter) (v : TypeValue) → find d ≡ Some v → IsInstance types d v) → (ds : Denoters) (ts : ComponentTypes) → types_step types find ds ≡ Some ts → AreInstances types ds ts
     instances_step find h no_denoter ts e = subst (AreInstances types no_denoter) (same_Some type.no_component ts e) none
@@ -81,6 +94,7 @@ module _ (types : List UnitType) where
   IsOf (Array index component) v =
       (low high : ℤ) × (of : TypeValue) × (type.Array low high of ≡ v) × IsInstance types index (Ordinal low high) × IsInstance types component of
   IsOf (Record ds) v = (ts : ComponentTypes) × (type.Record ts ≡ v) × AreInstances types ds ts
+  IsOf (Set base) v = (low high : ℤ) × (type.Set low high ≡ v) × IsInstance types base (Ordinal low high)
 
   -- and alike those of components
   abbrev AreOf : Denoters → ComponentTypes → Type 0
@@ -94,6 +108,7 @@ module _ (types : List UnitType) where
   is_of d v (enumeration first others) = refl
   is_of d v (array index component low high of i c) = (low, high, of, refl, i, c)
   is_of d v (components ds ts all) = (ts, refl, all)
+  is_of d v (set base low high i) = (low, high, refl, i)
 
   are_of : (ds : Denoters) (ts : ComponentTypes) → AreInstances types ds ts → AreOf ds ts
   are_of ds ts none = refl
@@ -117,6 +132,10 @@ module _ (types : List UnitType) where
     instance_one d v w (components ds ts all) other =
         let x = is_of (Record ds) w other in
         ap type.Record (instances_one ds ts x.0 all x.2) ∙ x.1
+    instance_one d v w (set base low high i) other =
+        let x = is_of (Set base) w other in
+        let bounds = same_ordinal low high x.0 x.1 (instance_one base (Ordinal low high) (Ordinal x.0 x.1) i x.3) in
+        (λ k. type.Set (bounds.0 k) (bounds.1 k)) ∙ x.2
 
     instances_one : (ds : Denoters) (ts us : ComponentTypes) → AreInstances types ds ts → AreInstances types ds us → ts ≡ us
     instances_one ds ts us none other = are_of no_denoter us other

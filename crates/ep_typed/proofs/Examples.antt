@@ -1,9 +1,11 @@
 -- The meaning computes the answers of small programs.
 use Rattle.std.proofs.Common.{◌≡◌, ℕ, ℤ, pos, negsuc, Bool, true, false, Some, None, [], ◌∷◌, refl, codes}
 use Rattle.ep_typed.specs.Events.{Trace, Write}
-use Rattle.ep_typed.specs.Trees.{Variable, OfUnit, Indexed, Field, Expr, Constant, Function, Evaluated, no_actual, next_actual, Read, One, Two, Plain, Wide, Stmt, Compound, Assign, While, Repeat, For, With, Case, Short, Write, stmts, none, next, Other, no_other, otherwise_do, arms}
+use Rattle.ep_typed.specs.Trees.{Variable, OfUnit, Indexed, Field, Expr, Constant, Function, Evaluated, no_actual, next_actual, Read, One, Two, SetOf, OnSets, Card, Single, Range, designators, Plain, Wide, Stmt, Compound, Assign, While, Repeat, For, With, Case, Short, Write, stmts, none, next, Other, no_other, otherwise_do, arms}
 use Rattle.ep_typed.specs.Trees as tree
-use Rattle.ep_typed.specs.TypeValues.{TypeValue, Array, Record, no_component, next_component, component_type, size_of}
+use Rattle.ep_typed.specs.Sets.{members}
+use Rattle.ep_typed.specs.declared.operations.SetOperation.TheVariants as set
+use Rattle.ep_typed.specs.TypeValues.{TypeValue, Array, Record, Set, no_component, next_component, component_type, size_of}
 use Rattle.ep_typed.specs.Steps.{State, End, Normal, Halted, Error, Outcome, Gives, Ends, Cut, give, spend, state_of, made, first_state}
 use Rattle.ep_typed.specs.Calls.{Handler}
 use Rattle.ep_typed.specs.Meaning.{eval, exec, routine_of}
@@ -219,3 +221,43 @@ no_such_element = refl
 -- it spends the steps of its place, and one of its own
 steps_of_with : end_of (exec (routine_of [] 0) 4 (codes "p") (With 4 (OfUnit (codes "p") 2) 0 (Indexed a (Constant (pos 2))) (tree.Halt 5)) 4 (made (codes "p") 0 points first_state)) ≡ Halted
 steps_of_with = refl
+
+-- ---- sets
+
+-- a variable s of type set of 1..9
+abbrev in_set : Stmt → Outcome (Unit {0})
+in_set s = exec (routine_of [] 0) 200 (codes "p") s 200 (made (codes "p") 0 (Set (pos 1) (pos 9)) first_state)
+
+abbrev number : ℤ → Expr
+number z = Constant z
+
+-- [5, 3..4, 9..8, 3]
+abbrev three : Expr
+three = SetOf (designators (Single (number (pos 5)) ∷ Range (number (pos 3)) (number (pos 4)) ∷ Range (number (pos 9)) (number (pos 8)) ∷ Single (number (pos 3)) ∷ []))
+
+abbrev tells : Expr → Stmt
+tells e = tree.Write 9 (Plain print.Boolean e ∷ []) false
+
+-- an empty range adds nothing, and a member counts once
+members_counted : trace_of (in_set (Compound (next (Assign 3 x three) (next (tells (equals (Card (Read x)) (pos 3))) none)))) ≡ Write (codes "True") ∷ []
+unfolding members
+members_counted = refl
+
+-- what is in one of two sets and not in the other
+taken_away : trace_of (in_set (tells (OnSets set.Equal (OnSets set.Difference three (SetOf (designators (Single (number (pos 4)) ∷ Single (number (pos 7)) ∷ [])))) (SetOf (designators (Single (number (pos 3)) ∷ Single (number (pos 5)) ∷ [])))))) ≡ Write (codes "True") ∷ []
+unfolding members
+taken_away = refl
+
+outside_base : end_of (in_set (Assign 3 x (SetOf (designators (Single (number (pos 0)) ∷ []))))) ≡ Error run_error.SET_MEMBER (codes "p") 3
+unfolding members
+outside_base = refl
+
+no_ordinal : end_of (in_set (Assign 3 x (SetOf (designators (Range (number (pos 9)) (number (pos 256)) ∷ []))))) ≡ Error run_error.SET_MEMBER (codes "p") 3
+no_ordinal = refl
+
+-- nothing is refused of a range that is empty
+empty_range : end_of (in_set (Assign 3 x (SetOf (designators (Range (number (pos 999)) (number (pos 256)) ∷ []))))) ≡ Normal
+empty_range = refl
+
+undefined_set : end_of (in_set (tells (OnSets set.In (number (pos 1)) (Read x)))) ≡ Error run_error.UNDEFINED_VALUE (codes "p") 9
+undefined_set = refl

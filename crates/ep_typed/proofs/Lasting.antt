@@ -2,18 +2,20 @@
 use Rattle.std.proofs.Common.{slice_get, ◌≡◌, ℕ, ℤ, pos, negsuc, zero, suc, ◌+◌, List, [], ◌∷◌, Option, Some, None, Bool, true, false, length, refl, ap, arith}
 use Rattle.std.specs.Prelude.{if◌then◌else◌}
 use Rattle.ep_typed.specs.Controls.{in_order, next_value}
-use Rattle.ep_typed.specs.Denoters.{definition_of, required_type, subrange_type, enumeration_type, array_type}
-use Rattle.ep_typed.specs.Meaning.{argument, arguments, one_result, weights_of, results_given, initialized, takes_by, takes_all, elaborate, elaborate_each, answered, indexed, selected, part, place, eval, write_piece, write_wide, write_item, write_items, assign, turns, turns_until, assigns, undefines, turns_to, counts, names, exec, exec_all, elaborated, elaborated_where, elaborated_found, elaborate_step, elaborate_within, make, make_all, make_own, make_all_own, start_of, starts_of, Found, routine_in, activation, runs_routine, routine_does, routine_of, read, assign_living, tried, exec_arms, exec_other}
+use Rattle.ep_typed.specs.Denoters.{definition_of, required_type, subrange_type, enumeration_type, array_type, set_type}
+use Rattle.ep_typed.specs.Meaning.{argument, arguments, extended, collected, members_found, one_result, weights_of, results_given, initialized, takes_by, takes_all, elaborate, elaborate_each, answered, indexed, selected, part, place, eval, write_piece, write_wide, write_item, write_items, assign, turns, turns_until, assigns, undefines, turns_to, counts, names, exec, exec_all, elaborated, elaborated_where, elaborated_found, elaborate_step, elaborate_within, make, make_all, make_own, make_all_own, start_of, starts_of, Found, routine_in, activation, runs_routine, routine_does, routine_of, read, assign_living, tried, exec_arms, exec_other}
 use Rattle.ep_typed.specs.Operations.{Answer, Number, Fault, is_same, is_true, decides, is_in}
-use Rattle.ep_typed.specs.Printing.{Result, number_of, plain_text, wide_text, piece_events}
+use Rattle.ep_typed.specs.Printing.{Result, number_of, members_of, plain_text, wide_text, piece_events}
 use Rattle.ep_typed.specs.Printing as result
 use Rattle.ep_typed.specs.Calls.{Argument, Value, Handler, entered, given_back, in_call}
 use Rattle.ep_typed.specs.Calls as argument_is
 use Rattle.ep_typed.specs.Steady.{Grows, Steady, IsSteadyHandler}
-use Rattle.ep_typed.specs.Steps.{Call, End, Normal, Halted, Error, Undefined, State, Outcome, Gives, Ends, Cut, state_of, Computation, give, cut, stop, go_on, bind, spend, change, found, fetch, assigned, type_at, Component, component, whole, size_of, with_type, counted, made, made_own, allocate, allocate_own, newest_assigned, with_bound, with_own_bound, standard_file, first_state, using, has_ended, own_variable}
+use Rattle.ep_typed.specs.Steps.{Call, End, Normal, Halted, Error, Undefined, State, Outcome, Gives, Ends, Cut, state_of, Computation, give, cut, stop, go_on, bind, spend, change, found, fetch, fetch_or, assigned, type_at, Component, component, whole, size_of, with_type, counted, made, made_own, allocate, allocate_own, newest_assigned, with_bound, with_own_bound, standard_file, first_state, using, has_ended, own_variable}
 use Rattle.ep_typed.specs.Steps.{Value as ValueOf}
-use Rattle.ep_typed.specs.Results.{misfit, result_of, suits, value_of, weight_of}
-use Rattle.ep_typed.specs.Trees.{Array, Enumeration, Subrange, Named, Record, Required, Denoter, Denoters, no_denoter, next_denoter, Callee, Place, Variable, Own, Standard, Indexed, Field, Expr, Constant, Text, Read, One, Two, Short, Step, Function, IndexedValue, FieldValue, Actual, Evaluated, Accessed, Actuals, no_actual, next_actual, Item, Plain, Wide, Stmt, Stmts, Empty, Compound, Assign, If, While, Repeat, Control, For, With, Procedure, Halt, Write, none, next, Case, Arms, no_arm, next_arm, Other, no_other, otherwise_do, Entire, OfUnit, OfRoutine, entire}
+use Rattle.ep_typed.specs.SetOperations.{set_answer}
+use Rattle.ep_typed.specs.Sets.{with_number, with_numbers}
+use Rattle.ep_typed.specs.Results.{misfit, result_of, suits, unresulting, value_of, weight_of}
+use Rattle.ep_typed.specs.Trees.{Array, Enumeration, Subrange, Named, Record, Set, Required, Denoter, Denoters, no_denoter, next_denoter, Callee, Place, Variable, Own, Standard, Indexed, Field, Expr, Constant, Text, Read, One, Two, Short, Step, Function, IndexedValue, FieldValue, SetOf, OnSets, Card, Designator, Single, Range, Designators, no_member, next_member, Actual, Evaluated, Accessed, Actuals, no_actual, next_actual, Item, Plain, Wide, Stmt, Stmts, Empty, Compound, Assign, If, While, Repeat, Control, For, With, Procedure, Halt, Write, none, next, Case, Arms, no_arm, next_arm, Other, no_other, otherwise_do, Entire, OfUnit, OfRoutine, entire}
 use Rattle.ep_typed.specs.Routines.{made_variables, made_by_unit}
 use Rattle.ep_typed.specs.Viewed.{denoter_of, stmt_of}
 use Rattle.ep_typed.specs.declared.interface.Formal.{Formal}
@@ -28,7 +30,7 @@ use Rattle.ep_typed.specs.declared.tree.CaseRange.{CaseRange}
 use Rattle.ep_typed.specs.TypeValues as type
 use Rattle.ep_typed.specs.TypeValues.{TypeValue}
 use Rattle.ep_typed.specs.Laws.{IsLonger, MeaningsLast}
-use Rattle.ep_typed.proofs.Steady.{grows_refl, grows_trans, grows_quiet, grows_events, grows_type, grows_counted, grows_made, grows_made_own, steady_give, steady_cut, steady_stop, steady_bind, steady_spend, steady_change, steady_fetch, steady_turns, steady_turns_until, steady_turns_to, steady_in_call, steady_routine_of, steady_using, steady_assign_living}
+use Rattle.ep_typed.proofs.Steady.{grows_refl, grows_trans, grows_quiet, grows_events, grows_type, grows_counted, grows_made, grows_made_own, steady_give, steady_cut, steady_stop, steady_bind, steady_spend, steady_change, steady_fetch, steady_fetch_or, steady_turns, steady_turns_until, steady_turns_to, steady_in_call, steady_routine_of, steady_using, steady_assign_living}
 use Rattle.ep_typed.specs.declared.run_error.TheConstants as run_error
 
 -- What one computation comes to, another one comes to with more steps.
@@ -102,6 +104,14 @@ lasting_fetch {A = A} e f = record { steady = steady_fetch e f; by = λ m k s. g
     go m k s None = refl
     go m k s (Some a) = refl
 
+-- with an end that depends on the state
+lasting_fetch_or : {A : Type 0} (e : State → End) (f : State → Option A) → Lasting (fetch_or e f) (fetch_or e f)
+lasting_fetch_or {A = A} e f = record { steady = steady_fetch_or e f; by = λ m k s. go m k s (f s) }
+  where
+    go : (m k : ℕ) (s : State) (o : Option A) → IsLonger k (found (e s) o m s) (found (e s) o (m + k) s)
+    go m k s None = refl
+    go m k s (Some a) = refl
+
 -- one of two
 lasting_if : {A : Type 0} (b : Bool) {x y v w : Computation A} → Lasting x v → Lasting y w → Lasting (if b then x else y) (if b then v else w)
 lasting_if true p q = p
@@ -167,6 +177,10 @@ module _ (call other : Handler) (lasts : IsLastingHandler call other) (g j : ℕ
   lasting_selected : (line : ℕ) (c : Component) (k : ℕ) → Lasting (selected call g unit line c k) (selected other (g + j) unit line c k)
   lasting_selected line c k = lasting_using _ c.allocation (lasting_spend 1 (lasting_give (component c k)))
 
+  -- members that are found
+  lasting_members_found : (line : ℕ) (o : Option (List ℕ)) → Lasting (members_found call g unit line o) (members_found other (g + j) unit line o)
+  lasting_members_found line o = lasting_fetch (Error run_error.SET_MEMBER unit line) (λ s. o)
+
   mutual
     -- a place
     lasting_place : (line : ℕ) (p : Place) → Lasting (place call g unit line p) (place other (g + j) unit line p)
@@ -193,6 +207,9 @@ module _ (call other : Handler) (lasts : IsLastingHandler call other) (g j : ℕ
         lasting_bind (lasting_arguments line given) (λ xs. lasting_bind (lasts.by unit line callee xs) lasting_one_result)
     lasting_eval line (IndexedValue x y) = lasting_bind (lasting_eval line x) (λ a. lasting_bind (lasting_eval line y) (λ b. lasting_bind (lasting_fetch _ _) (λ k. lasting_part line a k)))
     lasting_eval line (FieldValue x number) = lasting_bind (lasting_eval line x) (λ a. lasting_part line a number)
+    lasting_eval line (SetOf ds) = lasting_spend 1 (lasting_bind (lasting_collected line [] ds) (λ ms. lasting_give (result.Members ms)))
+    lasting_eval line (OnSets operation x y) = lasting_bind (lasting_eval line x) (λ a. lasting_bind (lasting_eval line y) (λ b. lasting_spend 1 (lasting_give (set_answer operation a b))))
+    lasting_eval line (Card x) = lasting_bind (lasting_eval line x) (λ a. lasting_spend 1 (lasting_give (result.Number (pos (length (members_of a))))))
 
     -- arguments
     lasting_argument : (line : ℕ) (a : Actual) → Lasting (argument call g unit line a) (argument other (g + j) unit line a)
@@ -202,6 +219,16 @@ module _ (call other : Handler) (lasts : IsLastingHandler call other) (g j : ℕ
     lasting_arguments : (line : ℕ) (given : Actuals) → Lasting (arguments call g unit line given) (arguments other (g + j) unit line given)
     lasting_arguments line no_actual = lasting_give []
     lasting_arguments line (next_actual a more) = lasting_bind (lasting_argument line a) (λ x. lasting_bind (lasting_arguments line more) (λ xs. lasting_give (x ∷ xs)))
+
+    -- members
+    lasting_extended : (line : ℕ) (ms : List ℕ) (d : Designator) → Lasting (extended call g unit line ms d) (extended other (g + j) unit line ms d)
+    lasting_extended line ms (Single x) = lasting_bind (lasting_eval line x) (λ a. lasting_members_found line (with_number (number_of a) ms))
+    lasting_extended line ms (Range x y) =
+        lasting_bind (lasting_eval line x) (λ a. lasting_bind (lasting_eval line y) (λ b. lasting_members_found line (with_numbers (number_of a) (number_of b) ms)))
+
+    lasting_collected : (line : ℕ) (ms : List ℕ) (ds : Designators) → Lasting (collected call g unit line ms ds) (collected other (g + j) unit line ms ds)
+    lasting_collected line ms no_member = lasting_give ms
+    lasting_collected line ms (next_member d more) = lasting_bind (lasting_extended line ms d) (λ ns. lasting_collected line ns more)
 
   -- one piece that is written
   lasting_write_piece : (bytes : List ℕ) → Lasting (write_piece call g unit bytes) (write_piece other (g + j) unit bytes)
@@ -324,6 +351,7 @@ module _ (call other : Handler) (lasts : IsLastingHandler call other) (g j : ℕ
       lasting_elaborate_step find found last (Array index component) =
           lasting_bind (lasting_elaborate_step find found last index) (λ t. lasting_bind (lasting_elaborate_step find found last component) (λ u. lasting_elaborated_where (array_type (Some t) (Some u))))
       lasting_elaborate_step find found last (Record ds) = lasting_bind (lasting_elaborate_each find found last ds) (λ ts. lasting_elaborated (type.Record ts))
+      lasting_elaborate_step find found last (Set base) = lasting_bind (lasting_elaborate_step find found last base) (λ t. lasting_elaborated_where (set_type (Some t)))
 
       lasting_elaborate_each : (find found : Denoter → Computation TypeValue) → ((d : Denoter) → Lasting (find d) (found d)) → (ds : Denoters)
           → Lasting (elaborate_each call g unit types find ds) (elaborate_each other (g + j) unit types found ds)
@@ -424,7 +452,7 @@ lasting_results_given : (unit : List ℕ) (line number : ℕ) (r : Option Routin
 lasting_results_given unit line number None = lasting_give []
 lasting_results_given unit line number (Some r) =
     lasting_bind (lasting_fetch (Error run_error.UNDEFINED_VALUE unit line) (own_variable 0 number)) (λ v.
-    lasting_using (Error run_error.DISPOSED unit line) v.allocation (lasting_bind (lasting_fetch (Error run_error.RESULT_UNDEFINED unit line) (result_of v)) (λ r. lasting_give (r ∷ []))))
+    lasting_using (Error run_error.DISPOSED unit line) v.allocation (lasting_bind (lasting_fetch_or (λ s. Error (unresulting (type_at v s)) unit line) (result_of v)) (λ r. lasting_give (r ∷ []))))
 
 -- a routine
 lasting_runs_routine : (call other : Handler) → IsLastingHandler call other → (g j : ℕ) (unit : List ℕ) (f : Found) (xs : List Argument) → Lasting (runs_routine call g unit f xs) (runs_routine other (g + j) unit f xs)

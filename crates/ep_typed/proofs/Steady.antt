@@ -4,19 +4,21 @@ use Rattle.std.specs.Prelude.{if◌then◌else◌}
 use Rattle.std.specs.List.{list_any}
 use Rattle.ep_outside.specs.Known.{IsPrefix}
 use Rattle.ep_typed.specs.Controls.{in_order, next_value}
-use Rattle.ep_typed.specs.Denoters.{definition_of, required_type, subrange_type, enumeration_type, array_type}
+use Rattle.ep_typed.specs.Denoters.{definition_of, required_type, subrange_type, enumeration_type, array_type, set_type}
 use Rattle.ep_typed.specs.Events.{Trace}
-use Rattle.ep_typed.specs.Meaning.{argument, arguments, one_result, weights_of, result_at, results_given, initialized, takes_by, takes_all, elaborate, elaborate_each, answered, indexed, selected, part, place, eval, write_piece, write_wide, write_item, write_items, assign, turns, turns_until, assigns, undefines, turns_to, counts, names, exec, exec_all, elaborated, elaborated_where, elaborated_found, elaborate_step, elaborate_within, make, make_all, make_own, make_all_own, start_of, starts_of, Found, routine_in, activation, runs_routine, routine_does, routine_of, read, assign_living, tried, exec_arms, exec_other}
+use Rattle.ep_typed.specs.Meaning.{argument, arguments, extended, collected, members_found, one_result, weights_of, result_at, results_given, initialized, takes_by, takes_all, elaborate, elaborate_each, answered, indexed, selected, part, place, eval, write_piece, write_wide, write_item, write_items, assign, turns, turns_until, assigns, undefines, turns_to, counts, names, exec, exec_all, elaborated, elaborated_where, elaborated_found, elaborate_step, elaborate_within, make, make_all, make_own, make_all_own, start_of, starts_of, Found, routine_in, activation, runs_routine, routine_does, routine_of, read, assign_living, tried, exec_arms, exec_other}
 use Rattle.ep_typed.specs.Operations.{Answer, Number, Fault, is_same, is_true, decides, is_in}
-use Rattle.ep_typed.specs.Printing.{Result, number_of, plain_text, wide_text, piece_events}
+use Rattle.ep_typed.specs.Printing.{Result, number_of, members_of, plain_text, wide_text, piece_events}
 use Rattle.ep_typed.specs.Printing as result
 use Rattle.ep_typed.specs.Calls.{Argument, Value, Handler, entered, given_back, in_call}
 use Rattle.ep_typed.specs.Calls as argument_is
 use Rattle.ep_typed.specs.Steady.{Grows, Steady, IsSteadyHandler}
-use Rattle.ep_typed.specs.Steps.{Call, End, Normal, Halted, Error, Undefined, State, Outcome, Gives, Ends, Cut, state_of, Computation, give, cut, stop, go_on, bind, spend, change, found, fetch, with_events, assigned, type_at, Component, component, whole, size_of, same_type, Resources, watched, words_of_type, sized, met, with_type, counted, made, made_own, allocate, allocate_own, newest_assigned, with_bound, with_own_bound, standard_file, using, has_ended, own_variable}
+use Rattle.ep_typed.specs.Steps.{Call, End, Normal, Halted, Error, Undefined, State, Outcome, Gives, Ends, Cut, state_of, Computation, give, cut, stop, go_on, bind, spend, change, found, fetch, fetch_or, with_events, assigned, type_at, Component, component, whole, size_of, same_type, Resources, watched, words_of_type, sized, met, with_type, counted, made, made_own, allocate, allocate_own, newest_assigned, with_bound, with_own_bound, standard_file, using, has_ended, own_variable}
 use Rattle.ep_typed.specs.Steps.{Value as ValueOf}
-use Rattle.ep_typed.specs.Results.{misfit, result_of, suits, value_of, weight_of}
-use Rattle.ep_typed.specs.Trees.{Array, Enumeration, Subrange, Named, Record, Required, Denoter, Denoters, no_denoter, next_denoter, Callee, Place, Variable, Own, Standard, Indexed, Field, Expr, Constant, Text, Read, One, Two, Short, Step, Function, IndexedValue, FieldValue, Actual, Evaluated, Accessed, Actuals, no_actual, next_actual, Item, Plain, Wide, Stmt, Stmts, Empty, Compound, Assign, If, While, Repeat, Control, For, With, Procedure, Halt, Write, none, next, Case, Arms, no_arm, next_arm, Other, no_other, otherwise_do, Entire, OfUnit, OfRoutine, entire}
+use Rattle.ep_typed.specs.SetOperations.{set_answer}
+use Rattle.ep_typed.specs.Sets.{with_number, with_numbers}
+use Rattle.ep_typed.specs.Results.{misfit, result_of, suits, unresulting, value_of, weight_of}
+use Rattle.ep_typed.specs.Trees.{Array, Enumeration, Subrange, Named, Record, Set, Required, Denoter, Denoters, no_denoter, next_denoter, Callee, Place, Variable, Own, Standard, Indexed, Field, Expr, Constant, Text, Read, One, Two, Short, Step, Function, IndexedValue, FieldValue, SetOf, OnSets, Card, Designator, Single, Range, Designators, no_member, next_member, Actual, Evaluated, Accessed, Actuals, no_actual, next_actual, Item, Plain, Wide, Stmt, Stmts, Empty, Compound, Assign, If, While, Repeat, Control, For, With, Procedure, Halt, Write, none, next, Case, Arms, no_arm, next_arm, Other, no_other, otherwise_do, Entire, OfUnit, OfRoutine, entire}
 use Rattle.ep_typed.specs.Routines.{made_variables, made_by_unit}
 use Rattle.ep_typed.specs.Viewed.{denoter_of, stmt_of}
 use Rattle.ep_typed.specs.declared.interface.Formal.{Formal}
@@ -129,6 +131,14 @@ steady_fetch {A = A} e f = record { by = λ m s. go m s (f s) }
     go m s None = grows_refl s
     go m s (Some a) = grows_refl s
 
+-- what is read, with an end that depends on the state
+pub steady_fetch_or : {A : Type 0} (e : State → End) (f : State → Option A) → Steady (fetch_or e f)
+steady_fetch_or {A = A} e f = record { by = λ m s. go m s (f s) }
+  where
+    go : (m : ℕ) (s : State) (o : Option A) → Grows s (state_of (found (e s) o m s))
+    go m s None = grows_refl s
+    go m s (Some a) = grows_refl s
+
 -- a variable
 pub steady_allocate : (unit : List ℕ) (number : ℕ) (t : TypeValue) → Steady (allocate unit number t)
 steady_allocate unit number t =
@@ -199,6 +209,10 @@ module _ (call : Handler) (steady : IsSteadyHandler call) (g : ℕ) (unit : List
   pub steady_selected : (line : ℕ) (c : Component) (k : ℕ) → Steady (selected call g unit line c k)
   steady_selected line c k = steady_using _ c.allocation (steady_spend 1 (steady_give (component c k)))
 
+  -- members that are found
+  steady_members_found : (line : ℕ) (o : Option (List ℕ)) → Steady (members_found call g unit line o)
+  steady_members_found line o = steady_fetch (Error run_error.SET_MEMBER unit line) (λ s. o)
+
   mutual
     -- a place
     pub steady_place : (line : ℕ) (p : Place) → Steady (place call g unit line p)
@@ -224,6 +238,9 @@ module _ (call : Handler) (steady : IsSteadyHandler call) (g : ℕ) (unit : List
     steady_eval line (Function callee given) = steady_bind (steady_arguments line given) (λ xs. steady_bind (steady unit line callee xs) steady_one_result)
     steady_eval line (IndexedValue x y) = steady_bind (steady_eval line x) (λ a. steady_bind (steady_eval line y) (λ b. steady_bind (steady_fetch _ _) (λ k. steady_part line a k)))
     steady_eval line (FieldValue x number) = steady_bind (steady_eval line x) (λ a. steady_part line a number)
+    steady_eval line (SetOf ds) = steady_spend 1 (steady_bind (steady_collected line [] ds) (λ ms. steady_give (result.Members ms)))
+    steady_eval line (OnSets operation x y) = steady_bind (steady_eval line x) (λ a. steady_bind (steady_eval line y) (λ b. steady_spend 1 (steady_give (set_answer operation a b))))
+    steady_eval line (Card x) = steady_bind (steady_eval line x) (λ a. steady_spend 1 (steady_give (result.Number (pos (length (members_of a))))))
 
     -- arguments
     steady_argument : (line : ℕ) (a : Actual) → Steady (argument call g unit line a)
@@ -233,6 +250,16 @@ module _ (call : Handler) (steady : IsSteadyHandler call) (g : ℕ) (unit : List
     pub steady_arguments : (line : ℕ) (given : Actuals) → Steady (arguments call g unit line given)
     steady_arguments line no_actual = steady_give []
     steady_arguments line (next_actual a more) = steady_bind (steady_argument line a) (λ x. steady_bind (steady_arguments line more) (λ xs. steady_give (x ∷ xs)))
+
+    -- members
+    steady_extended : (line : ℕ) (ms : List ℕ) (d : Designator) → Steady (extended call g unit line ms d)
+    steady_extended line ms (Single x) = steady_bind (steady_eval line x) (λ a. steady_members_found line (with_number (number_of a) ms))
+    steady_extended line ms (Range x y) =
+        steady_bind (steady_eval line x) (λ a. steady_bind (steady_eval line y) (λ b. steady_members_found line (with_numbers (number_of a) (number_of b) ms)))
+
+    pub steady_collected : (line : ℕ) (ms : List ℕ) (ds : Designators) → Steady (collected call g unit line ms ds)
+    steady_collected line ms no_member = steady_give ms
+    steady_collected line ms (next_member d more) = steady_bind (steady_extended line ms d) (λ ns. steady_collected line ns more)
 
   -- one piece that is written
   pub steady_write_piece : (bytes : List ℕ) → Steady (write_piece call g unit bytes)
@@ -355,6 +382,7 @@ module _ (call : Handler) (steady : IsSteadyHandler call) (g : ℕ) (unit : List
       steady_elaborate_step find steady_find (Array index component) =
           steady_bind (steady_elaborate_step find steady_find index) (λ t. steady_bind (steady_elaborate_step find steady_find component) (λ u. steady_elaborated_where (array_type (Some t) (Some u))))
       steady_elaborate_step find steady_find (Record ds) = steady_bind (steady_elaborate_each find steady_find ds) (λ ts. steady_elaborated (type.Record ts))
+      steady_elaborate_step find steady_find (Set base) = steady_bind (steady_elaborate_step find steady_find base) (λ t. steady_elaborated_where (set_type (Some t)))
 
       pub steady_elaborate_each : (find : Denoter → Computation TypeValue) → ((d : Denoter) → Steady (find d)) → (ds : Denoters)
           → Steady (elaborate_each call g unit types find ds)
@@ -443,7 +471,7 @@ module _ (call : Handler) (steady : IsSteadyHandler call) (g : ℕ) (unit : List
 pub steady_result_at : (unit : List ℕ) (line number : ℕ) → Steady (result_at unit line number)
 steady_result_at unit line number =
     steady_bind (steady_fetch (Error run_error.UNDEFINED_VALUE unit line) (own_variable 0 number)) (λ c.
-    steady_using (Error run_error.DISPOSED unit line) c.allocation (steady_bind (steady_fetch (Error run_error.RESULT_UNDEFINED unit line) (result_of c)) (λ r. steady_give (r ∷ []))))
+    steady_using (Error run_error.DISPOSED unit line) c.allocation (steady_bind (steady_fetch_or (λ s. Error (unresulting (type_at c s)) unit line) (result_of c)) (λ r. steady_give (r ∷ []))))
 
 -- what a routine gives
 pub steady_results_given : (unit : List ℕ) (line number : ℕ) (r : Option RoutineResult) → Steady (results_given unit line number r)

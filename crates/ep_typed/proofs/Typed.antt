@@ -3,14 +3,14 @@ use Rattle.std.proofs.Common.{◌≡◌, ℕ, ℤ, pos, zero, suc, ◌+◌, IsTr
 use Rattle.std.specs.Prelude.{int_le}
 use Rattle.std.proofs.lemmas.Bool.Decides.{nat_tests}
 use Rattle.std.proofs.lemmas.Option.{same_Some}
-use Rattle.ep_typed.specs.Denoters.{ArrayParts, AreInstances, IsInstance, array_step, array_of, array_within, definition_of, denoter_at, found_of, host_of, host_step, host_within, enumeration_host, record_of, record_within, required_type}
+use Rattle.ep_typed.specs.Denoters.{ArrayParts, AreInstances, IsInstance, array_step, array_of, array_within, base_of, base_within, definition_of, denoter_at, found_of, host_of, host_step, host_within, enumeration_host, record_of, record_within, required_type}
 use Rattle.ep_typed.specs.Denoters as instance
 use Rattle.ep_typed.specs.Hosts.{Host, is_of_host}
 use Rattle.ep_typed.specs.Hosts as host
-use Rattle.ep_typed.specs.Trees.{Denoter, Denoters, Required, Named, Subrange, Enumeration, Array, Record, no_denoter, next_denoter}
+use Rattle.ep_typed.specs.Trees.{Denoter, Denoters, Required, Named, Subrange, Enumeration, Array, Record, Set, no_denoter, next_denoter}
 use Rattle.ep_typed.specs.TypeValues as type
 use Rattle.ep_typed.specs.TypeValues.{ComponentTypes, TypeValue, type_among}
-use Rattle.ep_typed.specs.Valid.{AreTyped, IsTyped, required, named, subrange, enumeration, array, components, none_typed, next_typed, AreTypeValues, IsTypeOf, IsTypeValue}
+use Rattle.ep_typed.specs.Valid.{AreTyped, IsTyped, required, named, subrange, enumeration, array, components, set, none_typed, next_typed, AreTypeValues, IsSetOf, IsTypeOf, IsTypeValue}
 use Rattle.ep_typed.specs.declared.denoter.RequiredType.TheVariants as simple
 use Rattle.ep_typed.specs.declared.unit.UnitType.{UnitType}
 
@@ -35,6 +35,7 @@ module _ (types : List UnitType) where
     typed_instance d v (array index component low high of i c) =
         instance.array index component low high of (typed_instance index (type.Ordinal low high) i) (typed_instance component of c)
     typed_instance d v (components ds ts all) = instance.components ds ts (typed_instances ds ts all)
+    typed_instance d v (set base low high i from to) = instance.set base low high (typed_instance base (type.Ordinal low high) i)
 
     typed_instances : (ds : Denoters) (ts : ComponentTypes) → AreTyped types ds ts → AreInstances types ds ts
     typed_instances ds ts none_typed = instance.none
@@ -51,6 +52,7 @@ module _ (types : List UnitType) where
     typed_value d v (enumeration first others fits) = (from_zero (length others), refl, fits)
     typed_value d v (array index component low high of i c) = (typed_value index (type.Ordinal low high) i, typed_value component of c)
     typed_value d v (components ds ts all) = typed_values ds ts all
+    typed_value d v (set base low high i from to) = (typed_value base (type.Ordinal low high) i, from, to)
 
     typed_values : (ds : Denoters) (ts : ComponentTypes) → AreTyped types ds ts → AreTypeValues ts
     typed_values ds ts none_typed = tt
@@ -73,6 +75,7 @@ module _ (types : List UnitType) where
   host_step-more find more keeps (Enumeration names) h e = e
   host_step-more find more keeps (Array index component) h e = e
   host_step-more find more keeps (Record ds) h e = e
+  host_step-more find more keeps (Set base) h e = e
 
   host_within-more : (n : ℕ) (d : Denoter) (h : Host) → host_within types n d ≡ Some h → host_within types (suc n) d ≡ Some h
   host_within-more zero d h e = cc
@@ -101,6 +104,7 @@ module _ (types : List UnitType) where
       subst (λ k. IsTypeOf k (type.Ordinal (pos 0) (pos (length others)))) (same_Some (host.Enumeration (length others)) h e) (from_zero (length others), first_of (length others), last_of (length others), refl, fits)
   typed_of_within (suc n) d v h (array index component low high of i c) e = cc
   typed_of_within (suc n) d v h (components ds ts all) e = cc
+  typed_of_within (suc n) d v h (set base low high i from to) e = cc
 
   pub typed_of_host : (d : Denoter) (v : TypeValue) (h : Host) → IsTyped types d v → host_of types d ≡ Some h → IsTypeOf h v
   typed_of_host d v h x e = typed_of_within (suc (length types)) d v h x e
@@ -121,6 +125,7 @@ module _ (types : List UnitType) where
   parts_within (suc n) d v a (subrange of low high g has within) e = cc
   parts_within (suc n) d v a (enumeration first others fits) e = cc
   parts_within (suc n) d v a (components ds ts all) e = cc
+  parts_within (suc n) d v a (set base low high i from to) e = cc
   parts_within (suc n) d v a (array index component low high of i c) e =
       subst (λ (b : ArrayParts). HasParts b (type.Array low high of)) (same_Some (record { index = index; component = component }) a e) (record { low = low; high = high; of = of; is = refl; index = i; component = c })
 
@@ -140,10 +145,26 @@ module _ (types : List UnitType) where
   components_within (suc n) d v ds (subrange of low high g has within) e = cc
   components_within (suc n) d v ds (enumeration first others fits) e = cc
   components_within (suc n) d v ds (array index component low high of i c) e = cc
+  components_within (suc n) d v ds (set base low high i from to) e = cc
   components_within (suc n) d v ds (components es ts all) e = subst (λ (fs : Denoters). HasComponents fs (type.Record ts)) (same_Some es ds e) (record { types_of = ts; is = refl; all = all })
 
   pub typed_components : (d : Denoter) (v : TypeValue) (ds : Denoters) → IsTyped types d v → record_of types d ≡ Some ds → HasComponents ds v
   typed_components d v ds x e = components_within (suc (length types)) d v ds x e
+
+  -- the type value of a valid denoter is that of sets over the host of its base type, where it has one
+  set_within : (n : ℕ) (d : Denoter) (v : TypeValue) (base : Denoter) (h : Host) → IsTyped types d v → base_within types n d ≡ Some base → host_of types base ≡ Some h → IsSetOf h v
+  set_within zero d v base h x e has = cc
+  set_within (suc n) d v base h (required r) e has = cc
+  set_within (suc n) d v base h (named index t at x) e has = set_within n (definition_of t) v base h x (sym (ap (found_of (base_within types n)) at) ∙ e) has
+  set_within (suc n) d v base h (subrange of low high g x within) e has = cc
+  set_within (suc n) d v base h (enumeration first others fits) e has = cc
+  set_within (suc n) d v base h (array index component low high of i c) e has = cc
+  set_within (suc n) d v base h (components es ts all) e has = cc
+  set_within (suc n) d v base h (set own low high i from to) e has =
+      (typed_of_host own (type.Ordinal low high) h i (ap (host_of types) (same_Some own base e) ∙ has), from, to)
+
+  pub typed_set : (d : Denoter) (v : TypeValue) (base : Denoter) (h : Host) → IsTyped types d v → base_of types d ≡ Some base → host_of types base ≡ Some h → IsSetOf h v
+  typed_set d v base h x e has = set_within (suc (length types)) d v base h x e has
 
   -- the one of a number has its type
   pub typed_among : (ds : Denoters) (ts : ComponentTypes) (k : ℕ) (d : Denoter) → AreTyped types ds ts → denoter_at ds k ≡ Some d → (t : TypeValue) × (type_among ts k ≡ Some t) × IsTyped types d t

@@ -3,7 +3,7 @@ use Rattle.std.specs.Prelude.{◌≡◌, ℕ, ℤ, pos, neg_ℤ, zero, suc, List
 use Rattle.ep_typed.specs.Hosts as host
 use Rattle.ep_typed.specs.Hosts.{Host}
 use Rattle.ep_typed.specs.Operations.{maxint, last_char}
-use Rattle.ep_typed.specs.Trees.{Bound, Fixed, Denoter, Required, Named, Subrange, Enumeration, Array, Record, Denoters, no_denoter, next_denoter}
+use Rattle.ep_typed.specs.Trees.{Bound, Fixed, Denoter, Required, Named, Subrange, Enumeration, Array, Record, Denoters, no_denoter, next_denoter, Set}
 use Rattle.ep_typed.specs.Viewed.{denoter_of}
 use Rattle.ep_typed.specs.declared.denoter.RequiredType.{RequiredType}
 use Rattle.ep_typed.specs.declared.denoter.RequiredType.TheVariants as simple
@@ -23,7 +23,7 @@ definition_of t = denoter_of t.entry.denoter
 
 -- The denoter has the type value: a required type its own, a name that of what it is defined as, a subrange its
 -- bounds, an enumeration of one name or more the ordinal numbers of its constants, an array that of its index type and
--- its components, and a record those of its components.
+-- its components, a record those of its components, and a set the bounds of its base type.
 mutual
   pub data IsInstance (types : List UnitType) : Denoter → TypeValue → Type 0 where
     required : (r : RequiredType) → IsInstance types (Required r) (required_type r)
@@ -33,6 +33,7 @@ mutual
     array : (index component : Denoter) (low high : ℤ) (of : TypeValue) → IsInstance types index (Ordinal low high) → IsInstance types component of
         → IsInstance types (Array index component) (type.Array low high of)
     components : (ds : Denoters) (ts : ComponentTypes) → AreInstances types ds ts → IsInstance types (Record ds) (type.Record ts)
+    set : (base : Denoter) (low high : ℤ) → IsInstance types base (Ordinal low high) → IsInstance types (Set base) (type.Set low high)
 
   -- one for one
   pub data AreInstances (types : List UnitType) : Denoters → ComponentTypes → Type 0 where
@@ -57,6 +58,11 @@ enumeration_host (first ∷ others) = Some (host.Enumeration (length others))
 abbrev pub array_type : Option TypeValue → Option TypeValue → Option TypeValue
 array_type (Some (Ordinal low high)) (Some of) = Some (type.Array low high of)
 array_type _ _ = None
+
+-- the type value of a set, whose base type is ordinal
+abbrev pub set_type : Option TypeValue → Option TypeValue
+set_type (Some (Ordinal low high)) = Some (type.Set low high)
+set_type _ = None
 
 -- the type value of a record
 abbrev pub record_type : Option ComponentTypes → Option TypeValue
@@ -113,6 +119,20 @@ module _ (types : List UnitType) where
   abbrev pub record_of : Denoter → Option Denoters
   record_of = record_within (suc (length types))
 
+  -- the base type of a denoter of a set, alike
+  abbrev pub base_step : (Denoter → Option Denoter) → Denoter → Option Denoter
+  base_step find (Set base) = Some base
+  base_step find (Named index []) = found_of find (slice_get types index)
+  base_step find _ = None
+
+  abbrev pub base_within : ℕ → Denoter → Option Denoter
+  base_within zero d = None
+  base_within (suc n) d = base_step (base_within n) d
+
+  -- the base type of a set, by its denoter
+  abbrev pub base_of : Denoter → Option Denoter
+  base_of = base_within (suc (length types))
+
   abbrev mutual
     -- the type value of a denoter, by that of the definition where it is a name
     pub type_step : (Denoter → Option TypeValue) → Denoter → Option TypeValue
@@ -123,6 +143,7 @@ module _ (types : List UnitType) where
     type_step find (Enumeration names) = enumeration_type names
     type_step find (Array index component) = array_type (type_step find index) (type_step find component)
     type_step find (Record ds) = record_type (types_step find ds)
+    type_step find (Set base) = set_type (type_step find base)
 
     -- those of all of them
     pub types_step : (Denoter → Option TypeValue) → Denoters → Option ComponentTypes
@@ -140,6 +161,7 @@ module _ (types : List UnitType) where
   host_step find (Enumeration names) = enumeration_host names
   host_step find (Array index component) = None
   host_step find (Record ds) = None
+  host_step find (Set base) = None
 
   -- at most so many names are followed, each but the first one in the definition of the one before it
   abbrev pub type_within : ℕ → Denoter → Option TypeValue

@@ -12,6 +12,8 @@ pub mod Operations
 pub mod Printing
 pub mod Results
 pub mod Routines
+pub mod SetOperations
+pub mod Sets
 pub mod Steady
 pub mod Steps
 pub mod Trees

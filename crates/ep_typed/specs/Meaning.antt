@@ -4,15 +4,17 @@ use Rattle.std.specs.Prelude.{ℕ, ℤ, pos, negsuc, zero, suc, ◌+◌, Bool, t
 use Rattle.ep_typed.specs.Calls.{Argument, Value, Handler, in_call}
 use Rattle.ep_typed.specs.Calls as argument_is
 use Rattle.ep_typed.specs.Controls.{in_order, next_value}
-use Rattle.ep_typed.specs.Denoters.{required_type, subrange_type, enumeration_type, array_type, definition_of}
-use Rattle.ep_typed.specs.Trees.{Denoter, Required, Named, Subrange, Enumeration, Array, Record, Denoters, no_denoter, next_denoter, Callee, Place, Variable, Own, Standard, Indexed, Field, Expr, Constant, Text, Read, One, Two, Short, Step, Function, IndexedValue, FieldValue, Actual, Evaluated, Accessed, Actuals, no_actual, next_actual, Item, Plain, Wide, Stmt, Stmts, Empty, Compound, Assign, If, While, Repeat, Control, For, With, Procedure, Halt, Write, none, next, Case, Arms, no_arm, next_arm, Other, no_other, otherwise_do, Entire, OfUnit, OfRoutine, entire}
+use Rattle.ep_typed.specs.Denoters.{required_type, subrange_type, enumeration_type, array_type, set_type, definition_of}
+use Rattle.ep_typed.specs.Trees.{Denoter, Required, Named, Subrange, Enumeration, Array, Record, Denoters, no_denoter, next_denoter, Set, Callee, Place, Variable, Own, Standard, Indexed, Field, Expr, Constant, Text, Read, One, Two, Short, Step, Function, IndexedValue, FieldValue, SetOf, OnSets, Card, Designator, Single, Range, Designators, no_member, next_member, Actual, Evaluated, Accessed, Actuals, no_actual, next_actual, Item, Plain, Wide, Stmt, Stmts, Empty, Compound, Assign, If, While, Repeat, Control, For, With, Procedure, Halt, Write, none, next, Case, Arms, no_arm, next_arm, Other, no_other, otherwise_do, Entire, OfUnit, OfRoutine, entire}
 use Rattle.ep_typed.specs.Routines.{made_variables, made_by_unit}
 use Rattle.ep_typed.specs.Viewed.{denoter_of, stmt_of}
-use Rattle.ep_typed.specs.Steps.{Call, Normal, Halted, Error, Undefined, Outcome, Computation, give, cut, stop, bind, spend, change, fetch, with_events, assigned, type_at, whole, Component, component, component_number, with_type, allocate, allocate_own, own_variable, newest_assigned, with_bound, with_own_bound, standard_file, first_state, using}
+use Rattle.ep_typed.specs.Steps.{Call, Normal, Halted, Error, Undefined, Outcome, Computation, give, cut, stop, bind, spend, change, fetch, fetch_or, with_events, assigned, type_at, whole, Component, component, component_number, with_type, allocate, allocate_own, own_variable, newest_assigned, with_bound, with_own_bound, standard_file, first_state, using}
 use Rattle.ep_typed.specs.Operations.{Answer, Number, Fault, unary_answer, binary_answer, step_answer, is_same, is_true, decides, is_in}
-use Rattle.ep_typed.specs.Printing.{Result, Bytes, number_of, line_end, plain_text, wide_text, piece_events}
+use Rattle.ep_typed.specs.Printing.{Result, Bytes, number_of, members_of, line_end, plain_text, wide_text, piece_events}
 use Rattle.ep_typed.specs.Printing as result
-use Rattle.ep_typed.specs.Results.{misfit, part_at, part_of, result_of, suits, value_of, weight_of}
+use Rattle.ep_typed.specs.Results.{misfit, part_at, part_of, result_of, suits, unresulting, value_of, weight_of}
+use Rattle.ep_typed.specs.SetOperations.{set_answer}
+use Rattle.ep_typed.specs.Sets.{with_number, with_numbers}
 use Rattle.ep_typed.specs.declared.interface.Formal.{Formal}
 use Rattle.ep_typed.specs.declared.interface.FormalMode.{FormalMode}
 use Rattle.ep_typed.specs.declared.interface.FormalMode.TheVariants as mode
@@ -60,6 +62,10 @@ module _ (call : Handler) (g : ℕ) (unit : List ℕ) where
   one_result (r ∷ []) = spend (suc (weight_of r)) (give r)
   one_result (r ∷ more) = cut
 
+  -- the members, or an error where one is none of the ordinals that may be members
+  abbrev pub members_found : ℕ → Option (List ℕ) → Computation (List ℕ)
+  members_found line o = fetch (Error run_error.SET_MEMBER unit line) (λ s. o)
+
   abbrev mutual
     -- a place is a variable; an undefined value where that is not made yet
     pub place : ℕ → Place → Computation Component
@@ -84,6 +90,10 @@ module _ (call : Handler) (g : ℕ) (unit : List ℕ) where
     eval line (Function callee given) = bind (arguments line given) (λ xs. bind (call unit line callee xs) one_result)
     eval line (IndexedValue x y) = bind (eval line x) (λ a. bind (eval line y) (λ b. part_indexed line a (number_of b)))
     eval line (FieldValue x number) = bind (eval line x) (λ a. part line a number)
+    -- a set constructor spends its step when it is begun
+    eval line (SetOf ds) = spend 1 (bind (collected line [] ds) (λ ms. give (result.Members ms)))
+    eval line (OnSets operation x y) = bind (eval line x) (λ a. bind (eval line y) (λ b. spend 1 (give (set_answer operation a b))))
+    eval line (Card x) = bind (eval line x) (λ a. spend 1 (give (result.Number (pos (length (members_of a))))))
 
     -- an argument: a value, or a variable (ISO 10206, 6.7.3)
     pub argument : ℕ → Actual → Computation Argument
@@ -94,6 +104,16 @@ module _ (call : Handler) (g : ℕ) (unit : List ℕ) where
     pub arguments : ℕ → Actuals → Computation (List Argument)
     arguments line no_actual = give []
     arguments line (next_actual a more) = bind (argument line a) (λ x. bind (arguments line more) (λ xs. give (x ∷ xs)))
+
+    -- the set with what a member designator gives besides: an error where that may be no member
+    pub extended : ℕ → List ℕ → Designator → Computation (List ℕ)
+    extended line ms (Single x) = bind (eval line x) (λ a. members_found line (with_number (number_of a) ms))
+    extended line ms (Range x y) = bind (eval line x) (λ a. bind (eval line y) (λ b. members_found line (with_numbers (number_of a) (number_of b) ms)))
+
+    -- from left to right
+    pub collected : ℕ → List ℕ → Designators → Computation (List ℕ)
+    collected line ms no_member = give ms
+    collected line ms (next_member d more) = bind (extended line ms d) (λ ns. collected line ns more)
 
   -- one piece spends a step and its length, and is then written
   abbrev pub write_piece : List ℕ → Computation (Unit {0})
@@ -227,6 +247,7 @@ module _ (call : Handler) (g : ℕ) (unit : List ℕ) where
       elaborate_step find (Array index component) =
           bind (elaborate_step find index) (λ t. bind (elaborate_step find component) (λ u. elaborated_where (array_type (Some t) (Some u))))
       elaborate_step find (Record ds) = bind (elaborate_each find ds) (λ ts. elaborated (type.Record ts))
+      elaborate_step find (Set base) = bind (elaborate_step find base) (λ t. elaborated_where (set_type (Some t)))
 
       -- the types of components, in order
       pub elaborate_each : (Denoter → Computation TypeValue) → Denoters → Computation ComponentTypes
@@ -311,11 +332,12 @@ module _ (call : Handler) (g : ℕ) (unit : List ℕ) (types : List UnitType) wh
   takes_all line number (f ∷ fs) (x ∷ xs) = bind (takes_by f.mode line number f x) (λ _. takes_all line (suc number) fs xs)
 
 -- The value that the variable of this number of the routine has. One that is undefined is an error of its own, since it is
--- the result of a function that was never given (ISO 10206, 6.7.2); an array or a record has its components as they are.
+-- the result of a function that was never given (ISO 10206, 6.7.2), but for a set, of which it is that of any undefined value;
+-- an array or a record has its components as they are.
 abbrev pub result_at : List ℕ → ℕ → ℕ → Computation (List Result)
 result_at unit line number =
     bind (fetch (Error run_error.UNDEFINED_VALUE unit line) (own_variable 0 number)) (λ c.
-    using (Error run_error.DISPOSED unit line) c.allocation (bind (fetch (Error run_error.RESULT_UNDEFINED unit line) (result_of c)) (λ r. give (r ∷ []))))
+    using (Error run_error.DISPOSED unit line) c.allocation (bind (fetch_or (λ s. Error (unresulting (type_at c s)) unit line) (result_of c)) (λ r. give (r ∷ []))))
 
 -- what a routine gives when it is done: a function the value of the variable of this number, and a procedure nothing
 abbrev pub results_given : List ℕ → ℕ → ℕ → Option RoutineResult → Computation (List Result)

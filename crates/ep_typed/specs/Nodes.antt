@@ -1,6 +1,6 @@
 -- How many typed nodes a unit has: its expressions, places, statements, ranges of `case` statements, imports, routines, formals, variables, denoters, bounds and values. An expression that is a constant or a text counts one, and its value one more.
 use Rattle.std.specs.Prelude.{ℕ, ◌+◌, ◌*◌, List, [], ◌∷◌, length, map, sum, Option, Some, None}
-use Rattle.ep_typed.specs.Trees.{Denoter, Required, Named, Subrange, Enumeration, Array, Record, Denoters, no_denoter, next_denoter, Place, Variable, Own, Standard, Indexed, Field, Expr, Constant, Text, Read, One, Two, Short, Step, Function, IndexedValue, FieldValue, Actual, Evaluated, Accessed, Actuals, no_actual, next_actual, Item, Plain, Wide, Stmt, Stmts, Empty, Compound, Assign, If, While, Repeat, For, With, Procedure, Case, Halt, Write, none, next, Arm, Arms, no_arm, next_arm, Other, no_other, otherwise_do, entire}
+use Rattle.ep_typed.specs.Trees.{Denoter, Required, Named, Subrange, Enumeration, Array, Record, Denoters, no_denoter, next_denoter, Set, Place, Variable, Own, Standard, Indexed, Field, Expr, Constant, Text, Read, One, Two, Short, Step, Function, IndexedValue, FieldValue, SetOf, OnSets, Card, Designator, Single, Range, Designators, no_member, next_member, Actual, Evaluated, Accessed, Actuals, no_actual, next_actual, Item, Plain, Wide, Stmt, Stmts, Empty, Compound, Assign, If, While, Repeat, For, With, Procedure, Case, Halt, Write, none, next, Arm, Arms, no_arm, next_arm, Other, no_other, otherwise_do, entire}
 use Rattle.ep_typed.specs.Viewed.{denoter_of, expr_of, stmt_of}
 use Rattle.ep_typed.specs.declared.interface.ConstantEntry.{ConstantEntry}
 use Rattle.ep_typed.specs.declared.interface.Formal.{Formal}
@@ -23,6 +23,7 @@ abbrev mutual
   denoter_nodes (Enumeration names) = 1
   denoter_nodes (Array index component) = 1 + denoter_nodes index + denoter_nodes component
   denoter_nodes (Record ds) = 1 + denoters_nodes ds
+  denoter_nodes (Set base) = 1 + denoter_nodes base
 
   pub denoters_nodes : Denoters → ℕ
   denoters_nodes no_denoter = 0
@@ -49,6 +50,9 @@ abbrev mutual
   expr_nodes (Function callee given) = 1 + actuals_nodes given
   expr_nodes (IndexedValue array index) = 1 + expr_nodes array + expr_nodes index
   expr_nodes (FieldValue whole number) = 1 + expr_nodes whole
+  expr_nodes (SetOf ds) = 1 + designators_nodes ds
+  expr_nodes (OnSets operation x y) = 1 + expr_nodes x + expr_nodes y
+  expr_nodes (Card x) = 1 + expr_nodes x
 
   pub actual_nodes : Actual → ℕ
   actual_nodes (Evaluated x) = expr_nodes x
@@ -57,6 +61,14 @@ abbrev mutual
   pub actuals_nodes : Actuals → ℕ
   actuals_nodes no_actual = 0
   actuals_nodes (next_actual a more) = actual_nodes a + actuals_nodes more
+
+  pub designator_nodes : Designator → ℕ
+  designator_nodes (Single x) = expr_nodes x
+  designator_nodes (Range x y) = expr_nodes x + expr_nodes y
+
+  pub designators_nodes : Designators → ℕ
+  designators_nodes no_member = 0
+  designators_nodes (next_member d more) = designator_nodes d + designators_nodes more
 
 -- ---- statements
 

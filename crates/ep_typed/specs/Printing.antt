@@ -7,21 +7,30 @@ use Rattle.ep_typed.specs.TypeValues.{TypeValue}
 use Rattle.ep_typed.specs.declared.operations.Print.{Print}
 use Rattle.ep_typed.specs.declared.operations.Print.TheVariants as print
 
--- a value of an expression: a number, a text, or a value of an array or record type
+-- a value of an expression: a number, a text, a value of an array or record type, or a set by its members
 pub data Result : Type 0 where
   Number : (z : ℤ) → Result
   Bytes : (bytes : List ℕ) → Result
   Structure : (type_value : TypeValue) (value : Value) → Result
+  Members : (of : List ℕ) → Result
 
 abbrev pub number_of : Result → ℤ
 number_of (Number z) = z
 number_of (Bytes bytes) = pos 0
 number_of (Structure t v) = pos 0
+number_of (Members ms) = pos 0
 
 abbrev pub bytes_of : Result → List ℕ
 bytes_of (Number z) = []
 bytes_of (Bytes bytes) = bytes
 bytes_of (Structure t v) = []
+bytes_of (Members ms) = []
+
+abbrev pub members_of : Result → List ℕ
+members_of (Number z) = []
+members_of (Bytes bytes) = []
+members_of (Structure t v) = []
+members_of (Members ms) = ms
 
 -- False for 0, else True
 abbrev pub boolean_text : ℤ → List ℕ

@@ -1,25 +1,30 @@
 -- Results of expressions as values of variables.
-use Rattle.std.specs.Prelude.{ℕ, ℤ, Bool, false, length, Option, Some, None, option_map}
-use Rattle.ep_typed.specs.Printing.{Result, Number, Bytes, Structure}
-use Rattle.ep_typed.specs.Steps.{Component, State, Value, Word, Undefined, component_number, component_of, is_among, type_at, value_at, word_of}
+use Rattle.std.specs.Prelude.{ℕ, ℤ, Bool, false, List, length, Option, Some, None, option_map}
+use Rattle.ep_typed.specs.Printing.{Result, Number, Bytes, Structure, Members}
+use Rattle.ep_typed.specs.Sets.{are_between}
+use Rattle.ep_typed.specs.Steps.{Component, State, Value, Word, Undefined, component_number, component_of, is_among, type_at, value_at, word_of, set_of}
+use Rattle.ep_typed.specs.Steps as value
 use Rattle.ep_typed.specs.TypeValues.{TypeValue, component_type, same_type, size_of}
 use Rattle.ep_typed.specs.TypeValues as type
 use Rattle.ep_typed.specs.declared.run_error.TheConstants as run_error
 
--- the steps that a result spends besides the one of its node: a text has its length, and an array or a record its words
+-- the steps that a result spends besides the one of its node: a text has its length, an array or a record its words, and a
+-- number or a set none
 abbrev pub weight_of : Result → ℕ
 weight_of (Number z) = 0
 weight_of (Bytes bytes) = length bytes
 weight_of (Structure t v) = size_of t
+weight_of (Members ms) = 0
 
 -- What a variable of a type gives that has this value, where it is defined: an array or a record gives all that its
--- components have, each defined or not, and any other one a number (ISO 10206, 6.8.1).
+-- components have, each defined or not, a set its members, and any other one a number (ISO 10206, 6.8.1).
 abbrev pub given_by : Option TypeValue → Value → Option Result
 given_by None v = option_map Number (word_of v)
 given_by (Some (type.Ordinal low high)) v = option_map Number (word_of v)
 given_by (Some type.Text) v = option_map Number (word_of v)
 given_by (Some (type.Array low high of)) v = Some (Structure (type.Array low high of) v)
 given_by (Some (type.Record ts)) v = Some (Structure (type.Record ts) v)
+given_by (Some (type.Set low high)) v = option_map Members (set_of v)
 
 abbrev pub result_of : Component → State → Option Result
 result_of c s = given_by (type_at c s) (value_at c s)
@@ -29,32 +34,47 @@ abbrev pub part_of : Result → ℕ → Option Result
 part_of (Number z) k = None
 part_of (Bytes bytes) k = None
 part_of (Structure t v) k = given_by (component_type t k) (component_of v k)
+part_of (Members ms) k = None
 
 -- the number of the component with this index, where the result is an array and the index is within its bounds
 abbrev pub part_at : Result → ℤ → Option ℕ
 part_at (Number n) z = None
 part_at (Bytes bytes) z = None
 part_at (Structure t v) z = component_number (Some t) z
+part_at (Members ms) z = None
 
 -- what has no type is of none
 abbrev pub is_type : Option TypeValue → TypeValue → Bool
 is_type None u = false
 is_type (Some t) u = same_type t u
 
+-- whether all members are of the base type, where the type is that of a set (ISO 10206, 6.4.6)
+abbrev pub has_base_for : Option TypeValue → List ℕ → Bool
+has_base_for (Some (type.Set low high)) ms = are_between low high ms
+has_base_for _ ms = false
+
 -- whether a variable of a type may have the result as its value; a text is of none so far
 abbrev pub suits : Option TypeValue → Result → Bool
 suits t (Number z) = is_among t z
 suits t (Bytes bytes) = false
 suits t (Structure u v) = is_type t u
+suits t (Members ms) = has_base_for t ms
 
 -- the error where it may not
 abbrev pub misfit : Result → ℕ
 misfit (Number z) = run_error.OUTSIDE_TYPE
 misfit (Bytes bytes) = run_error.TUPLES_DIFFER
 misfit (Structure u v) = run_error.TUPLES_DIFFER
+misfit (Members ms) = run_error.SET_MEMBER
+
+-- the error where a function ends and its result, a variable of this type, gives none
+abbrev pub unresulting : Option TypeValue → ℕ
+unresulting (Some (type.Set low high)) = run_error.UNDEFINED_VALUE
+unresulting _ = run_error.RESULT_UNDEFINED
 
 -- the value that it then has
 abbrev pub value_of : Result → Value
 value_of (Number z) = Word z
 value_of (Bytes bytes) = Undefined
 value_of (Structure u v) = v
+value_of (Members ms) = value.Members ms

@@ -15,12 +15,13 @@ pub data End : Type 0 where
   Halted : End
   Error : (number : ℕ) (unit : List ℕ) (line : ℕ) → End
 
--- A value, which is undefined as a whole, the ordinal number of a simple value, or the values of components by their
--- numbers. What is behind the last component does not count.
+-- A value, which is undefined as a whole, the ordinal number of a simple value, the values of components by their
+-- numbers, or the members of a set in rising order. What is behind the last component does not count.
 pub data Value : Type 0 where
   Undefined : Value
   Word : (number : ℤ) → Value
   Components : (of : ℕ → Value) → Value
+  Members : (of : List ℕ) → Value
 
 -- a variable (ISO 10206, 6.5.1): the component of an allocation to which a path of numbers leads, and all of the allocation
 -- where the path is empty
@@ -134,6 +135,10 @@ found e (Some a) = give a
 abbrev pub fetch : {A : Type 0} → End → (State → Option A) → Computation A
 fetch e f m s = found e (f s) m s
 
+-- the same with an end that depends on the state
+abbrev pub fetch_or : {A : Type 0} → (State → End) → (State → Option A) → Computation A
+fetch_or e f m s = found (e s) (f s) m s
+
 -- ---- what the primitives do to the state
 
 -- the events of one more piece; an empty piece is none
@@ -162,6 +167,7 @@ abbrev pub component_of : Value → ℕ → Value
 component_of (Components of) k = of k
 component_of Undefined k = Undefined
 component_of (Word w) k = Undefined
+component_of (Members ms) k = Undefined
 
 -- these values by number, with another one for this number
 abbrev pub values_with : (ℕ → Value) → ℕ → Value → ℕ → Value
@@ -188,6 +194,13 @@ abbrev pub word_of : Value → Option ℤ
 word_of Undefined = None
 word_of (Word w) = Some w
 word_of (Components of) = None
+word_of (Members ms) = None
+
+abbrev pub set_of : Value → Option (List ℕ)
+set_of Undefined = None
+set_of (Word w) = None
+set_of (Components of) = None
+set_of (Members ms) = Some ms
 
 -- the value at a path of an allocation
 abbrev pub value_in : Option Allocation → List ℕ → Value

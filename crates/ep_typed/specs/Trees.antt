@@ -4,6 +4,7 @@ use Rattle.ep_typed.specs.declared.operations.Unary.{Unary}
 use Rattle.ep_typed.specs.declared.operations.Binary.{Binary}
 use Rattle.ep_typed.specs.declared.operations.ShortOperation.{ShortOperation}
 use Rattle.ep_typed.specs.declared.operations.Print.{Print}
+use Rattle.ep_typed.specs.declared.operations.SetOperation.{SetOperation}
 use Rattle.ep_typed.specs.declared.denoter.RequiredType.{RequiredType}
 use Rattle.ep_typed.specs.declared.tree.CaseRange.{CaseRange}
 use Rattle.ep_typed.specs.declared.tree.StandardFile.{StandardFile}
@@ -24,6 +25,8 @@ mutual
     Array : (index component : Denoter) → Denoter
     -- a record, by the types of its components
     Record : (components : Denoters) → Denoter
+    -- a set, by its base type
+    Set : (base : Denoter) → Denoter
 
   -- denoters, in order
   pub data Denoters : Type 0 where
@@ -71,6 +74,12 @@ mutual
     IndexedValue : (array index : Expr) → Expr
     -- the component with this number of a record that a function gives (ISO 10206, 6.8.6.3)
     FieldValue : (whole : Expr) (number : ℕ) → Expr
+    -- a set constructor, by its member designators (ISO 10206, 6.8.7.4)
+    SetOf : (members : Designators) → Expr
+    -- an operation on two values of which the right one at least is a set
+    OnSets : (operation : SetOperation) (left right : Expr) → Expr
+    -- how many members a set has
+    Card : (operand : Expr) → Expr
 
   -- an actual parameter: the value of an expression, or a variable that is accessed
   pub data Actual : Type 0 where
@@ -81,6 +90,20 @@ mutual
   pub data Actuals : Type 0 where
     no_actual : Actuals
     next_actual : (first : Actual) (rest : Actuals) → Actuals
+
+  -- a member designator: a value that is a member, or the first and the last of values that are
+  pub data Designator : Type 0 where
+    Single : (value : Expr) → Designator
+    Range : (first last : Expr) → Designator
+
+  -- member designators, in order
+  pub data Designators : Type 0 where
+    no_member : Designators
+    next_member : (first : Designator) (rest : Designators) → Designators
+
+abbrev pub designators : List Designator → Designators
+designators [] = no_member
+designators (d ∷ more) = next_member d (designators more)
 
 abbrev pub actuals : List Actual → Actuals
 actuals [] = no_actual

@@ -12,6 +12,8 @@ mutual
     Array : (low high : ℤ) (of : TypeValue) → TypeValue
     -- a record type with the types of its components in order (ISO 10206, 6.4.3.4)
     Record : (components : ComponentTypes) → TypeValue
+    -- a set type with the bounds of its base type (ISO 10206, 6.4.3.5)
+    Set : (low high : ℤ) → TypeValue
 
   -- the types of components, in order
   pub data ComponentTypes : Type 0 where
@@ -30,6 +32,7 @@ component_type (Ordinal low high) k = None
 component_type Text k = None
 component_type (Array low high of) k = cond (ltb k (count_of low high)) (Some of) None
 component_type (Record ts) k = type_among ts k
+component_type (Set low high) k = None
 
 -- whether a word is a value of a type
 abbrev pub is_within : TypeValue → ℤ → Bool
@@ -37,6 +40,11 @@ is_within (Ordinal low high) w = int_le low w && int_le w high
 is_within Text w = false
 is_within (Array low high of) w = false
 is_within (Record ts) w = false
+is_within (Set low high) w = false
+
+-- the words of a variable of a set type
+abbrev pub set_size : ℕ
+set_size = 8
 
 abbrev mutual
   -- the words of a variable of a type
@@ -45,6 +53,7 @@ abbrev mutual
   size_of Text = 1
   size_of (Array low high of) = count_of low high * size_of of
   size_of (Record ts) = sizes_of ts
+  size_of (Set low high) = set_size
 
   -- those of all components
   pub sizes_of : ComponentTypes → ℕ
@@ -62,18 +71,27 @@ abbrev mutual
   same_type (Ordinal l h) Text = false
   same_type (Ordinal l h) (Array m k of) = false
   same_type (Ordinal l h) (Record us) = false
+  same_type (Ordinal l h) (Set m k) = false
   same_type Text (Ordinal m k) = false
   same_type Text Text = true
   same_type Text (Array m k of) = false
   same_type Text (Record us) = false
+  same_type Text (Set m k) = false
   same_type (Array l h of) (Ordinal m k) = false
   same_type (Array l h of) Text = false
   same_type (Array l h of) (Array m k other) = same_bounds l h m k && same_type of other
   same_type (Array l h of) (Record us) = false
+  same_type (Array l h of) (Set m k) = false
   same_type (Record ts) (Ordinal m k) = false
   same_type (Record ts) Text = false
   same_type (Record ts) (Array m k of) = false
   same_type (Record ts) (Record us) = same_types ts us
+  same_type (Record ts) (Set m k) = false
+  same_type (Set l h) (Ordinal m k) = false
+  same_type (Set l h) Text = false
+  same_type (Set l h) (Array m k of) = false
+  same_type (Set l h) (Record us) = false
+  same_type (Set l h) (Set m k) = same_bounds l h m k
 
   -- whether components have the same types, one for one
   pub same_types : ComponentTypes → ComponentTypes → Bool
@@ -93,3 +111,4 @@ parts_of (Ordinal low high) = 0
 parts_of Text = 0
 parts_of (Array low high of) = 1
 parts_of (Record ts) = components_of ts
+parts_of (Set low high) = 0

@@ -1,12 +1,14 @@
 -- Which typed trees the static rules give: each form has parts of the kinds, types and numbers that it asks for.
 use Rattle.std.specs.Prelude.{◌≡◌, ℕ, ℤ, pos, zero, suc, ◌<◌, ◌≤◌, Bool, true, false, All, List, [], ◌∷◌, ◌++◌, map, slice_get, drop, length, Option, Some, None, IsTrue, int_le, ⊤, if◌then◌else◌}
 use Rattle.std.specs.Str.{bytes_eq}
-use Rattle.ep_typed.specs.Denoters.{ArrayParts, array_of, definition_of, denoter_at, record_of, required_type, type_of, host_of}
+use Rattle.ep_typed.specs.Denoters.{ArrayParts, array_of, base_of, definition_of, denoter_at, record_of, required_type, type_of, host_of}
 use Rattle.ep_typed.specs.Hosts.{Host, least, greatest, is_of_host}
 use Rattle.ep_typed.specs.Hosts as host
 use Rattle.ep_typed.specs.Operations.{is_integer, is_apart}
+use Rattle.ep_typed.specs.Sets.{is_ordinal}
 use Rattle.ep_typed.specs.Steps.{is_within}
-use Rattle.ep_typed.specs.Trees.{Fixed, Denoter, Required, Named, Subrange, Enumeration, Array, Record, Denoters, no_denoter, next_denoter, Callee, Place, Variable, Own, Standard, Indexed, Field, Expr, Constant, Text, Read, One, Two, Short, Step, Function, IndexedValue, FieldValue, Actual, Evaluated, Accessed, Actuals, no_actual, next_actual, Item, Plain, Wide, Stmt, Stmts, Empty, Compound, Assign, If, While, Repeat, Control, For, With, Procedure, Halt, Write, none, next, Case, Arms, no_arm, next_arm, Other, no_other, otherwise_do, Entire, OfUnit, OfRoutine, entire}
+use Rattle.ep_typed.specs.Trees as tree
+use Rattle.ep_typed.specs.Trees.{Fixed, Denoter, Required, Named, Subrange, Enumeration, Array, Record, Denoters, no_denoter, next_denoter, Callee, Place, Variable, Own, Standard, Indexed, Field, Expr, Constant, Text, Read, One, Two, Short, Step, Function, IndexedValue, FieldValue, SetOf, OnSets, Card, Designator, Single, Range, Designators, no_member, next_member, Actual, Evaluated, Accessed, Actuals, no_actual, next_actual, Item, Plain, Wide, Stmt, Stmts, Empty, Compound, Assign, If, While, Repeat, Control, For, With, Procedure, Halt, Write, none, next, Case, Arms, no_arm, next_arm, Other, no_other, otherwise_do, Entire, OfUnit, OfRoutine, entire}
 pub use Rattle.ep_typed.specs.Routines.{heading_of, formal_variable, variables_of, unit_variables}
 use Rattle.ep_typed.specs.Routines.{first_with, made_by_unit}
 use Rattle.ep_typed.specs.Viewed.{denoter_of, stmt_of}
@@ -14,6 +16,8 @@ use Rattle.ep_typed.specs.declared.operations.Unary.{Unary}
 use Rattle.ep_typed.specs.declared.operations.Unary.TheVariants as unary
 use Rattle.ep_typed.specs.declared.operations.Binary.{Binary}
 use Rattle.ep_typed.specs.declared.operations.Binary.TheVariants as binary
+use Rattle.ep_typed.specs.declared.operations.SetOperation.{SetOperation}
+use Rattle.ep_typed.specs.declared.operations.SetOperation.TheVariants as set_operation
 use Rattle.ep_typed.specs.declared.operations.Print.{Print}
 use Rattle.ep_typed.specs.declared.operations.Print.TheVariants as print
 use Rattle.ep_typed.specs.declared.denoter.RequiredType.{RequiredType}
@@ -33,11 +37,12 @@ use Rattle.ep_typed.specs.declared.unit.UnitType.{UnitType}
 use Rattle.ep_typed.specs.declared.unit.UnitVariable.{UnitVariable}
 use Rattle.ep_typed.specs.declared.unit.Unit.{Unit as TypedUnit}
 
--- what an expression is: of an ordinal type with this host, a text, or of an array or record type
+-- what an expression is: of an ordinal type with this host, a text, of an array or record type, or a set over this host
 pub data Kind : Type 0 where
   Ordinal : (host : Host) → Kind
   Bytes : Kind
   Structured : (type_value : TypeValue) → Kind
+  Set : (host : Host) → Kind
 
 -- the type value is that of an array or a record
 abbrev pub IsStructured : TypeValue → Type 0
@@ -45,12 +50,14 @@ IsStructured (type.Ordinal low high) = ⊥
 IsStructured type.Text = ⊥
 IsStructured (type.Array low high of) = ⊤
 IsStructured (type.Record ts) = ⊤
+IsStructured (type.Set low high) = ⊥
 
 -- under a list of types a value of the denoter's type is of the kind
 abbrev pub IsOfKind : Kind → List UnitType → Denoter → Type 0
 IsOfKind (Ordinal h) types d = host_of types d ≡ Some h
 IsOfKind Bytes types d = ⊥
 IsOfKind (Structured t) types d = (type_of types d ≡ Some t) × IsStructured t
+IsOfKind (Set h) types d = (base : Denoter) × (base_of types d ≡ Some base) × (host_of types base ≡ Some h)
 
 -- a type is not empty, and its values are integers of the host
 abbrev pub IsTypeOf : Host → TypeValue → Type 0
@@ -58,12 +65,23 @@ IsTypeOf h (type.Ordinal low high) = IsTrue (int_le low high) × IsTrue (is_of_h
 IsTypeOf h type.Text = ⊥
 IsTypeOf h (type.Array low high of) = ⊥
 IsTypeOf h (type.Record ts) = ⊥
+IsTypeOf h (type.Set low high) = ⊥
+
+-- the values of a type of the host may be members of sets
+abbrev pub IsBaseOf : Host → ℤ → ℤ → Type 0
+IsBaseOf h low high = IsTypeOf h (type.Ordinal low high) × IsTrue (is_ordinal low) × IsTrue (is_ordinal high)
+
+-- values of the type value are sets over the host
+abbrev pub IsSetOf : Host → TypeValue → Type 0
+IsSetOf h (type.Set low high) = IsBaseOf h low high
+IsSetOf h _ = ⊥
 
 -- values of the type value are of the kind
 abbrev pub IsTypeOfKind : Kind → TypeValue → Type 0
 IsTypeOfKind (Ordinal h) t = IsTypeOf h t
 IsTypeOfKind Bytes t = ⊥
 IsTypeOfKind (Structured u) t = (u ≡ t) × IsStructured u
+IsTypeOfKind (Set h) t = IsSetOf h t
 
 -- a routine by its number, with its variables, and the first number of those that no code makes
 pub record Level : Type 0 where
@@ -155,6 +173,29 @@ IsBinary binary.Greater = IsComparison
 IsBinary binary.AtMost = IsComparison
 IsBinary binary.AtLeast = IsComparison
 
+-- an operation makes a set of two over one host
+abbrev pub IsCombination : Kind → Kind → Kind → Type 0
+IsCombination left right result = (h : Host) × (left ≡ Set h) × (right ≡ Set h) × (result ≡ Set h)
+
+-- a comparison of sets takes two over one host
+abbrev pub IsSetComparison : Kind → Kind → Kind → Type 0
+IsSetComparison left right result = ((h : Host) × (left ≡ Set h) × (right ≡ Set h)) × (result ≡ Ordinal host.Boolean)
+
+-- a value is looked for in a set over its host
+abbrev pub IsMembership : Kind → Kind → Kind → Type 0
+IsMembership left right result = ((h : Host) × (left ≡ Ordinal h) × (right ≡ Set h)) × (result ≡ Ordinal host.Boolean)
+
+abbrev pub IsOnSets : SetOperation → Kind → Kind → Kind → Type 0
+IsOnSets set_operation.Union = IsCombination
+IsOnSets set_operation.Difference = IsCombination
+IsOnSets set_operation.Intersection = IsCombination
+IsOnSets set_operation.SymmetricDifference = IsCombination
+IsOnSets set_operation.Equal = IsSetComparison
+IsOnSets set_operation.Unequal = IsSetComparison
+IsOnSets set_operation.Subset = IsSetComparison
+IsOnSets set_operation.Superset = IsSetComparison
+IsOnSets set_operation.In = IsMembership
+
 -- the kind of what is printed so
 abbrev pub printed_kind : Print → Kind
 printed_kind print.Integer = Ordinal host.Integer
@@ -208,7 +249,19 @@ module _ (declared : Declarations) where
         (r : RoutineEntry) × IsCallee declared callee r × IsFunction (declared.types callee.unit) kind r × AreGiven (declared.types callee.unit) r.formals given
     IsExpr kind (IndexedValue x y) =
         (low high : ℤ) × (of : TypeValue) × IsExpr (Structured (type.Array low high of)) x × IsTypeOfKind kind of × ((h : Host) × IsTypeOf h (type.Ordinal low high) × IsExpr (Ordinal h) y)
+    IsExpr kind (SetOf ds) = (h : Host) × (kind ≡ Set h) × AreDesignators h ds
+    IsExpr kind (OnSets operation x y) = (k l : Kind) × IsOnSets operation k l kind × IsExpr k x × IsExpr l y
+    IsExpr kind (Card x) = (h : Host) × (kind ≡ Ordinal host.Integer) × IsExpr (Set h) x
     IsExpr kind (FieldValue x number) = (ts : ComponentTypes) × (of : TypeValue) × IsExpr (Structured (type.Record ts)) x × (type_among ts number ≡ Some of) × IsTypeOfKind kind of
+
+    -- what a designator gives is of the host
+    pub IsDesignator : Host → Designator → Type 0
+    IsDesignator h (Single x) = IsExpr (Ordinal h) x
+    IsDesignator h (Range x y) = IsExpr (Ordinal h) x × IsExpr (Ordinal h) y
+
+    pub AreDesignators : Host → Designators → Type 0
+    AreDesignators h no_member = ⊤
+    AreDesignators h (next_member d more) = IsDesignator h d × AreDesignators h more
 
     -- What may be given for a formal parameter of a unit with these types: for a value parameter an expression of its kind,
     -- and for a variable parameter a variable of its type.
@@ -309,13 +362,14 @@ abbrev mutual
   IsTypeValue type.Text = ⊥
   IsTypeValue (type.Array low high of) = (IsTrue (int_le low high) × IsTrue (is_integer low) × IsTrue (is_integer high)) × IsTypeValue of
   IsTypeValue (type.Record ts) = AreTypeValues ts
+  IsTypeValue (type.Set low high) = (IsTrue (int_le low high) × IsTrue (is_integer low) × IsTrue (is_integer high)) × IsTrue (is_ordinal low) × IsTrue (is_ordinal high)
 
   pub AreTypeValues : ComponentTypes → Type 0
   AreTypeValues type.no_component = ⊤
   AreTypeValues (type.next_component t ts) = IsTypeValue t × AreTypeValues ts
 
 -- The denoter has the type value and breaks no rule: the bounds of a subrange are in order and of its host, and an
--- enumeration has no more constants than there are integers.
+-- enumeration has no more constants than there are integers; the values of a set's base type may be members.
 mutual
   pub data IsTyped (types : List UnitType) : Denoter → TypeValue → Type 0 where
     required : (r : RequiredType) → IsTyped types (Required r) (required_type r)
@@ -327,6 +381,8 @@ mutual
     array : (index component : Denoter) (low high : ℤ) (of : TypeValue) → IsTyped types index (type.Ordinal low high) → IsTyped types component of
         → IsTyped types (Array index component) (type.Array low high of)
     components : (ds : Denoters) (ts : ComponentTypes) → AreTyped types ds ts → IsTyped types (Record ds) (type.Record ts)
+    set : (base : Denoter) (low high : ℤ) → IsTyped types base (type.Ordinal low high) → IsTrue (is_ordinal low) → IsTrue (is_ordinal high)
+        → IsTyped types (tree.Set base) (type.Set low high)
 
   -- one for one
   pub data AreTyped (types : List UnitType) : Denoters → ComponentTypes → Type 0 where

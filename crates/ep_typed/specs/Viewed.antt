@@ -14,8 +14,9 @@ use Rattle.ep_typed.specs.declared.tree.Callee.{Callee}
 use Rattle.ep_typed.specs.declared.tree.TypedPlace.{TypedPlace}
 use Rattle.ep_typed.specs.declared.tree.TypedExpr.{TypedExpr}
 use Rattle.ep_typed.specs.declared.tree.Actual.TheOpen as expr
-use Rattle.ep_typed.specs.declared.tree.Actual.TheOpen.{Actual-F, TypedExpr-F, TypedPlace-F}
-use Rattle.ep_typed.specs.declared.tree.Actual.TheFolds.{fold-Actual, fold-TypedExpr, fold-TypedPlace}
+use Rattle.ep_typed.specs.declared.tree.Actual.TheOpen.{Actual-F, MemberDesignator-F, TypedExpr-F, TypedPlace-F}
+use Rattle.ep_typed.specs.declared.tree.Actual.TheFolds.{fold-Actual, fold-MemberDesignator, fold-TypedExpr, fold-TypedPlace}
+use Rattle.ep_typed.specs.declared.tree.MemberDesignator.{MemberDesignator}
 use Rattle.ep_typed.specs.declared.tree.WriteItem.{WriteItem}
 use Rattle.ep_typed.specs.declared.tree.EntireVariable.{EntireVariable}
 use Rattle.ep_typed.specs.declared.tree.EntireVariable.TheVariants as entire
@@ -36,6 +37,7 @@ denoter_step (denoter.Subrange host low high) = tree.Subrange host (bound_of low
 denoter_step (denoter.Enumeration names) = tree.Enumeration names
 denoter_step (denoter.Array index component) = tree.Array index component
 denoter_step (denoter.Record fields) = tree.Record (tree.denoters fields)
+denoter_step (denoter.Set base) = tree.Set base
 
 -- a field by its type
 abbrev pub field_step : RecordField-F tree.Denoter tree.Denoter → tree.Denoter
@@ -47,14 +49,14 @@ denoter_of = fold-Denoter tree.Denoter tree.Denoter denoter_step field_step
 abbrev pub callee_of : Callee → tree.Callee
 callee_of c = record { unit = c.unit; number = c.number; levels = c.levels }
 
-abbrev pub place_step : TypedPlace-F tree.Actual tree.Expr tree.Place → tree.Place
+abbrev pub place_step : TypedPlace-F tree.Actual tree.Designator tree.Expr tree.Place → tree.Place
 place_step (expr.«TypedPlace::Variable» unit number) = tree.Variable unit number
 place_step (expr.Own levels number) = tree.Own levels number
 place_step (expr.Standard file) = tree.Standard file
 place_step (expr.Indexed array index) = tree.Indexed array index
 place_step (expr.Field whole number) = tree.Field whole number
 
-abbrev pub expr_step : TypedExpr-F tree.Actual tree.Expr tree.Place → tree.Expr
+abbrev pub expr_step : TypedExpr-F tree.Actual tree.Designator tree.Expr tree.Place → tree.Expr
 expr_step (expr.Constant value) = tree.Constant value
 expr_step (expr.Text bytes) = tree.Text bytes
 expr_step (expr.Read place) = tree.Read place
@@ -65,19 +67,29 @@ expr_step (expr.Step down low high value count) = tree.Step down low high value 
 expr_step (expr.Function callee given) = tree.Function (callee_of callee) (tree.actuals given)
 expr_step (expr.IndexedValue array index) = tree.IndexedValue array index
 expr_step (expr.FieldValue whole number) = tree.FieldValue whole number
+expr_step (expr.Set members) = tree.SetOf (tree.designators members)
+expr_step (expr.OnSets operation left right) = tree.OnSets operation left right
+expr_step (expr.Card operand) = tree.Card operand
 
-abbrev pub actual_step : Actual-F tree.Actual tree.Expr tree.Place → tree.Actual
+abbrev pub actual_step : Actual-F tree.Actual tree.Designator tree.Expr tree.Place → tree.Actual
 actual_step (expr.Value value) = tree.Evaluated value
 actual_step (expr.«Actual::Variable» place) = tree.Accessed place
 
+abbrev pub designator_step : MemberDesignator-F tree.Actual tree.Designator tree.Expr tree.Place → tree.Designator
+designator_step (expr.Single value) = tree.Single value
+designator_step (expr.Range first last) = tree.Range first last
+
 abbrev pub place_of : TypedPlace → tree.Place
-place_of = fold-TypedPlace tree.Actual tree.Expr tree.Place actual_step expr_step place_step
+place_of = fold-TypedPlace tree.Actual tree.Designator tree.Expr tree.Place actual_step designator_step expr_step place_step
 
 abbrev pub expr_of : TypedExpr → tree.Expr
-expr_of = fold-TypedExpr tree.Actual tree.Expr tree.Place actual_step expr_step place_step
+expr_of = fold-TypedExpr tree.Actual tree.Designator tree.Expr tree.Place actual_step designator_step expr_step place_step
 
 abbrev pub actual_of : Actual → tree.Actual
-actual_of = fold-Actual tree.Actual tree.Expr tree.Place actual_step expr_step place_step
+actual_of = fold-Actual tree.Actual tree.Designator tree.Expr tree.Place actual_step designator_step expr_step place_step
+
+abbrev pub designator_of : MemberDesignator → tree.Designator
+designator_of = fold-MemberDesignator tree.Actual tree.Designator tree.Expr tree.Place actual_step designator_step expr_step place_step
 
 abbrev pub wide : Print → TypedExpr → Option TypedExpr → tree.Item
 wide print value None = tree.Plain print (expr_of value)

@@ -42,6 +42,8 @@ pub enum Denoter {
     Array(Boxed<Denoter>, Boxed<Denoter>),
     /// A record, by its fields in order (ISO 10206, 6.4.3.4).
     Record(RecordFields),
+    /// A set, by the denoter of its base type (ISO 10206, 6.4.3.5).
+    Set(Boxed<Denoter>),
 }
 
 /// A field of a record.

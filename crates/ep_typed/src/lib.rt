@@ -27,10 +27,11 @@ pub use interface::{
 };
 pub use laws::{laws_of_denoters, laws_of_meanings};
 pub use nodes::unit_nodes;
-pub use operations::{Binary, Print, ShortOperation, Unary};
+pub use operations::{Binary, Print, SetOperation, ShortOperation, Unary};
 pub use tree::{
     Actual, Actuals, Callee, CaseArm, CaseArms, CaseRange, CaseRanges, EntireVariable, ForControl,
-    StandardFile, TypedExpr, TypedExprs, TypedPlace, TypedStmt, TypedStmts, WriteItem, WriteItems,
+    MemberDesignator, MemberDesignators, StandardFile, TypedExpr, TypedExprs, TypedPlace,
+    TypedStmt, TypedStmts, WriteItem, WriteItems,
 };
 pub use unit::{
     RoutineNumbers, Unit, UnitRoutine, UnitRoutines, UnitType, UnitTypes, UnitVariable,

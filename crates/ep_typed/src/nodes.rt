@@ -2,13 +2,15 @@
 
 ghost use Rattle.std.specs.Prelude.{◌≡◌, min, map, sum};
 ghost use Rattle.ep_typed.specs.Nodes as nodes;
-ghost use Rattle.ep_typed.specs.Viewed.{actual_of, arm_of, denoter_of, entire_of, expr_of, item_of, place_of, stmt_of};
+ghost use Rattle.ep_typed.specs.Viewed.{actual_of, arm_of, denoter_of, designator_of, entire_of, expr_of, item_of, place_of, stmt_of};
 ghost use Rattle.ep_typed.specs.Trees as tree;
 ghost use Rattle.ep_typed.specs.Trees.{denoters, stmts};
 
 use crate::denoter::{Denoter, RecordField};
 use crate::interface::{ConstantEntry, Formal, RoutineResult, SchemaFormal};
-use crate::tree::{Actual, CaseArm, EntireVariable, TypedExpr, TypedPlace, TypedStmt, WriteItem};
+use crate::tree::{
+    Actual, CaseArm, EntireVariable, MemberDesignator, TypedExpr, TypedPlace, TypedStmt, WriteItem,
+};
 use crate::unit::{Unit, UnitRoutine, UnitType, UnitVariable};
 
 /// The typed nodes of a unit, at most the greatest `u64`. It takes no memory.
@@ -149,6 +151,7 @@ fn denoter(d: &Denoter) -> u64
             .saturating_add(denoter(component.get()))
             .saturating_add(1),
         Denoter::Record(fields) => components(fields.items()).saturating_add(1),
+        Denoter::Set(base) => denoter(base.get()).saturating_add(1),
     }
 }
 
@@ -354,5 +357,35 @@ fn expression(x: &TypedExpr) -> u64
                 .saturating_add(1)
         }
         TypedExpr::FieldValue(whole, _) => expression(whole.get()).saturating_add(1),
+        TypedExpr::Set(members) => designators(members.items()).saturating_add(1),
+        TypedExpr::OnSets(_, left, right) => {
+            expression(left.get())
+                .saturating_add(expression(right.get()))
+                .saturating_add(1)
+        }
+        TypedExpr::Card(operand) => expression(operand.get()).saturating_add(1),
+    }
+}
+
+#[cycle(expressions)]
+fn designators(all: &[MemberDesignator]) -> u64
+    ensures { result ≡ min (nodes.designators_nodes (tree.designators (map designator_of all.now))) u64.MAX }
+{
+    let mut total = 0;
+    for d in all {
+        total = designator(d).saturating_add(total);
+    }
+    total
+}
+
+#[cycle(expressions)]
+fn designator(d: &MemberDesignator) -> u64
+    ensures { result ≡ min (nodes.designator_nodes (designator_of d.now)) u64.MAX }
+{
+    match d {
+        MemberDesignator::Single(value) => expression(value.get()),
+        MemberDesignator::Range(first, last) => {
+            expression(first.get()).saturating_add(expression(last.get()))
+        }
     }
 }

@@ -59,6 +59,29 @@ pub enum ShortOperation {
     OrElse,
 }
 
+/// An operator of which at least the right operand is a set (ISO 10206, 6.8.3.4 and 6.8.3.5).
+#[derive(Clone, Copy, Drop)]
+pub enum SetOperation {
+    /// `+`
+    Union,
+    /// `-`
+    Difference,
+    /// `*`
+    Intersection,
+    /// `><`
+    SymmetricDifference,
+    /// `=`
+    Equal,
+    /// `<>`
+    Unequal,
+    /// `<=`
+    Subset,
+    /// `>=`
+    Superset,
+    /// `in`
+    In,
+}
+
 /// How a value is printed.
 #[derive(Clone, Copy, Drop)]
 pub enum Print {

@@ -1,6 +1,6 @@
 //! Typed trees: expressions, places and statements whose names, types and kinds are settled.
 
-use crate::operations::{Binary, Print, ShortOperation, Unary};
+use crate::operations::{Binary, Print, SetOperation, ShortOperation, Unary};
 use ep_base::{Boxed, Bytes, Line, List, Name};
 
 /// A standard file (ISO 10206, 6.10 and 6.12).
@@ -91,7 +91,26 @@ pub enum TypedExpr {
     IndexedValue(Boxed<TypedExpr>, Boxed<TypedExpr>),
     /// The component of a record that a function gives, by its number (ISO 10206, 6.8.6.3).
     FieldValue(Boxed<TypedExpr>, u32),
+    /// A set constructor (ISO 10206, 6.8.7.4).
+    Set(MemberDesignators),
+    /// An operator on sets. Both operands are evaluated, the left one first.
+    OnSets(SetOperation, Boxed<TypedExpr>, Boxed<TypedExpr>),
+    /// `card`
+    Card(Boxed<TypedExpr>),
 }
+
+/// What a set constructor says of members.
+#[cycle(expression)]
+#[derive(Drop)]
+pub enum MemberDesignator {
+    /// A value that is a member.
+    Single(Boxed<TypedExpr>),
+    /// The first and the last of values that are.
+    Range(Boxed<TypedExpr>, Boxed<TypedExpr>),
+}
+
+/// The member designators of a set constructor, in order.
+pub type MemberDesignators = List<MemberDesignator>;
 
 /// An owned list of expressions.
 pub type TypedExprs = List<TypedExpr>;

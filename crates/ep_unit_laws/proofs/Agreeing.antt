@@ -6,7 +6,8 @@ use Rattle.std.specs.Prelude.{All, drop, if◌then◌else◌}
 use Rattle.ep_typed.specs.Denoters.{host_of, type_of}
 use Rattle.ep_typed.specs.Trees as tree
 use Rattle.ep_typed.specs.TypeValues.{TypeValue}
-use Rattle.ep_typed.specs.Valid.{Declarations, IsCallee, IsDeclaredUp, IsPlace, around_in, heading_of, in_routine, levels_of, own}
+use Rattle.ep_typed.specs.Valid as valid
+use Rattle.ep_typed.specs.Valid.{Declarations, IsCallee, IsDeclaredUp, IsOfKind, IsPlace, around_in, heading_of, in_routine, levels_of, own}
 use Rattle.ep_typed.specs.Auxiliaries.{auxiliary_variables, first_for, with_variables}
 use Rattle.ep_typed.specs.Routines.{made_by_unit, unit_variables}
 use Rattle.ep_typed.specs.Viewed.{denoter_of, stmt_of}
@@ -41,7 +42,7 @@ use Rattle.ep_check_unit.specs.Functions.{assigned_function, assigned_functions,
 use Rattle.ep_check_unit.specs.declared.block.Enclosing.{Enclosing}
 use Rattle.ep_check_unit.specs.declared.block.OwnResult.{OwnResult}
 use Rattle.ep_unit_laws.proofs.Open.{IsOpen, around_length}
-use Rattle.ep_unit_laws.proofs.Denoting.{DenotesKind, kind_had, kind_type}
+use Rattle.ep_unit_laws.proofs.Denoting.{DenotesKind, kind_had, kind_type, set_of_kind}
 use Rattle.ep_unit_laws.proofs.Holds.{HasKindHere, HasTypeHere, Head, Holds, HoldsComposition, HoldsFields, HoldsStructuredType, HoldsDeclaration, HoldsOwn, HoldsParameter, HoldsResultOf, HoldsResults, HoldsScopes, HoldsThing, HoldsThings, HoldsVariable, ListsKind, head_of, holds_scopes, levels_at, lists_kind_small, lists_small, name_denotes, named_tree, type_values}
 
 name_same : (a b : List ℕ) → a ≡ b → bytes_eq a b ≡ true
@@ -167,12 +168,23 @@ module _ (u : TypedUnit) where
       subst (λ ts. HasKind (type_values u) ts (denoter_of x.variable.denoter) (kind.Structured n) × All (HoldsStructure (type_values u) ts) structures) (sym (types_own unit e))
           (has_kind i (denoter_of x.variable.denoter) (kind.Structured n) x.denotes.0 le tt x.denotes.1, all),
     )
+    variable_stored i number unit of (kind.Set h) le e x = (
+      lists_small u i h x.lists,
+      (
+        x.variable,
+        declared_own unit number x.variable e x.at,
+        subst (λ ts. IsOfKind (valid.Set (typed_host h)) ts (denoter_of x.variable.denoter)) (sym (types_own unit e)) (set_of_kind u.types i (denoter_of x.variable.denoter) (typed_host h) x.denotes.0 le x.denotes.1),
+      ),
+    )
+    variable_stored i number unit of kind.EmptySet le e x = absurd x.denotes.1
     variable_stored i number unit of kind.Text le e x = absurd x.denotes.1
     variable_stored i number unit of kind.File le e x = absurd x.denotes.1
 
     own_stored : (es : List Enclosing) (i level number : ℕ) (of : TypeName) (k : Kind) → i ≤ length u.types → HoldsOwn u es i level number of k → IsStoredIn (in_routine (levels_at u.routines es) (own u)) (type_values u) structures (tree.Own (length es - level) number) k
     own_stored es i level number of (kind.Ordinal h) le x = (lists_small u i h x.lists, own_place es i level number of h le x)
     own_stored es i level number of (kind.Structured n) le x = (x.variable, x.at, (has_kind i (denoter_of x.variable.denoter) (kind.Structured n) x.denotes.0 le tt x.denotes.1, all))
+    own_stored es i level number of (kind.Set h) le x = (lists_small u i h x.lists, (x.variable, x.at, set_of_kind u.types i (denoter_of x.variable.denoter) (typed_host h) x.denotes.0 le x.denotes.1))
+    own_stored es i level number of kind.EmptySet le x = absurd x.denotes.1
     own_stored es i level number of kind.Text le x = absurd x.denotes.1
     own_stored es i level number of kind.File le x = absurd x.denotes.1
 
@@ -189,6 +201,15 @@ module _ (u : TypedUnit) where
     )
     function_typed i heading name of (kind.Structured n) le is l d =
         (record { name = name; denoter = type_denoter of }, is, subst (λ x. HasKind (type_values u) u.types x (kind.Structured n)) (sym (name_denotes of)) (has_kind i (named_tree of) (kind.Structured n) d.0 le tt d.1), all)
+    function_typed i heading name of (kind.Set h) le is l d = (
+      record {
+        result = record { name = name; denoter = type_denoter of };
+        has_result = is;
+        has_kind = subst (IsOfKind (valid.Set (typed_host h)) u.types) (sym (name_denotes of)) (set_of_kind u.types i (named_tree of) (typed_host h) d.0 le d.1);
+      },
+      lists_small u i h l,
+    )
+    function_typed i heading name of kind.EmptySet le is l d = absurd d.1
     function_typed i heading name of kind.Text le is l d = absurd d.1
     function_typed i heading name of kind.File le is l d = absurd d.1
 
@@ -290,6 +311,8 @@ module _ (u : TypedUnit) (es : List Enclosing) where
   result_placed i level variable of (kind.Structured n) le x =
       let d = x.denotes.1 in
       (x.denotes.0, (d.of_number, d.of_structure), (x.variable, x.at, (d.has_type (suc (length u.types)) (omega (arith, le)), d.of_structure)))
+  result_placed i level variable of (kind.Set h) le x = (lists_small u i h x.lists, (x.variable, x.at, set_of_kind u.types i (denoter_of x.variable.denoter) (typed_host h) x.denotes.0 le x.denotes.1))
+  result_placed i level variable of kind.EmptySet le x = tt
   result_placed i level variable of kind.Text le x = tt
   result_placed i level variable of kind.File le x = tt
 

@@ -130,9 +130,12 @@ module _ (u : TypedUnit) where
     over_writes : Writes u b Over
     over_writes = record { grows = over_grows; holds = λ under ext free next x. over_wrote under ext free next x }
 
-  index_ordinal : (k : Kind) (h : Host) → index_host k ≡ Accepts h → k ≡ kind.Ordinal h
+  -- an index type, or a base type, is ordinal
+  pub index_ordinal : (k : Kind) (h : Host) → index_host k ≡ Accepts h → k ≡ kind.Ordinal h
   index_ordinal (kind.Ordinal g) h e = let is : g ≡ h = cc in ap kind.Ordinal is
   index_ordinal (kind.Structured n) h e = cc
+  index_ordinal (kind.Set base) h e = cc
+  index_ordinal kind.EmptySet h e = cc
   index_ordinal kind.Text h e = cc
   index_ordinal kind.File h e = cc
 

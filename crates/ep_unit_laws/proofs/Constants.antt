@@ -35,12 +35,16 @@ constant_opens b name k v x = open_push b.scopes.inner.entries b.scopes.outer b.
 constant_grows : (name : List ℕ) (k : Kind) (v : Value) (b : Block) → Grows b (with_constant name k v b)
 constant_grows name (kind.Ordinal h) v b = record { types = prefix_refl b.types; constants = prefix_more b.constants _; variables = prefix_refl b.variables; own = prefix_refl b.own.variables; parameters = refl; result = refl; enclosing = refl; outer = refl; alone = λ e. refl; headings = prefix_refl (map head_in b.routines); waits = λ w. w; opens = λ x. constant_opens b name (kind.Ordinal h) v x; bodies = λ x. bodies_refl b }
 constant_grows name (kind.Structured n) v b = record { types = prefix_refl b.types; constants = prefix_refl b.constants; variables = prefix_refl b.variables; own = prefix_refl b.own.variables; parameters = refl; result = refl; enclosing = refl; outer = refl; alone = λ e. refl; headings = prefix_refl (map head_in b.routines); waits = λ w. w; opens = λ x. constant_opens b name (kind.Structured n) v x; bodies = λ x. bodies_refl b }
+constant_grows name (kind.Set base) v b = record { types = prefix_refl b.types; constants = prefix_refl b.constants; variables = prefix_refl b.variables; own = prefix_refl b.own.variables; parameters = refl; result = refl; enclosing = refl; outer = refl; alone = λ e. refl; headings = prefix_refl (map head_in b.routines); waits = λ w. w; opens = λ x. constant_opens b name (kind.Set base) v x; bodies = λ x. bodies_refl b }
+constant_grows name kind.EmptySet v b = record { types = prefix_refl b.types; constants = prefix_refl b.constants; variables = prefix_refl b.variables; own = prefix_refl b.own.variables; parameters = refl; result = refl; enclosing = refl; outer = refl; alone = λ e. refl; headings = prefix_refl (map head_in b.routines); waits = λ w. w; opens = λ x. constant_opens b name kind.EmptySet v x; bodies = λ x. bodies_refl b }
 constant_grows name kind.Text v b = record { types = prefix_refl b.types; constants = prefix_refl b.constants; variables = prefix_refl b.variables; own = prefix_refl b.own.variables; parameters = refl; result = refl; enclosing = refl; outer = refl; alone = λ e. refl; headings = prefix_refl (map head_in b.routines); waits = λ w. w; opens = λ x. constant_opens b name kind.Text v x; bodies = λ x. bodies_refl b }
 constant_grows name kind.File v b = record { types = prefix_refl b.types; constants = prefix_refl b.constants; variables = prefix_refl b.variables; own = prefix_refl b.own.variables; parameters = refl; result = refl; enclosing = refl; outer = refl; alone = λ e. refl; headings = prefix_refl (map head_in b.routines); waits = λ w. w; opens = λ x. constant_opens b name kind.File v x; bodies = λ x. bodies_refl b }
 
 constant_types : (name : List ℕ) (k : Kind) (v : Value) (b : Block) → (with_constant name k v b).types ≡ b.types
 constant_types name (kind.Ordinal h) v b = refl
 constant_types name (kind.Structured n) v b = refl
+constant_types name (kind.Set base) v b = refl
+constant_types name kind.EmptySet v b = refl
 constant_types name kind.Text v b = refl
 constant_types name kind.File v b = refl
 
@@ -69,6 +73,38 @@ module _ (u : TypedUnit) where
   constant_holds i name kind.Text (value.Text bytes) b le s l x = record {
     unit = x.unit;
     things = things_push u b.own.enclosing i b.scopes.inner.entries name (own_thing b (length b.constants) (declaration.Constant kind.Text (value.Text bytes))) x.things (x.unit, (s, l));
+    plain = x.plain;
+    structures = x.structures;
+    outer = x.outer;
+    routines = x.routines;
+    types = x.types;
+    constants = x.constants;
+    variables = x.variables;
+    parameters = x.parameters;
+    result = x.result;
+    owned = x.owned;
+    headed = x.headed;
+    results = x.results;
+  }
+  constant_holds i name (kind.Set h) v b le s l x = record {
+    unit = x.unit;
+    things = things_push u b.own.enclosing i b.scopes.inner.entries name (own_thing b (length b.constants) (declaration.Constant (kind.Set h) v)) x.things (x.unit, (s, l));
+    plain = x.plain;
+    structures = x.structures;
+    outer = x.outer;
+    routines = x.routines;
+    types = x.types;
+    constants = x.constants;
+    variables = x.variables;
+    parameters = x.parameters;
+    result = x.result;
+    owned = x.owned;
+    headed = x.headed;
+    results = x.results;
+  }
+  constant_holds i name kind.EmptySet v b le s l x = record {
+    unit = x.unit;
+    things = things_push u b.own.enclosing i b.scopes.inner.entries name (own_thing b (length b.constants) (declaration.Constant kind.EmptySet v)) x.things (x.unit, (s, l));
     plain = x.plain;
     structures = x.structures;
     outer = x.outer;

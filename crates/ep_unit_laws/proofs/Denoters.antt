@@ -13,6 +13,7 @@ use Rattle.ep_check_unit.proofs.Denoters.{KeptByDenoters, each_denoter}
 use Rattle.ep_unit_laws.proofs.Types.{Settles, Writes, enumeration-writes, range_writes, type_named-names}
 use Rattle.ep_unit_laws.proofs.Arrays.{array_writes}
 use Rattle.ep_unit_laws.proofs.Records.{record_writes}
+use Rattle.ep_unit_laws.proofs.Sets.{set_writes}
 use Rattle.ep_unit_laws.proofs.Structures.{IsKnown, part_settles, part_writes}
 
 module _ (u : TypedUnit) where
@@ -29,6 +30,7 @@ module _ (u : TypedUnit) where
       others = λ line b. tt;
       arrays = λ index of i o line b. array_writes u index of i o line b;
       records = λ sections known line b. record_writes u sections known line b;
+      sets = λ base known line b. set_writes u base known line b;
       structures = λ p known line b. part_writes u p known line b;
     }
 

@@ -2,14 +2,15 @@
 use Rattle.std.proofs.Common.{◌≡◌, ℕ, ℤ, neg_ℤ, pos, suc, zero, ◌<◌, ◌≤◌, List, [], ◌∷◌, length, Option, Some, None, slice_get, IsTrue, refl, ap, ◌∙◌, subst, arith}
 use Rattle.std.proofs.lemmas.Bool.Decides.{nat_tests}
 use Rattle.std.specs.Prelude.{⊤, int_le}
-use Rattle.ep_typed.specs.Denoters.{ArrayParts, array_of, array_type, array_within, definition_of, found_of, host_within, next_type, record_of, record_type, record_within, required_type, type_of, type_within, types_step}
+use Rattle.ep_typed.specs.Denoters.{ArrayParts, array_of, array_type, array_within, base_within, definition_of, found_of, host_of, host_within, next_type, record_of, record_type, record_within, required_type, set_type, type_of, type_within, types_step}
 use Rattle.ep_typed.specs.Hosts as host
 use Rattle.ep_typed.specs.Hosts.{Host, least, greatest, is_of_host}
 use Rattle.ep_typed.specs.Operations.{is_integer, last_char, maxint}
-use Rattle.ep_typed.specs.Trees.{Array, Denoter, Denoters, Fixed, Required, Named, Subrange, Enumeration, Record, next_denoter, no_denoter}
+use Rattle.ep_typed.specs.Trees.{Array, Denoter, Denoters, Fixed, Required, Named, Subrange, Enumeration, Record, Set, next_denoter, no_denoter}
 use Rattle.ep_typed.specs.Valid as valid
-use Rattle.ep_typed.specs.Valid.{AreTyped, HasKind as HasValues, IsDenoter, IsOrdinal, IsStructured, IsTyped, array, components, enumeration, named, next_typed, none_typed, required, subrange}
-use Rattle.ep_typed.proofs.Typed.{typed_of_host}
+use Rattle.ep_typed.specs.Valid.{AreTyped, HasKind as HasValues, IsDenoter, IsOrdinal, IsOfKind, IsStructured, IsTyped, array, components, enumeration, named, next_typed, none_typed, required, set, subrange}
+use Rattle.ep_typed.proofs.Typed.{typed_of_host, typed_set}
+use Rattle.ep_typed.specs.Sets.{is_ordinal}
 use Rattle.ep_typed.specs.declared.denoter.RequiredType.{RequiredType}
 use Rattle.ep_typed.specs.declared.denoter.RequiredType.TheVariants as simple
 use Rattle.ep_typed.specs.declared.unit.UnitType.{UnitType}
@@ -56,10 +57,20 @@ pub record DenotesStructured (types : List UnitType) (k : ℕ) (d : Denoter) (nu
   pub of_structure : IsStructured v
   pub typed : IsTyped types d v
 
--- the one or the other by the kind
+-- Alike the denoter is that of a set over this host, with its base type and its type value.
+pub record DenotesSet (types : List UnitType) (k : ℕ) (d : Denoter) (h : Host) (v : TypeValue) : Type 0 where
+  pub base : Denoter
+  pub has_base : (n : ℕ) → k < n → base_within types n d ≡ Some base
+  pub of_host : host_of types base ≡ Some h
+  pub has_type : (n : ℕ) → k < n → type_within types n d ≡ Some v
+  pub typed : IsTyped types d v
+
+-- one of them by the kind
 abbrev pub DenotesKind : List UnitType → ℕ → Denoter → Kind → TypeValue → Type 0
 DenotesKind types k d (kind.Ordinal h) v = Denotes types k d (typed_host h) v
 DenotesKind types k d (kind.Structured number) v = DenotesStructured types k d number v
+DenotesKind types k d (kind.Set h) v = DenotesSet types k d (typed_host h) v
+DenotesKind types k d kind.EmptySet v = ⊥
 DenotesKind types k d kind.Text v = ⊥
 DenotesKind types k d kind.File v = ⊥
 
@@ -169,6 +180,7 @@ module _ (types : List UnitType) where
   ordinal_value (suc n) (Enumeration (first ∷ others)) h v e f = ordinal_some (pos 0) (pos (length others)) v f
   ordinal_value (suc n) (Array index component) h v e f = cc
   ordinal_value (suc n) (Record ds) h v e f = cc
+  ordinal_value (suc n) (Set base) h v e f = cc
 
   pub parts_found : (index component : Denoter) (n : ℕ) → 0 < n → array_within types n (Array index component) ≡ Some (record { index = index; component = component })
   parts_found index component zero lt = absurd (omega (arith, lt))
@@ -261,29 +273,65 @@ module _ (types : List UnitType) where
     typed = components ds ts (all_typed k ds ts x);
   }
 
+  -- ---- sets
+
+  own_base : (base : Denoter) (n : ℕ) → 0 < n → base_within types n (Set base) ≡ Some base
+  own_base base zero lt = absurd (omega (arith, lt))
+  own_base base (suc n) lt = refl
+
+  set_found : (base : Denoter) (low high : ℤ) (k n : ℕ) → k < n → type_within types n base ≡ Some (Ordinal low high) → type_within types n (Set base) ≡ Some (type.Set low high)
+  set_found base low high k zero lt e = absurd (omega (arith, lt))
+  set_found base low high k (suc n) lt e = ap set_type e
+
+  -- a set of a base type whose values may be members
+  pub denotes_set : (k : ℕ) (base : Denoter) (h : Host) (low high : ℤ) → k ≤ length types → Denotes types k base h (Ordinal low high) → IsTrue (is_ordinal low) → IsTrue (is_ordinal high) → DenotesSet types k (Set base) h (type.Set low high)
+  denotes_set k base h low high le x from to = record {
+    base = base;
+    has_base = λ n lt. own_base base n (omega (arith, lt));
+    of_host = x.has_host (suc (length types)) (omega (arith, le));
+    has_type = λ n lt. set_found base low high k n lt (x.has_type n lt);
+    typed = set base low high x.typed from to;
+  }
+
+  named_base : (index k : ℕ) (t : UnitType) (base : Denoter) → slice_get types index ≡ Some t → ((n : ℕ) → k < n → base_within types n (definition_of t) ≡ Some base) → (n : ℕ) → suc k < n → base_within types n (Named index []) ≡ Some base
+  named_base index k t base at found zero lt = absurd (omega (arith, lt))
+  named_base index k t base at found (suc n) lt = ap (found_of (base_within types n)) at ∙ found n (omega (arith, lt))
+
+  -- values of it are sets over the host
+  pub set_of_kind : (k : ℕ) (d : Denoter) (h : Host) (v : TypeValue) → k ≤ length types → DenotesSet types k d h v → IsOfKind (valid.Set h) types d
+  set_of_kind k d h v le x = (x.base, x.has_base (suc (length types)) (omega (arith, le)), x.of_host)
+
   -- ---- denoters of a kind
 
   pub kind_more : (k j : ℕ) (d : Denoter) (of : Kind) (v : TypeValue) → k ≤ j → DenotesKind types k d of v → DenotesKind types j d of v
   kind_more k j d (kind.Ordinal h) v le x = denotes_more k j d (typed_host h) v le x
   kind_more k j d (kind.Structured number) v le x = record { structure = x.structure; has_structure = λ n lt. x.has_structure n (omega (arith, le, lt)); is_structured = x.is_structured; has_type = λ n lt. x.has_type n (omega (arith, le, lt)); of_number = x.of_number; of_structure = x.of_structure; typed = x.typed }
+  kind_more k j d (kind.Set h) v le x = record { base = x.base; has_base = λ n lt. x.has_base n (omega (arith, le, lt)); of_host = x.of_host; has_type = λ n lt. x.has_type n (omega (arith, le, lt)); typed = x.typed }
+  kind_more k j d kind.EmptySet v le x = absurd x
   kind_more k j d kind.Text v le x = absurd x
   kind_more k j d kind.File v le x = absurd x
 
   pub kind_named : (index k : ℕ) (t : UnitType) (of : Kind) (v : TypeValue) → slice_get types index ≡ Some t → DenotesKind types k (definition_of t) of v → DenotesKind types (suc k) (Named index []) of v
   kind_named index k t (kind.Ordinal h) v at x = denotes_named index k t (typed_host h) v at x
   kind_named index k t (kind.Structured number) v at x = record { structure = x.structure; has_structure = named_made index k t x.structure at x.has_structure; is_structured = x.is_structured; has_type = named_type index k t v at x.has_type; of_number = x.of_number; of_structure = x.of_structure; typed = named index t at x.typed }
+  kind_named index k t (kind.Set h) v at x = record { base = x.base; has_base = named_base index k t x.base at x.has_base; of_host = x.of_host; has_type = named_type index k t v at x.has_type; typed = named index t at x.typed }
+  kind_named index k t kind.EmptySet v at x = absurd x
   kind_named index k t kind.Text v at x = absurd x
   kind_named index k t kind.File v at x = absurd x
 
   pub kind_type : (k : ℕ) (d : Denoter) (of : Kind) (v : TypeValue) → DenotesKind types k d of v → (n : ℕ) → k < n → type_within types n d ≡ Some v
   kind_type k d (kind.Ordinal h) v x n lt = x.has_type n lt
   kind_type k d (kind.Structured number) v x n lt = x.has_type n lt
+  kind_type k d (kind.Set h) v x n lt = x.has_type n lt
+  kind_type k d kind.EmptySet v x n lt = absurd x
   kind_type k d kind.Text v x n lt = absurd x
   kind_type k d kind.File v x n lt = absurd x
 
   pub kind_typed : (k : ℕ) (d : Denoter) (of : Kind) (v : TypeValue) → DenotesKind types k d of v → IsTyped types d v
   kind_typed k d (kind.Ordinal h) v x = x.typed
   kind_typed k d (kind.Structured number) v x = x.typed
+  kind_typed k d (kind.Set h) v x = x.typed
+  kind_typed k d kind.EmptySet v x = absurd x
   kind_typed k d kind.Text v x = absurd x
   kind_typed k d kind.File v x = absurd x
 
@@ -297,6 +345,8 @@ module _ (types : List UnitType) where
     (x.structure, made_here d x.structure (x.has_structure (suc (length types)) (omega (arith, le))), x.is_structured),
     (v, (numbered number ∙ x.of_number, x.of_structure), x.has_type (suc (length types)) (omega (arith, le))),
   )
+  kind_had values numbered k d (kind.Set h) v le s x = (s, set_of_kind k d (typed_host h) v le x)
+  kind_had values numbered k d kind.EmptySet v le s x = absurd x
   kind_had values numbered k d kind.Text v le s x = absurd x
   kind_had values numbered k d kind.File v le s x = absurd x
 
@@ -304,6 +354,8 @@ module _ (types : List UnitType) where
   pub kind_valued : (values : TypeValues) → ((number : ℕ) → values (type_name.Entry number) ≡ type_of types (Named number [])) → (k : ℕ) (d : Denoter) (of : Kind) (v : TypeValue) → k ≤ length types → IsKind of → DenotesKind types k d of v → IsValueOfKind values of v
   kind_valued values numbered k d (kind.Ordinal h) v le s x = (s, typed_of_host types d v (typed_host h) x.typed (x.has_host (suc (length types)) (omega (arith, le))))
   kind_valued values numbered k d (kind.Structured number) v le s x = (numbered number ∙ x.of_number, x.of_structure)
+  kind_valued values numbered k d (kind.Set h) v le s x = (s, typed_set types d v x.base (typed_host h) x.typed (x.has_base (suc (length types)) (omega (arith, le))) x.of_host)
+  kind_valued values numbered k d kind.EmptySet v le s x = absurd x
   kind_valued values numbered k d kind.Text v le s x = absurd x
   kind_valued values numbered k d kind.File v le s x = absurd x
 
@@ -311,5 +363,7 @@ module _ (types : List UnitType) where
   pub kind_has_values : (k : ℕ) (d : Denoter) (of : Kind) (v : TypeValue) → k ≤ length types → DenotesKind types k d of v → HasValues types d
   kind_has_values k d (kind.Ordinal h) v le x = record { kind = valid.Ordinal (typed_host h); of_kind = x.has_host (suc (length types)) (omega (arith, le)); denoter = kind_valid k d (kind.Ordinal h) v le x }
   kind_has_values k d (kind.Structured number) v le x = record { kind = valid.Structured v; of_kind = (x.has_type (suc (length types)) (omega (arith, le)), x.of_structure); denoter = kind_valid k d (kind.Structured number) v le x }
+  kind_has_values k d (kind.Set h) v le x = record { kind = valid.Set (typed_host h); of_kind = set_of_kind k d (typed_host h) v le x; denoter = kind_valid k d (kind.Set h) v le x }
+  kind_has_values k d kind.EmptySet v le x = absurd x
   kind_has_values k d kind.Text v le x = absurd x
   kind_has_values k d kind.File v le x = absurd x

@@ -140,18 +140,24 @@ module _ (u : TypedUnit) where
   abbrev pub ListsKind : ℕ → Kind → Type 0
   ListsKind i (kind.Ordinal h) = Lists i h
   ListsKind i (kind.Structured n) = ⊤
+  ListsKind i (kind.Set h) = Lists i h
+  ListsKind i kind.EmptySet = ⊤
   ListsKind i kind.Text = ⊤
   ListsKind i kind.File = ⊤
 
   pub lists_kind_more : (i j : ℕ) (k : Kind) → i ≤ j → ListsKind i k → ListsKind j k
   lists_kind_more i j (kind.Ordinal h) le l = lists_more i j h le l
   lists_kind_more i j (kind.Structured n) le l = tt
+  lists_kind_more i j (kind.Set h) le l = lists_more i j h le l
+  lists_kind_more i j kind.EmptySet le l = tt
   lists_kind_more i j kind.Text le l = tt
   lists_kind_more i j kind.File le l = tt
 
   pub lists_kind_small : (i : ℕ) (k : Kind) → ListsKind i k → IsKind k
   lists_kind_small i (kind.Ordinal h) l = lists_small i h l
   lists_kind_small i (kind.Structured n) l = tt
+  lists_kind_small i (kind.Set h) l = lists_small i h l
+  lists_kind_small i kind.EmptySet l = tt
   lists_kind_small i kind.Text l = tt
   lists_kind_small i kind.File l = tt
 
@@ -467,6 +473,8 @@ module _ (u : TypedUnit) where
   kind_listed : (i : ℕ) (k : Kind) (h : Host) → ListsKind i k → HasHost k h → Lists i h
   kind_listed i (kind.Ordinal g) h l e = subst (Lists i) e l
   kind_listed i (kind.Structured n) h l e = absurd e
+  kind_listed i (kind.Set g) h l e = subst (Lists i) e l
+  kind_listed i kind.EmptySet h l e = absurd e
   kind_listed i kind.Text h l e = absurd e
   kind_listed i kind.File h l e = absurd e
 
@@ -638,5 +646,7 @@ module _ (u : TypedUnit) where
   pub known_listed : (i : ℕ) (b : Block) (k : Kind) → Holds i b → IsKnownKind (scopes_of b) k → ListsKind u i k
   known_listed i b (kind.Ordinal h) x e = host_listed i b h x e
   known_listed i b (kind.Structured n) x e = tt
+  known_listed i b (kind.Set h) x e = host_listed i b h x e
+  known_listed i b kind.EmptySet x e = tt
   known_listed i b kind.Text x e = tt
   known_listed i b kind.File x e = tt

@@ -9,6 +9,7 @@ pub mod Types
 pub mod Structures
 pub mod Arrays
 pub mod Records
+pub mod Sets
 pub mod Denoters
 pub mod Items
 pub mod Auxiliaries

@@ -247,9 +247,13 @@ module _ (u : TypedUnit) where
   one_host : (k l : Kind) (h : Host) → common_host k l ≡ Accepts h → OneHost k l h
   one_host (kind.Ordinal g) (kind.Ordinal k) h e = one_host-if (same_host g k) g k h refl e
   one_host (kind.Ordinal g) (kind.Structured n) h e = cc
+  one_host (kind.Ordinal g) (kind.Set base) h e = cc
+  one_host (kind.Ordinal g) kind.EmptySet h e = cc
   one_host (kind.Ordinal g) kind.Text h e = cc
   one_host (kind.Ordinal g) kind.File h e = cc
   one_host (kind.Structured n) l h e = cc
+  one_host (kind.Set base) l h e = cc
+  one_host kind.EmptySet l h e = cc
   one_host kind.Text l h e = cc
   one_host kind.File l h e = cc
 

@@ -4,11 +4,10 @@
 ghost use Rattle.std.specs.Prelude.{◌≡◌, map};
 ghost use Rattle.std.specs.List.{list_all};
 ghost use Rattle.ep_tree.specs.Shapes.{bare};
-ghost use Rattle.ep_built.specs.Built.{built_component, built_program, built_import, built_type_name, built_heading, built_start, built_routine, built_type_definition, built_type_denoter, built_plain, built_formal_type, built_section, built_core, built_structure, variants_are_built, selector_form, is_component, behind_call, is_call, built_target, built_control, built_call, behind_arguments, built_statement, built_relation, built_adding, built_multiplying, is_character, built_factor, built_access, form_told, selector_belonging, brackets_are_built, is_bare_text};
+ghost use Rattle.ep_built.specs.Built.{built_component, built_program, built_import, built_type_name, built_heading, built_start, built_routine, built_type_definition, built_type_denoter, built_plain, built_formal_type, built_section, built_core, variants_are_built, selector_form, is_component, behind_call, is_call, built_target, built_control, built_call, behind_arguments, built_statement, built_relation, built_adding, built_multiplying, is_character, built_factor, built_access, form_told, selector_belonging, brackets_are_built, is_bare_text};
 ghost use Rattle.ep_tree.specs.declared.expression.Factor.{out-Factor};
 ghost use Rattle.ep_tree.specs.declared.types.Core.{out-Core};
 ghost use Rattle.ep_tree.specs.declared.types.Plain.{out-Plain};
-ghost use Rattle.ep_tree.specs.declared.types.Structure.{out-Structure};
 ghost use Rattle.ep_tree.specs.declared.types.TypeDenoter.{out-TypeDenoter};
 ghost use Rattle.ep_tree.specs.declared.statement.Statement.{out-Statement};
 ghost use Rattle.ep_tree.specs.declared.routine.Routine.{out-Routine};
@@ -18,8 +17,7 @@ use ep_base::Name;
 use ep_tree::{
     Access, AddingOperator, Component, Core, Expression, Factor, FormalSection, FormalType, Import,
     MultiplyingOperator, Plain, Program, QualifiedName, RelationalOperator, Routine,
-    RoutineHeading, RoutineStart, Selector, Statement, Structure, TypeDefinition, TypeDenoter,
-    VariantPart,
+    RoutineHeading, RoutineStart, Selector, Statement, TypeDefinition, TypeDenoter, VariantPart,
 };
 
 /// A component is a program.
@@ -135,13 +133,6 @@ pub(super) fn core_is_built(c: &Core) -> bool
     }
 }
 
-/// A structure is an array or a record.
-pub(super) fn structure_is_built(s: &Structure) -> bool
-    ensures { result ≡ built_structure (out-Structure s.now) }
-{
-    matches!(s, Structure::Array(_, _, _) | Structure::Record(_, _))
-}
-
 /// The variants of a record are not built yet.
 pub(super) fn variants_are_built(_variants: &VariantPart) -> bool
     ensures { result ≡ variants_are_built }
@@ -224,24 +215,18 @@ pub(super) fn statement_is_built(s: &Statement) -> bool
     }
 }
 
-/// All relational operators but `in`.
-pub(super) fn relation_is_built(operator: RelationalOperator) -> bool
-    ensures { result ≡ built_relation operator }
+/// All relational operators.
+pub(super) fn relation_is_built(_operator: RelationalOperator) -> bool
+    ensures { result ≡ built_relation _operator }
 {
-    match operator {
-        RelationalOperator::In => false,
-        _ => true,
-    }
+    true
 }
 
-/// All adding operators but `><`.
-pub(super) fn adding_is_built(operator: AddingOperator) -> bool
-    ensures { result ≡ built_adding operator }
+/// All adding operators.
+pub(super) fn adding_is_built(_operator: AddingOperator) -> bool
+    ensures { result ≡ built_adding _operator }
 {
-    match operator {
-        AddingOperator::SymmetricDifference => false,
-        _ => true,
-    }
+    true
 }
 
 /// All multiplying operators.
@@ -261,6 +246,7 @@ pub(super) fn factor_is_built(f: &Factor) -> bool
         Factor::Text(_, text) => text.items().len() == 1,
         Factor::Parenthesized(_, _) => true,
         Factor::Not(_, _) => true,
+        Factor::Set(_, _) => true,
         _ => false,
     }
 }

@@ -6,9 +6,9 @@ ghost use Rattle.ep_built.specs.Built.{is_among, is_later, writes, program_param
 use ep_base::Name;
 
 /// The required functions (ISO 10206, 6.7.6) that are not built.
-const LATER_FUNCTIONS: [&[u8]; 14] = [
-    b"card", b"length", b"index", b"substr", b"trim", b"eq", b"ne", b"lt", b"gt", b"le", b"ge",
-    b"eof", b"eoln", b"binding",
+const LATER_FUNCTIONS: [&[u8]; 13] = [
+    b"length", b"index", b"substr", b"trim", b"eq", b"ne", b"lt", b"gt", b"le", b"ge", b"eof",
+    b"eoln", b"binding",
 ];
 
 /// The required procedures (ISO 10206, 6.7.5) that are not built.

@@ -62,14 +62,12 @@ fn core(c: &Core) -> Option<Line>
 fn structure(s: &Structure) -> Option<Line>
     ensures { result ≡ structure_unbuilt s.now }
 {
-    let built = forms::structure_is_built(s);
     match s {
-        Structure::Array(line, indexes, component) => {
-            let inner = plains(indexes.items()).or(plain(component.get()));
-            at_node(built, *line, inner)
+        Structure::Array(_, indexes, component) => {
+            plains(indexes.items()).or(plain(component.get()))
         }
-        Structure::Record(line, all) => at_node(built, *line, fields(all)),
-        Structure::Set(line, _) => at_node(built, *line, None),
+        Structure::Record(_, all) => fields(all),
+        Structure::Set(_, base) => plain(base.get()),
     }
 }
 

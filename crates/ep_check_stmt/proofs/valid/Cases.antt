@@ -129,6 +129,10 @@ module _ (declared : Declarations) (locals : Locals) (labels : LabelsAreSound) (
   fitting_fits (kind.Ordinal g) (value.Word z) built p = end_by g z built (same_host h g) refl p.1
   fitting_fits (kind.Ordinal g) (value.Text bytes) built p = absurd p
   fitting_fits (kind.Structured n) v built p = absurd p
+  fitting_fits (kind.Set base) (value.Word z) built p = tt
+  fitting_fits (kind.Set base) (value.Text bytes) built p = tt
+  fitting_fits kind.EmptySet (value.Word z) built p = tt
+  fitting_fits kind.EmptySet (value.Text bytes) built p = tt
   fitting_fits kind.Text (value.Word z) built p = tt
   fitting_fits kind.Text (value.Text bytes) built p = tt
   fitting_fits kind.File (value.Word z) built p = tt

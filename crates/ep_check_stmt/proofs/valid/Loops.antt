@@ -36,6 +36,8 @@ module _ (declared : Declarations) (scopes : List Region) (agrees : Agrees decla
   abbrev IsVariableOf : Kind → Place → Type 0
   IsVariableOf (kind.Ordinal h) place = IsPlace declared (typed_host h) place
   IsVariableOf (kind.Structured n) place = ⊤
+  IsVariableOf (kind.Set base) place = ⊤
+  IsVariableOf kind.EmptySet place = ⊤
   IsVariableOf kind.Text place = ⊤
   IsVariableOf kind.File place = ⊤
 
@@ -45,6 +47,8 @@ module _ (declared : Declarations) (scopes : List Region) (agrees : Agrees decla
   stored_fits : (place : Place) (k : Kind) → IsStoredIn declared agrees.0 (structures_of scopes) place k → IsVariableOf k place
   stored_fits place (kind.Ordinal h) x = x.1
   stored_fits place (kind.Structured n) x = tt
+  stored_fits place (kind.Set base) x = tt
+  stored_fits place kind.EmptySet x = tt
   stored_fits place kind.Text x = tt
   stored_fits place kind.File x = tt
 
@@ -73,6 +77,8 @@ module _ (declared : Declarations) (scopes : List Region) (agrees : Agrees decla
   counted_fits : (v : Entire) (k : Kind) → IsVariableOf k (tree.entire v) → Fits IsCounted (counted_by v k)
   counted_fits v (kind.Ordinal h) x = x
   counted_fits v (kind.Structured n) x = tt
+  counted_fits v (kind.Set base) x = tt
+  counted_fits v kind.EmptySet x = tt
   counted_fits v kind.Text x = tt
   counted_fits v kind.File x = tt
 

@@ -53,7 +53,7 @@ use Rattle.ep_check_expr.specs.Laws.{ArgumentsAreSound, ExpressionsAreSound, Lab
 use Rattle.ep_check_expr.specs.Operators.{map_both}
 use Rattle.ep_check_expr.proofs.Meant.{IsMeant, meant-declared}
 use Rattle.ep_check_expr.proofs.Nodes.{argument-judged, wide-judged}
-use Rattle.ep_check_expr.proofs.Passing.{IfForm, given-fits, structured-fits}
+use Rattle.ep_check_expr.proofs.Passing.{IfForm, given-fits, set-fits, structured-fits}
 use Rattle.ep_check_expr.proofs.Places.{structured-place}
 use Rattle.ep_check_stmt.specs.Cases.{CaseSelector, labelled, selecting, selector_judged}
 use Rattle.ep_check_stmt.specs.Laws.{IsResultAt, ResultsAreThere, StatementsAreSound}
@@ -104,6 +104,8 @@ module _ (declared : Declarations) (expressions : ExpressionsAreSound) (passed :
   tested_fits (kind.Ordinal host.Char) form h = tt
   tested_fits (kind.Ordinal (host.Enumeration e)) form h = tt
   tested_fits (kind.Structured n) form h = tt
+  tested_fits (kind.Set base) form h = tt
+  tested_fits kind.EmptySet form h = tt
   tested_fits kind.Text form h = tt
   tested_fits kind.File form h = tt
 
@@ -132,10 +134,12 @@ module _ (declared : Declarations) (expressions : ExpressionsAreSound) (passed :
   abbrev IsStructure : ℕ → Place → Type 0
   IsStructure n place = (t : TypeValue) × IsValueOf agrees.0 n t × IsPlaceWhere declared (IsOfKind (valid.Structured t)) place
 
-  -- a variable of an ordinal or a structured type has a place, where it is built; to no other one is anything given that is built
+  -- a variable of an ordinal, a structured or a set type has a place, where it is built; to no other one is anything given that is built
   abbrev IsTarget : Kind → Option Place → Type 0
   IsTarget (kind.Ordinal h) place = IfForm (IsPlace declared (typed_host h)) place
   IsTarget (kind.Structured n) place = IfForm (IsStructure n) place
+  IsTarget (kind.Set h) place = IfForm (IsPlaceWhere declared (IsOfKind (valid.Set (typed_host h)))) place
+  IsTarget kind.EmptySet place = ⊤
   IsTarget kind.Text place = ⊤
   IsTarget kind.File place = ⊤
 
@@ -143,6 +147,8 @@ module _ (declared : Declarations) (expressions : ExpressionsAreSound) (passed :
   variable_fits : (place : Place) (k : Kind) → IsStoredIn declared agrees.0 structures place k → IsTarget k (Some place)
   variable_fits place (kind.Ordinal h) x = x.1
   variable_fits place (kind.Structured n) x = structured-place declared agrees.0 structures n place x
+  variable_fits place (kind.Set h) x = x.1
+  variable_fits place kind.EmptySet x = tt
   variable_fits place kind.Text x = tt
   variable_fits place kind.File x = tt
 
@@ -159,6 +165,9 @@ module _ (declared : Declarations) (expressions : ExpressionsAreSound) (passed :
   read_fits (kind.Ordinal h) (Some (tree.Function callee given)) f = tt
   read_fits (kind.Ordinal h) (Some (tree.IndexedValue array index)) f = tt
   read_fits (kind.Ordinal h) (Some (tree.FieldValue whole number)) f = tt
+  read_fits (kind.Ordinal h) (Some (tree.SetOf members)) f = tt
+  read_fits (kind.Ordinal h) (Some (tree.OnSets operation x y)) f = tt
+  read_fits (kind.Ordinal h) (Some (tree.Card x)) f = tt
   read_fits (kind.Structured n) None f = tt
   read_fits (kind.Structured n) (Some (tree.Read place)) f = structured-place declared agrees.0 structures n place f
   read_fits (kind.Structured n) (Some (tree.Function callee given)) f = tt
@@ -170,6 +179,24 @@ module _ (declared : Declarations) (expressions : ExpressionsAreSound) (passed :
   read_fits (kind.Structured n) (Some (tree.Two operation x y)) f = tt
   read_fits (kind.Structured n) (Some (tree.Short operation x y)) f = tt
   read_fits (kind.Structured n) (Some (tree.Step down low high x y)) f = tt
+  read_fits (kind.Structured n) (Some (tree.SetOf members)) f = tt
+  read_fits (kind.Structured n) (Some (tree.OnSets operation x y)) f = tt
+  read_fits (kind.Structured n) (Some (tree.Card x)) f = tt
+  read_fits (kind.Set h) None f = tt
+  read_fits (kind.Set h) (Some (tree.Read place)) f = f.1
+  read_fits (kind.Set h) (Some (tree.Constant z)) f = tt
+  read_fits (kind.Set h) (Some (tree.Text bytes)) f = tt
+  read_fits (kind.Set h) (Some (tree.One operation x)) f = tt
+  read_fits (kind.Set h) (Some (tree.Two operation x y)) f = tt
+  read_fits (kind.Set h) (Some (tree.Short operation x y)) f = tt
+  read_fits (kind.Set h) (Some (tree.Step down low high x y)) f = tt
+  read_fits (kind.Set h) (Some (tree.Function callee given)) f = tt
+  read_fits (kind.Set h) (Some (tree.IndexedValue array index)) f = tt
+  read_fits (kind.Set h) (Some (tree.FieldValue whole number)) f = tt
+  read_fits (kind.Set h) (Some (tree.SetOf members)) f = tt
+  read_fits (kind.Set h) (Some (tree.OnSets operation x y)) f = tt
+  read_fits (kind.Set h) (Some (tree.Card x)) f = tt
+  read_fits kind.EmptySet form f = tt
   read_fits kind.Text form f = tt
   read_fits kind.File form f = tt
 
@@ -193,6 +220,8 @@ module _ (declared : Declarations) (expressions : ExpressionsAreSound) (passed :
   result_fits : (k : Kind) (place : Place) → IsResultAt declared agrees.0 k place → IsTarget k (Some place)
   result_fits (kind.Ordinal h) place x = x.1
   result_fits (kind.Structured n) place x = x
+  result_fits (kind.Set h) place x = x.1
+  result_fits kind.EmptySet place x = tt
   result_fits kind.Text place x = tt
   result_fits kind.File place x = tt
 
@@ -247,6 +276,13 @@ module _ (declared : Declarations) (expressions : ExpressionsAreSound) (passed :
   whole_fits line place t p None q = tt
   whole_fits line place t p (Some x) q = (valid.Structured t, p, q)
 
+  -- and to one of a set type
+  set_placed : (h : Host) (line : ℕ) (place : Option Place) (x : Option Expr) → IfForm (IsPlaceWhere declared (IsOfKind (valid.Set (typed_host h)))) place → IfForm (IsExpr declared (valid.Set (typed_host h))) x → IfForm (IsStmt declared) (map_both (tree.Assign line) place x)
+  set_placed h line None None p q = tt
+  set_placed h line None (Some x) p q = tt
+  set_placed h line (Some place) None p q = tt
+  set_placed h line (Some place) (Some x) p q = (valid.Set (typed_host h), p, q)
+
   -- nothing that is built is given to another one
   abbrev IsNone : Option Expr → Type 0
   IsNone x = x ≡ None
@@ -254,12 +290,24 @@ module _ (declared : Declarations) (expressions : ExpressionsAreSound) (passed :
   to_text : (from : Kind) (form : Option Expr) → Fits IsNone (given_to (λ x. x) kind.Text from form)
   to_text (kind.Ordinal g) form = tt
   to_text (kind.Structured n) form = tt
+  to_text (kind.Set base) form = tt
+  to_text kind.EmptySet form = tt
   to_text kind.Text form = tt
   to_text kind.File form = tt
+
+  to_empty : (from : Kind) (form : Option Expr) → Fits IsNone (given_to (λ x. x) kind.EmptySet from form)
+  to_empty (kind.Ordinal g) form = tt
+  to_empty (kind.Structured n) form = tt
+  to_empty (kind.Set base) form = tt
+  to_empty kind.EmptySet form = tt
+  to_empty kind.Text form = tt
+  to_empty kind.File form = tt
 
   to_file_fits : (from : Kind) (form : Option Expr) → Fits IsNone (given_to (λ x. x) kind.File from form)
   to_file_fits (kind.Ordinal g) form = tt
   to_file_fits (kind.Structured n) form = tt
+  to_file_fits (kind.Set base) form = tt
+  to_file_fits kind.EmptySet form = tt
   to_file_fits kind.Text form = tt
   to_file_fits kind.File form = tt
 
@@ -280,6 +328,10 @@ module _ (declared : Declarations) (expressions : ExpressionsAreSound) (passed :
   assign_fits (kind.Structured m) from line (Some place) form p f =
       fits_then (IfForm (IsExpr declared (valid.Structured p.0))) (IfForm (IsStmt declared)) (λ x. Accepts (map_both (tree.Assign line) (Some place) x)) (given_to (λ x. x) (kind.Structured m) from form)
       (structured-fits declared agrees.0 structures (IsExpr declared (valid.Structured p.0)) (λ x. x) m p.0 p.1 (λ x q. q) from form f) (λ x q. whole_fits line place p.0 p.2 x q)
+  assign_fits (kind.Set h) from line place form p f =
+      fits_then (IfForm (IsExpr declared (valid.Set (typed_host h)))) (IfForm (IsStmt declared)) (λ x. Accepts (map_both (tree.Assign line) place x)) (given_to (λ x. x) (kind.Set h) from form)
+      (set-fits declared agrees.0 structures (IsExpr declared (valid.Set (typed_host h))) (λ x. x) h (λ x q. q) from form f) (λ x q. set_placed h line place x p q)
+  assign_fits kind.EmptySet from line place form p f = unplaced_fits line place (given_to (λ x. x) kind.EmptySet from form) (to_empty from form)
   assign_fits kind.Text from line place form p f = unplaced_fits line place (given_to (λ x. x) kind.Text from form) (to_text from form)
   assign_fits kind.File from line place form p f = unplaced_fits line place (given_to (λ x. x) kind.File from form) (to_file_fits from form)
 
@@ -308,6 +360,8 @@ module _ (declared : Declarations) (expressions : ExpressionsAreSound) (passed :
   shown_by (kind.Ordinal host.Boolean) form t e g f = rw (e, g) (ordinal_form host.Boolean form f)
   shown_by (kind.Ordinal (host.Enumeration n)) form t e g f = rw (e, g) tt
   shown_by (kind.Structured n) form t e g f = rw (e, g) tt
+  shown_by (kind.Set base) form t e g f = rw (e, g) tt
+  shown_by kind.EmptySet form t e g f = rw (e, g) tt
   shown_by kind.Text form t e g f = rw (e, g) (text_form form f)
   shown_by kind.File form t e g f = rw (e, g) tt
 
@@ -322,6 +376,8 @@ module _ (declared : Declarations) (expressions : ExpressionsAreSound) (passed :
   measured_fits (kind.Ordinal host.Boolean) form f = tt
   measured_fits (kind.Ordinal (host.Enumeration n)) form f = tt
   measured_fits (kind.Structured n) form f = tt
+  measured_fits (kind.Set base) form f = tt
+  measured_fits kind.EmptySet form f = tt
   measured_fits kind.Text form f = tt
   measured_fits kind.File form f = tt
 
@@ -424,6 +480,8 @@ module _ (declared : Declarations) (expressions : ExpressionsAreSound) (passed :
         fits_weaker (λ (s : CaseSelector). (s.host ≡ h) × IsSelected declared c.locals labels scopes agrees h all s.form) (IsChosen all) (labelled scopes all (record { host = h; form = form }))
         (λ s p. subst (λ g. IsSelected declared c.locals labels scopes agrees g all s.form) (sym p.0) p.1) (labelled_fits declared c.locals labels scopes agrees h all form (ordinal_form h form f))
     selecting_fits all (kind.Structured n) form f = tt
+    selecting_fits all (kind.Set base) form f = tt
+    selecting_fits all kind.EmptySet form f = tt
     selecting_fits all kind.Text form f = tt
     selecting_fits all kind.File form f = tt
 

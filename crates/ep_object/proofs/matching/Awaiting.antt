@@ -5,7 +5,7 @@ use Rattle.std.specs.Prelude.{⊤}
 use Rattle.ep_object.specs.Calls.{argument_at, flat}
 use Rattle.ep_object.specs.Matching.{Memory, Injection, Describes, Slots, Grown}
 use Rattle.ep_object.specs.Follows.{OnTop}
-use Rattle.ep_object.specs.Operands.{Operand, Text, Word, weight, weights}
+use Rattle.ep_object.specs.Operands.{Operand, Set, Text, Word, weight, weights}
 use Rattle.ep_object.specs.Promises.{Passing, ByValue, ByReference, IsArgument, AreArguments, IsValueOf}
 use Rattle.ep_object.specs.State.{Frame}
 use Rattle.ep_object.proofs.matching.Elements.{length-set, slice_get-set-other}
@@ -38,6 +38,7 @@ pub value-grown : {untouched : Slots} {injection longer : Injection} {memory aft
     → Grown untouched injection memory longer after → IsValueOf injection memory k r o → IsValueOf longer after k r o
 value-grown (kind.Ordinal h) r o g v = v
 value-grown kind.Bytes r o g v = v
+value-grown (kind.Set h) r o g v = v
 value-grown (kind.Structured t) r o g v =
     record { value = v.value; is_structure = v.is_structure; type_number = v.type_number; words = v.words; is = v.is; described = describes-grown v.type_number t g v.described; sized = v.sized; holds = has_at-longer g.larger t v.value (slice_get v.words) 0 v.holds }
 
@@ -46,6 +47,7 @@ pub value_anywhere : (injection : Injection) (memory later : Memory) → later.t
     → IsValueOf injection memory k r o → IsValueOf injection later k r o
 value_anywhere injection memory later same (kind.Ordinal h) r o v = v
 value_anywhere injection memory later same kind.Bytes r o v = v
+value_anywhere injection memory later same (kind.Set h) r o v = v
 value_anywhere injection memory later same (kind.Structured t) r o v =
     record { value = v.value; is_structure = v.is_structure; type_number = v.type_number; words = v.words; is = v.is; described = subst (λ types. Describes types v.type_number t) (sym same) v.described; sized = v.sized; holds = v.holds }
 
@@ -53,6 +55,7 @@ value_anywhere injection memory later same (kind.Structured t) r o v =
 pub value_weight : (injection : Injection) (memory : Memory) (k : Kind) (r : Result) (o : Operand) → IsValueOf injection memory k r o → weight o ≡ weight_of r
 value_weight injection memory (kind.Ordinal h) r o (z, r_is, of_host, o_is) = ap (λ x. weight x) o_is ∙ sym (ap weight_of r_is)
 value_weight injection memory kind.Bytes r o (bytes, r_is, o_is) = ap (λ x. weight x) o_is ∙ sym (ap weight_of r_is)
+value_weight injection memory (kind.Set h) r o (ms, r_is, is_set, o_is) = ap (λ x. weight x) o_is ∙ sym (ap weight_of r_is)
 value_weight injection memory (kind.Structured t) r o v = ap (λ x. weight x) v.is ∙ (v.sized ∙ sym (ap weight_of v.is_structure))
 
 -- what lies on top as a result of the kind is its value
@@ -60,6 +63,7 @@ pub value_on_top : (k : Kind) (below : List Operand) (r : Result) (injection : I
     → OnTop k below r injection memory operands → (o : Operand) × IsValueOf injection memory k r o × (operands ≡ o ∷ below)
 value_on_top (kind.Ordinal h) below r injection memory operands top = (Word top.number, (top.number, top.is_number, top.of_host, refl), top.is)
 value_on_top kind.Bytes below r injection memory operands top = (Text top.bytes, (top.bytes, top.is_text, refl), top.is)
+value_on_top (kind.Set h) below r injection memory operands top = (Set top.members, (top.members, top.is_members, top.is_set, refl), top.is)
 value_on_top (kind.Structured t) below r injection memory operands top = (top.operand, top.holds, top.is)
 
 pub on_top : (k : Kind) (below : List Operand) (r : Result) (o : Operand) (injection : Injection) (memory : Memory) (operands : List Operand)
@@ -67,6 +71,8 @@ pub on_top : (k : Kind) (below : List Operand) (r : Result) (o : Operand) (injec
 on_top (kind.Ordinal h) below r o injection memory operands (z, r_is, of_host, o_is) is =
     record { number = z; is_number = r_is; of_host = of_host; is = is ∙ ap (λ x. x ∷ below) o_is }
 on_top kind.Bytes below r o injection memory operands (bytes, r_is, o_is) is = record { bytes = bytes; is_text = r_is; is = is ∙ ap (λ x. x ∷ below) o_is }
+on_top (kind.Set h) below r o injection memory operands (ms, r_is, is_set, o_is) is =
+    record { members = ms; is_members = r_is; is_set = is_set; is = is ∙ ap (λ x. x ∷ below) o_is }
 on_top (kind.Structured t) below r o injection memory operands v is = record { operand = o; holds = v; is = is }
 
 -- an argument is one while memory grows

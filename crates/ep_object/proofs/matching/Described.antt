@@ -3,7 +3,7 @@ use Rattle.std.proofs.Common.{◌≡◌, ℕ, ℤ, ◌+◌, ◌*◌, List, [], �
 use Rattle.std.proofs.lemmas.Option.{same_Some}
 use Rattle.ep_object.specs.Matching.{DescribeEach, Describes, HasSize, HaveSize, MatchesTypes}
 use Rattle.ep_object.specs.State.{TypeTable, text_entry}
-use Rattle.ep_object.specs.Types.{ordinal_entry, array_entry, record_entry}
+use Rattle.ep_object.specs.Types.{ordinal_entry, array_entry, record_entry, set_entry}
 use Rattle.ep_object.specs.declared.state.Kind.{Kind}
 use Rattle.ep_object.specs.declared.state.Kind.TheVariants as kind
 use Rattle.ep_object.specs.declared.state.RecordPart.{RecordPart}
@@ -22,6 +22,7 @@ IsEntryOf types (type.Array low high of) e =
     (c : ℕ) × (e ≡ array_entry low high c (size_of (type.Array low high of))) × Describes types c of
 IsEntryOf types (type.Record ts) e =
     (ps : List RecordPart) × (e ≡ record_entry ps (size_of (type.Record ts))) × DescribeEach types 0 ps ts
+IsEntryOf types (type.Set low high) e = e ≡ set_entry low high
 
 -- what describes a type value is its entry
 pub described_entry : (types : TypeTable) (n : ℕ) (t : TypeValue) → Describes types n t
@@ -31,6 +32,7 @@ described_entry types n type.Text h = (text_entry, h, refl)
 described_entry types n (type.Array low high of) h =
     (array_entry low high h.0 (size_of (type.Array low high of)), h.1, (h.0, refl, h.2))
 described_entry types n (type.Record ts) h = (record_entry h.0 (size_of (type.Record ts)), h.1, (h.0, refl, h.2))
+described_entry types n (type.Set low high) h = (set_entry low high, h, refl)
 
 -- and the other way
 pub entry_describes : (types : TypeTable) (n : ℕ) (t : TypeValue) (e : TypeEntry) → slice_get types n ≡ Some e
@@ -39,6 +41,7 @@ entry_describes types n (type.Ordinal low high) e there h = there ∙ ap Some h
 entry_describes types n type.Text e there h = there ∙ ap Some h
 entry_describes types n (type.Array low high of) e there h = (h.0, there ∙ ap Some h.1, h.2)
 entry_describes types n (type.Record ts) e there h = (h.0, there ∙ ap Some h.1, h.2)
+entry_describes types n (type.Set low high) e there h = there ∙ ap Some h
 
 -- it has the size of the type value
 pub entry_size : (types : TypeTable) (t : TypeValue) (e : TypeEntry) → IsEntryOf types t e → e.size ≡ size_of t
@@ -46,6 +49,7 @@ entry_size types (type.Ordinal low high) e h = ap (λ (x : TypeEntry). x.size) h
 entry_size types type.Text e h = ap (λ (x : TypeEntry). x.size) h
 entry_size types (type.Array low high of) e h = ap (λ (x : TypeEntry). x.size) h.1
 entry_size types (type.Record ts) e h = ap (λ (x : TypeEntry). x.size) h.1
+entry_size types (type.Set low high) e h = ap (λ (x : TypeEntry). x.size) h
 
 -- in a longer table too
 pub entry-longer : (types longer : TypeTable) (t : TypeValue) (e : TypeEntry) → IsPrefix types longer
@@ -54,6 +58,7 @@ entry-longer types longer (type.Ordinal low high) e p h = h
 entry-longer types longer type.Text e p h = h
 entry-longer types longer (type.Array low high of) e p h = (h.0, h.1, described-longer types longer h.0 of p h.2)
 entry-longer types longer (type.Record ts) e p h = (h.0, h.1, each_described-longer types longer 0 h.0 ts p h.2)
+entry-longer types longer (type.Set low high) e p h = h
 
 -- components have as many words as their types
 each_sized : (types : TypeTable) (before : ℕ) (ps : List RecordPart) (ts : ComponentTypes) → DescribeEach types before ps ts → HaveSize types before ps (before + sizes_of ts)
@@ -76,6 +81,7 @@ entry_sized types (type.Array low high of) e h =
 entry_sized types (type.Record ts) e h =
     let total : 0 + sizes_of ts ≡ sizes_of ts = omega arith in
     subst (λ (x : TypeEntry). HasSize types x.kind x.size) (sym h.1) (subst (HaveSize types 0 h.0) total (each_sized types 0 h.0 ts h.2))
+entry_sized types (type.Set low high) e h = subst (λ (x : TypeEntry). HasSize types x.kind x.size) (sym h) refl
 
 -- components have one size
 one_size_behind : (types : TypeTable) (before : ℕ) (ps : List RecordPart) (size other : ℕ) → HaveSize types before ps size → HaveSize types before ps other → size ≡ other
@@ -124,6 +130,9 @@ same_array e = (cc, cc, cc)
 same_record : {ps qs : List RecordPart} → kind.Record ps ≡ kind.Record qs → ps ≡ qs
 same_record e = cc
 
+same_set : {a b c d : ℤ} → kind.Set a b ≡ kind.Set c d → (a ≡ c) × (b ≡ d)
+same_set e = (cc, cc)
+
 mutual
   -- an entry is that of one type value
   pub entry_of_one : (types : TypeTable) (t u : TypeValue) (e : TypeEntry) → IsEntryOf types t e → IsEntryOf types u e → t ≡ u
@@ -165,6 +174,25 @@ mutual
   entry_of_one types (type.Record ts) (type.Record us) e a b =
       let s : a.0 ≡ b.0 = same_record (sym (ap (λ (x : TypeEntry). x.kind) a.1) ∙ ap (λ (x : TypeEntry). x.kind) b.1) in
       ap type.Record (each_one types 0 b.0 ts us (subst (λ ps. DescribeEach types 0 ps ts) s a.2) b.2)
+  entry_of_one types (type.Ordinal l h) (type.Set m k) e a b =
+      let s : kind.Ord l h ≡ kind.Set m k = sym (ap (λ (x : TypeEntry). x.kind) a) ∙ ap (λ (x : TypeEntry). x.kind) b in cc
+  entry_of_one types type.Text (type.Set m k) e a b =
+      let s : kind.Text ≡ kind.Set m k = sym (ap (λ (x : TypeEntry). x.kind) a) ∙ ap (λ (x : TypeEntry). x.kind) b in cc
+  entry_of_one types (type.Array l h of) (type.Set m k) e a b =
+      let s : kind.Array l h a.0 ≡ kind.Set m k = sym (ap (λ (x : TypeEntry). x.kind) a.1) ∙ ap (λ (x : TypeEntry). x.kind) b in cc
+  entry_of_one types (type.Record ts) (type.Set m k) e a b =
+      let s : kind.Record a.0 ≡ kind.Set m k = sym (ap (λ (x : TypeEntry). x.kind) a.1) ∙ ap (λ (x : TypeEntry). x.kind) b in cc
+  entry_of_one types (type.Set l h) (type.Ordinal m k) e a b =
+      let s : kind.Set l h ≡ kind.Ord m k = sym (ap (λ (x : TypeEntry). x.kind) a) ∙ ap (λ (x : TypeEntry). x.kind) b in cc
+  entry_of_one types (type.Set l h) type.Text e a b =
+      let s : kind.Set l h ≡ kind.Text = sym (ap (λ (x : TypeEntry). x.kind) a) ∙ ap (λ (x : TypeEntry). x.kind) b in cc
+  entry_of_one types (type.Set l h) (type.Array m k other) e a b =
+      let s : kind.Set l h ≡ kind.Array m k b.0 = sym (ap (λ (x : TypeEntry). x.kind) a) ∙ ap (λ (x : TypeEntry). x.kind) b.1 in cc
+  entry_of_one types (type.Set l h) (type.Record us) e a b =
+      let s : kind.Set l h ≡ kind.Record b.0 = sym (ap (λ (x : TypeEntry). x.kind) a) ∙ ap (λ (x : TypeEntry). x.kind) b.1 in cc
+  entry_of_one types (type.Set l h) (type.Set m k) e a b =
+      let s = same_set (sym (ap (λ (x : TypeEntry). x.kind) a) ∙ ap (λ (x : TypeEntry). x.kind) b) in
+      λ i. type.Set (s.0 i) (s.1 i)
 
   -- and components are those of one list of types
   each_one : (types : TypeTable) (before : ℕ) (ps : List RecordPart) (ts us : ComponentTypes) → DescribeEach types before ps ts → DescribeEach types before ps us → ts ≡ us
@@ -204,6 +232,7 @@ mutual
   one_entry types (type.Record ts) e f m a b =
       let same : a.0 ≡ b.0 = each_part types 0 a.0 b.0 ts m a.2 b.2 in
       a.1 ∙ (ap (λ ps. record_entry ps (size_of (type.Record ts))) same ∙ sym b.1)
+  one_entry types (type.Set low high) e f m a b = a ∙ sym b
 
   -- and types have one list of components
   each_part : {elaborated : List TypeValue} (types : TypeTable) (before : ℕ) (ps qs : List RecordPart) (ts : ComponentTypes)

@@ -10,7 +10,7 @@ use Rattle.ep_object.specs.Operands.{Operand}
 use Rattle.ep_object.specs.Routines.{unit_of}
 use Rattle.ep_object.specs.Runs.{name_of, unit_in}
 use Rattle.ep_object.specs.State.{Frame, Frames, TypeTable, text_entry}
-use Rattle.ep_object.specs.Types.{ordinal_entry, array_entry, record_entry}
+use Rattle.ep_object.specs.Types.{ordinal_entry, array_entry, record_entry, set_entry}
 use Rattle.ep_object.specs.declared.code.Image.{Image}
 use Rattle.ep_object.specs.declared.state.Place.{Place}
 use Rattle.ep_object.specs.declared.state.RecordPart.{RecordPart}
@@ -122,6 +122,7 @@ mutual
       (h.0, slice_get-prefix types longer n (array_entry low high h.0 (size_of (type.Array low high of))) p h.1, described-longer types longer h.0 of p h.2)
   described-longer types longer n (type.Record ts) p h =
       (h.0, slice_get-prefix types longer n (record_entry h.0 (size_of (type.Record ts))) p h.1, each_described-longer types longer 0 h.0 ts p h.2)
+  described-longer types longer n (type.Set low high) p h = slice_get-prefix types longer n (set_entry low high) p h
 
   pub each_described-longer : (types longer : TypeTable) (before : ℕ) (parts : List RecordPart) (ts : ComponentTypes) → IsPrefix types longer
       → DescribeEach types before parts ts → DescribeEach longer before parts ts

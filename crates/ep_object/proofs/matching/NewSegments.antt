@@ -23,6 +23,7 @@ has_entry types number (type.Ordinal low high) h = record { kind = kind.Ord low 
 has_entry types number type.Text h = record { kind = kind.Text; is = h }
 has_entry types number (type.Array low high of) h = record { kind = kind.Array low high h.0; is = h.1 }
 has_entry types number (type.Record ts) h = record { kind = kind.Record h.0; is = h.1 }
+has_entry types number (type.Set low high) h = record { kind = kind.Set low high; is = h }
 
 -- its number is one of the table
 pub described_within : (types : TypeTable) (number : ℕ) (t : TypeValue) → Describes types number t → number < length types

@@ -225,10 +225,12 @@ mutual
   types_are (type.Ordinal l h) type.Text same = cc
   types_are (type.Ordinal l h) (type.Array m k of) same = cc
   types_are (type.Ordinal l h) (type.Record us) same = cc
+  types_are (type.Ordinal l h) (type.Set m k) same = cc
   types_are type.Text (type.Ordinal m k) same = cc
   types_are type.Text type.Text same = refl
   types_are type.Text (type.Array m k of) same = cc
   types_are type.Text (type.Record us) same = cc
+  types_are type.Text (type.Set m k) same = cc
   types_are (type.Array l h of) (type.Ordinal m k) same = cc
   types_are (type.Array l h of) type.Text same = cc
   types_are (type.Array l h of) (type.Array m k other) same =
@@ -237,10 +239,17 @@ mutual
       let c = types_are of other p.1 in
       λ i. type.Array (e.0 i) (e.1 i) (c i)
   types_are (type.Array l h of) (type.Record us) same = cc
+  types_are (type.Array l h of) (type.Set m k) same = cc
   types_are (type.Record ts) (type.Ordinal m k) same = cc
   types_are (type.Record ts) type.Text same = cc
   types_are (type.Record ts) (type.Array m k of) same = cc
   types_are (type.Record ts) (type.Record us) same = ap type.Record (components_are ts us same)
+  types_are (type.Record ts) (type.Set m k) same = cc
+  types_are (type.Set l h) (type.Ordinal m k) same = cc
+  types_are (type.Set l h) type.Text same = cc
+  types_are (type.Set l h) (type.Array m k of) same = cc
+  types_are (type.Set l h) (type.Record us) same = cc
+  types_are (type.Set l h) (type.Set m k) same = let e = bounds_are m k l h same in λ i. type.Set (e.0 i) (e.1 i)
 
   components_are : (ts us : ComponentTypes) → IsTrue (same_types ts us) → ts ≡ us
   components_are type.no_component type.no_component same = refl
@@ -339,6 +348,7 @@ new_words {types = types} type.Text e m is none =
   where
     nothing : {n : ℕ} → ◌≡◌ {A = Option ℕ} None (Some n) → ⊥
     nothing e = cc
+new_words (type.Set low high) e m is none = ap (λ (x : TypeEntry). words_of_kind x.kind) (sym is)
 new_words (type.Array low high of) e m is none = ap (λ (x : TypeEntry). words_of_kind x.kind) (sym is.1)
 new_words {types = types} (type.Record ts) e m is none =
     let words : 1 + components_of ts ≡ suc (length is.0) = omega (arith, each_counted types 0 is.0 ts is.2) in

@@ -3,11 +3,13 @@ use Rattle.std.proofs.Common.{◌≡◌, ℕ, ℤ, pos, negsuc, zero, suc, ◌+�
 use Rattle.std.specs.Prelude.{int_le}
 use Rattle.std.proofs.lemmas.Bool.Decides.{nat_tests}
 use Rattle.std.proofs.lemmas.List.{length-take-le}
-use Rattle.ep_object.specs.Matching.{Injection, Words, HasAt, HaveAt, Part, part_along, all_of}
+use Rattle.ep_object.specs.Matching.{Injection, Words, MembersAt, SetAt, HasAt, HaveAt, Part, part_along, all_of}
+use Rattle.ep_object.specs.Sets.{set_size}
 use Rattle.ep_object.specs.Places.{words_at, words_replaced}
 use Rattle.ep_object.proofs.matching.Elements.{slice_get-drop}
 use Rattle.ep_object.proofs.matching.Words.{AreSameBut, has_at-same, part_within}
-use Rattle.ep_typed.specs.Steps.{Value, component_of}
+use Rattle.ep_typed.specs.Steps.{Value, Undefined, component_of}
+use Rattle.ep_typed.specs.Steps as meaning
 use Rattle.ep_typed.specs.TypeValues.{ComponentTypes, TypeValue, same_bounds, same_type, same_types, size_of}
 use Rattle.ep_typed.specs.TypeValues as type
 
@@ -34,6 +36,13 @@ slice_get-behind (x ∷ xs) ys i = ap (slice_get (x ∷ (xs ++ ys))) {x = suc (l
 -- ---- words from elsewhere
 
 -- Words that are the same behind so many words hold the same value there.
+set_at-moved : (low high : ℤ) (value : Value) (words : Words) (by offset : ℕ) → SetAt low high value words (by + offset) → SetAt low high value (λ i. words (by + i)) offset
+set_at-moved low high Undefined words by offset h = λ k less. ap words {x = by + (offset + k)} {y = by + offset + k} (omega arith) ∙ h k less
+set_at-moved low high (meaning.Word w) words by offset h = h
+set_at-moved low high (meaning.Components of) words by offset h = h
+set_at-moved low high (meaning.Members ms) words by offset h =
+    record { is_set = h.is_set; within = h.within; told = λ k less. ap words {x = by + (offset + k)} {y = by + offset + k} (omega arith) ∙ h.told k less }
+
 mutual
   pub has_at-moved : (injection : Injection) (t : TypeValue) (value : Value) (words : Words) (by offset : ℕ)
       → HasAt injection t value words (by + offset) → HasAt injection t value (λ i. words (by + i)) offset
@@ -44,6 +53,7 @@ mutual
       has_at-moved injection of (component_of value k) words by (offset + k * size_of of)
       (subst (HasAt injection of (component_of value k) words) {x = by + offset + k * size_of of} {y = by + (offset + k * size_of of)} (omega arith) (h k less))
   has_at-moved injection (type.Record ts) value words by offset h = have_at-moved injection ts (component_of value) words by offset h
+  has_at-moved injection (type.Set low high) value words by offset h = set_at-moved low high value words by offset h
 
   have_at-moved : (injection : Injection) (ts : ComponentTypes) (values : ℕ → Value) (words : Words) (by offset : ℕ)
       → HaveAt injection ts values words (by + offset) → HaveAt injection ts values (λ i. words (by + i)) offset
@@ -55,6 +65,13 @@ mutual
   )
 
 -- the other way round
+set_at-back : (low high : ℤ) (value : Value) (words : Words) (by offset : ℕ) → SetAt low high value (λ i. words (by + i)) offset → SetAt low high value words (by + offset)
+set_at-back low high Undefined words by offset h = λ k less. ap words {x = by + offset + k} {y = by + (offset + k)} (omega arith) ∙ h k less
+set_at-back low high (meaning.Word w) words by offset h = h
+set_at-back low high (meaning.Components of) words by offset h = h
+set_at-back low high (meaning.Members ms) words by offset h =
+    record { is_set = h.is_set; within = h.within; told = λ k less. ap words {x = by + offset + k} {y = by + (offset + k)} (omega arith) ∙ h.told k less }
+
 mutual
   pub has_at-back : (injection : Injection) (t : TypeValue) (value : Value) (words : Words) (by offset : ℕ)
       → HasAt injection t value (λ i. words (by + i)) offset → HasAt injection t value words (by + offset)
@@ -65,6 +82,7 @@ mutual
       subst (HasAt injection of (component_of value k) words) {x = by + (offset + k * size_of of)} {y = by + offset + k * size_of of} (omega arith)
       (has_at-back injection of (component_of value k) words by (offset + k * size_of of) (h k less))
   has_at-back injection (type.Record ts) value words by offset h = have_at-back injection ts (component_of value) words by offset h
+  has_at-back injection (type.Set low high) value words by offset h = set_at-back low high value words by offset h
 
   have_at-back : (injection : Injection) (ts : ComponentTypes) (values : ℕ → Value) (words : Words) (by offset : ℕ)
       → HaveAt injection ts values (λ i. words (by + i)) offset → HaveAt injection ts values words (by + offset)
@@ -175,6 +193,7 @@ mutual
   type_is_same type.Text = refl
   type_is_same (type.Array low high of) = rw (bounds_are low high, type_is_same of) refl
   type_is_same (type.Record ts) = types_are_same ts
+  type_is_same (type.Set low high) = bounds_are low high
 
   types_are_same : (ts : ComponentTypes) → same_types ts ts ≡ true
   types_are_same type.no_component = refl

@@ -5,7 +5,8 @@ use Rattle.std.proofs.lemmas.Bool.Decides.{nat_tests}
 use Rattle.std.proofs.lemmas.Option.{same_Some}
 use native.Mathlib.Decide.{ℕ_discrete}
 use Rattle.ep_outside.specs.Known.{IsPrefix}
-use Rattle.ep_object.specs.Matching.{Injection, Part, part_among, part_behind, part_of, part_along, all_of, Words, OrdinalAt, HasAt, HaveAt}
+use Rattle.ep_object.specs.Matching.{Injection, Part, part_among, part_behind, part_of, part_along, all_of, Words, OrdinalAt, MembersAt, SetAt, HasAt, HaveAt}
+use Rattle.ep_object.specs.Sets.{set_size}
 use Rattle.ep_object.specs.State.{undefined}
 use Rattle.ep_object.proofs.matching.Elements.{slice_get-set-same, slice_get-set-other}
 use Rattle.ep_typed.specs.Bounds.{count_of}
@@ -80,6 +81,7 @@ component_within type.Text k p h = cc
 component_within (type.Array low high of) k p h =
     let c = array_part low high of k p h in
     subst (λ (q : Part). q.offset + size_of q.type_value ≤ count_of low high * size_of of) (sym c.is) (ends_before k (count_of low high) (size_of of) c.less)
+component_within (type.Set low high) k p h = cc
 component_within (type.Record ts) k p h = let x = among_within 0 ts k p h in omega (arith, x.1)
 
 -- a part lies within that in which it is
@@ -116,6 +118,7 @@ component_type-is (type.Array low high of) k p h =
     let c = array_part low high of k p h in
     ap (λ b. cond b (Some of) None) (less_true k (count_of low high) c.less) ∙ ap (λ (q : Part). Some q.type_value) (sym c.is)
 component_type-is (type.Record ts) k p h = among_type 0 ts k p h
+component_type-is (type.Set low high) k p h = cc
 
 -- the type at a path is that of the part
 type_is-from : (path : List ℕ) (t : TypeValue) (offset : ℕ) (p : Part)
@@ -142,6 +145,7 @@ mutual
   has_at-longer larger (type.Array low high of) value words offset h =
       λ k less. has_at-longer larger of (component_of value k) words (offset + k * size_of of) (h k less)
   has_at-longer larger (type.Record ts) value words offset h = have_at-longer larger ts (component_of value) words offset h
+  has_at-longer larger (type.Set low high) value words offset h = h
 
   have_at-longer : {injection longer : Injection} → IsPrefix injection longer
       → (ts : ComponentTypes) (values : ℕ → Value) (words : Words) (offset : ℕ)
@@ -153,6 +157,14 @@ mutual
 -- words from an offset on that are the same as others
 abbrev pub AreSame : Words → Words → ℕ → ℕ → Type 0
 AreSame words later offset size = (i : ℕ) → offset ≤ i → i < offset + size → later i ≡ words i
+
+-- a set, where they are the same
+set_at-same : (low high : ℤ) (value : Value) (words later : Words) (offset : ℕ) → AreSame words later offset set_size → SetAt low high value words offset → SetAt low high value later offset
+set_at-same low high Undefined words later offset same h = λ k less. same (offset + k) (omega arith) (omega (arith, less)) ∙ h k less
+set_at-same low high (meaning.Word w) words later offset same h = h
+set_at-same low high (meaning.Components of) words later offset same h = h
+set_at-same low high (meaning.Members ms) words later offset same h =
+    record { is_set = h.is_set; within = h.within; told = λ k less. same (offset + k) (omega arith) (omega (arith, less)) ∙ h.told k less }
 
 mutual
   -- where they are the same
@@ -167,6 +179,7 @@ mutual
       let ends = ends_before k (count_of low high) (size_of of) less in
       has_at-same injection of (component_of value k) words later (offset + k * size_of of) (λ i from before. same i (omega (arith, from)) (omega (arith, before, ends))) (h k less)
   has_at-same injection (type.Record ts) value words later offset same h = have_at-same injection ts (component_of value) words later offset same h
+  has_at-same injection (type.Set low high) value words later offset same h = set_at-same low high value words later offset same h
 
   pub have_at-same : (injection : Injection) (ts : ComponentTypes) (values : ℕ → Value) (words later : Words) (offset : ℕ)
       → AreSame words later offset (sizes_of ts) → HaveAt injection ts values words offset → HaveAt injection ts values later offset
@@ -188,6 +201,7 @@ mutual
       let ends = ends_before k (count_of low high) (size_of of) less in
       has_undefined injection of words (offset + k * size_of of) valid.1 (λ i from before. each i (omega (arith, from)) (omega (arith, before, ends)))
   has_undefined injection (type.Record ts) words offset valid each = have_undefined injection ts words offset valid each
+  has_undefined injection (type.Set low high) words offset valid each = λ k less. each (offset + k) (omega arith) (omega (arith, less))
 
   have_undefined : (injection : Injection) (ts : ComponentTypes) (words : Words) (offset : ℕ) → AreTypeValues ts
       → ((i : ℕ) → offset ≤ i → i < offset + sizes_of ts → words i ≡ Some undefined) → HaveAt injection ts (λ k. Undefined) words offset
@@ -205,6 +219,7 @@ pub ordinal_word : {low high : ℤ} (value : Value) {word : Option ℤ} → Ordi
 ordinal_word Undefined h = (undefined, h.is)
 ordinal_word (meaning.Word w) h = let x = h.is in (w, x.0)
 ordinal_word (meaning.Components of) h = absurd h.is
+ordinal_word (meaning.Members ms) h = absurd h.is
 
 -- a file variable has a word
 pub file_word : (injection : Injection) (value : Value) (words : Words) (offset : ℕ)
@@ -212,6 +227,7 @@ pub file_word : (injection : Injection) (value : Value) (words : Words) (offset 
 file_word injection Undefined words offset h = (undefined, h)
 file_word injection (meaning.Word w) words offset h = absurd h
 file_word injection (meaning.Components of) words offset h = absurd h
+file_word injection (meaning.Members ms) words offset h = absurd h
 
 -- ---- what is stored over a value of an ordinal type
 
@@ -260,6 +276,7 @@ component_has injection type.Text k value words offset p is h = cc
 component_has injection (type.Array low high of) k value words offset p is h =
     let c = array_part low high of k p is in
     subst (λ (q : Part). HasAt injection q.type_value (component_of value k) words (offset + q.offset)) (sym c.is) (h k c.less)
+component_has injection (type.Set low high) k value words offset p is h = cc
 component_has injection (type.Record ts) k value words offset p is h = have_among injection 0 ts k (component_of value) words offset p is (from_start injection ts (component_of value) words offset h)
 
 -- the words at a path hold the value there
@@ -364,6 +381,8 @@ has_with-from injection (k ∷ path) (type.Ordinal low high) value other words l
     let x = first_step (type.Ordinal low high) offset k path p leads in absurd (no_part x.is)
 has_with-from injection (k ∷ path) type.Text value other words later offset p leads same h new =
     let x = first_step type.Text offset k path p leads in absurd (no_part x.is)
+has_with-from injection (k ∷ path) (type.Set low high) value other words later offset p leads same h new =
+    let x = first_step (type.Set low high) offset k path p leads in absurd (no_part x.is)
 has_with-from injection (k ∷ path) (type.Array low high of) value other words later offset p leads same h new =
     let x = first_step (type.Array low high of) offset k path p leads in
     let here = array_part low high of k x.part x.is in

@@ -6,12 +6,13 @@ use Rattle.ep_object.specs.Follows.{Facts, Lasts, Bare, Inside}
 use Rattle.ep_object.specs.Matching.{Memory, at, Injection, IsSpot, Describes, HasAt, part_along, all_of, Represents, Matches, Slots}
 use Rattle.ep_object.specs.Places.{words_replaced}
 use Rattle.ep_object.specs.Promises.{IsValueOf}
+use Rattle.ep_object.specs.Sets.{IsSet, set_size, words_of_set}
 use Rattle.ep_object.specs.Operands.{Operand, Word, Text}
 use Rattle.ep_object.specs.Operands as operand
 use Rattle.ep_object.specs.Runs.{outcome, unit_in}
 use Rattle.ep_object.specs.State.{Running, Stopped, Error, output_place, text_entry, first_types, undefined}
 use Rattle.ep_object.specs.Texts.{written}
-use Rattle.ep_object.specs.Types.{ordinal_entry}
+use Rattle.ep_object.specs.Types.{ordinal_entry, set_entry}
 use Rattle.ep_object.specs.declared.code.Image.{Image}
 use Rattle.ep_object.specs.declared.state.Place.{Place}
 use Rattle.ep_object.proofs.matching.Changes.{storing, matches_events, grown_storing, matches_assigned}
@@ -21,16 +22,19 @@ use Rattle.ep_object.proofs.matching.Growing.{slice_get-prefix, grown_refl, same
 use Rattle.ep_object.proofs.rows.Rows.{instr, in_one, outcome_at}
 use Rattle.ep_object.proofs.matching.Standing.{Stands, place_stands, StandsOrdinal, ordinal_stands, allocated, place_ended, represents_living}
 use Rattle.ep_object.proofs.matching.Described.{describes_one, one_number}
+use Rattle.ep_object.proofs.SetWords.{words_many}
+use Rattle.ep_object.proofs.matching.SetValues.{words_hold}
 use Rattle.ep_object.proofs.matching.Values.{part_fits, replaced_holds, replaced_length, replaced_same, taken_there, type_is_same}
 use Rattle.ep_object.proofs.matching.Words.{file_word, has_with, set-same_but, type_is-along, ordinal_word, ordinal-stored, ordinal-undefined}
 use Rattle.ep_object.proofs.rows.TextRows.{written-same}
 use Rattle.ep_typed.specs.Events.{Trace}
-use Rattle.ep_typed.specs.Printing.{piece_events, Result, Structure}
-use Rattle.ep_typed.specs.Results.{misfit, suits, value_of, weight_of}
+use Rattle.ep_typed.specs.Printing.{piece_events, Result, Structure, Members}
+use Rattle.ep_typed.specs.Sets.{are_between}
+use Rattle.ep_typed.specs.Results.{has_base_for, misfit, suits, value_of, weight_of}
 use Rattle.ep_typed.specs.Steps.{Component, Value, Undefined, Allocation, value_along, value_with, type_along, is_among, type_in, type_at, ended_in, has_ended, is_within, assigned, with_events}
 use Rattle.ep_typed.specs.Steps as meaning
 use Rattle.ep_typed.specs.Valid as kind
-use Rattle.ep_typed.specs.Valid.{Declarations, IsStructured, IsTypeOf, IsTypeOfKind, Kind}
+use Rattle.ep_typed.specs.Valid.{Declarations, IsSetOf, IsStructured, IsTypeOf, IsTypeOfKind, Kind}
 use Rattle.ep_typed.specs.Hosts.{Host}
 use Rattle.std.specs.Prelude.{⊤}
 use Rattle.ep_typed.specs.TypeValues.{TypeValue, size_of}
@@ -44,6 +48,12 @@ MayTake (kind.Ordinal h) (type.Ordinal low high) = ⊤
 MayTake (kind.Ordinal h) type.Text = ⊥
 MayTake (kind.Ordinal h) (type.Array low high of) = ⊥
 MayTake (kind.Ordinal h) (type.Record ts) = ⊥
+MayTake (kind.Ordinal h) (type.Set low high) = ⊥
+MayTake (kind.Set h) (type.Ordinal low high) = ⊥
+MayTake (kind.Set h) type.Text = ⊥
+MayTake (kind.Set h) (type.Array low high of) = ⊥
+MayTake (kind.Set h) (type.Record ts) = ⊥
+MayTake (kind.Set h) (type.Set low high) = ⊤
 MayTake kind.Bytes t = ⊥
 MayTake (kind.Structured u) t = (u ≡ t) × IsStructured u
 
@@ -53,6 +63,12 @@ may_take (kind.Ordinal h) (type.Ordinal low high) is = tt
 may_take (kind.Ordinal h) type.Text is = absurd is
 may_take (kind.Ordinal h) (type.Array low high of) is = absurd is
 may_take (kind.Ordinal h) (type.Record ts) is = absurd is
+may_take (kind.Ordinal h) (type.Set low high) is = absurd is
+may_take (kind.Set h) (type.Ordinal low high) is = absurd is
+may_take (kind.Set h) type.Text is = absurd is
+may_take (kind.Set h) (type.Array low high of) is = absurd is
+may_take (kind.Set h) (type.Record ts) is = absurd is
+may_take (kind.Set h) (type.Set low high) is = tt
 may_take kind.Bytes t is = is
 may_take (kind.Structured u) t is = is
 
@@ -62,6 +78,15 @@ ordinal_takes h i (type.Ordinal low high) is = tt
 ordinal_takes h i type.Text is = is
 ordinal_takes h i (type.Array low high of) is = is
 ordinal_takes h i (type.Record ts) is = is
+ordinal_takes h i (type.Set low high) is = is
+
+-- and a set of a set type of any host
+pub set_takes : (h i : Host) (t : TypeValue) → IsSetOf h t → MayTake (kind.Set i) t
+set_takes h i (type.Ordinal low high) is = is
+set_takes h i type.Text is = is
+set_takes h i (type.Array low high of) is = is
+set_takes h i (type.Record ts) is = is
+set_takes h i (type.Set low high) is = tt
 
 module _ (declared : Declarations) (G : Image) (place line : ℕ) (below : List Operand) where
   -- `Put` of a text to `output`
@@ -172,6 +197,7 @@ module _ (declared : Declarations) (G : Image) (place line : ℕ) (below : List 
       → outcome G (at place (operand.Value n ws ∷ operand.Place p ∷ below) memory trace) ≡ record { weight = length ws; to = Running 0 (at (place + 1) below (storing memory p.segment type_number (words_replaced words p.offset ws)) trace) }
   structure_outcome memory trace p (type.Ordinal low high) n ws type_number words structured has described same stands fits = absurd structured
   structure_outcome memory trace p type.Text n ws type_number words structured has described same stands fits = absurd structured
+  structure_outcome memory trace p (type.Set low high) n ws type_number words structured has described same stands fits = absurd structured
   structure_outcome memory trace p (type.Array low high of) n ws type_number words structured has (c, entry, component) same stands fits =
       let equal : (n == p.type_number) ≡ true = grind (arith, nat_tests, same) in
       outcome_at G (instr op.STORE (pos 0) 0 line) place (operand.Value n ws ∷ operand.Place p ∷ below) memory trace has ∙ rw (entry, stands, equal, taken_there words p.offset (length ws) fits) refl
@@ -185,12 +211,28 @@ module _ (declared : Declarations) (G : Image) (place line : ℕ) (below : List 
       → outcome G (at place (operand.Value n ws ∷ operand.Place p ∷ below) memory trace) ≡ record { weight = length ws; to = Stopped (Error run_error.DISPOSED (unit_in G memory.frames) line) trace }
   structure_ended memory trace p (type.Ordinal low high) n ws structured has described gone = absurd structured
   structure_ended memory trace p type.Text n ws structured has described gone = absurd structured
+  structure_ended memory trace p (type.Set low high) n ws structured has described gone = absurd structured
   structure_ended memory trace p (type.Array low high of) n ws structured has (c, entry, component) gone =
       outcome_at G (instr op.STORE (pos 0) 0 line) place (operand.Value n ws ∷ operand.Place p ∷ below) memory trace has ∙ rw (entry, gone) refl
   structure_ended memory trace p (type.Record ts) n ws structured has (ps, entry, components) gone =
       outcome_at G (instr op.STORE (pos 0) 0 line) place (operand.Value n ws ∷ operand.Place p ∷ below) memory trace has ∙ rw (entry, gone) refl
 
-  module _ (t : TypeValue) (structured : IsStructured t) (v : Component) (p : Place) (has : slice_get G.instructions place ≡ Some (instr op.STORE (pos 0) 0 line)) (injection : Injection) (memory : Memory) (spot : IsSpot injection memory.types v p) (described : Describes memory.types p.type_number t) (s : meaning.State) (matches : Matches declared G injection s memory) (living : has_ended v.allocation s ≡ false) where
+  -- ---- `Store` of a set
+
+  set_outcome : (memory : Memory) (trace : Trace) (p : Place) (low high : ℤ) (ms : List ℕ) (type_number : ℕ) (words : List ℤ) (b : Bool)
+      → slice_get G.instructions place ≡ Some (instr op.STORE (pos 0) 0 line)
+      → slice_get memory.types p.type_number ≡ Some (set_entry low high)
+      → slice_get memory.segments p.segment ≡ Some (Some (record { type_number = type_number; words = words }))
+      → p.offset + set_size ≤ length words → are_between low high ms ≡ b
+      → outcome G (at place (operand.Set ms ∷ operand.Place p ∷ below) memory trace) ≡ in_one (cond b (Running 0 (at (place + 1) below (storing memory p.segment type_number (words_replaced words p.offset (words_of_set ms))) trace)) (Stopped (Error run_error.SET_MEMBER (unit_in G memory.frames) line) trace))
+  set_outcome memory trace p low high ms type_number words true has typed stands fits within =
+      outcome_at G (instr op.STORE (pos 0) 0 line) place (operand.Set ms ∷ operand.Place p ∷ below) memory trace has ∙ rw (typed, stands, taken_there words p.offset set_size fits, within) refl
+  set_outcome memory trace p low high ms type_number words false has typed stands fits within =
+      outcome_at G (instr op.STORE (pos 0) 0 line) place (operand.Set ms ∷ operand.Place p ∷ below) memory trace has ∙ rw (typed, stands, taken_there words p.offset set_size fits, within) refl
+
+  -- ---- `Store` of a value of many words
+
+  module _ (t : TypeValue) (v : Component) (p : Place) (has : slice_get G.instructions place ≡ Some (instr op.STORE (pos 0) 0 line)) (injection : Injection) (memory : Memory) (spot : IsSpot injection memory.types v p) (described : Describes memory.types p.type_number t) (s : meaning.State) (matches : Matches declared G injection s memory) (living : has_ended v.allocation s ≡ false) where
     there : Stands injection s memory v p
     there = place_stands matches spot living
 
@@ -203,14 +245,18 @@ module _ (declared : Declarations) (G : Image) (place line : ℕ) (below : List 
     pub structure_type : type_at v s ≡ Some t
     structure_type = ap (λ o. type_along (type_in o) v.path) there.is ∙ type_is-along (there.allocation).type_value v.path (record { offset = p.offset; type_value = t }) leads
 
-    structure_does : {untouched : Slots} {Here : Facts} → Lasts untouched Here → Here injection s memory
-        → (value : Value) (n : ℕ) (ws : List ℤ) → Describes memory.types n t → length ws ≡ size_of t → HasAt injection t value (slice_get ws) 0
-        → Does declared G Here (at place (operand.Value n ws ∷ operand.Place p ∷ below) memory s.trace) (length ws) (place + 1) (Inside untouched injection memory (Bare below tt)) (assigned v value s)
-    structure_does {untouched = untouched} lasts known value n ws of_type sized holds =
+    -- the variable is within its segment
+    fits_there : (let r = there.represents in p.offset + size_of t ≤ length r.words)
+    fits_there = let r = there.represents in let within = part_fits (there.allocation).type_value v.path (record { offset = p.offset; type_value = t }) leads in omega (arith, within, r.sized)
+
+    -- what an instruction does that puts words which hold a value
+    puts_value : {untouched : Slots} {Here : Facts} → Lasts untouched Here → Here injection s memory
+        → (value : Value) (o : Operand) (weight : ℕ) (ws : List ℤ) → length ws ≡ size_of t → HasAt injection t value (slice_get ws) 0
+        → (let r = there.represents in outcome G (at place (o ∷ operand.Place p ∷ below) memory s.trace) ≡ record { weight = weight; to = Running 0 (at (place + 1) below (storing memory p.segment r.type_number (words_replaced r.words p.offset ws)) s.trace) })
+        → Does declared G Here (at place (o ∷ operand.Place p ∷ below) memory s.trace) weight (place + 1) (Inside untouched injection memory (Bare below tt)) (assigned v value s)
+    puts_value {untouched = untouched} lasts known value o weight ws sized holds puts =
         let a : Allocation = there.allocation in
         let r : Represents injection memory.segments memory.types p.segment a = there.represents in
-        let types = matches.types in
-        let same : n ≡ p.type_number = one_number memory.types t n p.type_number types of_type described in
         let fits : p.offset + length ws ≤ length r.words = (let within = part_fits a.type_value v.path (record { offset = p.offset; type_value = t }) leads in omega (arith, within, r.sized, sized)) in
         let words : List ℤ = words_replaced r.words p.offset ws in
         let now : HasAt injection a.type_value (value_with a.value v.path value) (slice_get words) 0 = has_with injection a.type_value v.path a.value value (slice_get r.words) (slice_get words) (record { offset = p.offset; type_value = t }) leads (replaced_same r.words ws p.offset fits t sized) r.holds (replaced_holds r.words ws p.offset fits injection t value sized holds) in
@@ -218,11 +264,44 @@ module _ (declared : Declarations) (G : Image) (place line : ℕ) (below : List 
           injection = injection;
           memory = storing memory p.segment r.type_number words;
           operands = below;
-          does = structure_outcome memory s.trace p t n ws r.type_number r.words structured has described same r.stands fits;
+          does = puts;
           matches = matches_assigned matches v.allocation p.segment a spot.is_in there.is there.lives r words v.path value (replaced_length r.words ws p.offset fits) now;
           here = lasts.by injection injection s (assigned v value s) memory (storing memory p.segment r.type_number words) (record { grown = grown_storing matches v.allocation p.segment a spot.is_in there.is there.lives r words; routine = same_routine-refl memory.frames; own = λ k. refl; calls = refl }) known;
           post = record { grown = grown_storing matches v.allocation p.segment a spot.is_in there.is there.lives r words; routine = same_routine-refl memory.frames; operands_are = refl };
         }
+
+    -- a value of an array or a record
+    structure_does : {untouched : Slots} {Here : Facts} → Lasts untouched Here → Here injection s memory → IsStructured t
+        → (value : Value) (n : ℕ) (ws : List ℤ) → Describes memory.types n t → length ws ≡ size_of t → HasAt injection t value (slice_get ws) 0
+        → Does declared G Here (at place (operand.Value n ws ∷ operand.Place p ∷ below) memory s.trace) (length ws) (place + 1) (Inside untouched injection memory (Bare below tt)) (assigned v value s)
+    structure_does lasts known structured value n ws of_type sized holds =
+        let r : Represents injection memory.segments memory.types p.segment there.allocation = there.represents in
+        let same : n ≡ p.type_number = one_number memory.types t n p.type_number matches.types of_type described in
+        let fits : p.offset + length ws ≤ length r.words = omega (arith, fits_there, sized) in
+        puts_value lasts known value (operand.Value n ws) (length ws) ws sized holds (structure_outcome memory s.trace p t n ws r.type_number r.words structured has described same r.stands fits)
+
+  module _ (low high : ℤ) (ms : List ℕ) (v : Component) (p : Place) (has : slice_get G.instructions place ≡ Some (instr op.STORE (pos 0) 0 line)) (injection : Injection) (memory : Memory) (spot : IsSpot injection memory.types v p) (described : Describes memory.types p.type_number (type.Set low high)) (s : meaning.State) (matches : Matches declared G injection s memory) (living : has_ended v.allocation s ≡ false) where
+    set_type : type_at v s ≡ Some (type.Set low high)
+    set_type = structure_type (type.Set low high) v p has injection memory spot described s matches living
+
+    leads_to : (b : Bool) → are_between low high ms ≡ b
+        → (let stands = there (type.Set low high) v p has injection memory spot described s matches living in let r = stands.represents in
+        outcome G (at place (operand.Set ms ∷ operand.Place p ∷ below) memory s.trace) ≡ in_one (cond b (Running 0 (at (place + 1) below (storing memory p.segment r.type_number (words_replaced r.words p.offset (words_of_set ms))) s.trace)) (Stopped (Error run_error.SET_MEMBER (unit_in G memory.frames) line) s.trace)))
+    leads_to b within =
+        let stands = there (type.Set low high) v p has injection memory spot described s matches living in
+        let r = stands.represents in
+        set_outcome memory s.trace p low high ms r.type_number r.words b has described r.stands (fits_there (type.Set low high) v p has injection memory spot described s matches living) within
+
+    -- a set whose members are of the base type
+    set_does : {untouched : Slots} {Here : Facts} → Lasts untouched Here → Here injection s memory → IsSet ms → are_between low high ms ≡ true
+        → Does declared G Here (at place (operand.Set ms ∷ operand.Place p ∷ below) memory s.trace) 0 (place + 1) (Inside untouched injection memory (Bare below tt)) (assigned v (meaning.Members ms) s)
+    set_does lasts known is_set within =
+        puts_value (type.Set low high) v p has injection memory spot described s matches living lasts known (meaning.Members ms) (operand.Set ms) 0 (words_of_set ms) (words_many ms) (words_hold low high ms is_set within) (leads_to true within)
+
+    -- and one with another member
+    set_fails : are_between low high ms ≡ false
+        → FailsWith G (at place (operand.Set ms ∷ operand.Place p ∷ below) memory s.trace) 0 run_error.SET_MEMBER (unit_in G memory.frames) line s
+    set_fails outside = record { fails = leads_to false outside }
 
   -- ---- `Store` of any value
 
@@ -238,6 +317,13 @@ module _ (declared : Declarations) (G : Image) (place line : ℕ) (below : List 
   value_ended (kind.Ordinal h) type.Text r o v p of_kind has injection memory is spot described s matches ended = absurd of_kind
   value_ended (kind.Ordinal h) (type.Array low high of) r o v p of_kind has injection memory is spot described s matches ended = absurd of_kind
   value_ended (kind.Ordinal h) (type.Record ts) r o v p of_kind has injection memory is spot described s matches ended = absurd of_kind
+  value_ended (kind.Ordinal h) (type.Set low high) r o v p of_kind has injection memory is spot described s matches ended = absurd of_kind
+  value_ended (kind.Set h) (type.Ordinal low high) r o v p of_kind has injection memory is spot described s matches ended = absurd of_kind
+  value_ended (kind.Set h) type.Text r o v p of_kind has injection memory is spot described s matches ended = absurd of_kind
+  value_ended (kind.Set h) (type.Array low high of) r o v p of_kind has injection memory is spot described s matches ended = absurd of_kind
+  value_ended (kind.Set h) (type.Record ts) r o v p of_kind has injection memory is spot described s matches ended = absurd of_kind
+  value_ended (kind.Set h) (type.Set low high) r o v p of_kind has injection memory (ms, r_is, is_set, o_is) spot described s matches ended =
+      rw (o_is, r_is) (record { fails = outcome_at G (instr op.STORE (pos 0) 0 line) place (operand.Set ms ∷ operand.Place p ∷ below) memory s.trace has ∙ rw (described, place_ended matches spot ended) refl })
   value_ended kind.Bytes t r o v p of_kind has injection memory is spot described s matches ended = absurd of_kind
   value_ended (kind.Structured u) t r o v p (same, structured) has injection memory is spot described s matches ended =
       let own : Describes memory.types p.type_number u = subst (Describes memory.types p.type_number) (sym same) described in
@@ -259,12 +345,20 @@ module _ (declared : Declarations) (G : Image) (place line : ℕ) (below : List 
   value_does (kind.Ordinal h) type.Text r o v p of_kind has injection memory is spot described s matches living lasts known fits = absurd of_kind
   value_does (kind.Ordinal h) (type.Array low high of) r o v p of_kind has injection memory is spot described s matches living lasts known fits = absurd of_kind
   value_does (kind.Ordinal h) (type.Record ts) r o v p of_kind has injection memory is spot described s matches living lasts known fits = absurd of_kind
+  value_does (kind.Ordinal h) (type.Set low high) r o v p of_kind has injection memory is spot described s matches living lasts known fits = absurd of_kind
+  value_does (kind.Set h) (type.Ordinal low high) r o v p of_kind has injection memory is spot described s matches living lasts known fits = absurd of_kind
+  value_does (kind.Set h) type.Text r o v p of_kind has injection memory is spot described s matches living lasts known fits = absurd of_kind
+  value_does (kind.Set h) (type.Array low high of) r o v p of_kind has injection memory is spot described s matches living lasts known fits = absurd of_kind
+  value_does (kind.Set h) (type.Record ts) r o v p of_kind has injection memory is spot described s matches living lasts known fits = absurd of_kind
+  value_does (kind.Set h) (type.Set low high) r o v p of_kind has injection memory (ms, r_is, is_set, o_is) spot described s matches living lasts known fits =
+      let within : are_between low high ms ≡ true = ap (λ t. has_base_for t ms) (sym (set_type low high ms v p has injection memory spot described s matches living)) ∙ (ap (suits (type_at v s)) (sym r_is) ∙ fits) in
+      rw (o_is, r_is) (set_does low high ms v p has injection memory spot described s matches living lasts known is_set within)
   value_does kind.Bytes t r o v p of_kind has injection memory is spot described s matches living lasts known fits = absurd of_kind
   value_does {untouched = untouched} {Here = Here} (kind.Structured u) t r o v p (same, structured) has injection memory is spot described s matches living lasts known fits =
       let own : Describes memory.types p.type_number u = subst (Describes memory.types p.type_number) (sym same) described in
       rw (is.is, is.is_structure)
       (subst (λ w. Does declared G Here (at place (operand.Value is.type_number is.words ∷ operand.Place p ∷ below) memory s.trace) w (place + 1) (Inside untouched injection memory (Bare below tt)) (assigned v is.value s)) is.sized
-      (structure_does u structured v p has injection memory spot own s matches living lasts known is.value is.type_number is.words is.described is.sized is.holds))
+      (structure_does u v p has injection memory spot own s matches living lasts known structured is.value is.type_number is.words is.described is.sized is.holds))
 
   -- one that it may not have
   pub value_fails : (k : Kind) (t : TypeValue) (r : Result) (o : Operand) (v : Component) (p : Place) → MayTake k t
@@ -279,10 +373,18 @@ module _ (declared : Declarations) (G : Image) (place line : ℕ) (below : List 
   value_fails (kind.Ordinal h) type.Text r o v p of_kind has injection memory is spot described s matches living fits = absurd of_kind
   value_fails (kind.Ordinal h) (type.Array low high of) r o v p of_kind has injection memory is spot described s matches living fits = absurd of_kind
   value_fails (kind.Ordinal h) (type.Record ts) r o v p of_kind has injection memory is spot described s matches living fits = absurd of_kind
+  value_fails (kind.Ordinal h) (type.Set low high) r o v p of_kind has injection memory is spot described s matches living fits = absurd of_kind
+  value_fails (kind.Set h) (type.Ordinal low high) r o v p of_kind has injection memory is spot described s matches living fits = absurd of_kind
+  value_fails (kind.Set h) type.Text r o v p of_kind has injection memory is spot described s matches living fits = absurd of_kind
+  value_fails (kind.Set h) (type.Array low high of) r o v p of_kind has injection memory is spot described s matches living fits = absurd of_kind
+  value_fails (kind.Set h) (type.Record ts) r o v p of_kind has injection memory is spot described s matches living fits = absurd of_kind
+  value_fails (kind.Set h) (type.Set low high) r o v p of_kind has injection memory (ms, r_is, is_set, o_is) spot described s matches living fits =
+      let outside : are_between low high ms ≡ false = ap (λ t. has_base_for t ms) (sym (set_type low high ms v p has injection memory spot described s matches living)) ∙ (ap (suits (type_at v s)) (sym r_is) ∙ fits) in
+      rw (o_is, r_is) (set_fails low high ms v p has injection memory spot described s matches living outside)
   value_fails kind.Bytes t r o v p of_kind has injection memory is spot described s matches living fits = absurd of_kind
   value_fails (kind.Structured u) t r o v p (same, structured) has injection memory is spot described s matches living fits =
       let own : Describes memory.types p.type_number u = subst (Describes memory.types p.type_number) (sym same) described in
-      let is_type : type_at v s ≡ Some u = structure_type u structured v p has injection memory spot own s matches living in
+      let is_type : type_at v s ≡ Some u = structure_type u v p has injection memory spot own s matches living in
       let yes : suits (type_at v s) r ≡ true = ap (suits (type_at v s)) is.is_structure ∙ (ap (λ o. suits o (Structure u is.value)) is_type ∙ type_is_same u) in
       absurd (let e : true ≡ false = sym yes ∙ fits in cc)
 

@@ -9,7 +9,8 @@ use Rattle.ep_object.specs.Follows.{GivesUp, SameRoutine, Facts, Lasts, Inside}
 use Rattle.ep_object.specs.Operands.{Operand, Word}
 use Rattle.ep_object.specs.Runs.{Outcome, outcome, outcome_of, after}
 use Rattle.ep_object.specs.State.{State, TypeTable, Going, Running, live_limit, size_limit, type_limit}
-use Rattle.ep_object.specs.Types.{Numbered, Typing, and_numbered, entries_of, lowest_first, parts_behind, record_entry, record_of, words_behind, interned, interned_as, kind_number, words_of_kind, ordinal_entry, array_entry, array_of, bounds_of, entry_in, entry_of, numbered_entry}
+use Rattle.ep_object.specs.Types.{Numbered, Typing, and_numbered, entries_of, lowest_first, parts_behind, record_entry, record_of, words_behind, interned, interned_as, kind_number, words_of_kind, ordinal_entry, array_entry, array_of, bounds_of, entry_in, entry_of, numbered_entry, set_entry, set_of}
+use Rattle.ep_typed.specs.Sets.{is_ordinal}
 use Rattle.ep_object.specs.Table.{typing, with_typing}
 use Rattle.ep_object.specs.Effects.{Work, mapped, having, having_weighed, weighing, Fails, Continues}
 use Rattle.ep_object.specs.declared.code.Instr.{Instr}
@@ -229,6 +230,34 @@ arr_does {untouched = untouched} {Here = Here} declared G place line below low h
         → Makes untouched declared G Here place operands below (type.Array low high of) injection memory s
     go true fits = elaborated lasts injection memory s known (elaborates 0 place i operands below (type.Array low high of) e s (component, refl, component_is) (leads true fits) matches)
     go false large = inr (gives_up (leads false large) (inl refl) (is_prefix s.trace) (met_large (type.Array low high of) s.resources (grind (arith, nat_tests))))
+
+-- ---- sets
+
+-- `TSet`, over the number of its base type
+pub set_does : {untouched : Slots} {Here : Facts} (declared : Declarations) (G : Image) (place line : ℕ) (below : List Operand) (low high : ℤ) (base : ℕ)
+    → IsTrue (is_ordinal low) → IsTrue (is_ordinal high)
+    → slice_get G.instructions place ≡ Some (instr op.T_SET (pos 0) 0 line)
+    → Lasts untouched Here → (injection : Injection) (memory : Memory) (s : meaning.State)
+    → Describes memory.types base (type.Ordinal low high)
+    → Matches declared G injection s memory → Here injection s memory
+    → Makes untouched declared G Here place (Word (pos base) ∷ below) below (type.Set low high) injection memory s
+set_does declared G place line below low high base from to has lasts injection memory s base_is matches known =
+    elaborated lasts injection memory s known (elaborates 0 place i (Word (pos base) ∷ below) below (type.Set low high) (set_entry low high) s refl leads matches)
+  where
+    i : Instr
+    i = instr op.T_SET (pos 0) 0 line
+
+    k : State
+    k = at place (Word (pos base) ∷ below) memory s.trace
+
+    row_to : Option Numbered → Outcome
+    row_to x = record { weight = 0; to = after G i k (mapped (with_typing k) (having x (λ n. having (bounds_of n.entry.kind) (λ b. set_of b below (typing k))))) }
+
+    leads : outcome G k ≡ record { weight = 0; to = after G i k (mapped (with_typing k) (interned (set_entry low high) below (typing k))) }
+    leads =
+        ap (λ x. outcome_of G x k) has
+        ∙ (ap row_to (numbered_there memory.types base (ordinal_entry low high) base_is)
+        ∙ rw (from, to) refl)
 
 -- ---- records
 

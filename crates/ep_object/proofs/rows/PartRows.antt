@@ -3,10 +3,11 @@ use Rattle.std.proofs.Common.{◌≡◌, ℕ, ℤ, pos, ◌+◌, ◌*◌, ◌<�
 use Rattle.std.specs.Prelude.{cond, int_lt}
 use Rattle.ep_object.specs.Effects.{Work}
 use Rattle.ep_object.specs.Follows.{Facts, Inside, IsStructure, OnTop}
-use Rattle.ep_object.specs.Matching.{Describes, HasAt, Injection, Matches, Memory, OrdinalAt, Part, Slots, at, part_of}
+use Rattle.ep_object.specs.Matching.{Describes, HasAt, Injection, Matches, Memory, OrdinalAt, SetAt, Part, Slots, at, part_of}
 use Rattle.ep_object.specs.Operands.{Operand}
 use Rattle.ep_object.specs.Operands as operand
 use Rattle.ep_object.specs.Parts as row
+use Rattle.ep_object.specs.Sets.{set_size}
 use Rattle.ep_object.specs.Runs.{Outcome, after, outcome, unit_in}
 use Rattle.ep_object.specs.State.{Error, Running, State, Stopped, undefined}
 use Rattle.ep_object.specs.Table.{on_operands}
@@ -17,6 +18,7 @@ use Rattle.ep_object.proofs.following.Choices.{Nothing, ReadsResult, Result_of}
 use Rattle.ep_object.proofs.following.Fragments.{FailsWith}
 use Rattle.ep_object.proofs.matching.Described.{described_entry, entry_size}
 use Rattle.ep_object.proofs.matching.Growing.{inside_here}
+use Rattle.ep_object.proofs.matching.SetValues.{members_loaded, undefined_loaded}
 use Rattle.ep_object.proofs.matching.Standing.{within_host, word_defined}
 use Rattle.ep_object.proofs.matching.Values.{taken, taken_holds, taken_length, taken_there}
 use Rattle.ep_object.proofs.matching.Words.{component_has, component_type-is, component_within, less_true}
@@ -25,10 +27,10 @@ use Rattle.ep_object.proofs.rows.IndexRow.{is_within_count}
 use Rattle.ep_object.proofs.rows.Rows.{instr, outcome_at}
 use Rattle.ep_typed.specs.Bounds.{component_at, count_of, gap}
 use Rattle.ep_typed.specs.Events.{Trace}
-use Rattle.ep_typed.specs.Printing.{Number, Result, Structure}
+use Rattle.ep_typed.specs.Printing.{Number, Result, Structure, Members}
 use Rattle.ep_typed.specs.Results.{given_by, weight_of}
 use Rattle.ep_typed.specs.Results as meaning_of
-use Rattle.ep_typed.specs.Steps.{Undefined, Value, component_of, word_of}
+use Rattle.ep_typed.specs.Steps.{Undefined, Value, component_of, set_of, word_of}
 use Rattle.ep_typed.specs.Steps as meaning
 use Rattle.ep_typed.specs.Hosts.{Host}
 use Rattle.ep_typed.specs.TypeValues as type
@@ -63,6 +65,7 @@ module _ (declared : Declarations) (G : Image) (i : Instr) (place : ℕ) (operan
   word_left host low high of_host c described words offset fits leaves Undefined word s matches known =
       Nothing refl (record { fails = leaves s.trace ∙ rw (described, taken_there words offset 1 fits, word.is) refl })
   word_left host low high of_host c described words offset fits leaves (meaning.Components of) word s matches known = absurd word.is
+  word_left host low high of_host c described words offset fits leaves (meaning.Members ms) word s matches known = absurd word.is
   word_left host low high of_host c described words offset fits leaves (meaning.Word w) word s matches known =
       let there = word.is in
       let found : int_lt undefined w ≡ true = word_defined low high w word.low_fits there.1 in
@@ -76,12 +79,35 @@ module _ (declared : Declarations) (G : Image) (i : Instr) (place : ℕ) (operan
         post = inside_here (record { number = w; is_number = refl; of_host = within_host host low high w of_host there.1; is = refl });
       })
 
+  -- one of a set type: its set, which is defined
+  set_left : {untouched : Slots} {Here : Facts} (host : Host) (low high : ℤ)
+      → (c : ℕ) → Describes memory.types c (type.Set low high)
+      → (words : List ℤ) (offset : ℕ) (fits : offset + set_size ≤ length words) → Leaves c words offset
+      → (value : Value) → SetAt low high value (slice_get (taken words offset set_size fits)) 0
+      → (s : meaning.State) → Matches declared G injection s memory → Here injection s memory
+      → ReadsResult declared G Here (before s.trace) (length words) run_error.UNDEFINED_VALUE (unit_in G memory.frames) i.line (place + 1) (λ r. Inside untouched injection memory (OnTop (kind.Set host) below r)) s (option_map Members (set_of value))
+  set_left host low high c described words offset fits leaves Undefined held s matches known =
+      Nothing refl (record { fails = leaves s.trace ∙ rw (described, taken_there words offset set_size fits, undefined_loaded (taken words offset set_size fits) below held) refl })
+  set_left host low high c described words offset fits leaves (meaning.Word w) held s matches known = absurd held
+  set_left host low high c described words offset fits leaves (meaning.Components of) held s matches known = absurd held
+  set_left host low high c described words offset fits leaves (meaning.Members ms) held s matches known =
+      Result_of (Members ms) refl (length words) (omega arith) (record {
+        injection = injection;
+        memory = memory;
+        operands = operand.Set ms ∷ below;
+        does = leaves s.trace ∙ rw (described, taken_there words offset set_size fits, members_loaded low high ms (taken words offset set_size fits) below (taken_length words offset set_size fits) held) refl;
+        matches = matches;
+        here = known;
+        post = inside_here (record { members = ms; is_members = refl; is_set = held.is_set; is = refl });
+      })
+
   -- what it leads to where the component is of an array or record type
   structure_outcome : (t : TypeValue) → IsStructured t → (c : ℕ) → Describes memory.types c t
       → (words : List ℤ) (offset : ℕ) (fits : offset + size_of t ≤ length words) → Leaves c words offset → (trace : Trace)
       → outcome G (before trace) ≡ record { weight = length words + size_of t; to = Running 0 (at (place + 1) (operand.Value c (taken words offset (size_of t) fits) ∷ below) memory trace) }
   structure_outcome (type.Ordinal low high) structured c described words offset fits leaves trace = absurd structured
   structure_outcome type.Text structured c described words offset fits leaves trace = absurd structured
+  structure_outcome (type.Set low high) structured c described words offset fits leaves trace = absurd structured
   structure_outcome (type.Array low high of) structured c (n, entry, component) words offset fits leaves trace =
       let size : ℕ = size_of (type.Array low high of) in
       let many : length words + length (taken words offset size fits) ≡ length words + size = omega (arith, taken_length words offset size fits) in
@@ -94,6 +120,7 @@ module _ (declared : Declarations) (G : Image) (i : Instr) (place : ℕ) (operan
   given_structure : (t : TypeValue) (value : Value) → IsStructured t → given_by (Some t) value ≡ Some (Structure t value)
   given_structure (type.Ordinal low high) value structured = absurd structured
   given_structure type.Text value structured = absurd structured
+  given_structure (type.Set low high) value structured = absurd structured
   given_structure (type.Array low high of) value structured = refl
   given_structure (type.Record ts) value structured = refl
 
@@ -141,6 +168,13 @@ module _ (declared : Declarations) (G : Image) (i : Instr) (place : ℕ) (operan
   found_left (kind.Ordinal h) type.Text of_kind c described words offset fits leaves value holds s matches known = absurd of_kind
   found_left (kind.Ordinal h) (type.Array low high of) of_kind c described words offset fits leaves value holds s matches known = absurd of_kind
   found_left (kind.Ordinal h) (type.Record ts) of_kind c described words offset fits leaves value holds s matches known = absurd of_kind
+  found_left (kind.Ordinal h) (type.Set low high) of_kind c described words offset fits leaves value holds s matches known = absurd of_kind
+  found_left (kind.Set h) (type.Ordinal low high) of_kind c described words offset fits leaves value holds s matches known = absurd of_kind
+  found_left (kind.Set h) type.Text of_kind c described words offset fits leaves value holds s matches known = absurd of_kind
+  found_left (kind.Set h) (type.Array low high of) of_kind c described words offset fits leaves value holds s matches known = absurd of_kind
+  found_left (kind.Set h) (type.Record ts) of_kind c described words offset fits leaves value holds s matches known = absurd of_kind
+  found_left (kind.Set h) (type.Set low high) of_kind c described words offset fits leaves value holds s matches known =
+      set_left h low high c described words offset fits leaves value (taken_holds words offset set_size fits injection (type.Set low high) value refl holds) s matches known
   found_left kind.Bytes t of_kind c described words offset fits leaves value holds s matches known = absurd of_kind
   found_left {untouched = untouched} {Here = Here} (kind.Structured u) t (same, structured) c described words offset fits leaves value holds s matches known =
       subst (λ x. ReadsResult declared G Here (before s.trace) (length words) run_error.UNDEFINED_VALUE (unit_in G memory.frames) i.line (place + 1) (λ r. Inside untouched injection memory (OnTop (kind.Structured x) below r)) s (given_by (Some t) value)) (sym same)

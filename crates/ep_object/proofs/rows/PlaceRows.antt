@@ -2,14 +2,15 @@
 use Rattle.std.proofs.Common.{◌≡◌, ℕ, ℤ, pos, negsuc, ◌+◌, ◌≤◌, ◌<◌, true, false, List, ◌∷◌, length, option_map, Option, Some, None, slice_get, refl, sym, ap, ◌∙◌, subst, arith}
 use Rattle.std.specs.Prelude.{int_lt, is_some}
 use Rattle.ep_object.specs.Follows.{Facts, OnTop, PlaceOnTop, Inside}
-use Rattle.ep_object.specs.Matching.{Memory, at, Injection, MatchesSlot, MatchesFrame, IsSpot, Describes, HasAt, OrdinalAt, part_along, all_of, Represents, HasType, Matches, Slots}
+use Rattle.ep_object.specs.Matching.{Memory, at, Injection, MatchesSlot, MatchesFrame, IsSpot, Describes, HasAt, OrdinalAt, SetAt, part_along, all_of, Represents, HasType, Matches, Slots}
 use Rattle.ep_object.specs.Operands.{Operand, Word, Text}
 use Rattle.ep_object.specs.Operands as operand
-use Rattle.ep_object.specs.Places.{loaded}
+use Rattle.ep_object.specs.Places.{loaded, set_loaded}
+use Rattle.ep_object.specs.Sets.{set_size}
 use Rattle.ep_object.specs.Runs.{outcome, after, unit_in}
 use Rattle.ep_object.specs.State.{Running, undefined, output_place}
 use Rattle.ep_object.specs.Table.{on_operands}
-use Rattle.ep_object.specs.Types.{ordinal_entry}
+use Rattle.ep_object.specs.Types.{ordinal_entry, set_entry}
 use Rattle.ep_object.specs.WordRows.{bit}
 use Rattle.ep_object.specs.declared.code.Image.{Image}
 use Rattle.ep_object.specs.declared.code.ImageUnit.{ImageUnit}
@@ -23,8 +24,9 @@ use Rattle.ep_object.proofs.matching.Values.{taken, taken_length, taken_there, t
 use Rattle.ep_object.proofs.matching.Words.{type_is-along}
 use Rattle.ep_object.proofs.matching.Standing.{slice_get-some, Stands, place_stands, StandsOrdinal, ordinal_stands, place_ended, within_host, word_defined}
 use Rattle.ep_typed.specs.Events.{Trace}
-use Rattle.ep_typed.specs.Printing.{Number, Structure}
-use Rattle.ep_typed.specs.Steps.{Component, has_ended, type_along, type_at, type_in, value_along, value_at, value_in, Value, Undefined, Allocation, allocation_at, word_of}
+use Rattle.ep_object.proofs.matching.SetValues.{members_loaded, undefined_loaded}
+use Rattle.ep_typed.specs.Printing.{Number, Structure, Members}
+use Rattle.ep_typed.specs.Steps.{Component, has_ended, type_along, type_at, type_in, value_along, value_at, value_in, Value, Undefined, Allocation, allocation_at, set_of, word_of}
 use Rattle.ep_typed.specs.Results.{given_by, result_of}
 use Rattle.ep_typed.specs.Steps as meaning
 use Rattle.ep_typed.specs.Valid as kind
@@ -48,11 +50,18 @@ ordinal_result : (low high : ℤ) (v : Component) (p : Place) (s : meaning.State
 ordinal_result low high v p s a is leads =
     ap (λ t. given_by t (value_at v s)) (type_of_variable (type.Ordinal low high) v p s a is leads) ∙ ap (λ o. option_map Number (word_of (value_in o v.path))) is
 
+set_result : (low high : ℤ) (v : Component) (p : Place) (s : meaning.State) (a : Allocation)
+    → allocation_at s.allocations v.allocation ≡ Some a → part_along (Some (all_of a.type_value)) v.path ≡ Some (record { offset = p.offset; type_value = type.Set low high })
+    → result_of v s ≡ option_map Members (set_of (value_along a.value v.path))
+set_result low high v p s a is leads =
+    ap (λ t. given_by t (value_at v s)) (type_of_variable (type.Set low high) v p s a is leads) ∙ ap (λ o. option_map Members (set_of (value_in o v.path))) is
+
 structure_result : (t : TypeValue) (v : Component) (p : Place) (s : meaning.State) (a : Allocation) → IsStructured t
     → allocation_at s.allocations v.allocation ≡ Some a → part_along (Some (all_of a.type_value)) v.path ≡ Some (record { offset = p.offset; type_value = t })
     → result_of v s ≡ Some (Structure t (value_along a.value v.path))
 structure_result (type.Ordinal low high) v p s a structured is leads = absurd structured
 structure_result type.Text v p s a structured is leads = absurd structured
+structure_result (type.Set low high) v p s a structured is leads = absurd structured
 structure_result (type.Array low high of) v p s a structured is leads =
     ap (λ t. given_by t (value_at v s)) (type_of_variable (type.Array low high of) v p s a is leads) ∙ ap (λ o. Some (Structure (type.Array low high of) (value_in o v.path))) is
 structure_result (type.Record ts) v p s a structured is leads =
@@ -116,6 +125,7 @@ module _ (declared : Declarations) (G : Image) (place line : ℕ) (below : List 
       → outcome G (at place (operand.Place p ∷ below) memory trace) ≡ record { weight = size_of t; to = Running 0 (at (place + 1) (operand.Value p.type_number (taken words p.offset (size_of t) fits) ∷ below) memory trace) }
   structure_outcome memory trace p (type.Ordinal low high) type_number words structured has described stands fits = absurd structured
   structure_outcome memory trace p type.Text type_number words structured has described stands fits = absurd structured
+  structure_outcome memory trace p (type.Set low high) type_number words structured has described stands fits = absurd structured
   structure_outcome memory trace p (type.Array low high of) type_number words structured has (c, entry, component) stands fits =
       let size : ℕ = size_of (type.Array low high of) in
       outcome_at G (instr op.LOAD (pos 0) 0 line) place (operand.Place p ∷ below) memory trace has ∙ rw (entry, stands, taken_there words p.offset size fits)
@@ -135,6 +145,9 @@ module _ (declared : Declarations) (G : Image) (place line : ℕ) (below : List 
   load_fails k (type.Ordinal low high) v p of_kind has injection memory spot described s matches ended =
       record { fails = outcome_at G (instr op.LOAD (pos 0) 0 line) place (operand.Place p ∷ below) memory s.trace has ∙ rw (described, place_ended matches spot ended) refl }
   load_fails (kind.Ordinal h) type.Text v p of_kind has injection memory spot described s matches ended = absurd of_kind
+  load_fails (kind.Set h) type.Text v p of_kind has injection memory spot described s matches ended = absurd of_kind
+  load_fails k (type.Set low high) v p of_kind has injection memory spot described s matches ended =
+      record { fails = outcome_at G (instr op.LOAD (pos 0) 0 line) place (operand.Place p ∷ below) memory s.trace has ∙ rw (described, place_ended matches spot ended) refl }
   load_fails kind.Bytes type.Text v p of_kind has injection memory spot described s matches ended = absurd of_kind
   load_fails (kind.Structured u) type.Text v p (same, structured) has injection memory spot described s matches ended = absurd (subst IsStructured same structured)
   load_fails k (type.Array low high of) v p of_kind has injection memory spot (c, entry, component) s matches ended =
@@ -163,6 +176,7 @@ module _ (declared : Declarations) (G : Image) (place line : ℕ) (below : List 
       go Undefined value_is result_is type_number words stands word =
           Nothing (result_is ∙ ap (λ x. option_map Number (word_of x)) value_is) (record { fails = load_outcome memory s.trace p low high type_number words undefined has described stands word.is })
       go (meaning.Components of) value_is result_is type_number words stands word = absurd word.is
+      go (meaning.Members ms) value_is result_is type_number words stands word = absurd word.is
       go (meaning.Word w) value_is result_is type_number words stands word =
           let at_place = word.is in
           let found : int_lt undefined w ≡ true = word_defined low high w word.low_fits at_place.1 in
@@ -217,6 +231,53 @@ module _ (declared : Declarations) (G : Image) (place line : ℕ) (below : List 
         },
       )
 
+  -- what it finds of a set
+  set_outcome : (memory : Memory) (trace : Trace) (p : Place) (low high : ℤ) (type_number : ℕ) (words : List ℤ)
+      → slice_get G.instructions place ≡ Some (instr op.LOAD (pos 0) 0 line)
+      → slice_get memory.types p.type_number ≡ Some (set_entry low high)
+      → slice_get memory.segments p.segment ≡ Some (Some (record { type_number = type_number; words = words }))
+      → (fits : p.offset + set_size ≤ length words)
+      → outcome G (at place (operand.Place p ∷ below) memory trace) ≡ in_one (after G (instr op.LOAD (pos 0) 0 line) (at place (operand.Place p ∷ below) memory trace) (on_operands (at place (operand.Place p ∷ below) memory trace) (set_loaded (taken words p.offset set_size fits) below)))
+  set_outcome memory trace p low high type_number words has typed stands fits =
+      outcome_at G (instr op.LOAD (pos 0) 0 line) place (operand.Place p ∷ below) memory trace has ∙ rw (typed, stands, taken_there words p.offset set_size fits) refl
+
+  -- of one of a set type, which lives
+  set_reads : {untouched : Slots} {Here : Facts} (host : Host) (low high : ℤ) (v : Component) (p : Place)
+      → slice_get G.instructions place ≡ Some (instr op.LOAD (pos 0) 0 line)
+      → (injection : Injection) (memory : Memory) → IsSpot injection memory.types v p
+      → Describes memory.types p.type_number (type.Set low high) → (s : meaning.State)
+      → Matches declared G injection s memory → Here injection s memory → has_ended v.allocation s ≡ false
+      → ReadsResult declared G Here (at place (operand.Place p ∷ below) memory s.trace) 0 1 (unit_in G memory.frames) line (place + 1) (λ r. Inside untouched injection memory (OnTop (kind.Set host) below r)) s (result_of v s)
+  set_reads {untouched = untouched} {Here = Here} host low high v p has injection memory spot described s matches known living =
+      let x : Stands injection s memory v p = place_stands matches spot living in
+      let a : Allocation = x.allocation in
+      let r : Represents injection memory.segments memory.types p.segment a = x.represents in
+      let its_type : x.type_value ≡ type.Set low high = describes_one memory.types p.type_number x.type_value (type.Set low high) x.described described in
+      let leads : part_along (Some (all_of a.type_value)) v.path ≡ Some (record { offset = p.offset; type_value = type.Set low high }) = subst (λ u. part_along (Some (all_of a.type_value)) v.path ≡ Some (record { offset = p.offset; type_value = u })) its_type x.leads in
+      let holds : HasAt injection (type.Set low high) (value_along a.value v.path) (slice_get r.words) p.offset = subst (λ u. HasAt injection u (value_along a.value v.path) (slice_get r.words) p.offset) its_type x.holds in
+      let fits : p.offset + set_size ≤ length r.words = (let within = part_fits a.type_value v.path (record { offset = p.offset; type_value = type.Set low high }) leads in omega (arith, within, r.sized)) in
+      go (value_along a.value v.path) (taken r.words p.offset set_size fits) (taken_length r.words p.offset set_size fits)
+      (set_outcome memory s.trace p low high r.type_number r.words has described r.stands fits)
+      (set_result low high v p s a x.is leads) (taken_holds r.words p.offset set_size fits injection (type.Set low high) (value_along a.value v.path) refl holds)
+    where
+      go : (value : Value) (own : List ℤ) → length own ≡ set_size
+          → outcome G (at place (operand.Place p ∷ below) memory s.trace) ≡ in_one (after G (instr op.LOAD (pos 0) 0 line) (at place (operand.Place p ∷ below) memory s.trace) (on_operands (at place (operand.Place p ∷ below) memory s.trace) (set_loaded own below)))
+          → result_of v s ≡ option_map Members (set_of value) → SetAt low high value (slice_get own) 0
+          → ReadsResult declared G Here (at place (operand.Place p ∷ below) memory s.trace) 0 1 (unit_in G memory.frames) line (place + 1) (λ r. Inside untouched injection memory (OnTop (kind.Set host) below r)) s (result_of v s)
+      go Undefined own many leads result_is held = Nothing result_is (record { fails = leads ∙ rw (undefined_loaded own below held) refl })
+      go (meaning.Word w) own many leads result_is held = absurd held
+      go (meaning.Components of) own many leads result_is held = absurd held
+      go (meaning.Members ms) own many leads result_is held =
+          Result_of (Members ms) result_is 0 (omega arith) (record {
+            injection = injection;
+            memory = memory;
+            operands = operand.Set ms ∷ below;
+            does = leads ∙ rw (members_loaded low high ms own below many held) refl;
+            matches = matches;
+            here = known;
+            post = inside_here (record { members = ms; is_members = refl; is_set = held.is_set; is = refl });
+          })
+
   -- of one of a type whose values are of the kind
   pub load_reads : {untouched : Slots} {Here : Facts} (k : Kind) (t : TypeValue) (v : Component) (p : Place) → IsTypeOfKind k t
       → slice_get G.instructions place ≡ Some (instr op.LOAD (pos 0) 0 line)
@@ -228,6 +289,12 @@ module _ (declared : Declarations) (G : Image) (place line : ℕ) (below : List 
   load_reads (kind.Ordinal h) type.Text v p of_kind has injection memory spot described s matches known living = absurd of_kind
   load_reads (kind.Ordinal h) (type.Array low high of) v p of_kind has injection memory spot described s matches known living = absurd of_kind
   load_reads (kind.Ordinal h) (type.Record ts) v p of_kind has injection memory spot described s matches known living = absurd of_kind
+  load_reads (kind.Ordinal h) (type.Set low high) v p of_kind has injection memory spot described s matches known living = absurd of_kind
+  load_reads (kind.Set h) (type.Ordinal low high) v p of_kind has injection memory spot described s matches known living = absurd of_kind
+  load_reads (kind.Set h) type.Text v p of_kind has injection memory spot described s matches known living = absurd of_kind
+  load_reads (kind.Set h) (type.Array low high of) v p of_kind has injection memory spot described s matches known living = absurd of_kind
+  load_reads (kind.Set h) (type.Record ts) v p of_kind has injection memory spot described s matches known living = absurd of_kind
+  load_reads (kind.Set h) (type.Set low high) v p of_kind has injection memory spot described s matches known living = set_reads h low high v p has injection memory spot described s matches known living
   load_reads kind.Bytes t v p of_kind has injection memory spot described s matches known living = absurd of_kind
   load_reads (kind.Structured u) t v p (same, structured) has injection memory spot described s matches known living =
       let x = structure_found u v p structured has injection memory spot (subst (Describes memory.types p.type_number) (sym same) described) s matches known living in
@@ -275,6 +342,7 @@ module _ (declared : Declarations) (G : Image) (place line : ℕ) (below : List 
           let none : result_of v s ≡ None = is ∙ ap (λ x. option_map Number (word_of x)) value_is in
           defined_outcome memory s.trace p low high type_number words undefined has described stands word.is ∙ rw none refl
       go is type_number words (meaning.Components of) value_is stands word = absurd word.is
+      go is type_number words (meaning.Members ms) value_is stands word = absurd word.is
       go is type_number words (meaning.Word w) value_is stands word =
           let some : result_of v s ≡ Some (Number w) = is ∙ ap (λ x. option_map Number (word_of x)) value_is in
           let at_place = word.is in

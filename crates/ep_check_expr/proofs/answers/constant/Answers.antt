@@ -1,5 +1,7 @@
-use Rattle.ep_check_expr.proofs.Lawful.{constant_expressions_are_sound}
 use Rattle.ep_check_expr.proofs.answers.constant.Goals as goal
 
-pub returns-then-form-clause-valid : goal.returns-then-form-clause-valid
-returns-then-form-clause-valid c form accepted = constant_expressions_are_sound c.args.scopes.now c.args.tree.now form accepted
+pub returns-clause-judged : goal.returns-clause-judged
+returns-clause-judged c = rw c.of.ensures at c.constant_in_view.ensures.judged
+
+pub returns-clause-valid : goal.returns-clause-valid
+returns-clause-valid c = rw c.of.ensures at c.constant_in_view.ensures.valid

@@ -4,26 +4,25 @@ use Rattle.ep_tree.specs.declared.expression.Access.{out-Access}
 use Rattle.ep_tree.specs.declared.expression.Simple.{out-Simple}
 use Rattle.ep_tree.specs.declared.expression.Term.{out-Term}
 use Rattle.ep_tree.specs.declared.expression.ComponentValue.TheViews.{the_lemmas}
-use Rattle.ep_built.specs.Built.{addend_belonging, expression_unbuilt, multiplier_belonging, written_unbuilt}
+use Rattle.ep_built.specs.Built.{addend_belonging, expression_unbuilt, label_unbuilt, multiplier_belonging, written_unbuilt}
 use Rattle.ep_check_expr.proofs.Breaking.{part-exit, refused-exit, chained-first, when_accepted-part}
 use Rattle.ep_check_expr.proofs.Calls.{given-exit, one-item, two-items, applied-one, applied-two, applied-fault, applied-number, fault-exit, first-fault, later-fault}
 use Rattle.ep_check_expr.proofs.Folds.{addend_judged-is, multiplier_judged-is, addend_belonging-is, multiplier_belonging-is, simple_judged-is, term_judged-is, simple_unbuilt-is, term_unbuilt-is}
-use Rattle.ep_check_expr.proofs.Rows.{next-built, rest-built, chained-operand, chained-operator, chained-step, operands-built, operator-built, operators-built, at_node-built, at_node-inner, or-first, or-second}
+use Rattle.ep_check_expr.proofs.Rows.{next-built, rest-built, chained-operand, chained-operator, chained-step, operands-built, at_node-inner, or-first, or-second}
 use Rattle.ep_check_expr.proofs.Selectors.{FieldNode, IndexNode, access-alone-fails, access-call-fails, access-field-fails, arguments-split, call-components, call-lines, component-node, field-acts, field-split, index-acts, index-fails, index-turned, indexing-fails, more-components, more-lines, next-component, node-lines, rest-components, rest-lines, selector-fails, selector-turned}
 use Rattle.ep_check_expr.proofs.expressions.+typed.Goals as goal
 use Rattle.ep_check_expr.proofs.expressions.+typed.Goals.{selected-in-Index+in_ok-variable-in-Index, selected-in-Field+in_ok-variable-in-Field}
-use Rattle.ep_check_expr.specs.Answers.{taken_of, typed_of}
+use Rattle.ep_check_expr.specs.Answers.{members_of, taken_of, typed_of}
 use Rattle.ep_check_expr.specs.Arguments.{argument_taken}
+use Rattle.ep_check_expr.proofs.Labels.{label-fails, label-turned}
 use Rattle.ep_check_expr.proofs.Gathering.{argument_fails, gathered, other_number, turned, value_fails}
 use Rattle.ep_check_expr.proofs.Reading.{argument-reads}
 use Rattle.ep_check_expr.proofs.Written.{all_written}
-use Rattle.ep_check_expr.specs.Expressions.{addend_judged, multiplier_judged, given, selected, selected_all}
+use Rattle.ep_check_expr.specs.Constructors.{constructed, gathered as gathered_labels, no_members}
+use Rattle.ep_check_expr.specs.Expressions.{addend_judged, labelled, multiplier_judged, given, selected, selected_all}
 use Rattle.ep_check_expr.specs.Judgements.{Accepts}
 use Rattle.ep_check_expr.specs.Operators.{added, multiplied}
 use Rattle.ep_check_expr.specs.Shapes.{arguments_first, field_first}
-
-pub addends-added-requires : goal.addends-added-requires
-addends-added-requires t c = operator-built addend_belonging c.args.all.now c.loop-addend.addend-index c.addend-item.result c.loop-addend-test.true c.addend-item.is _ _ (addend_belonging-is c.addend-item.result) c.loop-addend.invariant.operators
 
 pub addends-returns-in_err-right : goal.addends-returns-in_err-right
 addends-returns-in_err-right t c =
@@ -41,12 +40,8 @@ pub addends-loop-addend-preserved : goal.addends-loop-addend-preserved
 addends-loop-addend-preserved t c =
     record {
       judged = chained-step added (addend_judged c.args.scopes.now) c.args.all.now c.loop-addend.addend-index c.addend-item.result c.loop-addend-test.true c.addend-item.is _ _ (addend_judged-is c.args.scopes.now c.addend-item.result) (typed_of c.loop-addend.sum) (typed_of c.in_ok-right.right) (typed_of c.in_ok-sum.sum) c.in_ok-right.ensures c.in_ok-sum.ensures ∙ c.loop-addend.invariant.judged;
-      operators = operators-built addend_belonging c.args.all.now c.loop-addend.addend-index c.addend-item.result c.loop-addend-test.true c.addend-item.is _ _ (addend_belonging-is c.addend-item.result) c.loop-addend.invariant.operators;
       operands = operands-built addend_belonging c.args.all.now c.loop-addend.addend-index c.addend-item.result c.loop-addend-test.true c.addend-item.is _ _ (addend_belonging-is c.addend-item.result) c.loop-addend.invariant.operands;
     }
-
-pub multipliers-multiplied-requires : goal.multipliers-multiplied-requires
-multipliers-multiplied-requires t c = operator-built multiplier_belonging c.args.all.now c.loop-multiplier.multiplier-index c.multiplier-item.result c.loop-multiplier-test.true c.multiplier-item.is _ _ (multiplier_belonging-is c.multiplier-item.result) c.loop-multiplier.invariant.operators
 
 pub multipliers-returns-in_err-right : goal.multipliers-returns-in_err-right
 multipliers-returns-in_err-right t c =
@@ -64,8 +59,20 @@ pub multipliers-loop-multiplier-preserved : goal.multipliers-loop-multiplier-pre
 multipliers-loop-multiplier-preserved t c =
     record {
       judged = chained-step multiplied (multiplier_judged c.args.scopes.now) c.args.all.now c.loop-multiplier.multiplier-index c.multiplier-item.result c.loop-multiplier-test.true c.multiplier-item.is _ _ (multiplier_judged-is c.args.scopes.now c.multiplier-item.result) (typed_of c.loop-multiplier.product) (typed_of c.in_ok-right.right) (typed_of c.in_ok-product.product) (rw c.get.ensures at c.in_ok-right.ensures) c.in_ok-product.ensures ∙ c.loop-multiplier.invariant.judged;
-      operators = operators-built multiplier_belonging c.args.all.now c.loop-multiplier.multiplier-index c.multiplier-item.result c.loop-multiplier-test.true c.multiplier-item.is _ _ (multiplier_belonging-is c.multiplier-item.result) c.loop-multiplier.invariant.operators;
       operands = operands-built multiplier_belonging c.args.all.now c.loop-multiplier.multiplier-index c.multiplier-item.result c.loop-multiplier-test.true c.multiplier-item.is _ _ (multiplier_belonging-is c.multiplier-item.result) c.loop-multiplier.invariant.operands;
+    }
+
+pub set-returns-in_err-members : goal.set-returns-in_err-members
+set-returns-in_err-members t c =
+    part-exit members_of typed_of c.from_residual.result c.in_err-members.field-0.0 _ _ c.from_residual.ensures.1
+    (λ n h. when_accepted-part n constructed (gathered_labels (Accepts no_members) (map (labelled c.args.scopes.now) c.args.all.now)) (rw (← c.loop-label.invariant.judged) (label-fails (labelled c.args.scopes.now) c.args.all.now c.loop-label.label-index c.label-item.result c.loop-label-test.true c.label-item.is n (Accepts (members_of c.loop-label.members)) h)))
+    c.in_err-members.ensures
+
+pub set-loop-label-preserved : goal.set-loop-label-preserved
+set-loop-label-preserved t c =
+    record {
+      judged = sym (label-turned (labelled c.args.scopes.now) c.args.all.now c.loop-label.label-index c.label-item.result c.loop-label-test.true c.label-item.is (members_of c.loop-label.members) (members_of c.in_ok-members.members) c.in_ok-members.ensures) ∙ c.loop-label.invariant.judged;
+      built = rest-built label_unbuilt c.args.all.now c.loop-label.label-index c.label-item.result c.loop-label-test.true c.label-item.is c.loop-label.invariant.built;
     }
 
 pub simple-returns-in_err-first : goal.simple-returns-in_err-first
@@ -83,7 +90,7 @@ simple-returns-in_err-sum t c =
 pub simple-addends-requires : goal.simple-addends-requires
 simple-addends-requires t c =
     let built = sym (simple_unbuilt-is c.args.s.now) ∙ c.requires.built in
-    (search (rules, the_lemmas), (rw c.items.ensures (at_node-built _ _ _ built), rw c.items.ensures (or-second _ _ (at_node-inner _ _ _ built))))
+    (search (rules, the_lemmas), rw c.items.ensures (or-second _ _ (at_node-inner _ _ _ built)))
 
 pub term-returns-in_err-first : goal.term-returns-in_err-first
 term-returns-in_err-first t c =
@@ -94,7 +101,7 @@ term-returns-in_err-first t c =
 pub term-multipliers-requires : goal.term-multipliers-requires
 term-multipliers-requires t c =
     let built = sym (term_unbuilt-is c.args.t.now) ∙ c.requires.built in
-    (search (rules, the_lemmas), (rw c.items.ensures (at_node-built _ _ _ built), rw c.items.ensures (or-second _ _ (at_node-inner _ _ _ built))))
+    (search (rules, the_lemmas), rw c.items.ensures (or-second _ _ (at_node-inner _ _ _ built)))
 
 pub application-returns-in_err-x-in-len1 : goal.application-returns-in_err-x-in-len1
 application-returns-in_err-x-in-len1 t c =

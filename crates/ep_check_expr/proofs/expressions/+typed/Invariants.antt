@@ -1,11 +1,12 @@
 use Rattle.std.proofs.Common.{◌≡◌, true, None, drop, map}
 use Rattle.std.specs.List.{list_all}
-use Rattle.ep_built.specs.Built.{addend_belonging, all_are_built, expression_unbuilt, first_in, form_told, is_component, lines_in, multiplier_belonging, selector_belonging, written_unbuilt}
+use Rattle.ep_built.specs.Built.{addend_belonging, expression_unbuilt, first_in, form_told, is_component, label_unbuilt, lines_in, multiplier_belonging, selector_belonging, written_unbuilt}
 use Rattle.ep_check_expr.proofs.expressions.+typed.Given as goal
-use Rattle.ep_check_expr.specs.Answers.{taken_of, typed_of}
+use Rattle.ep_check_expr.specs.Answers.{members_of, taken_of, typed_of}
 use Rattle.ep_check_expr.specs.Arguments.{arguments_judged}
 use Rattle.ep_check_expr.proofs.Gathering.{gathered}
-use Rattle.ep_check_expr.specs.Expressions.{addend_judged, chained, given, selected_all, judged, multiplier_judged, selected}
+use Rattle.ep_check_expr.specs.Constructors.{gathered as gathered_labels, no_members}
+use Rattle.ep_check_expr.specs.Expressions.{labelled, addend_judged, chained, given, selected_all, judged, multiplier_judged, selected}
 use Rattle.ep_check_expr.specs.Indexing.{indexed_all}
 use Rattle.ep_check_expr.specs.Judgements.{Accepts}
 use Rattle.ep_check_expr.specs.Operators.{added, multiplied}
@@ -14,7 +15,6 @@ abbrev pub invariant-addends-loop-addend : goal.invariant-addends-loop-addend
 invariant-addends-loop-addend l =
     record {
       judged : chained added (Accepts (typed_of l.sum)) (map (addend_judged l.scopes) (drop l.addend-index l.all)) ≡ chained added (Accepts (typed_of l.fn.first)) (map (addend_judged l.scopes) l.all);
-      operators : all_are_built (map addend_belonging (drop l.addend-index l.all)) ≡ true;
       operands : lines_in (map addend_belonging (drop l.addend-index l.all)) ≡ None;
     }
 
@@ -22,7 +22,6 @@ abbrev pub invariant-multipliers-loop-multiplier : goal.invariant-multipliers-lo
 invariant-multipliers-loop-multiplier l =
     record {
       judged : chained multiplied (Accepts (typed_of l.product)) (map (multiplier_judged l.scopes) (drop l.multiplier-index l.all)) ≡ chained multiplied (Accepts (typed_of l.fn.first)) (map (multiplier_judged l.scopes) l.all);
-      operators : all_are_built (map multiplier_belonging (drop l.multiplier-index l.all)) ≡ true;
       operands : lines_in (map multiplier_belonging (drop l.multiplier-index l.all)) ≡ None;
     }
 
@@ -39,6 +38,13 @@ invariant-selected-loop-selector l =
       judged : selected_all l.scopes (Accepts (typed_of l.variable)) (map (selected l.scopes) (drop l.selector-index l.all)) ≡ selected_all l.scopes (Accepts (typed_of l.fn.first)) (map (selected l.scopes) l.all);
       selectors : list_all is_component (map form_told (map selector_belonging (drop l.selector-index l.all))) ≡ true;
       lines : lines_in (map selector_belonging (drop l.selector-index l.all)) ≡ None;
+    }
+
+abbrev pub invariant-set-loop-label : goal.invariant-set-loop-label
+invariant-set-loop-label l =
+    record {
+      judged : gathered_labels (Accepts (members_of l.members)) (map (labelled l.scopes) (drop l.label-index l.all)) ≡ gathered_labels (Accepts no_members) (map (labelled l.scopes) l.all);
+      built : first_in (map label_unbuilt (drop l.label-index l.all)) ≡ None;
     }
 
 abbrev pub invariant-with_indexes-loop-expression : goal.invariant-with_indexes-loop-expression

@@ -1,10 +1,13 @@
 use Rattle.std.proofs.Common.{◌≡◌, drop, map}
-use Rattle.ep_typed.specs.Trees.{actuals}
-use Rattle.ep_typed.specs.Viewed.{actual_of}
+use Rattle.ep_typed.specs.Trees.{actuals, designators}
+use Rattle.ep_typed.specs.Viewed.{actual_of, designator_of}
 use Rattle.ep_check_stmt.specs.Answers.{entire_of}
 use Rattle.ep_check_stmt.specs.RoutineForms.{formals_at, routine_form}
-use Rattle.ep_check_stmt.specs.Threats.{actuals_threaten}
+use Rattle.ep_check_stmt.specs.Threats.{actuals_threaten, members_threaten}
 use Rattle.ep_check_stmt.proofs.threats.+threats_in_expressions.Given as goal
 
 abbrev pub invariant-actuals_threaten-loop-place : goal.invariant-actuals_threaten-loop-place
 invariant-actuals_threaten-loop-place l = actuals_threaten (formals_at (map routine_form l.routines)) (entire_of l.variable) (drop l.place l.formals) (actuals (map actual_of (drop l.place l.given))) ≡ actuals_threaten (formals_at (map routine_form l.routines)) (entire_of l.variable) l.formals (actuals (map actual_of l.given))
+
+abbrev pub invariant-members_threaten-loop-designator : goal.invariant-members_threaten-loop-designator
+invariant-members_threaten-loop-designator l = members_threaten (formals_at (map routine_form l.routines)) (entire_of l.variable) (designators (map designator_of (drop l.designator-index l.all))) ≡ members_threaten (formals_at (map routine_form l.routines)) (entire_of l.variable) (designators (map designator_of l.all))

@@ -1,9 +1,10 @@
 use Rattle.std.proofs.Common.{◌+◌, map, w64, arith}
 use Rattle.std.proofs.lemmas.Int.{to_z_pos, to_z-of_z}
 use Rattle.ep_typed.specs.Trees.{actuals}
-use Rattle.ep_typed.specs.Viewed.{actual_of, callee_of, expr_of}
+use Rattle.ep_typed.specs.Viewed.{actual_of, callee_of, designator_of, expr_of}
 use Rattle.ep_gen_expr.proofs.ActualForms.{appends_call, actuals_more}
 use Rattle.ep_gen_expr.proofs.Forms.{on_ok, appends_short, appends_step}
+use Rattle.ep_gen_expr.proofs.SetForms.{set_more}
 use Rattle.ep_gen_expr.proofs.expressions.+expression.Goals as goal
 
 pub short_code-returns : goal.short_code-returns
@@ -24,3 +25,6 @@ call_code-returns t c =
 
 pub actuals_code-loop-actual-preserved : goal.actuals_code-loop-actual-preserved
 actuals_code-loop-actual-preserved t c = actuals_more actual_of c.args.given.now c.loop-actual.actual-index c.actual-item.result c.loop-actual-test.true c.actual-item.is c.loop-actual.invariant c.in_ok-actual_code.ensures
+
+pub constructor_code-loop-designator-preserved : goal.constructor_code-loop-designator-preserved
+constructor_code-loop-designator-preserved t c = set_more designator_of c.args.members.now c.loop-designator.designator-index c.designator-item.result c.loop-designator-test.true c.designator-item.is c.loop-designator.invariant c.in_ok-designator_code.ensures

@@ -1,10 +1,11 @@
 use Rattle.std.proofs.Common.{◌+◌, ◌*◌, max, map, take}
-use Rattle.ep_typed.specs.Trees.{actuals}
-use Rattle.ep_typed.specs.Viewed.{actual_of}
+use Rattle.ep_typed.specs.Trees.{actuals, designators, SetOf}
+use Rattle.ep_typed.specs.Viewed.{actual_of, designator_of}
 use Rattle.ep_typed.specs.declared.tree.Actual.{size-Actual}
+use Rattle.ep_typed.specs.declared.tree.MemberDesignator.{size-MemberDesignator}
 use Rattle.ep_typed.specs.declared.tree.TypedExpr.{size-TypedExpr}
 use Rattle.ep_typed.specs.declared.tree.TypedPlace.{size-TypedPlace}
-use Rattle.ep_gen_expr.specs.Growth.{AppendsActuals}
+use Rattle.ep_gen_expr.specs.Growth.{AppendsActuals, AppendsExpr}
 use Rattle.ep_gen_expr.proofs.expressions.+expression.Given as goal
 
 abbrev pub decreases-place_code : goal.decreases-place_code
@@ -51,3 +52,24 @@ decreases-actual_code l = 4 * size-Actual l.actual.now
 
 abbrev pub invariant-actuals_code-loop-actual : goal.invariant-actuals_code-loop-actual
 invariant-actuals_code-loop-actual l = AppendsActuals l.fn.code l.code (actuals (map actual_of (take l.actual-index l.given)))
+
+abbrev pub decreases-constructor_code : goal.decreases-constructor_code
+decreases-constructor_code l = 4 * goal.size-constructor_code l + 1
+
+abbrev pub decreases-designator_code : goal.decreases-designator_code
+decreases-designator_code l = 4 * size-MemberDesignator l.designator.now
+
+abbrev pub decreases-on_sets_code : goal.decreases-on_sets_code
+decreases-on_sets_code l = 4 * max (size-TypedExpr l.left.now) (size-TypedExpr l.right.now) + 1
+
+abbrev pub decreases-card_code : goal.decreases-card_code
+decreases-card_code l = 4 * size-TypedExpr l.operand.now + 1
+
+abbrev pub invariant-constructor_code-loop-designator : goal.invariant-constructor_code-loop-designator
+invariant-constructor_code-loop-designator l = AppendsExpr l.fn.code l.code (SetOf (designators (map designator_of (take l.designator-index l.members))))
+
+abbrev pub decreases-single_code : goal.decreases-single_code
+decreases-single_code l = 4 * size-TypedExpr l.value.now + 1
+
+abbrev pub decreases-range_code : goal.decreases-range_code
+decreases-range_code l = 4 * max (size-TypedExpr l.first.now) (size-TypedExpr l.last.now) + 1

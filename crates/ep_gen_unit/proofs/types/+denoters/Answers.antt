@@ -2,7 +2,7 @@ use Rattle.std.proofs.Common.{arith, length, map, w64}
 use Rattle.std.proofs.lemmas.Int.{to_z_pos}
 use Rattle.ep_gen_expr.proofs.Forms.{on_ok}
 use Rattle.ep_typed.specs.Viewed.{denoter_of}
-use Rattle.ep_gen_unit.proofs.TypeForms.{found, no_definition, by_components, by_definition, by_parts, components_more, how_many-of}
+use Rattle.ep_gen_unit.proofs.TypeForms.{found, no_definition, by_base, by_components, by_definition, by_parts, components_more, how_many-of}
 use Rattle.ep_typed.specs.Trees.{denoters}
 use Rattle.ep_gen_unit.proofs.TypeNames.{behind_name}
 use Rattle.ep_gen_unit.proofs.types.+denoters.Goals as goal
@@ -30,3 +30,6 @@ pub record_code-returns : goal.record_code-returns
 record_code-returns t c =
     let many = to_z_pos w64 (length c.args.fields.now) (omega arith) in
     on_ok c.emit.result (by_components c.args.types.now c.args.code.now c.args.left (denoters (map (λ f. denoter_of f.denoter) c.args.fields.now)) c.in_ok-components_code.ensures) (rw (many, ← how_many-of (λ f. denoter_of f.denoter) c.args.fields.now) at c.emit.ensures)
+
+pub set_code-returns : goal.set_code-returns
+set_code-returns t c = on_ok c.emit.result (by_base c.args.types.now c.args.code.now c.args.left (denoter_of c.args.base.now) c.in_ok-elaborate_within.ensures) c.emit.ensures

@@ -24,3 +24,6 @@ decreases-components_code l = 2 * (names_left l.types.now l.left + goal.size-com
 
 abbrev pub invariant-components_code-loop-field : goal.invariant-components_code-loop-field
 invariant-components_code-loop-field l = Grows l.fn.code l.code (each_code l.types l.fn.code.line (code_within l.types l.fn.code.line l.left) (denoters (map (λ f. denoter_of f.denoter) (take l.field-index l.fields))))
+
+abbrev pub decreases-set_code : goal.decreases-set_code
+decreases-set_code l = 2 * (names_left l.types.now l.left + size-Denoter l.base.now) + 2

@@ -1,0 +1,9 @@
+use Rattle.std.proofs.Common.{◌≡◌, drop, map}
+use Rattle.ep_typed.specs.Trees.{designators}
+use Rattle.ep_typed.specs.Viewed.{designator_of}
+use Rattle.ep_check_expr.proofs.folding.+folded.Given as goal
+use Rattle.ep_check_expr.specs.Folding.{folded_members}
+use Rattle.ep_check_expr.specs.declared.folding.Folded.TheVariants.{Unbuilt}
+
+abbrev pub invariant-members-loop-designator : goal.invariant-members-loop-designator
+invariant-members-loop-designator l = folded_members l.found (designators (map designator_of (drop l.designator-index l.all))) ≡ folded_members Unbuilt (designators (map designator_of l.all))

@@ -1,0 +1,88 @@
+//! Set types as an item writes them.
+
+ghost use Rattle.std.specs.Prelude.{◌≡◌, Some};
+ghost use Rattle.ep_typed.specs.Denoters.{required_type};
+ghost use Rattle.ep_typed.specs.Sets.{is_ordinal};
+ghost use Rattle.ep_typed.specs.Viewed.{denoter_of};
+ghost use Rattle.ep_check_stmt.specs.Answers.{AnswersForm};
+ghost use Rattle.ep_check_unit.specs.Answers.{named_in, written_in};
+ghost use Rattle.ep_check_unit.specs.Blocks.{block_of};
+ghost use Rattle.ep_check_unit.specs.Declarations.{are_members, ordinal_value, set_on, value_of};
+
+use crate::block::Block;
+use crate::types::{NamedType, Written, counted, index_host, type_denoter};
+use ep_base::Boxed;
+use ep_check_expr::Refusal;
+use ep_scope::{Kind, TypeName, rule};
+use ep_typed::{Bound, Denoter, RequiredType, UnitType};
+use std::alloc::Global;
+
+/// How many ordinal numbers members of sets may have, from 0 on.
+const MEMBER_LIMIT: i64 = 256;
+
+/// Whether a member of a set may have this ordinal number.
+fn is_ordinal(number: i64) -> bool
+    ensures { result ≡ is_ordinal number }
+{
+    0 <= number && number < MEMBER_LIMIT
+}
+
+/// Whether members of sets may have the ordinal numbers of all values of a required type.
+fn has_members(required: RequiredType) -> bool
+    ensures { result ≡ are_members (Some (required_type required)) }
+{
+    match required {
+        RequiredType::Integer => false,
+        RequiredType::Char | RequiredType::Boolean => true,
+    }
+}
+
+/// Whether they may have those of a subrange or an enumeration, by its own denoter.
+fn denotes_members(denoter: &Denoter) -> bool
+    ensures { result ≡ are_members (ordinal_value (denoter_of denoter.now)) }
+{
+    match denoter {
+        Denoter::Subrange(_, Bound::Constant(low), Bound::Constant(high)) => {
+            is_ordinal(*low) && is_ordinal(*high)
+        }
+        Denoter::Enumeration(names) => match names.items().split_first() {
+            None => false,
+            Some((_, others)) => others.len() < MEMBER_LIMIT as usize,
+        },
+        _ => false,
+    }
+}
+
+/// Whether they may have those of an ordinal type.
+fn are_members(types: &[UnitType], of: TypeName) -> bool
+    ensures { result ≡ are_members (value_of types.now of) }
+{
+    match of {
+        TypeName::Required(required) => has_members(required),
+        TypeName::Entry(number) => match types.get(number as usize) {
+            None => false,
+            Some(t) => denotes_members(&t.entry.denoter),
+        },
+    }
+}
+
+impl Block {
+    /// The set type of this base type.
+    pub(crate) fn set_on(&self, alloc: Global, base: NamedType) -> Result<Written, Refusal>
+        ensures { AnswersForm (written_in (block_of self.now)) result
+            (set_on (named_in (block_of self.now) base)) }
+    {
+        let host = index_host(base.kind)?;
+        if !are_members(self.types.items(), base.of) {
+            return Err(Refusal::Rule(rule::SET_BASE));
+        }
+        let of = self.next_type()?;
+        let denoter = Boxed::new(alloc, type_denoter(alloc, base.name))?;
+        Ok(Written {
+            denoter: Denoter::Set(denoter),
+            of,
+            kind: Kind::Set(host),
+            nodes: counted(1, base.nodes),
+        })
+    }
+}

@@ -1,0 +1,137 @@
+-- Set types that are written in a block: the unit that has the block's lists has them as valid types.
+use Rattle.std.proofs.Common.{◌≡◌, ℕ, ℤ, zero, suc, ◌<◌, Bool, true, false, ◌&&◌, List, [], ◌∷◌, ◌++◌, length, Option, Some, None, slice_get, refl, sym, ap, ◌∙◌, subst, arith}
+use Rattle.std.proofs.lemmas.Option.{slice_get_within}
+use Rattle.std.specs.Prelude.{if◌then◌else◌}
+use Rattle.ep_typed.specs.Denoters.{definition_of, found_of, type_within}
+use Rattle.ep_typed.specs.Sets.{is_ordinal}
+use Rattle.ep_typed.specs.Trees as tree
+use Rattle.ep_typed.specs.TypeValues as type
+use Rattle.ep_typed.specs.TypeValues.{TypeValue}
+use Rattle.ep_typed.specs.Viewed.{denoter_of, denoter_step, field_step}
+use Rattle.ep_typed.specs.declared.denoter.Denoter.{Denoter as Written_denoter}
+use Rattle.ep_typed.specs.declared.denoter.Denoter.TheFolds.{fold-roll-Denoter}
+use Rattle.ep_typed.specs.declared.denoter.Denoter.TheOpen as layer
+use Rattle.ep_typed.specs.declared.denoter.Denoter.TheVariants as denoter
+use Rattle.ep_typed.specs.declared.unit.Unit.{Unit as TypedUnit}
+use Rattle.ep_typed.specs.declared.unit.UnitType.{UnitType}
+use Rattle.ep_outside.specs.Known.{IsPrefix}
+use Rattle.ep_scope.specs.declared.kind.Host.{Host}
+use Rattle.ep_scope.specs.declared.kind.Kind.TheVariants as kind
+use Rattle.ep_scope.specs.declared.parameter.TypeName.{TypeName}
+use Rattle.ep_scope.specs.declared.parameter.TypeName.TheVariants as type_name
+use Rattle.ep_scope.specs.declared.rule.TheConstants as rule
+use Rattle.ep_check_expr.specs.Hosts.{typed_host}
+use Rattle.ep_check_expr.specs.Judgements.{Accepts, Breaks, when_accepted}
+use Rattle.ep_check_stmt.proofs.judged.Fits.{Fits, fits_is, fits_then}
+use Rattle.ep_check_unit.specs.Blocks.{Block}
+use Rattle.ep_check_unit.specs.Declarations.{Part, Written, are_members, index_host, ordinal_value, set_on, set_over, set_written, settled_part, unless_wide, value_of}
+use Rattle.ep_unit_laws.proofs.Arrays.{index_ordinal}
+use Rattle.ep_unit_laws.proofs.Denoting.{DenotesSet, denotes_set}
+use Rattle.ep_unit_laws.proofs.Denoting as denoting
+use Rattle.ep_unit_laws.proofs.Holds.{HasTypeHere, Holds, ListsKind, holds_more, lists_kind_more, named_tree}
+use Rattle.ep_unit_laws.proofs.Leading.{Extends}
+use Rattle.ep_unit_laws.proofs.Open.{IsOpen}
+use Rattle.ep_unit_laws.proofs.Structures.{IsKnown, part_settles}
+use Rattle.ep_unit_laws.proofs.Types.{IsNext, Settles, Stood, Wrote, Writes, next_denotes}
+
+set_is : (base : Written_denoter) → denoter_of (denoter.Set base) ≡ tree.Set (denoter_of base)
+set_is base = ap denoter_of (sym (denoter.rolls-Set base)) ∙ fold-roll-Denoter tree.Denoter tree.Denoter denoter_step field_step (layer.Set base)
+
+-- ---- the values of a type that may be members
+
+-- what a list has, a longer one has
+front_there : {A : Type 0} (xs ys : List A) (n : ℕ) (x : A) → slice_get xs n ≡ Some x → slice_get (xs ++ ys) n ≡ Some x
+front_there [] ys n x e = cc
+front_there (y ∷ xs) ys zero x e = e
+front_there (y ∷ xs) ys (suc n) x e = front_there xs ys n x e
+
+module _ (types : List UnitType) where
+  -- by the own denoter of the type
+  definition_members : (n : ℕ) (d : tree.Denoter) (v : TypeValue) → type_within types n d ≡ Some v → are_members (ordinal_value d) ≡ true → are_members (Some v) ≡ true
+  definition_members zero d v e m = cc
+  definition_members (suc n) (tree.Subrange of low high) v e m = subst (λ o. are_members o ≡ true) e m
+  definition_members (suc n) (tree.Enumeration names) v e m = subst (λ o. are_members o ≡ true) e m
+  definition_members (suc n) (tree.Required r) v e m = cc
+  definition_members (suc n) (tree.Named index tuple) v e m = cc
+  definition_members (suc n) (tree.Array index component) v e m = cc
+  definition_members (suc n) (tree.Record ds) v e m = cc
+  definition_members (suc n) (tree.Set base) v e m = cc
+
+  -- by its entry in fewer types
+  entry_members : (n number : ℕ) (v : TypeValue) (o : Option UnitType) → ((t : UnitType) → o ≡ Some t → slice_get types number ≡ Some t) → found_of (type_within types n) (slice_get types number) ≡ Some v
+      → are_members (found_of ordinal_value o) ≡ true → are_members (Some v) ≡ true
+  entry_members n number v None there e m = cc
+  entry_members n number v (Some t) there e m = definition_members n (definition_of t) v (sym (ap (found_of (type_within types n)) (there t refl)) ∙ e) m
+
+  pub value_members : (n : ℕ) (few : List UnitType) (of : TypeName) (v : TypeValue) → IsPrefix few types → type_within types (suc n) (named_tree of) ≡ Some v → are_members (value_of few of) ≡ true → are_members (Some v) ≡ true
+  value_members n few (type_name.Required r) v p e m = subst (λ o. are_members o ≡ true) e m
+  value_members n few (type_name.Entry number) v p e m =
+      entry_members n number v (slice_get few number) (λ t at. ap (λ l. slice_get l number) p.is ∙ front_there few p.rest number t at) e m
+
+both_true : (a b : Bool) → (a && b) ≡ true → (a ≡ true) × (b ≡ true)
+both_true true true e = (refl, refl)
+both_true true false e = cc
+both_true false b e = cc
+
+module _ (u : TypedUnit) where
+  -- ---- a set of a base type that stands
+
+  module _ (b : Block) (base : Written) (h : Host) (stands : Settles u b base) (ordinal : base.kind ≡ kind.Ordinal h) (members : are_members (value_of base.block.types base.of) ≡ true) where
+    abbrev Number : ℕ
+    Number = length base.block.types
+
+    abbrev Over : Written
+    Over = set_over h base
+
+    module _ (under : IsOpen b) (ext : Extends u Over.block) (free : base.block.waits ≡ None) (next : IsNext u Number (denoter_of Over.denoter)) (x : Holds u (length b.types) b) where
+      stood : Stood u base
+      stood = stands.holds under ext free x
+
+      typed_here : HasTypeHere u Number (denoter_of base.denoter) base.of (kind.Ordinal h)
+      typed_here = subst (HasTypeHere u Number (denoter_of base.denoter) base.of) ordinal stood.denotes
+
+      within : Number < length u.types
+      within = slice_get_within u.types Number next.entry next.at
+
+      -- its bounds
+      bounds : (low high : ℤ) × (typed_here.0 ≡ type.Ordinal low high)
+      bounds =
+          denoting.ordinal_value u.types (suc Number) (denoter_of base.denoter) (typed_host h) typed_here.0
+          (typed_here.1.has_host (suc Number) (omega arith)) (typed_here.1.has_type (suc Number) (omega arith))
+
+      may_be : (is_ordinal bounds.0 ≡ true) × (is_ordinal bounds.1 ≡ true)
+      may_be =
+          both_true (is_ordinal bounds.0) (is_ordinal bounds.1)
+          (subst (λ v. are_members (Some v) ≡ true) bounds.2
+          (value_members u.types Number base.block.types base.of typed_here.0 ext.types (typed_here.2.has_type (suc Number) (omega arith)) members))
+
+      abbrev Value : TypeValue
+      Value = type.Set bounds.0 bounds.1
+
+      over_denotes : DenotesSet u.types Number (denoter_of Over.denoter) (typed_host h) Value
+      over_denotes =
+          subst (λ d. DenotesSet u.types Number d (typed_host h) Value) (sym (set_is base.denoter))
+          (denotes_set u.types Number (denoter_of base.denoter) (typed_host h) bounds.0 bounds.1 (omega (arith, within))
+          (subst (denoting.Denotes u.types Number (denoter_of base.denoter) (typed_host h)) bounds.2 typed_here.1) may_be.0 may_be.1)
+
+      over_wrote : Wrote u Number Over
+      over_wrote = record {
+        block = holds_more u Number (suc Number) base.block (omega arith) stood.block;
+        denotes = (Value, over_denotes);
+        of = next_denotes u Number (denoter_of Over.denoter) (kind.Set h) Value next over_denotes;
+        lists = lists_kind_more u Number (suc Number) (kind.Ordinal h) (omega arith) (subst (ListsKind u Number) ordinal stood.lists);
+      }
+
+    over_writes : Writes u b Over
+    over_writes = record { grows = stands.grows; holds = λ under ext free next x. over_wrote under ext free next x }
+
+  is_narrow : (c : Bool) (done : Unit {0}) → (if c then Accepts tt else Breaks (rule.SET_BASE ∷ [])) ≡ Accepts done → c ≡ true
+  is_narrow true done e = refl
+  is_narrow false done e = cc
+
+  pub set_writes : (base : Part) → IsKnown u base → (line : ℕ) (b : Block) → Fits (Writes u b) (set_written base line b)
+  set_writes base known line b =
+      fits_then (Settles u b) (Writes u b) set_on (settled_part base line b) (part_settles u base known line b)
+      (λ w stands. fits_then (λ h. index_host w.kind ≡ Accepts h) (Writes u b) (λ h. when_accepted (λ _. Accepts (set_over h w)) (unless_wide w)) (index_host w.kind) (fits_is (index_host w.kind))
+      (λ h e. fits_then (λ done. unless_wide w ≡ Accepts done) (Writes u b) (λ _. Accepts (set_over h w)) (unless_wide w) (fits_is (unless_wide w))
+      (λ done f. over_writes b w h stands (index_ordinal u w.kind h e) (is_narrow (are_members (value_of w.block.types w.of)) done f))))
