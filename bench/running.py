@@ -345,6 +345,126 @@ main()
 """,
     ),
     (
+        "eight queens with sets",
+        """program p(output);
+const n = 8;
+type line = set of 0..2 * n;
+var turn, found: integer;
+procedure place(column: integer; rows, up, down: line);
+var row: integer;
+begin
+  if column > n then found := found + 1
+  else
+    for row := 1 to n do
+      if not (row in rows) and not (row + column in up) and not (row - column + n in down) then
+        place(column + 1, rows + [row], up + [row + column], down + [row - column + n])
+end;
+begin
+  found := 0;
+  for turn := 1 to 40 do place(1, [], [], []);
+  writeln(found: 1)
+end.""",
+        """n = 8
+found = 0
+def place(column, rows, up, down):
+    global found
+    if column > n:
+        found = found + 1
+    else:
+        for row in range(1, n + 1):
+            if row not in rows and row + column not in up and row - column + n not in down:
+                place(column + 1, rows | {row}, up | {row + column}, down | {row - column + n})
+def main():
+    for turn in range(1, 41):
+        place(1, frozenset(), frozenset(), frozenset())
+    print(found)
+main()
+""",
+    ),
+    (
+        "five bodies as records",
+        """program p(output);
+const n = 5;
+type vector = record x, y, z: integer end;
+  body = record place, speed: vector; mass: integer end;
+var bodies: array [1..n] of body;
+  i, turn: integer;
+procedure turn_body(var b: body; other: body);
+var dx, dy, dz, far: integer;
+begin
+  dx := other.place.x - b.place.x; dy := other.place.y - b.place.y; dz := other.place.z - b.place.z;
+  far := abs(dx) + abs(dy) + abs(dz) + 1;
+  b.speed.x := b.speed.x + dx * other.mass div far;
+  b.speed.y := b.speed.y + dy * other.mass div far;
+  b.speed.z := b.speed.z + dz * other.mass div far
+end;
+procedure step;
+var i, j: integer;
+begin
+  for i := 1 to n do
+    for j := 1 to n do
+      if i <> j then turn_body(bodies[i], bodies[j]);
+  for i := 1 to n do begin
+    bodies[i].place.x := bodies[i].place.x + bodies[i].speed.x div 16;
+    bodies[i].place.y := bodies[i].place.y + bodies[i].speed.y div 16;
+    bodies[i].place.z := bodies[i].place.z + bodies[i].speed.z div 16
+  end
+end;
+begin
+  for i := 1 to n do begin
+    bodies[i].place.x := i * 1000; bodies[i].place.y := sqr(i) * 300; bodies[i].place.z := 5000 - i * 700;
+    bodies[i].speed.x := i - 3; bodies[i].speed.y := 3 - i; bodies[i].speed.z := 0;
+    bodies[i].mass := 10 * i
+  end;
+  for turn := 1 to 5000 do step;
+  for i := 1 to n do write(bodies[i].place.x: 1, ' ', bodies[i].place.y: 1, ' ', bodies[i].place.z: 1, ' ');
+  writeln
+end.""",
+        """n = 5
+class Vector:
+    __slots__ = ("x", "y", "z")
+class Body:
+    __slots__ = ("place", "speed", "mass")
+    def __init__(self):
+        self.place = Vector()
+        self.speed = Vector()
+        self.mass = 0
+bodies = [Body() for _ in range(n + 1)]
+def quotient(a, b):
+    return a // b if (a < 0) == (b < 0) else -(-a // b)
+def turn_body(b, other):
+    dx = other.place.x - b.place.x
+    dy = other.place.y - b.place.y
+    dz = other.place.z - b.place.z
+    far = abs(dx) + abs(dy) + abs(dz) + 1
+    b.speed.x = b.speed.x + quotient(dx * other.mass, far)
+    b.speed.y = b.speed.y + quotient(dy * other.mass, far)
+    b.speed.z = b.speed.z + quotient(dz * other.mass, far)
+def step():
+    for i in range(1, n + 1):
+        for j in range(1, n + 1):
+            if i != j:
+                turn_body(bodies[i], bodies[j])
+    for i in range(1, n + 1):
+        bodies[i].place.x = bodies[i].place.x + quotient(bodies[i].speed.x, 16)
+        bodies[i].place.y = bodies[i].place.y + quotient(bodies[i].speed.y, 16)
+        bodies[i].place.z = bodies[i].place.z + quotient(bodies[i].speed.z, 16)
+def main():
+    for i in range(1, n + 1):
+        bodies[i].place.x = i * 1000
+        bodies[i].place.y = i * i * 300
+        bodies[i].place.z = 5000 - i * 700
+        bodies[i].speed.x = i - 3
+        bodies[i].speed.y = 3 - i
+        bodies[i].speed.z = 0
+        bodies[i].mass = 10 * i
+    for turn in range(1, 5001):
+        step()
+    print(" ".join(f"{b.place.x} {b.place.y} {b.place.z}" for b in bodies[1:]), "")
+main()
+""",
+    ),
+    (
         "a knapsack",
         """program p(output);
 const most = 5000;
