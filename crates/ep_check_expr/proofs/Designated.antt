@@ -1,7 +1,7 @@
 -- What the name of a field gives of a valid form is valid.
 use Rattle.std.proofs.Common.{◌≡◌, ℕ, suc, nat_le, List, [], ◌∷◌, slice_get, Option, Some, None, refl, subst, sym}
 use Rattle.std.specs.Prelude.{All}
-use Rattle.ep_typed.specs.Trees.{Place, Expr, Constant, Text, Read, One, Two, Short, Step, Function, IndexedValue, FieldValue, SetOf, OnSets, Card, Field}
+use Rattle.ep_typed.specs.Trees.{Place, Expr, Constant, Text, Read, One, Two, Short, Step, Function, IndexedValue, FieldValue, SetConstant, SetOf, OnSets, Card, Field}
 use Rattle.ep_typed.specs.Valid.{Declarations}
 use Rattle.ep_typed.specs.declared.unit.UnitType.{UnitType}
 use Rattle.ep_scope.specs.Fields.{field_number}
@@ -89,6 +89,7 @@ module _ (declared : Declarations) (types : TypeValues) (structures : List Struc
     field-valid (Some (Two operation x y)) g whole h = absurd g
     field-valid (Some (Short operation x y)) g whole h = absurd g
     field-valid (Some (Step down low high x y)) g whole h = absurd g
+    field-valid (Some (SetConstant members)) g whole h = absurd g
     field-valid (Some (SetOf members)) g whole h = absurd g
     field-valid (Some (OnSets operation x y)) g whole h = absurd g
     field-valid (Some (Card x)) g whole h = absurd g

@@ -1,7 +1,7 @@
 -- What an index gives of a valid form is valid.
 use Rattle.std.proofs.Common.{◌≡◌, true, ℕ, suc, max, nat_le, List, [], ◌∷◌, Option, Some, None, refl, subst, sym}
 use Rattle.std.specs.Prelude.{All}
-use Rattle.ep_typed.specs.Trees.{Place, Expr, Constant, Text, Read, One, Two, Short, Step, Function, IndexedValue, FieldValue, SetOf, OnSets, Card, Indexed}
+use Rattle.ep_typed.specs.Trees.{Place, Expr, Constant, Text, Read, One, Two, Short, Step, Function, IndexedValue, FieldValue, SetConstant, SetOf, OnSets, Card, Indexed}
 use Rattle.ep_typed.specs.Valid.{Declarations}
 use Rattle.ep_typed.specs.declared.unit.UnitType.{UnitType}
 use Rattle.ep_scope.specs.Scopes.{Region, structure_in}
@@ -85,6 +85,7 @@ module _ (declared : Declarations) (types : TypeValues) (structures : List Struc
     element-valid (Some (Two operation x y)) i f g whole h = absurd f
     element-valid (Some (Short operation x y)) i f g whole h = absurd f
     element-valid (Some (Step down low high x y)) i f g whole h = absurd f
+    element-valid (Some (SetConstant members)) i f g whole h = absurd f
     element-valid (Some (SetOf members)) i f g whole h = absurd f
     element-valid (Some (OnSets operation x y)) i f g whole h = absurd f
     element-valid (Some (Card x)) i f g whole h = absurd f

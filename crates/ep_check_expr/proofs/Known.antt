@@ -5,7 +5,7 @@ use Rattle.std.specs.Prelude.{⊤, if◌then◌else◌, ◌-ℤ◌, unsigned_abs
 use Rattle.ep_typed.specs.Hosts.{Host, least, greatest, is_of_host}
 use Rattle.ep_typed.specs.Hosts as host
 use Rattle.ep_typed.specs.Operations.{Answer, Number, Fault, is_integer, decides, within, ordinal_of, unary_answer, binary_answer, step_answer}
-use Rattle.ep_typed.specs.Trees.{Expr, Constant, Text, Read, One, Two, Short, Step, Function, IndexedValue, FieldValue, SetOf, OnSets, Card}
+use Rattle.ep_typed.specs.Trees.{Expr, Constant, Text, Read, One, Two, Short, Step, Function, IndexedValue, FieldValue, SetConstant, SetOf, OnSets, Card}
 use Rattle.ep_typed.specs.Valid.{Declarations, IsExpr, IsUnary, IsBinary, IsOnSets}
 use Rattle.ep_typed.specs.Valid as valid
 use Rattle.ep_typed.specs.declared.operations.Unary.{Unary}
@@ -209,6 +209,7 @@ module _ (declared : Declarations) where
   known-of_kind (Function callee given) (valid.Ordinal h) z v f = cc
   known-of_kind (IndexedValue array index) (valid.Ordinal h) z v f = cc
   known-of_kind (FieldValue whole number) (valid.Ordinal h) z v f = cc
+  known-of_kind (SetConstant members) (valid.Ordinal h) z v f = let e = v.1 in cc
   known-of_kind (SetOf members) (valid.Ordinal h) z v f = let e = v.1 in cc
   known-of_kind (OnSets operation x y) (valid.Ordinal h) z v f = absurd (together-known (folded x) (folded y) z f)
   known-of_kind (Card x) (valid.Ordinal h) z v f = absurd (beside-known (folded x) z f)
@@ -298,6 +299,7 @@ module _ (declared : Declarations) (types : TypeValues) (structures : List Struc
   constant-fits (kind.Ordinal h) (Some (Function callee given)) s = tt
   constant-fits (kind.Ordinal h) (Some (IndexedValue array index)) s = tt
   constant-fits (kind.Ordinal h) (Some (FieldValue whole number)) s = tt
+  constant-fits (kind.Ordinal h) (Some (SetConstant members)) s = folded-constant h (SetConstant members) (folded (SetConstant members)) refl s.0 s.1
   constant-fits (kind.Ordinal h) (Some (SetOf members)) s = folded-constant h (SetOf members) (folded (SetOf members)) refl s.0 s.1
   constant-fits (kind.Ordinal h) (Some (OnSets operation x y)) s = folded-constant h (OnSets operation x y) (folded (OnSets operation x y)) refl s.0 s.1
   constant-fits (kind.Ordinal h) (Some (Card x)) s = folded-constant h (Card x) (folded (Card x)) refl s.0 s.1
@@ -312,6 +314,7 @@ module _ (declared : Declarations) (types : TypeValues) (structures : List Struc
   constant-fits (kind.Structured n) (Some (Function callee given)) s = tt
   constant-fits (kind.Structured n) (Some (IndexedValue array index)) s = tt
   constant-fits (kind.Structured n) (Some (FieldValue whole number)) s = tt
+  constant-fits (kind.Structured n) (Some (SetConstant members)) s = absurd s
   constant-fits (kind.Structured n) (Some (SetOf members)) s = absurd s
   constant-fits (kind.Structured n) (Some (OnSets operation x y)) s = absurd s
   constant-fits (kind.Structured n) (Some (Card x)) s = absurd s
@@ -326,6 +329,7 @@ module _ (declared : Declarations) (types : TypeValues) (structures : List Struc
   constant-fits (kind.Set h) (Some (Function callee given)) s = set-constant h (folded (Function callee given)) s.0
   constant-fits (kind.Set h) (Some (IndexedValue array index)) s = set-constant h (folded (IndexedValue array index)) s.0
   constant-fits (kind.Set h) (Some (FieldValue whole number)) s = set-constant h (folded (FieldValue whole number)) s.0
+  constant-fits (kind.Set h) (Some (SetConstant members)) s = set-constant h (folded (SetConstant members)) s.0
   constant-fits (kind.Set h) (Some (SetOf members)) s = set-constant h (folded (SetOf members)) s.0
   constant-fits (kind.Set h) (Some (OnSets operation x y)) s = set-constant h (folded (OnSets operation x y)) s.0
   constant-fits (kind.Set h) (Some (Card x)) s = set-constant h (folded (Card x)) s.0
@@ -340,6 +344,7 @@ module _ (declared : Declarations) (types : TypeValues) (structures : List Struc
   constant-fits kind.EmptySet (Some (Function callee given)) s = empty-constant (folded (Function callee given))
   constant-fits kind.EmptySet (Some (IndexedValue array index)) s = empty-constant (folded (IndexedValue array index))
   constant-fits kind.EmptySet (Some (FieldValue whole number)) s = empty-constant (folded (FieldValue whole number))
+  constant-fits kind.EmptySet (Some (SetConstant members)) s = empty-constant (folded (SetConstant members))
   constant-fits kind.EmptySet (Some (SetOf members)) s = empty-constant (folded (SetOf members))
   constant-fits kind.EmptySet (Some (OnSets operation x y)) s = empty-constant (folded (OnSets operation x y))
   constant-fits kind.EmptySet (Some (Card x)) s = empty-constant (folded (Card x))
@@ -354,6 +359,7 @@ module _ (declared : Declarations) (types : TypeValues) (structures : List Struc
   constant-fits kind.Text (Some (Function callee given)) s = tt
   constant-fits kind.Text (Some (IndexedValue array index)) s = tt
   constant-fits kind.Text (Some (FieldValue whole number)) s = tt
+  constant-fits kind.Text (Some (SetConstant members)) s = let e = s.1 in cc
   constant-fits kind.Text (Some (SetOf members)) s = let e = s.1 in cc
   constant-fits kind.Text (Some (OnSets operation x y)) s = absurd (sets-bytes operation s.0 s.1 s.2)
   constant-fits kind.Text (Some (Card x)) s = let e = s.1 in cc
@@ -368,6 +374,7 @@ module _ (declared : Declarations) (types : TypeValues) (structures : List Struc
   constant-fits kind.File (Some (Function callee given)) s = absurd s
   constant-fits kind.File (Some (IndexedValue array index)) s = absurd s
   constant-fits kind.File (Some (FieldValue whole number)) s = absurd s
+  constant-fits kind.File (Some (SetConstant members)) s = absurd s
   constant-fits kind.File (Some (SetOf members)) s = absurd s
   constant-fits kind.File (Some (OnSets operation x y)) s = absurd s
   constant-fits kind.File (Some (Card x)) s = absurd s

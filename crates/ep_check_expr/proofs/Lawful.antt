@@ -2,7 +2,7 @@
 use Rattle.std.proofs.Common.{◌≡◌, ℕ, ℤ, Bool, true, false, List, ◌∷◌, [], Option, Some, None, map, refl, ap, sym, subst}
 use Rattle.std.specs.Prelude.{if◌then◌else◌}
 use Rattle.ep_typed.specs.Hosts.{is_of_host}
-use Rattle.ep_typed.specs.Trees.{Expr, Constant, Text, Read, One, Two, Short, Step, Function, IndexedValue, FieldValue, SetOf, OnSets, Card}
+use Rattle.ep_typed.specs.Trees.{Expr, Constant, Text, Read, One, Two, Short, Step, Function, IndexedValue, FieldValue, SetConstant, SetOf, OnSets, Card}
 use Rattle.ep_typed.specs.Valid.{Declarations}
 use Rattle.ep_typed.specs.declared.value.Value.TheVariants as value
 use Rattle.ep_tree.specs.declared.expression.Access.{Access}
@@ -209,6 +209,7 @@ same_kind k (Some (Step down low high x y)) c e = folded_kind k (folded (Step do
 same_kind k (Some (Function callee given)) c e = folded_kind k (folded (Function callee given)) c e
 same_kind k (Some (IndexedValue array index)) c e = folded_kind k (folded (IndexedValue array index)) c e
 same_kind k (Some (FieldValue whole number)) c e = folded_kind k (folded (FieldValue whole number)) c e
+same_kind k (Some (SetConstant members)) c e = folded_kind k (folded (SetConstant members)) c e
 same_kind k (Some (SetOf members)) c e = folded_kind k (folded (SetOf members)) c e
 same_kind k (Some (OnSets operation x y)) c e = folded_kind k (folded (OnSets operation x y)) c e
 same_kind k (Some (Card x)) c e = folded_kind k (folded (Card x)) c e

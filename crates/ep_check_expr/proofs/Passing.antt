@@ -118,6 +118,7 @@ structured-expr declared types structures n (tree.One operation x) f = absurd f
 structured-expr declared types structures n (tree.Two operation x y) f = absurd f
 structured-expr declared types structures n (tree.Short operation x y) f = absurd f
 structured-expr declared types structures n (tree.Step down low high x y) f = absurd f
+structured-expr declared types structures n (tree.SetConstant members) f = absurd f
 structured-expr declared types structures n (tree.SetOf members) f = absurd f
 structured-expr declared types structures n (tree.OnSets operation x y) f = absurd f
 structured-expr declared types structures n (tree.Card x) f = absurd f

@@ -5,11 +5,13 @@ use Rattle.std.proofs.lemmas.Bool.Decides.{nat_tests}
 use Rattle.std.proofs.lemmas.List.Elements.{All-head, All-tail}
 use Rattle.ep_typed.specs.Denoters.{ArrayParts, array_of, array_within, definition_of, denoter_at, found_of, host_of, record_of, record_within}
 use Rattle.ep_typed.specs.Hosts as hosts
-use Rattle.ep_typed.specs.Trees.{Array, Denoter, Denoters, Enumeration, Expr, Field, Indexed, Named, Own, Place, Record, Required, Set, Standard, Subrange, Variable, next_denoter, no_denoter}
+use Rattle.ep_typed.specs.Steps.{variant_number}
+use Rattle.ep_typed.specs.Trees.{Array, Denoter, Denoters, Enumeration, Expr, Field, Indexed, Named, Own, Place, Record, Required, Set, Standard, Subrange, Variable, Variant, next_denoter, no_denoter}
 use Rattle.ep_typed.specs.Valid as valid
 use Rattle.ep_typed.specs.TypeValues.{TypeValue}
-use Rattle.ep_typed.specs.Valid.{Declarations, IsExpr, IsOfKind, IsPlaceWhere}
+use Rattle.ep_typed.specs.Valid.{Declarations, IsExpr, IsOfKind, IsPlaceWhere, IsSelection}
 use Rattle.ep_typed.specs.Viewed.{denoter_of}
+use Rattle.ep_typed.specs.declared.tree.Selection.{Selection}
 use Rattle.ep_typed.specs.declared.unit.UnitType.{UnitType}
 use Rattle.ep_scope.specs.Scopes.{Region, structure_among, structure_in, structure_or}
 use Rattle.ep_scope.specs.declared.kind.Kind.{Kind}
@@ -34,6 +36,10 @@ module _ (declared : Declarations) where
   abbrev pub IsFieldWhere : (List UnitType → Denoter → Type 0) → ℕ → List UnitType → Denoter → Type 0
   IsFieldWhere P number list d = (ds : Denoters) × (record_of list d ≡ Some ds) × (c : Denoter) × (denoter_at ds number ≡ Some c) × P list c
 
+  -- the variant of this number of the denoter of a record, of which this holds
+  abbrev pub IsVariantWhere : (List UnitType → Denoter → Type 0) → Selection → ℕ → List UnitType → Denoter → Type 0
+  IsVariantWhere P s number list d = (ds : Denoters) × (record_of list d ≡ Some ds) × IsSelection declared list ds s × (c : Denoter) × (denoter_at ds (variant_number s number) ≡ Some c) × P list c
+
   -- what says less of a denoter says less of a place
   pub place_wider : (P Q : List UnitType → Denoter → Type 0) (p : Place) → ((list : List UnitType) (d : Denoter) → P list d → Q list d) → IsPlaceWhere declared P p → IsPlaceWhere declared Q p
   place_wider P Q (Variable unit number) f h = (h.0, h.1, f (declared.types unit) (denoter_of h.0.denoter) h.2)
@@ -41,6 +47,7 @@ module _ (declared : Declarations) where
   place_wider P Q (Standard file) f h = absurd h
   place_wider P Q (Indexed p x) f h = place_wider (IsComponentWhere P x) (IsComponentWhere Q x) p (λ list d c. (c.0, c.1, f list c.0.component c.2, c.3)) h
   place_wider P Q (Field p number) f h = place_wider (IsFieldWhere P number) (IsFieldWhere Q number) p (λ list d c. (c.0, c.1, c.2, c.3, f list c.2 c.4)) h
+  place_wider P Q (Variant p s number) f h = place_wider (IsVariantWhere P s number) (IsVariantWhere Q s number) p (λ list d c. (c.0, c.1, c.2, c.3, c.4, f list c.3 c.5)) h
 
   -- some denoter is that of the place
   pub place_at : (P : List UnitType → Denoter → Type 0) (p : Place) → IsPlaceWhere declared P p → (list : List UnitType) × (d : Denoter) × P list d
@@ -49,6 +56,7 @@ module _ (declared : Declarations) where
   place_at P (Standard file) h = absurd h
   place_at P (Indexed p x) h = let c = place_at (IsComponentWhere P x) p h in (c.0, c.2.0.component, c.2.2)
   place_at P (Field p number) h = let c = place_at (IsFieldWhere P number) p h in (c.0, c.2.2, c.2.4)
+  place_at P (Variant p s number) h = let c = place_at (IsVariantWhere P s number) p h in (c.0, c.2.3, c.2.5)
 
 -- ---- structured types in view
 

@@ -4,7 +4,7 @@ use Rattle.ep_typed.specs.Denoters.{ArrayParts, array_of, base_of, host_of, reco
 use Rattle.ep_typed.specs.Hosts.{greatest, is_of_host}
 use Rattle.ep_typed.specs.Hosts as typed
 use Rattle.ep_typed.specs.Operations.{maxint}
-use Rattle.ep_typed.specs.Trees.{Denoter, Denoters, Named, no_denoter, next_denoter, Callee, Place, Variable, Field, entire, Expr, Constant, Text, Read, One, Two, Short, Step, Function, IndexedValue, FieldValue, SetOf, OnSets, Card, Actual, actuals}
+use Rattle.ep_typed.specs.Trees.{Denoter, Denoters, Named, no_denoter, next_denoter, Callee, Place, Variable, Field, entire, Expr, Constant, Text, Read, One, Two, Short, Step, Function, IndexedValue, FieldValue, SetConstant, SetOf, OnSets, Card, Actual, actuals}
 use Rattle.ep_typed.specs.Valid.{Declarations, AreGiven, IsCallee, IsFunction, IsOfKind, IsPlace, IsPlaceWhere, IsExpr, IsProcedure, IsSetOf, IsStructured, IsTypeOf, IsVariableOf}
 use Rattle.ep_typed.specs.Valid as valid
 use Rattle.ep_typed.specs.Viewed.{denoter_of}
@@ -75,6 +75,7 @@ IsFile (Step down low high x y) = ⊥
 IsFile (Function callee given) = ⊥
 IsFile (IndexedValue array index) = ⊥
 IsFile (FieldValue whole number) = ⊥
+IsFile (SetConstant members) = ⊥
 IsFile (SetOf members) = ⊥
 IsFile (OnSets operation x y) = ⊥
 IsFile (Card x) = ⊥
@@ -228,6 +229,7 @@ module _ (declared : Declarations) (types : TypeValues) (structures : List Struc
   IsStructuredForm n (Function callee given) = IsStructuredValue n (Function callee given)
   IsStructuredForm n (IndexedValue array index) = IsStructuredValue n (IndexedValue array index)
   IsStructuredForm n (FieldValue whole number) = IsStructuredValue n (FieldValue whole number)
+  IsStructuredForm n (SetConstant members) = ⊥
   IsStructuredForm n (SetOf members) = ⊥
   IsStructuredForm n (OnSets operation x y) = ⊥
   IsStructuredForm n (Card x) = ⊥

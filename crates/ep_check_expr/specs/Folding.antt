@@ -1,7 +1,7 @@
 -- What is known of a typed form as a constant, by the operations that a run has (ISO 10206, 6.8.2).
 use Rattle.std.specs.Prelude.{◌≡◌, ℤ, Result, Ok, Err, if◌then◌else◌}
 use Rattle.ep_typed.specs.Operations.{Answer, Number, Fault, is_integer, decides, unary_answer, binary_answer, step_answer}
-use Rattle.ep_typed.specs.Trees.{Expr, Constant, Text, Read, One, Two, Short, Step, Function, IndexedValue, FieldValue, SetOf, OnSets, Card, Designator, Single, Range, Designators, no_member, next_member}
+use Rattle.ep_typed.specs.Trees.{Expr, Constant, Text, Read, One, Two, Short, Step, Function, IndexedValue, FieldValue, SetConstant, SetOf, OnSets, Card, Designator, Single, Range, Designators, no_member, next_member}
 use Rattle.ep_typed.specs.declared.operations.ShortOperation.{ShortOperation}
 use Rattle.ep_check_expr.specs.declared.folding.Folded.{Folded}
 use Rattle.ep_check_expr.specs.declared.folding.Folded.TheVariants.{Known, Varies, Errs, Unbuilt}
@@ -81,6 +81,7 @@ abbrev mutual
   folded (Function callee given) = Varies
   folded (IndexedValue array index) = Varies
   folded (FieldValue whole number) = Varies
+  folded (SetConstant members) = Unbuilt
   folded (SetOf members) = folded_members Unbuilt members
   folded (OnSets operation x y) = together (folded x) (folded y)
   folded (Card x) = beside (folded x)

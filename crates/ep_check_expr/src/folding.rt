@@ -60,6 +60,7 @@ pub fn folded_form(e: &TypedExpr) -> Folded
                 Err(other) => other,
             }
         }
+        TypedExpr::SetConstant(_) => Folded::Unbuilt,
         TypedExpr::Set(designators) => members(designators.items()),
         TypedExpr::OnSets(_, left, right) => {
             together(folded_form(left.get()), folded_form(right.get()))

@@ -11,7 +11,7 @@ use Rattle.ep_tree.specs.declared.statement.Statement.TheOpen.{Statement-F}
 use Rattle.ep_tree.specs.declared.statement.Statement.TheVariants as statement
 use Rattle.ep_typed.specs.Trees as tree
 use Rattle.ep_typed.specs.Trees.{Entire, Stmt, Stmts}
-use Rattle.ep_check_stmt.specs.Statements.{ArmJudged, Context, Under, after, at_arm, at_compound, at_otherwise, at_statement, call_arguments, condition_judged, control_judged, falls_by, for_judged, in_order, name_called, repeat_judged, statement_judged, stmt_item}
+use Rattle.ep_check_stmt.specs.Statements.{ArmJudged, Context, Under, after, at_arm, at_compound, at_otherwise, at_statement, call_arguments, condition_judged, control_judged, falls_by, for_in_judged, for_judged, in_order, name_called, repeat_judged, statement_judged, stmt_item}
 use Rattle.ep_check_stmt.proofs.judged.Rounds.{first_built, rest_of}
 
 -- a call is judged by its name and its arguments
@@ -41,6 +41,13 @@ pub for_is : (context : Context) (line : ℕ) (variable : List ℕ) (start : Exp
 for_is context line variable start toward end body controls =
     ap (λ s. statement_judged context s controls) (sym (statement.rolls-For line variable start toward end body))
     ∙ ap (λ (judge : Under Stmt). judge controls) (fold-roll-Statement (Under Stmt) ArmJudged (Under Stmts) (Under Stmts) (at_statement context) (at_arm context) (at_compound context) (at_otherwise context) (Statement-F.For line variable start toward end body))
+
+-- and one over members
+pub for_in_is : (context : Context) (line : ℕ) (variable : List ℕ) (set : Expression) (body : Statement) (controls : List Entire)
+    → statement_judged context (statement.ForIn line variable set body) controls ≡ for_in_judged context controls line (control_judged context variable) set (statement_judged context body)
+for_in_is context line variable set body controls =
+    ap (λ s. statement_judged context s controls) (sym (statement.rolls-ForIn line variable set body))
+    ∙ ap (λ (judge : Under Stmt). judge controls) (fold-roll-Statement (Under Stmt) ArmJudged (Under Stmts) (Under Stmts) (at_statement context) (at_arm context) (at_compound context) (at_otherwise context) (Statement-F.ForIn line variable set body))
 
 if_unbuilt : (line : ℕ) (e : Expression) (then : Statement) (other : Option Statement)
     → statement_unbuilt (statement.If line e then other) ≡ option_or (expression_unbuilt e) (option_or (statement_unbuilt then) (first_if (option_map statement_unbuilt other)))

@@ -1,4 +1,4 @@
--- The parts of an assignment, a call, a `while` and a `for` statement that is built.
+-- The parts of an assignment, a call, a `while` and a `for` statement of either form that is built.
 use Rattle.std.proofs.Common.{◌≡◌, ℕ, Bool, true, false, List, None, ap, refl, sym, ◌∙◌}
 use Rattle.std.specs.Option.{option_or}
 use Rattle.ep_built.specs.Built.{Found, Placed, access_unbuilt, at_node, built_call, built_statement, call_unbuilt, component_value_unbuilt, expression_unbuilt, statement_unbuilt}
@@ -86,3 +86,19 @@ module _ (line : ℕ) (name : List ℕ) (start : Expression) (toward : Direction
 
     pub inner_built : statement_unbuilt body ≡ None
     inner_built = rest_of (expression_unbuilt end) (statement_unbuilt body) (rest_of (expression_unbuilt start) (option_or (expression_unbuilt end) (statement_unbuilt body)) all_built)
+
+-- a `for` statement over members
+module _ (line : ℕ) (name : List ℕ) (set : Expression) (body : Statement) (h : statement_unbuilt (statement.ForIn line name set body) ≡ None) where
+  abbrev members_layer : Statement-F Found Found Placed Found
+  members_layer = Statement-F.ForIn line name set (statement_unbuilt body)
+
+  members_built : option_or (expression_unbuilt set) (statement_unbuilt body) ≡ None
+  members_built =
+      inside_built (built_statement members_layer) line (option_or (expression_unbuilt set) (statement_unbuilt body))
+      (sym (ap statement_unbuilt (sym (statement.rolls-ForIn line name set body)) ∙ fold-roll-Statement Found Found Placed Found built.at_statement built.at_arm built.at_compound built.at_otherwise (Statement-F.ForIn line name set body)) ∙ h)
+
+  pub set_built : expression_unbuilt set ≡ None
+  set_built = first_built (expression_unbuilt set) (statement_unbuilt body) members_built
+
+  pub turn_built : statement_unbuilt body ≡ None
+  turn_built = rest_of (expression_unbuilt set) (statement_unbuilt body) members_built

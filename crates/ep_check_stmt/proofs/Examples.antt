@@ -8,7 +8,7 @@ use Rattle.ep_tree.specs.declared.expression.Factor.{Factor}
 use Rattle.ep_tree.specs.declared.expression.Factor.TheVariants as factor
 use Rattle.ep_tree.specs.declared.expression.Selector.TheVariants as selector
 use Rattle.ep_typed.specs.Trees as tree
-use Rattle.ep_typed.specs.Trees.{Stmt, Accessed, Assign, Constant, Empty, Evaluated, Indexed, Own, Procedure, Read, Variable, actuals}
+use Rattle.ep_typed.specs.Trees.{Stmt, Accessed, Assign, Constant, Empty, Evaluated, ForIn, Indexed, Own, Procedure, Read, Variable, actuals}
 use Rattle.ep_typed.specs.declared.denoter.RequiredType.{RequiredType}
 use Rattle.ep_typed.specs.declared.denoter.RequiredType.TheVariants as simple
 use Rattle.ep_typed.specs.declared.interface.FormalMode.{FormalMode}
@@ -18,6 +18,7 @@ use Rattle.ep_scope.specs.declared.structure.Composition.TheVariants as composit
 use Rattle.ep_scope.specs.declared.structure.StructuredType.{StructuredType}
 use Rattle.ep_scope.specs.declared.kind.Host.{Host}
 use Rattle.ep_scope.specs.declared.kind.Host.TheVariants as host
+use Rattle.ep_scope.specs.declared.kind.Kind.{Kind}
 use Rattle.ep_scope.specs.declared.kind.Kind.TheVariants as kind
 use Rattle.ep_scope.specs.declared.parameter.FormalParameter.{FormalParameter}
 use Rattle.ep_scope.specs.declared.parameter.TypeName.TheVariants as type_name
@@ -27,11 +28,12 @@ use Rattle.ep_scope.specs.declared.thing.Declaration.{Declaration}
 use Rattle.ep_scope.specs.declared.thing.Declaration.TheVariants as declaration
 use Rattle.ep_scope.specs.declared.thing.Declared.{Declared}
 use Rattle.ep_scope.specs.declared.thing.Thing.TheVariants as thing
+use Rattle.ep_check_expr.specs.declared.access.Access.TheVariants as access
 use Rattle.ep_check_expr.proofs.Nodes.{access-judged, argument-judged, expression-judged, indexes-judged, simple-judged, term-judged, name-judged, number-judged}
 use Rattle.ep_check_expr.specs.Expressions.{judged}
 use Rattle.ep_check_expr.specs.Judgements.{Judged, Accepts, Breaks, both}
 use Rattle.ep_check_stmt.specs.RoutineForms.{RoutineForm}
-use Rattle.ep_check_stmt.specs.Statements.{Context, FunctionResult, OfRoutine, OfUnit, assigned, counted_by, declared_called, declared_control, function_target, is_threatened_in, stmt_threat, target_judged, unless_threatening}
+use Rattle.ep_check_stmt.specs.Statements.{Context, FunctionResult, MemberHead, OfRoutine, OfUnit, assigned, counted_by, declared_called, declared_control, function_target, is_threatened_in, members_judged, stmt_threat, target_judged, unless_threatening}
 
 -- an expression of one factor
 abbrev bare : Factor → Expression
@@ -82,6 +84,7 @@ context =
       output = false;
       results = [];
       locals = OfUnit (codes "u") 2;
+      members = 2;
       routines = [];
     }
 
@@ -256,3 +259,32 @@ threatened_array = refl
 
 index_is_no_threat : stmt_threat [] (tree.OfUnit (codes "u") 5) (Assign 1 (Indexed (Variable (codes "u") 2) (Read (Variable (codes "u") 5))) (Constant (pos 3))) ≡ false
 index_is_no_threat = refl
+
+-- ---- `for` over members
+
+-- the head of a `for` with a char as its control variable over a value of this kind
+abbrev over : Kind → Judged (Option MemberHead)
+over k = members_judged (OfUnit (codes "u") 2) 4 (record { variable = tree.OfUnit (codes "u") 1; host = host.Char }) (Accepts (record { form = Some (Read (Variable (codes "u") 7)); kind = k; depth = 1; access = access.Value }))
+
+-- goes by the set with the auxiliary variable of its number
+abbrev char_head : MemberHead
+char_head = record { control = record { variable = tree.OfUnit (codes "u") 1; rest = tree.OfUnit (codes "u") 4 }; set = Read (Variable (codes "u") 7) }
+
+own_set : over (kind.Set host.Char) ≡ Accepts (Some char_head)
+own_set = refl
+
+empty_set : over kind.EmptySet ≡ Accepts (Some char_head)
+empty_set = refl
+
+other_set : over (kind.Set host.Integer) ≡ Breaks (rule.ASSIGNMENT ∷ [])
+other_set = refl
+
+no_set : over (kind.Ordinal host.Char) ≡ Breaks (rule.ASSIGNMENT ∷ [])
+no_set = refl
+
+-- it threatens its control variable, and not its auxiliary one
+control_threatened : stmt_threat [] (tree.OfUnit (codes "u") 1) (ForIn 1 char_head.control char_head.set Empty) ≡ true
+control_threatened = refl
+
+rest_not_threatened : stmt_threat [] (tree.OfUnit (codes "u") 4) (ForIn 1 char_head.control char_head.set Empty) ≡ false
+rest_not_threatened = refl

@@ -3,7 +3,7 @@ use Rattle.std.specs.Prelude.{◌≡◌, ℕ, nat_eq, Bool, List, map, Option, R
 use Rattle.std.specs.List.{list_any}
 use Rattle.std.specs.Option.{option_map}
 use Rattle.ep_typed.specs.Trees.{Item, Stmts, stmts}
-use Rattle.ep_typed.specs.Viewed.{control_of, expr_of, item_of, place_of, stmt_of, arm_of}
+use Rattle.ep_typed.specs.Viewed.{control_of, expr_of, item_of, member_control_of, place_of, stmt_of, arm_of}
 use Rattle.ep_tree.specs.declared.expression.Label.{Label}
 use Rattle.ep_tree.specs.declared.statement.Arm.{Arm, out-Arm}
 use Rattle.ep_typed.specs.Trees as tree
@@ -23,6 +23,7 @@ use Rattle.ep_check_stmt.specs.declared.cases.Labels.{Labels}
 use Rattle.ep_check_stmt.specs.declared.cases.CaseSelector.{CaseSelector}
 use Rattle.ep_check_stmt.specs.declared.loops.Counted.{Counted}
 use Rattle.ep_check_stmt.specs.declared.loops.ForHead.{ForHead}
+use Rattle.ep_check_stmt.specs.declared.members.MemberHead.{MemberHead}
 use Rattle.ep_check_stmt.specs.declared.outcome.CheckRefusal.{CheckRefusal}
 use Rattle.ep_check_stmt.specs.declared.outcome.CheckRefusal.TheVariants as refusal
 use Rattle.ep_check_stmt.specs.declared.outcome.Outcome.{Outcome}
@@ -82,7 +83,7 @@ locals_of (locals.Routine routine first auxiliary) = rows.OfRoutine routine firs
 
 -- what the statements of a block know
 abbrev pub context_of : Context → rows.Context
-context_of c = record { unit = c.unit.now; scopes = c.scopes.now; output = c.output; results = map result_of c.results.now; locals = locals_of c.locals; routines = map routine_form c.routines.now }
+context_of c = record { unit = c.unit.now; scopes = c.scopes.now; output = c.output; results = map result_of c.results.now; locals = locals_of c.locals; members = c.members; routines = map routine_form c.routines.now }
 
 -- what is assigned to
 abbrev pub target_of : Target → rows.Target
@@ -102,6 +103,10 @@ counted_of c = record { variable = entire_of c.variable; host = c.host }
 
 abbrev pub head_of : ForHead → rows.ForHead
 head_of h = record { control = control_of h.control; initial = expr_of h.initial; last = expr_of h.last }
+
+-- a `for` over members without its body
+abbrev pub member_head_of : MemberHead → rows.MemberHead
+member_head_of h = record { control = member_control_of h.control; set = expr_of h.set }
 
 -- statements and written items, as plain data
 abbrev pub stmts_of : List TypedStmt → Stmts

@@ -1,7 +1,7 @@
 -- The law of typed statements: what the rules accept is valid wherever the declarations hold what the scopes declare.
 use Rattle.std.specs.Prelude.{◌≡◌, ℕ, ◌-◌, List, [], ◌∷◌, Some, ⊤}
 use Rattle.ep_tree.specs.declared.statement.Compound.{Compound}
-use Rattle.ep_typed.specs.Auxiliaries.{first_for_of}
+use Rattle.ep_typed.specs.Auxiliaries.{first_for_in_of, first_for_of}
 use Rattle.ep_typed.specs.Hosts as host
 use Rattle.ep_typed.specs.Trees.{Place, Stmts, Own, entire}
 use Rattle.ep_typed.specs.TypeValues.{TypeValue}
@@ -12,7 +12,7 @@ use Rattle.ep_scope.specs.declared.kind.Kind.{Kind}
 use Rattle.ep_scope.specs.declared.kind.Kind.TheVariants as kind
 use Rattle.ep_check_expr.specs.Agreement.{Agrees, IsHost, IsValueOf, TypeValues}
 use Rattle.ep_check_expr.specs.Hosts.{typed_host}
-use Rattle.ep_check_stmt.specs.Statements.{Context, FunctionResult, Locals, Passes, compound_judged, initial_variable, last_variable}
+use Rattle.ep_check_stmt.specs.Statements.{Context, FunctionResult, Locals, Passes, compound_judged, initial_variable, last_variable, block_variable}
 
 -- The place is that of a variable for results of this kind. No function has a result of a string type or a file type so far.
 abbrev pub IsResultAt : Declarations → TypeValues → Kind → Place → Type 0
@@ -35,8 +35,12 @@ ResultsAreThere declared types depth (r ∷ rs) = ResultIsThere declared types d
 abbrev pub AuxiliariesAreThere : Declarations → Locals → Type 0
 AuxiliariesAreThere declared locals = IsPlace declared host.Integer (entire (initial_variable locals)) × IsPlace declared host.Integer (entire (last_variable locals))
 
--- the statements of a compound statement that pass are valid, where the auxiliary variables are there if there is a `for` among them
+-- the one of `for` over members, which has this number, is there and is a set over integers
+abbrev pub MembersAreThere : Declarations → Locals → ℕ → Type 0
+MembersAreThere declared locals number = IsPlaceWhere declared (IsOfKind (valid.Set host.Integer)) (entire (block_variable locals number))
+
+-- the statements of a compound statement that pass are valid, where the auxiliary variables are there if there is a `for` among them that has these
 abbrev pub StatementsAreSound : Type 0
 StatementsAreSound =
     (context : Context) (c : Compound) (ss : Stmts) → compound_judged context c ≡ Passes ss → (declared : Declarations) (agrees : Agrees declared context.scopes) → ResultsAreThere declared agrees.0 (depth_in context.scopes) context.results
-    → ((line : ℕ) → first_for_of ss ≡ Some line → AuxiliariesAreThere declared context.locals) → AreStmts declared ss
+    → ((line : ℕ) → first_for_of ss ≡ Some line → AuxiliariesAreThere declared context.locals) → ((line : ℕ) → first_for_in_of ss ≡ Some line → MembersAreThere declared context.locals context.members) → AreStmts declared ss

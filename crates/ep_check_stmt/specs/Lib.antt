@@ -1,4 +1,5 @@
 pub mod Answers
+pub mod Auxiliaries
 pub mod Cases
 pub mod Laws
 pub mod Outcomes

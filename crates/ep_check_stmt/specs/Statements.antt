@@ -22,7 +22,7 @@ use Rattle.ep_tree.specs.declared.expression.Label.{Label}
 use Rattle.ep_tree.specs.declared.statement.Compound.{Compound, fold-Compound}
 use Rattle.ep_typed.specs.Hosts.{greatest, least}
 use Rattle.ep_typed.specs.Trees as tree
-use Rattle.ep_typed.specs.Trees.{Control, Entire, Place, Expr, Item, Stmt, Stmts, Arm, Arms, Other}
+use Rattle.ep_typed.specs.Trees.{Control, Entire, MemberControl, Place, Expr, Item, Stmt, Stmts, Arm, Arms, Other}
 use Rattle.ep_typed.specs.declared.operations.Print.{Print}
 use Rattle.ep_typed.specs.declared.operations.Print.TheVariants as print
 use Rattle.ep_typed.specs.declared.tree.StandardFile.{StandardFile}
@@ -398,6 +398,33 @@ abbrev pub bounds_judged : Locals → Bool → Counted → Judged Typed → Judg
 bounds_judged locals falls c x y =
     both (λ initial last. Accepts (map_both (for_head locals falls c) initial last)) (when_accepted (bound_judged c.host) x) (when_accepted (bound_judged c.host) y)
 
+-- ---- `for` over the members of a set (ISO 10206, 6.9.3.9.3)
+
+-- the variable of this number, among those of the block
+abbrev pub block_variable : Locals → ℕ → Entire
+block_variable (OfUnit unit auxiliary) number = tree.OfUnit unit number
+block_variable (OfRoutine routine first auxiliary) number = tree.OfRoutine 0 number
+
+-- what a `for` over members with this control variable goes by
+abbrev pub member_control : Locals → ℕ → Counted → MemberControl
+member_control locals number c = record { variable = c.variable; rest = block_variable locals number }
+
+-- a `for` over members without its body
+pub record MemberHead : Type 0 where
+  pub control : MemberControl
+  pub set : Expr
+
+abbrev pub member_head : Locals → ℕ → Counted → Expr → MemberHead
+member_head locals number c x = record { control = member_control locals number c; set = x }
+
+-- the expression is a set over the control variable's host, or the empty set
+abbrev pub set_judged : Host → Typed → Judged (Option Expr)
+set_judged h value = given_to (λ x. x) (kind.Set h) value.kind value.form
+
+-- the head, where the expression is judged so
+abbrev pub members_judged : Locals → ℕ → Counted → Judged Typed → Judged (Option MemberHead)
+members_judged locals number c x = when_accepted (λ set. Accepts (option_map (member_head locals number c) set)) (when_accepted (set_judged c.host) x)
+
 -- ---- threats in the body of a `for` (ISO 10206, 6.9.3.9.1)
 
 -- what threatens one of these control variables is no item of the body
@@ -406,7 +433,7 @@ unless_threatening threat controls (Accepts None) = Accepts None
 unless_threatening threat controls (Accepts (Some form)) = if list_any (λ v. threat v form) controls then Breaks (rule.CONTROL_THREATENED ∷ []) else Accepts (Some form)
 unless_threatening threat controls (Breaks rules) = Breaks rules
 
--- the items that are one: a statement without statements inside, an expression of a statement, or a `for` without its body
+-- the items that are one: a statement without statements inside, an expression of a statement, or a `for` of either form without its body
 abbrev pub stmt_threat : List RoutineForm → Entire → Stmt → Bool
 stmt_threat routines v s = threatens (formals_at routines) v s
 
@@ -416,22 +443,30 @@ expr_threat routines v x = expr_threatens (formals_at routines) v x
 abbrev pub head_threat : List RoutineForm → Entire → ForHead → Bool
 head_threat routines v h = is_variable v (tree.entire h.control.variable) || (expr_threat routines v h.initial || expr_threat routines v h.last)
 
+abbrev pub member_threat : List RoutineForm → Entire → MemberHead → Bool
+member_threat routines v h = is_variable v (tree.entire h.control.variable) || expr_threat routines v h.set
+
 -- a `for` by its head and its body
 abbrev pub for_row : ℕ → Judgement ForHead → Judgement Stmt → Judgement Stmt
 for_row line head body = after (λ h s. tree.For line h.control h.initial h.last s) head body
+
+-- a `for` over members so
+abbrev pub for_in_row : ℕ → Judgement MemberHead → Judgement Stmt → Judgement Stmt
+for_in_row line head body = after (λ h s. tree.ForIn line h.control h.set s) head body
 
 -- `halt` has no arguments
 abbrev pub halt_judged : ℕ → List Argument → Judged (Option Stmt)
 halt_judged line [] = Accepts (Some (tree.Halt line))
 halt_judged line (first ∷ more) = Breaks (rule.ARGUMENTS ∷ [])
 
--- What a block knows: its unit, its scopes, the innermost first, whether `output` is a parameter or imported, the functions in whose blocks it is and whose results have no names, the innermost first, its own variables, and the routines of the unit.
+-- What a block knows: its unit, its scopes, the innermost first, whether `output` is a parameter or imported, the functions in whose blocks it is and whose results have no names, the innermost first, its own variables, the number of the auxiliary variable of `for` over members among these, and the routines of the unit.
 pub record Context : Type 0 where
   pub unit : List ℕ
   pub scopes : List Region
   pub output : Bool
   pub results : List FunctionResult
   pub locals : Locals
+  pub members : ℕ
   pub routines : List RoutineForm
 
 -- the text file that a name means
@@ -560,6 +595,12 @@ module _ (context : Context) where
   for_judged controls line (Accepts c) falls start end body =
       for_row line (at_item line (unless_threatening (head_threat context.routines) controls (bounds_judged context.locals falls c (judged context.scopes start) (judged context.scopes end)))) (body (c.variable ∷ controls))
 
+  -- a `for` statement over members, by its control variable
+  abbrev pub for_in_judged : List Entire → ℕ → Judged Counted → Expression → Under Stmt → Judgement Stmt
+  for_in_judged controls line (Breaks rules) set body = Fails line rules
+  for_in_judged controls line (Accepts c) set body =
+      for_in_row line (at_item line (unless_threatening (member_threat context.routines) controls (members_judged context.locals context.members c (judged context.scopes set)))) (body (c.variable ∷ controls))
+
   abbrev pub at_statement : Statement-F (Under Stmt) ArmJudged (Under Stmts) (Under Stmts) → Under Stmt
   at_statement (Statement-F.Empty line) controls = Passes tree.Empty
   at_statement (Statement-F.Assignment line access v) controls =
@@ -572,7 +613,7 @@ module _ (context : Context) where
       case_judged line (λ x. expr_item controls (Accepts x)) (selector_judged context.scopes e (map (λ a. a.0) arms)) (λ h. arms_in_order (map (arm_row context.scopes line h controls) arms)) (other_judged (option_map (λ ss. ss controls) other))
   at_statement (Statement-F.Repeat line statements e) controls = repeat_judged line (condition_judged controls line e) (in_order (map (λ s. s controls) statements))
   at_statement (Statement-F.For line variable start toward end body) controls = for_judged controls line (control_judged variable) (falls_by toward) start end body
-  at_statement (Statement-F.ForIn line variable members body) controls = Fails line []
+  at_statement (Statement-F.ForIn line variable set body) controls = for_in_judged controls line (control_judged variable) set body
   at_statement (Statement-F.With line accesses body) controls = Fails line []
 
   abbrev pub at_compound : Compound-F (Under Stmt) ArmJudged (Under Stmts) (Under Stmts) → Under Stmts

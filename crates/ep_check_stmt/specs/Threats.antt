@@ -8,7 +8,7 @@ use Rattle.ep_tree.specs.declared.statement.Statement.TheOpen.{Statement-F, Arm-
 use Rattle.ep_tree.specs.declared.statement.Statement.{Statement, fold-Statement}
 use Rattle.ep_tree.specs.declared.statement.Arm.{Arm, fold-Arm}
 use Rattle.ep_tree.specs.declared.statement.Compound.{Compound, fold-Compound}
-use Rattle.ep_typed.specs.Trees.{Entire, OfUnit, OfRoutine, entire, Place, Variable, Own, Standard, Indexed, Field, Expr, Constant, Text, Read, One, Two, Short, Step, Function, IndexedValue, FieldValue, Actual, Evaluated, Accessed, Actuals, no_actual, next_actual, Item, Plain, Wide, Stmt, Stmts, Empty, Assign, If, While, Repeat, For, With, Procedure, Case, Halt, Write, none, next, Arms, no_arm, next_arm, Other, no_other, otherwise_do, SetOf, OnSets, Card, Designator, Single, Range, Designators, no_member, next_member}
+use Rattle.ep_typed.specs.Trees.{Entire, OfUnit, OfRoutine, entire, Place, Variable, Own, Standard, Indexed, Field, Variant, Expr, Constant, Text, Read, One, Two, Short, Step, Function, IndexedValue, FieldValue, Actual, Evaluated, Accessed, Actuals, no_actual, next_actual, Item, Plain, Wide, Stmt, Stmts, Empty, Assign, If, While, Repeat, For, ForIn, With, Procedure, Case, Halt, Write, none, next, Arms, no_arm, next_arm, Other, no_other, otherwise_do, SetOf, OnSets, Card, Designator, Single, Range, Designators, no_member, next_member, SetConstant}
 use Rattle.ep_typed.specs.Trees as tree
 use Rattle.ep_typed.specs.declared.interface.Formal.{Formal}
 use Rattle.ep_typed.specs.declared.interface.FormalMode.{FormalMode}
@@ -28,6 +28,7 @@ mode_threatens mode.ProtectedVariable = false
 abbrev pub is_variable : Entire → Place → Bool
 is_variable v (Indexed array index) = is_variable v array
 is_variable v (Field whole number) = is_variable v whole
+is_variable v (Variant whole selection number) = is_variable v whole
 is_variable (OfUnit unit number) (Variable other place) = bytes_eq unit other && number == place
 is_variable (OfRoutine up number) (Own other place) = up == other && number == place
 is_variable v place = false
@@ -47,6 +48,7 @@ module _ (formals_of : List ℕ → ℕ → List Formal) (variable : Entire) whe
     expr_threatens (Function callee given) = actuals_threaten (formals_of callee.unit callee.number) given
     expr_threatens (IndexedValue array index) = expr_threatens array || expr_threatens index
     expr_threatens (FieldValue whole number) = expr_threatens whole
+    expr_threatens (SetConstant members) = false
     expr_threatens (SetOf members) = members_threaten members
     expr_threatens (OnSets operation x y) = expr_threatens x || expr_threatens y
     expr_threatens (Card x) = expr_threatens x
@@ -67,6 +69,7 @@ module _ (formals_of : List ℕ → ℕ → List Formal) (variable : Entire) whe
     place_threatens (Standard file) = false
     place_threatens (Indexed array index) = place_threatens array || expr_threatens index
     place_threatens (Field whole number) = place_threatens whole
+    place_threatens (Variant whole selection number) = place_threatens whole
 
     -- whether what is given for a parameter of this mode threatens the variable: it is the variable itself or a component of it, a place with an index that threatens it, or an expression that does
     pub actual_threatens : FormalMode → Actual → Bool
@@ -102,6 +105,7 @@ module _ (formals_of : List ℕ → ℕ → List Formal) where
     threatens v (Repeat line ss x) = stmts_threaten v ss || expr_threatens formals_of v x
     -- the control variable of a `for` is threatened by it
     threatens v (For line c x y s) = is_variable v (entire c.variable) || (expr_threatens formals_of v x || (expr_threatens formals_of v y || threatens v s))
+    threatens v (ForIn line c x s) = is_variable v (entire c.variable) || (expr_threatens formals_of v x || threatens v s)
     -- what threatens the variable that stands for a place threatens that of which the place is a component
     threatens v (With line stands of place s) = place_threatens formals_of v place || (threatens v s || is_variable v place && threatens stands s)
     threatens v (Procedure line callee given) = actuals_threaten formals_of v (formals_of callee.unit callee.number) given
@@ -137,15 +141,15 @@ inner_threatens routine routines number = list_any (λ r. threatens_from routine
 
 -- ---- assignments to a name, by the text (ISO 10206, 6.9.2.2)
 
--- whether there is a statement that assigns
-abbrev pub assigns_if : Option Bool → Bool
-assigns_if None = false
-assigns_if (Some b) = b
+-- whether what is there passes
+abbrev pub true_if : Option Bool → Bool
+true_if None = false
+true_if (Some b) = b
 
--- whether one of these assigns
-abbrev pub any_assigns : List Bool → Bool
-any_assigns [] = false
-any_assigns (b ∷ bs) = b || any_assigns bs
+-- whether one of these passes
+abbrev pub any_true : List Bool → Bool
+any_true [] = false
+any_true (b ∷ bs) = b || any_true bs
 
 module _ (name : List ℕ) where
   -- whether another name with these selectors is the name alone
@@ -163,10 +167,10 @@ module _ (name : List ℕ) where
   in_statement (Statement-F.Assignment line access value) = is_bare access
   in_statement (Statement-F.Call line access) = false
   in_statement (Statement-F.Compound compound) = compound
-  in_statement (Statement-F.If line condition then other) = then || assigns_if other
-  in_statement (Statement-F.Case line selector arms other) = any_assigns arms || assigns_if other
+  in_statement (Statement-F.If line condition then other) = then || true_if other
+  in_statement (Statement-F.Case line selector arms other) = any_true arms || true_if other
   in_statement (Statement-F.While line condition body) = body
-  in_statement (Statement-F.Repeat line statements condition) = any_assigns statements
+  in_statement (Statement-F.Repeat line statements condition) = any_true statements
   in_statement (Statement-F.For line variable start direction end body) = body
   in_statement (Statement-F.ForIn line variable members body) = body
   in_statement (Statement-F.With line accesses body) = body
@@ -177,11 +181,11 @@ module _ (name : List ℕ) where
 
   -- the statements between `begin` and `end`
   abbrev pub in_compound : Compound-F Bool Bool Bool Bool → Bool
-  in_compound c = any_assigns c.statements
+  in_compound c = any_true c.statements
 
   -- the statements behind `otherwise`
   abbrev pub in_otherwise : Otherwise-F Bool Bool Bool Bool → Bool
-  in_otherwise o = any_assigns o.statements
+  in_otherwise o = any_true o.statements
 
   -- whether a statement, or one inside of it, assigns to the name
   abbrev pub statement_assigns : Statement → Bool

@@ -5,19 +5,23 @@
 //! the text, and specs/Cases.antt for the labels of `case`; names are those of ep_scope, and expressions those of
 //! ep_check_expr, as are the rules of what is given to variables and procedures. By `laws_of_statements` what the rules
 //! accept is valid. `threatens`, `inner_threatens` and `assigns` tell whether statements threaten a variable and whether
-//! they give a function its result, as specs/Threats.antt says. `CheckRefusal` and `Outcome` are what items come to,
+//! they give a function its result, as specs/Threats.antt says; `has_for` and `has_for_in` which auxiliary variables a block
+//! needs, as specs/Auxiliaries.antt says. `CheckRefusal` and `Outcome` are what items come to,
 //! declarations too. proofs/judged is a library of lemmas on what rules judge, for the crates above as well.
 #![tactic(auto)]
 
+mod auxiliaries;
 mod cases;
 mod laws;
 mod loops;
+mod members;
 mod outcome;
 mod statements;
 mod targets;
 mod threats;
 mod writing;
 
+pub use auxiliaries::{has_for, has_for_in};
 pub use laws::laws_of_statements;
 pub use outcome::{CheckRefusal, Outcome, refused_at};
 pub use statements::{Context, FunctionResult, Locals, Row};

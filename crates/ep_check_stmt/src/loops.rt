@@ -33,7 +33,7 @@ pub(crate) struct Counted<'a> {
     /// The variable.
     pub(crate) variable: Entire<'a>,
     /// The host.
-    host: Host,
+    pub(crate) host: Host,
 }
 
 /// A `for` statement without its body: what it counts with, and the initial and the final value.

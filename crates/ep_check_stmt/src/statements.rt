@@ -14,10 +14,11 @@ ghost use Rattle.ep_check_expr.specs.Expressions.{judged, judged_value};
 ghost use Rattle.ep_check_expr.specs.Judgements.{both};
 ghost use Rattle.ep_check_stmt.specs.Answers.{AnswersForm, AnswersRow, arms_of, context_of, entire_of, fails_among, stmts_of, target_of};
 ghost use Rattle.ep_check_stmt.specs.Statements as spec;
-ghost use Rattle.ep_check_stmt.specs.Statements.{Judgement, after, arm_judged, arm_row, arms_in_order, assigned, component_rules, compound_judged, compound_under, condition_judged, control_judged, declared_called, for_judged, formed, if_judged, in_order, name_called, own_called, repeat_judged, required_called, statement_judged, target_judged, tested};
+ghost use Rattle.ep_check_stmt.specs.Statements.{Judgement, after, arm_judged, arm_row, arms_in_order, assigned, component_rules, compound_judged, compound_under, condition_judged, control_judged, declared_called, for_in_judged, for_judged, formed, if_judged, in_order, name_called, own_called, repeat_judged, required_called, statement_judged, target_judged, tested};
 
 use crate::cases::{arm_form, case_form, no_otherwise, otherwise_form};
 use crate::loops::{falls_by, for_form, one_more};
+use crate::members::for_in_form;
 use crate::outcome::{CheckRefusal, Outcome, item_at, refused_at};
 use crate::targets::Target;
 use crate::threats::Entire;
@@ -75,6 +76,8 @@ pub struct Context<'a> {
     pub results: &'a [FunctionResult],
     /// The variables of the block.
     pub locals: Locals<'a>,
+    /// The number of the auxiliary variable of `for` statements over members among them (ISO 10206, 6.9.3.9.3).
+    pub members: u32,
     /// The routines of the unit.
     pub routines: &'a [UnitRoutine],
 }
@@ -331,7 +334,10 @@ impl<'a> Context<'a> {
                 end.get(),
                 controls,
             ),
-            _ => unreachable!(),
+            Statement::ForIn(line, name, set, body) => {
+                self.over_members(body.get(), *line, name, set.get(), controls)
+            }
+            Statement::With(_, _, _) => unreachable!(),
         }
     }
 
@@ -362,6 +368,31 @@ impl<'a> Context<'a> {
         let head = self.head(control, falls_by(direction), start, end);
         let form = self.unless_head_threatens(controls, head);
         for_form(self.alloc, line, item_at(line, form), inner)
+    }
+
+    /// A `for` statement over the members of a set with this body and control variable.
+    #[cycle(statements)]
+    fn over_members(
+        &self,
+        body: &Statement,
+        line: Line,
+        name: &Name,
+        set: &Expression,
+        controls: &[Entire<'a>],
+    ) -> Row<Boxed<TypedStmt>>
+        requires body { statement_unbuilt body.now ≡ None }
+        requires set { expression_unbuilt set.now ≡ None }
+        ensures { AnswersRow stmt_of result (for_in_judged (context_of self.now) (map entire_of controls.now) line
+            (control_judged (context_of self.now) name.now) set.now (statement_judged (context_of self.now) body.now)) }
+    {
+        let control = match self.control(name) {
+            Ok(control) => control,
+            Err(refusal) => return Err(refused_at(line, refusal)),
+        };
+        let inner = self.statement_under(body, control.variable, controls);
+        let head = self.member_head(control, set);
+        let form = self.unless_member_threatens(controls, head);
+        for_in_form(self.alloc, line, item_at(line, form), inner)
     }
 
     /// The body of a `for` with this control variable.

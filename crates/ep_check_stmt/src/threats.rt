@@ -9,7 +9,7 @@ ghost use Rattle.ep_typed.specs.Viewed.{actual_of, arm_of, designator_of, expr_o
 ghost use Rattle.ep_check_stmt.specs.Answers.{entire_of};
 ghost use Rattle.ep_check_stmt.specs.RoutineForms.{formals_at, formals_if, routine_form};
 ghost use Rattle.ep_check_stmt.specs.Threats as spec;
-ghost use Rattle.ep_check_stmt.specs.Threats.{any_assigns, arm_assigns, statement_assigns, stmts_threaten};
+ghost use Rattle.ep_check_stmt.specs.Threats.{any_true, arm_assigns, statement_assigns, stmts_threaten};
 
 use ep_base::{Name, NoMemory};
 use ep_tree::{Access, Arm, Compound, Statement};
@@ -158,6 +158,11 @@ pub(crate) fn statement_threatens(
                 || expr_threatens(last.get(), routines, variable)
                 || statement_threatens(body.get(), routines, variable)
         }
+        TypedStmt::ForIn(_, control, set, body) => {
+            is_same(variable, &control.variable)
+                || expr_threatens(set.get(), routines, variable)
+                || statement_threatens(body.get(), routines, variable)
+        }
         TypedStmt::With(_, stands, _, place, body) => {
             place_threatens(place, routines, variable)
                 || statement_threatens(body.get(), routines, variable)
@@ -238,7 +243,7 @@ pub(crate) fn expr_threatens(x: &TypedExpr, routines: &[UnitRoutine], variable: 
         (expr_of x.now) }
 {
     match x {
-        TypedExpr::Constant(_) | TypedExpr::Text(_) => false,
+        TypedExpr::Constant(_) | TypedExpr::Text(_) | TypedExpr::SetConstant(_) => false,
         TypedExpr::Read(place) => place_threatens(place, routines, variable),
         TypedExpr::Unary(_, operand) => expr_threatens(operand.get(), routines, variable),
         TypedExpr::Binary(_, left, right) => {
@@ -320,7 +325,9 @@ fn place_threatens(place: &TypedPlace, routines: &[UnitRoutine], variable: Entir
             place_threatens(array.get(), routines, variable)
                 || expr_threatens(index.get(), routines, variable)
         }
-        TypedPlace::Field(whole, _) => place_threatens(whole.get(), routines, variable),
+        TypedPlace::Field(whole, _) | TypedPlace::Variant(whole, _, _) => {
+            place_threatens(whole.get(), routines, variable)
+        }
     }
 }
 
@@ -402,9 +409,12 @@ pub(crate) fn is_variable(variable: Entire<'_>, place: &TypedPlace) -> bool
             unit.bytes() == other.bytes() && number == *own
         }
         (Entire::Own(up, number), TypedPlace::Own(other, own)) => up == *other && number == *own,
-        (_, TypedPlace::Indexed(whole, _) | TypedPlace::Field(whole, _)) => {
-            is_variable(variable, whole.get())
-        }
+        (
+            _,
+            TypedPlace::Indexed(whole, _)
+            | TypedPlace::Field(whole, _)
+            | TypedPlace::Variant(whole, _, _),
+        ) => is_variable(variable, whole.get()),
         _ => false,
     }
 }
@@ -431,7 +441,7 @@ pub fn assigns(name: &Name, statements: &Compound) -> bool
 /// Whether one of these statements assigns to the name.
 #[cycle(assignments)]
 fn any_assigns(name: &Name, all: &[Statement]) -> bool
-    ensures { result ≡ any_assigns (map (statement_assigns name.now) all.now) }
+    ensures { result ≡ any_true (map (statement_assigns name.now) all.now) }
 {
     for s in all {
         if statement_assigns(name, s) {
@@ -469,7 +479,7 @@ fn statement_assigns(name: &Name, s: &Statement) -> bool
 /// Whether the statement of one of these arms does.
 #[cycle(assignments)]
 fn any_arm_assigns(name: &Name, all: &[Arm]) -> bool
-    ensures { result ≡ any_assigns (map (arm_assigns name.now) all.now) }
+    ensures { result ≡ any_true (map (arm_assigns name.now) all.now) }
 {
     for a in all {
         if arm_assigns(name, a) {

@@ -141,16 +141,19 @@ hidden_result = refl
 
 -- ---- blocks
 
+abbrev no_statements : Compound
+no_statements = roll-Compound (record { line = 6; statements = [] })
+
 -- the parameter and the result of f
 two_variables : own_count inside_f.own ≡ 2
 two_variables = refl
 
 -- f is assigned to
-assigned : (context_of inside_f).results ≡ record { function = 1; level = 1; variable = 1; kind = kind.Ordinal host.Integer } ∷ []
+assigned : (context_of inside_f no_statements).results ≡ record { function = 1; level = 1; variable = 1; kind = kind.Ordinal host.Integer } ∷ []
 assigned = refl
 
 -- g is not, whose result has a name
-not_assigned : (context_of inside_g).results ≡ []
+not_assigned : (context_of inside_g no_statements).results ≡ []
 not_assigned = refl
 
 -- which is entered in its block
@@ -198,13 +201,10 @@ locals_of_h : locals_of with_x ≡ OfRoutine 3 1 2
 locals_of_h = refl
 
 -- both are assigned to there
-both_assigned : (context_of inside_h).results ≡ record { function = 3; level = 2; variable = 0; kind = kind.Ordinal host.Integer } ∷ record { function = 1; level = 1; variable = 1; kind = kind.Ordinal host.Integer } ∷ []
+both_assigned : (context_of inside_h no_statements).results ≡ record { function = 3; level = 2; variable = 0; kind = kind.Ordinal host.Integer } ∷ record { function = 1; level = 1; variable = 1; kind = kind.Ordinal host.Integer } ∷ []
 both_assigned = refl
 
 -- ---- results that are given from inside
-
-abbrev no_statements : Compound
-no_statements = roll-Compound (record { line = 6; statements = [] })
 
 nothing_assigned : (name : List ℕ) → assigns name no_statements ≡ false
 nothing_assigned name = fold-roll-Compound Bool Bool Bool Bool (in_statement name) (in_arm name) (in_compound name) (in_otherwise name) (record { line = 6; statements = [] })

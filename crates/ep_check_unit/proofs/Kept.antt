@@ -40,10 +40,10 @@ use Rattle.ep_check_expr.specs.Constants.{constant_judged, bound_judged}
 use Rattle.ep_check_expr.specs.Names.{undeclared}
 use Rattle.ep_check_expr.specs.declared.constants.ConstantForm.{ConstantForm}
 use Rattle.ep_check_stmt.proofs.judged.Fits.{Any, Fits, fits_then, fits_both, fits_any}
-use Rattle.ep_check_stmt.specs.Statements.{Judgement, Passes, Waits, Fails, compound_judged}
+use Rattle.ep_check_stmt.specs.Statements.{Judgement, Passes, Waits, Fails}
 use Rattle.ep_check_unit.specs.Declarations.{unless_large, Fielded, Part as DenoterPart, Section, field_of, fields_named, record_over, section_written, sections_written, set_on, set_over, unless_wide, all_variables_declared, and_then, array_over, at_line, common_host, constant_definition, constant_entered, constants_declared, core_of, core_part, core_written, declaration_ended, declared_type, entered, enumerated, enumeration, index_host, next_enumeration, noted, ordered, range, scopes_of, settled, settled_part, settled_type, Standing, Stands, Falls, subrange, type_definition, type_definitions, type_entered, type_meant, type_named, type_written, unused, variable_declaration, variable_entered, variables_declared, variables_entered, with_constant, with_name, with_type, is_outermost, with_own_variable, with_unit_variable, with_variable, own_thing, Written}
 use Rattle.ep_check_unit.specs.Functions.{if_given, in_block, is_assigned, is_in_view, own_name_entered, result_entered, routine_declaration, row_gives, same_result}
-use Rattle.ep_check_unit.specs.Routines.{BodyJudged, Headed, PartJudged, all_declared, assigns_among, block_declared, body_closed, body_declared, body_ended, context_of, declared_routine, formals_entered, forwarded, has_body, heading_entered, inside_declared, is_repeated, headed_again, headed_first, headed_over, headed_then, identified_again, identified_over, of_body, of_part, of_routine, part_judged, parts_declared, result_headed, result_judged, routine_body_judged, routine_judged, routine_there, sections_judged, scope_opened, start_headed, start_name, with_routine}
+use Rattle.ep_check_unit.specs.Routines.{BodyJudged, Headed, PartJudged, all_declared, assigns_among, block_declared, body_closed, body_declared, body_ended, declared_routine, formals_entered, forwarded, has_body, headed_again, headed_first, headed_over, headed_then, heading_entered, identified_again, identified_over, inside_declared, is_repeated, of_body, of_part, of_routine, part_judged, parts_declared, result_headed, result_judged, routine_body_judged, routine_judged, routine_there, scope_opened, sections_judged, start_headed, start_name, statements_judged, with_routine}
 use Rattle.ep_check_unit.specs.declared.functions.HeadingResult.{HeadingResult}
 use Rattle.ep_check_unit.specs.Units.{parameter_entered, parameters_entered, standard_file}
 use Rattle.ep_check_unit.specs.Blocks.{Block}
@@ -316,7 +316,7 @@ module _ (n : List ℕ) where
 
   body-kept : (line : ℕ) (name : List ℕ) (number : ℕ) (before : OwnVariables) (c : Compound) (b : Block) → IsOf b → Remains (body_declared line name number before c b)
   body-kept line name number before c b i =
-      let row = compound_judged (context_of b) c in
+      let row = statements_judged b c in
       if_given-kept line (is_in_view b.own.result name b) (body_ended line number before b row) (if_given-kept line (row_gives b row) (body_closed line number before b row) (body_closed-kept line number before b row i))
 
   -- what is declared keeps a block one of the unit

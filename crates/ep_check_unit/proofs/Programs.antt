@@ -13,7 +13,7 @@ use Rattle.ep_check_expr.specs.Judgements.{Judged, Accepts}
 use Rattle.ep_check_expr.specs.declared.forms.Refusal.{Refusal}
 use Rattle.ep_check_stmt.specs.Answers.{Refuses, RefusesRow, passed, stmts_of}
 use Rattle.ep_check_stmt.specs.Outcomes.{refused_at}
-use Rattle.ep_check_stmt.specs.Statements.{Judgement, Passes, Waits, Fails, after, compound_judged}
+use Rattle.ep_check_stmt.specs.Statements.{Judgement, Passes, Waits, Fails, after}
 use Rattle.ep_check_stmt.specs.declared.outcome.CheckRefusal.{CheckRefusal}
 use Rattle.ep_check_stmt.specs.declared.outcome.CheckRefusal.TheVariants as refusal
 use Rattle.ep_check_stmt.specs.declared.outcome.Outcome.{Outcome}
@@ -21,7 +21,7 @@ use Rattle.ep_check_stmt.specs.declared.outcome.Outcome.TheVariants as outcome
 use Rattle.ep_check_unit.specs.Answers.{RefusesItems}
 use Rattle.ep_check_unit.specs.Checks.{AnswersBuilt, AnswersMissing, IsRefusalOf, IsUnitWith}
 use Rattle.ep_check_unit.specs.Declarations.{Standing, Stands, Falls, and_then, at_line}
-use Rattle.ep_check_unit.specs.Routines.{context_of, parts_declared}
+use Rattle.ep_check_unit.specs.Routines.{parts_declared, statements_judged}
 use Rattle.ep_check_unit.specs.Units.{IsTypedProgram, ProgramForm, body_judged, declarations_wait, first_missing, imports_of, parameters_entered, program_block, program_form, program_judged, unless_missing}
 use Rattle.ep_check_unit.specs.Blocks.{Block}
 use Rattle.ep_check_unit.proofs.Kept.{parameters-remain, parts-remain}
@@ -58,9 +58,9 @@ row_refused b (Some at) None (Fails line rules) (refusal.Broken c) h = h
 row_refused b (Some at) (Some other) (Fails line rules) (refusal.Broken c) h = h
 
 pub statements_refused : (p : Program) (first second : Block) (r : CheckRefusal) → parameters_entered p.parameters (program_block p) ≡ Accepts first → parts_declared p.parts first ≡ Stands second
-    → RefusesRow r (compound_judged (context_of second) p.body) → IsRefusalOf (program_judged p) r
+    → RefusesRow r (statements_judged second p.body) → IsRefusalOf (program_judged p) r
 statements_refused p first second r e f h =
-    rw (program_is p first second e f) (row_refused second (first_missing second.forwards second.bodies) second.waits (compound_judged (context_of second) p.body) r h)
+    rw (program_is p first second e f) (row_refused second (first_missing second.forwards second.bodies) second.waits (statements_judged second p.body) r h)
 
 -- a procedure that has no body
 missing_broken : (b : Block) (line : ℕ) (waits : Option ℕ) (found : Outcome (List TypedStmt))
@@ -76,7 +76,7 @@ missing_first b None waits found r h = cc
 missing_first b (Some line) waits found r h = let e : r ≡ refusal.Broken (record { rule = rule.NO_BODY; line = line }) = cc in rw e (missing_broken b line waits found)
 
 pub missing_refused : (p : Program) (first second : Block) (found : Outcome (List TypedStmt)) (r : CheckRefusal) → parameters_entered p.parameters (program_block p) ≡ Accepts first → parts_declared p.parts first ≡ Stands second
-    → compound_judged (context_of second) p.body ≡ passed stmts_of found → AnswersMissing (first_missing second.forwards second.bodies) (Err r) → IsRefusalOf (program_judged p) r
+    → statements_judged second p.body ≡ passed stmts_of found → AnswersMissing (first_missing second.forwards second.bodies) (Err r) → IsRefusalOf (program_judged p) r
 missing_refused p first second found r e f g h = rw (program_is p first second e f, g) (missing_first second (first_missing second.forwards second.bodies) second.waits found r h)
 
 -- none is missing
@@ -92,7 +92,7 @@ waits_first b (Some line) (outcome.Passes ss) r h = let e : r ≡ refusal.NotBui
 waits_first b (Some line) (outcome.Waits other) r h = let e : r ≡ refusal.NotBuilt line = cc in rw e refl
 
 pub waits_refused : (p : Program) (first second : Block) (found : Outcome (List TypedStmt)) (r : CheckRefusal) → parameters_entered p.parameters (program_block p) ≡ Accepts first → parts_declared p.parts first ≡ Stands second
-    → compound_judged (context_of second) p.body ≡ passed stmts_of found → AnswersMissing (first_missing second.forwards second.bodies) (Ok tt) → AnswersBuilt second.waits found (Err r) → IsRefusalOf (program_judged p) r
+    → statements_judged second p.body ≡ passed stmts_of found → AnswersMissing (first_missing second.forwards second.bodies) (Ok tt) → AnswersBuilt second.waits found (Err r) → IsRefusalOf (program_judged p) r
 waits_refused p first second found r e f g m h =
     rw (program_is p first second e f, none_missing (first_missing second.forwards second.bodies) m, g) (waits_first second second.waits found r h)
 
@@ -104,7 +104,7 @@ all_pass b (Some line) (outcome.Passes all) ss h = cc
 all_pass b (Some line) (outcome.Waits other) ss h = cc
 
 pub program_passes : (p : Program) (first second : Block) (found : Outcome (List TypedStmt)) (ss : List TypedStmt) → parameters_entered p.parameters (program_block p) ≡ Accepts first → parts_declared p.parts first ≡ Stands second
-    → compound_judged (context_of second) p.body ≡ passed stmts_of found → AnswersMissing (first_missing second.forwards second.bodies) (Ok tt) → AnswersBuilt second.waits found (Ok ss) → program_judged p ≡ Passes (program_form second (stmts_of ss))
+    → statements_judged second p.body ≡ passed stmts_of found → AnswersMissing (first_missing second.forwards second.bodies) (Ok tt) → AnswersBuilt second.waits found (Ok ss) → program_judged p ≡ Passes (program_form second (stmts_of ss))
 program_passes p first second found ss e f g m h =
     rw (program_is p first second e f, none_missing (first_missing second.forwards second.bodies) m, g) (all_pass second second.waits found ss h)
 
@@ -116,7 +116,7 @@ empty_is = ap stmt_of (sym typed.rolls-Empty) ∙ fold-roll-TypedStmt Stmt Arm s
 
 -- its unit
 pub program_typed : (p : Program) (first second : Block) (found : Outcome (List TypedStmt)) (ss : List TypedStmt) (u : TypedUnit) → parameters_entered p.parameters (program_block p) ≡ Accepts first → parts_declared p.parts first ≡ Stands second
-    → compound_judged (context_of second) p.body ≡ passed stmts_of found → AnswersMissing (first_missing second.forwards second.bodies) (Ok tt) → AnswersBuilt second.waits found (Ok ss) → IsUnitWith second (imports_of p.parameters) ss u → IsTypedProgram p u
+    → statements_judged second p.body ≡ passed stmts_of found → AnswersMissing (first_missing second.forwards second.bodies) (Ok tt) → AnswersBuilt second.waits found (Ok ss) → IsUnitWith second (imports_of p.parameters) ss u → IsTypedProgram p u
 program_typed p first second found ss u e f g m h w = record {
   form = program_form second (stmts_of ss);
   passes = program_passes p first second found ss e f g m h;

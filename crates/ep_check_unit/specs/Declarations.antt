@@ -23,6 +23,7 @@ use Rattle.ep_typed.specs.TypeValues.{TypeValue}
 use Rattle.ep_typed.specs.declared.denoter.Bound.TheVariants.{Constant as Fixed}
 use Rattle.ep_typed.specs.declared.denoter.Denoter.{Denoter}
 use Rattle.ep_typed.specs.declared.denoter.Denoter.TheVariants as denoter
+use Rattle.ep_typed.specs.declared.denoter.FieldPart.{FieldPart, roll-FieldPart}
 use Rattle.ep_typed.specs.declared.denoter.RecordField.{RecordField, roll-RecordField}
 use Rattle.ep_typed.specs.declared.denoter.RequiredType.{RequiredType}
 use Rattle.ep_typed.specs.declared.denoter.RequiredType.TheVariants as simple
@@ -370,11 +371,15 @@ abbrev pub record_nodes : ℕ → List Field → ℕ
 record_nodes nodes [] = nodes
 record_nodes nodes (f ∷ fs) = record_nodes (counted nodes f.nodes) fs
 
+-- all of a record, which has no variant part
+abbrev pub field_part : List Field → FieldPart
+field_part fields = roll-FieldPart (record { fields = map record_field fields; variant_part = None })
+
 -- the record type with these fields (ISO 10206, 6.4.3.4)
 abbrev pub record_over : Fielded → Written
 record_over f =
     record {
-      denoter = denoter.Record (map record_field f.fields);
+      denoter = denoter.Record (field_part f.fields);
       of = next_type f.block;
       kind = kind.Structured (length f.block.types);
       nodes = record_nodes 1 f.fields;

@@ -1,6 +1,6 @@
 -- What the static rules say of routines, and of all parts of a block (ISO 10206, 6.2.1 and 6.7). The declaration of a routine without its block is an item, on the line of the word `procedure` or `function`.
 use Rattle.std.specs.List.{list_any}
-use Rattle.std.specs.Prelude.{ℕ, suc, Bool, true, false, not, ◌||◌, List, [], ◌∷◌, ◌++◌, map, length, slice_get, slice_set, Option, Some, None, is_none, if◌then◌else◌}
+use Rattle.std.specs.Prelude.{ℕ, ◌+◌, suc, Bool, true, false, not, ◌||◌, List, [], ◌∷◌, ◌++◌, map, length, slice_get, slice_set, Option, Some, None, is_none, if◌then◌else◌}
 use Rattle.std.specs.Str.{bytes_eq}
 use Rattle.ep_tree.specs.declared.declaration.FormalSection.{FormalSection}
 use Rattle.ep_tree.specs.declared.declaration.FormalType.{FormalType}
@@ -32,6 +32,7 @@ use Rattle.ep_scope.specs.declared.thing.Declaration.TheVariants as declaration
 use Rattle.ep_scope.specs.declared.thing.Thing.{Thing}
 use Rattle.ep_scope.specs.declared.thing.Thing.TheVariants as thing
 use Rattle.ep_check_expr.specs.Judgements.{Judged, Accepts, Breaks, unbuilt, when_accepted}
+use Rattle.ep_check_stmt.specs.Auxiliaries.{has_for}
 use Rattle.ep_check_stmt.specs.Statements.{Context, Locals, OfUnit, OfRoutine, Judgement, Passes, Waits, Fails, compound_judged}
 use Rattle.ep_check_stmt.specs.Threats.{assigns}
 use Rattle.ep_check_unit.specs.Blocks.{Block, RoutineForm, around_of, first_own, own_count}
@@ -234,9 +235,30 @@ locals_in b (e ∷ es) = OfRoutine e.number (first_own b.own) (own_count b.own)
 abbrev pub locals_of : Block → Locals
 locals_of b = locals_in b b.own.enclosing
 
--- what the statements of a block know
-abbrev pub context_of : Block → Context
-context_of b = record { unit = b.unit; scopes = scopes_of b; output = b.output; results = assigned_functions b.own.enclosing; locals = locals_of b; routines = b.routines }
+-- the number of the first auxiliary variable of a block, which stands behind all that it declares
+abbrev pub first_auxiliary : Locals → ℕ
+first_auxiliary (OfUnit unit auxiliary) = auxiliary
+first_auxiliary (OfRoutine routine first auxiliary) = auxiliary
+
+-- that of the one of `for` over members, which stands behind the two of `for` with bounds, where the statements have such a `for`
+abbrev pub members_of : Locals → Compound → ℕ
+members_of locals c = first_auxiliary locals + (if has_for c then 2 else 0)
+
+-- what the statements of the block know
+abbrev pub context_of : Block → Compound → Context
+context_of b c =
+    record {
+      unit = b.unit;
+      scopes = scopes_of b;
+      output = b.output;
+      results = assigned_functions b.own.enclosing;
+      locals = locals_of b;
+      members = members_of (locals_of b) c;
+      routines = b.routines;
+    }
+
+abbrev pub statements_judged : Block → Compound → Judgement Stmts
+statements_judged b c = compound_judged (context_of b c) c
 
 -- a routine with the block that a declaration on this line has, and the variables that are declared there
 abbrev pub with_its_block : ℕ → List UnitVariable → Stmt → RoutineForm → RoutineForm
@@ -267,7 +289,7 @@ body_ended line number before b row = if_given line (row_gives b row) (body_clos
 
 -- the statements of the routine of this name and number, in whose block the name means the routine
 abbrev pub body_declared : ℕ → List ℕ → ℕ → OwnVariables → Compound → Block → Standing
-body_declared line name number before c b = if_given line (is_in_view b.own.result name b) (body_ended line number before b (compound_judged (context_of b) c))
+body_declared line name number before c b = if_given line (is_in_view b.own.result name b) (body_ended line number before b (statements_judged b c))
 
 -- ---- parts of a block (ISO 10206, 6.2.1)
 

@@ -15,9 +15,9 @@ use Rattle.ep_scope.specs.Scopes.{row_of}
 use Rattle.ep_scope.specs.declared.rule.TheConstants as rule
 use Rattle.ep_scope.specs.declared.thing.Thing.TheVariants as thing
 use Rattle.ep_check_expr.specs.Judgements.{Judged, Accepts, unbuilt, when_accepted}
-use Rattle.ep_check_stmt.specs.Statements.{Judgement, Passes, Waits, Fails, fails_at, after, compound_judged}
+use Rattle.ep_check_stmt.specs.Statements.{Judgement, Passes, Waits, Fails, fails_at, after}
 use Rattle.ep_check_unit.specs.Declarations.{Standing, Stands, Falls, at_line, and_then, entered}
-use Rattle.ep_check_unit.specs.Routines.{context_of, has_number, parts_declared}
+use Rattle.ep_check_unit.specs.Routines.{has_number, parts_declared, statements_judged}
 use Rattle.ep_check_unit.specs.Blocks.{Block, routine_form}
 use Rattle.ep_check_unit.specs.declared.block.Forward.{Forward}
 
@@ -78,7 +78,7 @@ program_form b ss = record { block = b; statements = ss }
 
 -- the declarations, then the statements, and then the `forward` declarations once more
 abbrev pub body_judged : Program → Standing → Judgement ProgramForm
-body_judged p (Stands b) = unless_missing (first_missing b.forwards b.bodies) (after program_form (declarations_wait b b.waits) (compound_judged (context_of b) p.body))
+body_judged p (Stands b) = unless_missing (first_missing b.forwards b.bodies) (after program_form (declarations_wait b b.waits) (statements_judged b p.body))
 body_judged p (Falls line rules) = Fails line rules
 
 abbrev pub program_judged : Program → Judgement ProgramForm

@@ -12,7 +12,7 @@ use crate::types::{NamedType, Written, counted, type_denoter};
 use ep_base::{List, Name, NoMemory};
 use ep_check_expr::Refusal;
 use ep_scope::{Composition, FieldType, FieldTypes, Kind, StructuredType, TypeName, rule};
-use ep_typed::{Denoter, RecordField, RecordFields};
+use ep_typed::{Denoter, FieldPart, RecordField, RecordFields};
 use std::alloc::Global;
 
 /// A field of a record that is written (ISO 10206, 6.4.3.4).
@@ -113,14 +113,17 @@ impl Block {
             (Accepts (record_over (fields_in (block_of self.old) fields.now))) }
     {
         let number = number(self.types.items().len())?;
-        let denoter = Denoter::Record(denoted(alloc, fields)?);
+        let part = FieldPart {
+            fields: denoted(alloc, fields)?,
+            variant_part: None,
+        };
         let composition = Composition::Record(typed(alloc, fields)?);
         self.scopes.add_structure(StructuredType {
             number,
             composition,
         })?;
         Ok(Written {
-            denoter,
+            denoter: Denoter::Record(part),
             of: TypeName::Entry(number),
             kind: Kind::Structured(number),
             nodes: nodes(fields),

@@ -3,19 +3,18 @@
 ghost use Rattle.std.specs.Prelude.{◌≡◌, None, true, false, map};
 ghost use Rattle.ep_built.specs.Built.{compound_unbuilt, first_in, part_unbuilt, routine_unbuilt, start_unbuilt};
 ghost use Rattle.ep_typed.specs.Trees as tree;
-ghost use Rattle.ep_check_stmt.specs.Answers.{AnswersRow, passed, stmts_of};
-ghost use Rattle.ep_check_stmt.specs.Statements.{compound_judged};
-ghost use Rattle.ep_check_unit.specs.Answers.{AnswersLocals, AnswersStanding, headed_in};
+ghost use Rattle.ep_check_stmt.specs.Answers.{AnswersRow, locals_of as locals_view, passed, stmts_of};
+ghost use Rattle.ep_check_unit.specs.Answers.{AnswersLocals, AnswersNumber, AnswersStanding, headed_in};
 ghost use Rattle.ep_check_unit.specs.Blocks.{block_of, routine_form};
 ghost use Rattle.ep_check_unit.specs.Declarations.{Stands};
-ghost use Rattle.ep_check_unit.specs.Routines.{all_declared, block_declared, body_closed, body_declared, context_of, forwarded, headed_then, inside_declared, locals_of, part_judged, routine_judged, start_headed, start_name, with_block, with_its_block};
+ghost use Rattle.ep_check_unit.specs.Routines.{all_declared, block_declared, body_closed, body_declared, forwarded, headed_then, inside_declared, locals_of, members_of, part_judged, routine_judged, start_headed, start_name, statements_judged, with_block, with_its_block};
 
 use crate::block::{Block, Forward, OwnVariables, number};
 use crate::functions::if_given;
 use crate::headings::{Heading, start_name};
 use ep_base::{Line, Name};
 use ep_check_expr::Refusal;
-use ep_check_stmt::{CheckRefusal, Context, Locals, Outcome, refused_at};
+use ep_check_stmt::{CheckRefusal, Context, Locals, Outcome, has_for, refused_at};
 use ep_tree::{Compound, Part, Routine, RoutineBody, RoutineStart};
 use ep_typed::{TypedStmt, TypedStmts, UnitRoutine, UnitVariables};
 use std::alloc::Global;
@@ -35,6 +34,27 @@ fn take_block(
     drop(mem::replace(&mut routine.block, TypedStmt::Compound(statements)));
     drop(mem::replace(&mut routine.variables, variables));
     routine.line = line;
+}
+
+/// How many auxiliary variables `for` statements with bounds have (ISO 10206, 6.9.3.9.2).
+const BOUNDS: u32 = 2;
+
+/// The number of the auxiliary variable of `for` statements over members among these variables of a block, which stands
+/// behind those of `for` statements with bounds, where its statements have such a one.
+fn members_of(locals: Locals<'_>, statements: &Compound) -> Result<u32, Refusal>
+    ensures { AnswersNumber (members_of (locals_view locals.entry) statements.now) result }
+{
+    let first = match locals {
+        Locals::Unit(_, auxiliary) => auxiliary,
+        Locals::Routine(_, _, auxiliary) => auxiliary,
+    };
+    if !has_for(statements) {
+        return Ok(first);
+    }
+    match first.checked_add(BOUNDS) {
+        None => Err(Refusal::NoMemory),
+        Some(number) => Ok(number),
+    }
 }
 
 impl Block {
@@ -207,10 +227,14 @@ impl Block {
     ) -> Result<Outcome<TypedStmts>, CheckRefusal>
         requires { compound_unbuilt body.now ≡ None }
         ensures { AnswersRow stmts_of result
-            (compound_judged (context_of (block_of self.now)) body.now) }
+            (statements_judged (block_of self.now) body.now) }
     {
         let locals = match self.locals() {
             Ok(locals) => locals,
+            Err(refusal) => return Err(refused_at(body.line, refusal)),
+        };
+        let members = match members_of(locals, body) {
+            Ok(members) => members,
             Err(refusal) => return Err(refused_at(body.line, refusal)),
         };
         let results = self.assigned_functions(alloc)?;
@@ -222,6 +246,7 @@ impl Block {
             output: self.output,
             results: results.items(),
             locals,
+            members,
             routines: self.routines.as_slice(),
         };
         context.compound(body)

@@ -6,7 +6,7 @@ use Rattle.ep_object.specs.Follows.{end_of}
 use Rattle.ep_object.specs.State.{Going, Running, Stopped, Normal, Halt, Error, Broken}
 use Rattle.ep_object.specs.Tells.{Tells}
 use Rattle.ep_typed.proofs.Lasting.{meanings_last}
-use Rattle.ep_typed.specs.Auxiliaries.{auxiliary_variables, first_for}
+use Rattle.ep_typed.specs.Auxiliaries.{block_auxiliaries}
 use Rattle.ep_typed.specs.Calls.{Argument, Handler, in_call}
 use Rattle.ep_typed.specs.Trees.{Callee}
 use Rattle.ep_typed.specs.Events.{Trace, Does}
@@ -162,7 +162,7 @@ form_does call g from line callee types None xs = cut
 form_does call g from line callee types (Some f) xs =
     in_call callee.levels (activation f.name from line)
     (spend (suc (weights_of xs)) (bind (takes_all call g callee.unit types f.line 0 f.formals xs)
-    (λ _. bind (make_all_own call g callee.unit types (length f.formals) (result_variable f.name f.line f.result ++ (f.variables ++ auxiliary_variables (first_for f.block))))
+    (λ _. bind (make_all_own call g callee.unit types (length f.formals) (result_variable f.name f.line f.result ++ (f.variables ++ block_auxiliaries f.block)))
     (λ _. bind (exec call g callee.unit f.block) (λ _. results_given callee.unit f.line (length f.formals) f.result)))))
 
 does_form : (call : Handler) (g : ℕ) (from : List ℕ) (line : ℕ) (callee : Callee) (types : List UnitType) (o : Option UnitRoutine) (xs : List Argument)
@@ -197,7 +197,7 @@ same_calls u v (suc d) a t r = λ i from line callee arguments. call_alike u v d
 
 -- the meaning is that of the name, the types, the variables, the routines and the statements
 same_meaning : (u v : TypedUnit) (m : ℕ) → AreAlike u v → meaning (u ∷ []) m ≡ meaning (v ∷ []) m
-same_meaning u v m s = let call = same_calls u v m s.names s.types s.routines in λ i. go_on (spend 1 (bind (make_all (call i) m (s.names i) (s.types i) 0 (s.variables i ++ auxiliary_variables (first_for (s.starts i)))) (λ _. exec (call i) m (s.names i) (s.starts i))) m first_state) (λ _. stop meant.Normal)
+same_meaning u v m s = let call = same_calls u v m s.names s.types s.routines in λ i. go_on (spend 1 (bind (make_all (call i) m (s.names i) (s.types i) 0 (s.variables i ++ block_auxiliaries (s.starts i))) (λ _. exec (call i) m (s.names i) (s.starts i))) m first_state) (λ _. stop meant.Normal)
 
 -- a text has one meaning
 text_means : (text : List ℕ) (u v : TypedUnit) (m : ℕ) → IsProgramText text u → IsProgramText text v → meaning (u ∷ []) m ≡ meaning (v ∷ []) m

@@ -27,16 +27,16 @@ use Rattle.ep_object.proofs.rows.Rows.{push_pushes}
 use Rattle.ep_object.proofs.rows.TextRows.{text_pushes}
 use Rattle.ep_typed.specs.Steady.{Steady, IsSteadyHandler}
 use Rattle.ep_typed.specs.Calls.{Handler}
-use Rattle.ep_typed.proofs.Steady.{steady_bind, steady_if, steady_spend, steady_give, steady_answered, steady_eval, steady_read, steady_indexed, steady_selected}
+use Rattle.ep_typed.proofs.Steady.{steady_bind, steady_if, steady_spend, steady_give, steady_answered, steady_eval, steady_read, steady_active, steady_indexed, steady_selected}
 use Rattle.ep_typed.specs.Meaning.{eval, arguments, place}
 use Rattle.ep_typed.specs.Results.{result_of, weight_of}
 use Rattle.ep_typed.specs.Operations.{decides}
 use Rattle.ep_typed.specs.Printing.{Result, number_of}
 use Rattle.ep_typed.specs.Printing as result
 use Rattle.ep_typed.specs.Denoters.{type_of}
-use Rattle.ep_typed.specs.Steps.{Component, Computation, bind, give, spend, component, component_number, type_at, own_variable, has_ended}
+use Rattle.ep_typed.specs.Steps.{Component, Computation, bind, give, spend, component, component_number, type_at, own_variable, has_ended, variant_number}
 use Rattle.ep_typed.specs.Steps as meaning
-use Rattle.ep_typed.specs.Trees.{Callee, Place, Variable, Own, Standard, Indexed, Field, Expr, Constant, Text, Read, One, Two, Short, Step, Function, IndexedValue, FieldValue, SetOf, OnSets, Card, Designator, Single, Range, Designators, no_member, next_member, Actual, Evaluated, Accessed, Actuals, no_actual, next_actual}
+use Rattle.ep_typed.specs.Trees.{Callee, Place, Variable, Own, Standard, Indexed, Field, Variant, Expr, Constant, Text, Read, One, Two, Short, Step, Function, IndexedValue, FieldValue, SetConstant, SetOf, OnSets, Card, Designator, Single, Range, Designators, no_member, next_member, Actual, Evaluated, Accessed, Actuals, no_actual, next_actual}
 use Rattle.ep_typed.specs.Valid.{Declarations, Kind, Ordinal, Bytes, Structured, Set, IsUnary, IsBinary, IsTypeOfKind, IsExpr, AreDesignators, AreGiven, IsDesignator, IsDeclaredUp, Level, variables_at, variables_up}
 use Rattle.ep_typed.specs.declared.interface.Formal.{Formal}
 use Rattle.ep_typed.specs.declared.interface.RoutineEntry.{RoutineEntry}
@@ -48,17 +48,20 @@ use Rattle.ep_typed.specs.Hosts.{Host, least, greatest, is_of_host}
 use Rattle.ep_typed.specs.Hosts as host
 use Rattle.ep_typed.specs.TypeValues.{ComponentTypes, TypeValue, type_among}
 use Rattle.ep_typed.specs.TypeValues as type
+use Rattle.ep_typed.specs.declared.tree.Selection.{Selection}
 use Rattle.ep_typed.specs.declared.unit.UnitVariable.{UnitVariable}
 use Rattle.ep_gen_expr.specs.Following.{least_credit, HasPlaceType, IsValidPlace}
-use Rattle.ep_gen_expr.specs.ExprCode.{IsPlaceCode, IsExprCode, IsActualCode, AreActualsCode, IsDesignatorCode, AreDesignatorsCode, reference, instr, push, bare, one_code, set_code, two_code, keep_code, step_code}
+use Rattle.ep_gen_expr.specs.ExprCode.{IsPlaceCode, IsExprCode, IsActualCode, AreActualsCode, IsDesignatorCode, AreDesignatorsCode, reference, instr, push, bare, one_code, set_code, two_code, keep_code, members_code, step_code, variant_code}
 use Rattle.ep_gen_expr.proofs.Answering.{Evaluates, IsFollowed, IsPlaceFollowed}
 use Rattle.ep_gen_expr.proofs.Arguments.{Fits, fits, IsArgumentFollowed, AreArgumentsFollowed, value_follows, accessed_follows, none_follows, next_follows}
 use Rattle.ep_gen_expr.proofs.Calls.{passed_then, function_follows}
 use Rattle.ep_gen_expr.proofs.ShortCircuit.{kept_follows}
 use Rattle.ep_gen_expr.proofs.OneOperand.{UnaryFollows, unary_follows}
 use Rattle.ep_gen_expr.proofs.Placed.{code_front, code_back, text_at, variable_at}
-use Rattle.ep_gen_expr.proofs.PlaceTypes.{IsArrayWhere, IsRecordWhere, valid_place, typed_place, kind_place, variable_type}
-use Rattle.ep_gen_expr.proofs.Sets.{IsDesignatorFollowed, AreDesignatorsFollowed, card_follows, constructor_follows, next_member_follows, no_member_follows, on_sets_follows, range_follows, single_follows}
+use Rattle.ep_gen_expr.proofs.VariantMoves.{active_follows, bad_place, tag_record}
+use Rattle.ep_gen_expr.proofs.Stays.{variant_length}
+use Rattle.ep_gen_expr.proofs.PlaceTypes.{IsArrayWhere, IsRecordWhere, IsVariantWhere, valid_place, typed_place, kind_place, variable_type}
+use Rattle.ep_gen_expr.proofs.Sets.{IsDesignatorFollowed, AreDesignatorsFollowed, card_follows, constructor_follows, next_member_follows, no_member_follows, on_sets_follows, range_follows, set_constant_follows, single_follows}
 use Rattle.ep_gen_expr.proofs.Stepping.{step_follows}
 use Rattle.ep_gen_expr.proofs.TwoOperands.{BinaryFollows, binary_follows}
 use Rattle.ep_gen_expr.proofs.ValueParts.{field_value_follows, indexed_value_follows}
@@ -270,6 +273,18 @@ module _ {declared : Declarations} {G : Image} {untouched : Slots} {Here : Facts
         (fragment_credit {d = d} (omega arith) (λ r. omega arith) (first injection memory below d le unit_is)) (λ z longer after of_z grown routine.
         kept_follows ps p references call steady_call g unit line room n (at + length xs) (at + length xs + length ks + 2) end operation y ys second refl refl inside stands z of_z longer after below d le (unit_in-same G routine ∙ unit_is)))
 
+    -- the variant of a record, by the record and the tests of its tag
+    variant_follows : (n : ℕ) (s : Selection) (k : ℕ) (ts : ComponentTypes) (t : TypeValue) (low high : ℤ) → type_among ts s.tag ≡ Some (tag_record low high) → type_among ts (variant_number s k) ≡ Some t → (q : Place) (line at : ℕ) (xs : List Instr)
+        → IsPlaceFollowed declared G untouched Here p call g unit n (type.Record ts) q line at xs
+        → CodeStands G ps p references (at + length xs) (variant_code line (at + length xs) s k)
+        → at + length xs + length (variant_code line (at + length xs) s k) < p.instructions.own
+        → IsPlaceFollowed declared G untouched Here p call g unit n t (Variant q s k) line at (xs ++ variant_code line (at + length xs) s k)
+    variant_follows n s k ts t low high has_tag has_variant q line at xs follows has inside injection memory below d le unit_is =
+        let ends : at + length (xs ++ variant_code line (at + length xs) s k) ≡ bad_place (at + length xs) s + 3 = omega (arith, length-append xs (variant_code line (at + length xs) s k), variant_length line (at + length xs) s k) in
+        fragment_bind_place (λ a. steady_active call steady_call g unit line a s k) (follows injection memory below d le unit_is) (λ a b longer after grown routine spot described.
+        fragment_to (ap (λ m. p.instructions.before + m) (sym ends))
+        (active_follows declared G untouched Here ps p references call g unit room line (at + length xs) k s ts t low high has_tag has_variant has inside n longer after below a b spot described (unit_in-same G routine ∙ unit_is) d le))
+
     module _ (lasts : Lasts untouched Here) (among : AreAmong untouched (kept_slots declared G)) (n : ℕ) (kept : CallsAreKept declared G ps call n) where
       mutual
         -- What the machine does from the code of a place follows the meaning of the place.
@@ -298,6 +313,14 @@ module _ {declared : Declarations} {G : Image} {untouched : Slots} {Here : Facts
             (field_follows n ts k t among q line at xs
             (place_follows q (valid_place declared (IsRecordWhere (λ types d. ⊤) k) q valid) (type.Record ts) has_type line at xs q_code (code_front G ps p references at xs (field ∷ []) all) (omega (arith, ends, inside)))
             (code_back G ps p references at xs (field ∷ []) all))
+        place_follows (Variant q s k) valid t (ts, low, high, has_type, has_tag, has_variant) line at code (xs, q_code, is) stands inside =
+            let rest : List Instr = variant_code line (at + length xs) s k in
+            let all : CodeStands G ps p references at (xs ++ rest) = subst (λ c. CodeStands G ps p references at c) is stands in
+            let ends : length code ≡ length xs + length rest = omega (arith, ap length is, length-append xs rest) in
+            subst (λ c. IsPlaceFollowed declared G untouched Here p call g unit n t (Variant q s k) line at c) (sym is)
+            (variant_follows n s k ts t low high has_tag has_variant q line at xs
+            (place_follows q (valid_place declared (IsVariantWhere declared (λ types d. ⊤) s k) q valid) (type.Record ts) has_type line at xs q_code (code_front G ps p references at xs rest all) (omega (arith, ends, inside)))
+            (code_back G ps p references at xs rest all) (omega (arith, ends, inside)))
 
         -- What the machine does from the code of an expression follows the meaning of the expression.
         pub expression_follows : (kind : Kind) (x : Expr) → IsExpr declared kind x → (line at : ℕ) (code : List Instr) → IsExprCode texts references line at x code → CodeStands G ps p references at code → at + length code < p.instructions.own → (injection : Injection) (memory : Memory) (below : List Operand) (d : ℕ) → least_credit ≤ d → unit_in G memory.frames ≡ unit → Fragment declared G Here n (point injection memory (p.instructions.before + at) below) (eval call g unit line x) (p.instructions.before + (at + length code)) (λ r. Inside untouched injection memory (OnTop kind below r)) d (λ r. d + 8 + weight_of r)
@@ -377,6 +400,9 @@ module _ {declared : Declarations} {G : Image} {untouched : Slots} {Here : Facts
             (field_value_follows ps p references call steady_call g unit line n kind ts k of among_types of_kind x at xs
             (expression_follows (Structured (type.Record ts)) x is_x line at xs x_code (code_front G ps p references at xs (field ∷ []) all) (omega (arith, ends, inside)))
             (code_back G ps p references at xs (field ∷ []) all))
+        expression_follows kind (SetConstant ms) (h, is_kind, is_set, of_host) line at code is stands inside =
+            followed_as n kind (Set h) (SetConstant ms) line at code (bare line op.SET_NONE ∷ members_code line ms) is_kind is
+            (set_constant_follows ps p references call steady_call g unit line n h ms is_set at (subst (λ c. CodeStands G ps p references at c) is stands))
         expression_follows kind (SetOf ds) (h, is_kind, are) line at code (xs, members, is) stands inside =
             let none : Instr = bare line op.SET_NONE in
             let all : CodeStands G ps p references at (none ∷ xs) = subst (λ c. CodeStands G ps p references at c) is stands in

@@ -3,14 +3,15 @@ use Rattle.std.proofs.Common.{◌≡◌, ℕ, ℤ, pos, ◌+◌, ◌<◌, ◌-�
 use Rattle.ep_object.specs.declared.code.Instr.{Instr}
 use Rattle.ep_object.specs.declared.code.Reference.{Reference}
 use Rattle.ep_typed.specs.Operations.{last_char}
-use Rattle.ep_typed.specs.Trees.{Place, Variable, Own, Standard, Indexed, Field, Expr, Constant, Text, Read, One, Two, Short, Step, IndexedValue, FieldValue}
+use Rattle.ep_typed.specs.Trees.{Place, Variable, Own, Standard, Indexed, Field, Variant, Expr, Constant, Text, Read, One, Two, Short, Step, IndexedValue, FieldValue}
 use Rattle.ep_typed.specs.declared.operations.Unary.{Unary}
 use Rattle.ep_typed.specs.declared.operations.Unary.TheVariants as unary
 use Rattle.ep_typed.specs.declared.operations.Binary.{Binary}
 use Rattle.ep_typed.specs.declared.operations.ShortOperation.{ShortOperation}
 use Rattle.ep_typed.specs.declared.operations.ShortOperation.TheVariants as short
+use Rattle.ep_typed.specs.declared.tree.Selection.{Selection}
 use Rattle.ep_typed.specs.declared.tree.StandardFile.{StandardFile}
-use Rattle.ep_gen_expr.specs.ExprCode.{IsPlaceCode, IsExprCode, instr, reference, standard_code, push, bare, one_code, two_code, keep_code, count_code, step_code}
+use Rattle.ep_gen_expr.specs.ExprCode.{IsPlaceCode, IsExprCode, instr, reference, standard_code, push, bare, one_code, two_code, keep_code, count_code, step_code, variant_code}
 use Rattle.ep_gen_expr.specs.Growth.{IsNowhere, Grows, NumbersText, NumbersReference, KeepsOperand, AppendsPlace, AppendsExpr}
 use Rattle.ep_gen_expr.specs.Jumps.{LeavesHole, landed}
 use Rattle.ep_gen_expr.specs.declared.code.Code.{Code}
@@ -110,6 +111,11 @@ appends_indexed {a = a} array index p q r =
 pub appends_field : {a b c : Code} (p : Place) (number : ℕ) → AppendsPlace a b p → Grows b c (instr op.FIELD (pos number) 0 b.line ∷ []) → AppendsPlace a c (Field p number)
 appends_field {a = a} x number p q =
     whole_place (Field x number) (p.code ++ instr op.FIELD (pos number) 0 a.line ∷ []) (p.code, place_part x p q, refl) (grows_at (λ line. instr op.FIELD (pos number) 0 line ∷ []) p.grows q)
+
+pub appends_variant : {a b c : Code} (p : Place) (s : Selection) (number : ℕ) → AppendsPlace a b p → Grows b c (variant_code b.line (length b.instructions) s number) → AppendsPlace a c (Variant p s number)
+appends_variant {a = a} {b = b} {c = c} x s number p q =
+    whole_place (Variant x s number) (p.code ++ variant_code a.line (length a.instructions + length p.code) s number) (p.code, place_part x p q, refl)
+    (subst (λ n. Grows a c (p.code ++ variant_code a.line n s number)) (grows_length p.grows) (grows_at (λ line. variant_code line (length b.instructions) s number) p.grows q))
 
 pub appends_two : {a b c d : Code} (operation : Binary) (x y : Expr) → AppendsExpr a b x → AppendsExpr b c y → Grows c d (two_code c.line operation ∷ []) → AppendsExpr a d (Two operation x y)
 appends_two {a = a} operation x y p q r =
@@ -221,4 +227,4 @@ on_ok (Err e) f h = tt
 
 pub ruleset numbers = (numbers_old_text, numbers_old_reference)
 
-pub ruleset forms = (appends_variable, appends_own, appends_standard, appends_indexed, appends_field, appends_constant, appends_text, appends_read, appends_one, appends_two, appends_step, appends_indexed_value, appends_field_value)
+pub ruleset forms = (appends_variable, appends_own, appends_standard, appends_indexed, appends_field, appends_variant, appends_constant, appends_text, appends_read, appends_one, appends_two, appends_step, appends_indexed_value, appends_field_value)

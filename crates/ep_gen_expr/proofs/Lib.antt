@@ -7,6 +7,7 @@ pub mod ShortCircuit
 pub mod Placed
 pub mod ActualForms
 pub mod SetForms
+pub mod MemberForms
 pub mod Sets
 pub mod PlaceTypes
 pub mod Arguments
@@ -18,3 +19,6 @@ pub mod OneOperand
 pub mod TwoOperands
 pub mod Stepping
 pub mod ValueParts
+pub mod RangeForms
+pub mod RangeMoves
+pub mod VariantMoves

@@ -1,17 +1,20 @@
 -- The type values of valid places.
-use Rattle.std.proofs.Common.{◌≡◌, ℕ, Some, List, subst}
+use Rattle.std.proofs.Common.{◌≡◌, ◌∙◌, ℕ, ℤ, Some, List, refl, sym, ap, subst}
 use Rattle.std.specs.Bool.{⊤}
 use Rattle.ep_gen_expr.specs.Following.{HasPlaceType, IsValidPlace}
 use Rattle.ep_object.specs.Scene.{HaveValidTypes, HaveValidOwnTypes}
 use Rattle.ep_typed.proofs.Denoters.{types_are_instances, instances_are_one}
-use Rattle.ep_typed.proofs.Typed.{HasComponents, HasParts, typed_among, typed_components, typed_instance, typed_parts}
+use Rattle.ep_typed.proofs.Typed.{HasComponents, HasParts, typed_among, typed_components, typed_instance, typed_of_host, typed_parts}
 use Rattle.ep_typed.proofs.ValueKinds.{typed_of_kind}
 use Rattle.ep_typed.specs.Denoters.{ArrayParts, array_of, denoter_at, host_of, record_of, type_of}
 use Rattle.ep_typed.specs.Hosts.{Host}
-use Rattle.ep_typed.specs.Trees.{Denoter, Denoters, Place, Variable, Own, Standard, Indexed, Field, Expr}
-use Rattle.ep_typed.specs.TypeValues.{TypeValue, type_among}
-use Rattle.ep_typed.specs.Valid.{Declarations, IsOfKind, Kind, Ordinal, IsTyped, IsTypeOfKind, IsExpr, IsPlaceWhere, IsVariableOf}
+use Rattle.ep_typed.specs.Trees.{Denoter, Denoters, Place, Variable, Own, Standard, Indexed, Field, Variant, Record, no_denoter, next_denoter, Expr}
+use Rattle.ep_typed.specs.TypeValues.{ComponentTypes, TypeValue, type_among}
+use Rattle.ep_typed.specs.TypeValues as type
+use Rattle.ep_typed.specs.Steps.{variant_number}
+use Rattle.ep_typed.specs.Valid.{Declarations, AreTyped, none_typed, next_typed, IsOfKind, IsSelection, Kind, Ordinal, IsTyped, IsTypeOf, IsTypeOfKind, IsExpr, IsPlaceWhere, IsVariableOf}
 use Rattle.ep_typed.specs.Viewed.{denoter_of}
+use Rattle.ep_typed.specs.declared.tree.Selection.{Selection}
 use Rattle.ep_typed.specs.declared.unit.UnitType.{UnitType}
 
 -- the denoter is that of an array, of whose components this holds and of whose index type the index is
@@ -23,6 +26,11 @@ IsArrayWhere declared Holds x types d =
 abbrev pub IsRecordWhere : (List UnitType → Denoter → Type 0) → ℕ → List UnitType → Denoter → Type 0
 IsRecordWhere Holds number types d = (ds : Denoters) × (record_of types d ≡ Some ds) × (c : Denoter) × (denoter_at ds number ≡ Some c) × Holds types c
 
+-- the denoter is that of a record with variants that are selected so, of whose variant with this number this holds
+abbrev pub IsVariantWhere : Declarations → (List UnitType → Denoter → Type 0) → Selection → ℕ → List UnitType → Denoter → Type 0
+IsVariantWhere declared Holds s number types d =
+    (ds : Denoters) × (record_of types d ≡ Some ds) × IsSelection declared types ds s × (c : Denoter) × (denoter_at ds (variant_number s number) ≡ Some c) × Holds types c
+
 -- what holds of the denoter of a place may be less
 place_less : (declared : Declarations) (Holds Less : List UnitType → Denoter → Type 0) → ((types : List UnitType) (d : Denoter) → Holds types d → Less types d) → (q : Place) → IsPlaceWhere declared Holds q → IsPlaceWhere declared Less q
 place_less declared Holds Less less (Variable unit k) (v, is_declared, holds) = (v, is_declared, less (declared.types unit) (denoter_of v.denoter) holds)
@@ -32,6 +40,8 @@ place_less declared Holds Less less (Indexed q x) is =
     place_less declared (IsArrayWhere declared Holds x) (IsArrayWhere declared Less x) (λ types d holds. (holds.0, holds.1, less types (holds.0).component holds.2, holds.3)) q is
 place_less declared Holds Less less (Field q number) is =
     place_less declared (IsRecordWhere Holds number) (IsRecordWhere Less number) (λ types d holds. (holds.0, holds.1, holds.2, holds.3, less types holds.2 holds.4)) q is
+place_less declared Holds Less less (Variant q s number) is =
+    place_less declared (IsVariantWhere declared Holds s number) (IsVariantWhere declared Less s number) (λ types d holds. (holds.0, holds.1, holds.2, holds.3, holds.4, less types holds.3 holds.5)) q is
 
 -- a place of whose denoter something holds is valid
 pub valid_place : (declared : Declarations) (Holds : List UnitType → Denoter → Type 0) (q : Place) → IsPlaceWhere declared Holds q → IsValidPlace declared q
@@ -53,6 +63,33 @@ pub record IsKindPlace (declared : Declarations) (q : Place) (k : Kind) : Type 0
   pub type_value : TypeValue
   pub has_type : HasPlaceType declared q type_value
   pub of_kind : IsTypeOfKind k type_value
+
+-- the type values of denoters, by whether there is one alone
+abbrev AreAlone : List UnitType → Denoters → ComponentTypes → Type 0
+AreAlone types no_denoter ts = type.no_component ≡ ts
+AreAlone types (next_denoter d no_denoter) ts = (t : TypeValue) × (type.next_component t type.no_component ≡ ts) × IsTyped types d t
+AreAlone types (next_denoter d (next_denoter e es)) ts = ⊤
+
+are_alone : (types : List UnitType) (ds : Denoters) (ts : ComponentTypes) → AreTyped types ds ts → AreAlone types ds ts
+are_alone types ds ts none_typed = refl
+are_alone types ds ts (next_typed d no_denoter u us x xs) = (u, ap (type.next_component u) (are_alone types no_denoter us xs), x)
+are_alone types ds ts (next_typed d (next_denoter e es) u us x xs) = tt
+
+-- the type value of the record of a tag, whose host this is
+tag_type : (types : List UnitType) (tag : Denoter) (h : Host) (v : TypeValue) → host_of types tag ≡ Some h → IsTyped types (Record (next_denoter tag no_denoter)) v
+    → (low high : ℤ) × (v ≡ type.Record (type.next_component (type.Ordinal low high) type.no_component))
+tag_type types tag h v has_host typed =
+    let all : HasComponents types (next_denoter tag no_denoter) v = typed_components types (Record (next_denoter tag no_denoter)) v (next_denoter tag no_denoter) typed refl in
+    let one : (t : TypeValue) × (type.next_component t type.no_component ≡ all.types_of) × IsTyped types tag t = are_alone types (next_denoter tag no_denoter) all.types_of all.all in
+    let of = ordinal_of one.0 (typed_of_host types tag one.0 h one.2 has_host) in
+    (of.0, of.1, all.is ∙ (ap type.Record (sym one.1) ∙ ap (λ t. type.Record (type.next_component t type.no_component)) of.2))
+  where
+    ordinal_of : (t : TypeValue) → IsTypeOf h t → (low high : ℤ) × (t ≡ type.Ordinal low high)
+    ordinal_of (type.Ordinal low high) k = (low, high, refl)
+    ordinal_of type.Text k = absurd k
+    ordinal_of (type.Array low high of) k = absurd k
+    ordinal_of (type.Record ts) k = absurd k
+    ordinal_of (type.Set low high) k = absurd k
 
 module _ (declared : Declarations) (types_valid : HaveValidTypes declared) (own_valid : HaveValidOwnTypes declared) where
   -- a valid place has a type value
@@ -105,6 +142,23 @@ module _ (declared : Declarations) (types_valid : HaveValidTypes declared) (own_
         types = v.types;
         denoter = holds.2;
         holds = holds.4;
+        typed = one.2;
+      }
+  typed_place Holds (Variant q s number) is =
+      let v = typed_place (IsVariantWhere declared Holds s number) q is in
+      let holds : IsVariantWhere declared Holds s number v.types v.denoter = v.holds in
+      let selection : IsSelection declared v.types holds.0 s = holds.2 in
+      let all : HasComponents v.types holds.0 v.type_value = typed_components v.types v.denoter v.type_value holds.0 v.typed holds.1 in
+      let tag : (t : TypeValue) × (type_among all.types_of s.tag ≡ Some t) × IsTyped v.types (Record (next_denoter selection.tag no_denoter)) t = typed_among v.types holds.0 all.types_of s.tag (Record (next_denoter selection.tag no_denoter)) all.all selection.has_tag in
+      let ordinal = tag_type v.types selection.tag selection.host tag.0 selection.has_host tag.2 in
+      let one : (t : TypeValue) × (type_among all.types_of (variant_number s number) ≡ Some t) × IsTyped v.types holds.3 t = typed_among v.types holds.0 all.types_of (variant_number s number) holds.3 all.all holds.4 in
+      record {
+        valid = valid_place declared Holds (Variant q s number) is;
+        type_value = one.0;
+        has_type = (all.types_of, ordinal.0, ordinal.1, subst (λ t. HasPlaceType declared q t) all.is v.has_type, tag.1 ∙ ap Some ordinal.2, one.1);
+        types = v.types;
+        denoter = holds.3;
+        holds = holds.5;
         typed = one.2;
       }
 

@@ -1,17 +1,38 @@
 -- The code of forms of sets, from that of its parts.
 use Rattle.std.proofs.Common.{◌≡◌, ℕ, pos, List, [], ◌∷◌, ◌++◌, map, ◌<◌, ◌+◌, take, length, get_or, refl, sym, ap, ◌∙◌, subst, append_assoc, append-nil, arith, length-append}
-use Rattle.std.proofs.lemmas.List.{map_more}
+use Rattle.std.proofs.lemmas.List.{map_more, take_more}
 use Rattle.ep_object.specs.declared.code.Instr.{Instr}
 use Rattle.ep_object.specs.declared.code.Reference.{Reference}
 use Rattle.ep_object.specs.declared.op.TheConstants as op
-use Rattle.ep_typed.specs.Trees.{Expr, SetOf, OnSets, Card, Designator, Single, Range, designators}
+use Rattle.ep_typed.specs.Trees.{Expr, SetConstant, SetOf, OnSets, Card, Designator, Single, Range, designators}
 use Rattle.ep_typed.specs.declared.operations.SetOperation.{SetOperation}
-use Rattle.ep_gen_expr.specs.ExprCode.{IsDesignatorCode, AreDesignatorsCode, bare, set_code}
+use Rattle.ep_gen_expr.specs.ExprCode.{IsDesignatorCode, AreDesignatorsCode, bare, members_code, push, set_code}
 use Rattle.ep_gen_expr.specs.Growth.{Grows, AppendsExpr, AppendsDesignator}
 use Rattle.ep_gen_expr.specs.declared.code.Code.{Code}
 use Rattle.ep_gen_expr.proofs.Landing.{grows_length}
 use Rattle.ep_gen_expr.proofs.Forms.{after_parts, first_part, grows_at, grows_then, second_part, whole_expr}
 use Rattle.ep_gen_expr.proofs.Stays.{designators_code_stays}
+
+-- a constant that is a set, of no members
+pub constant_none : {a b : Code} → Grows a b (bare a.line op.SET_NONE ∷ []) → AppendsExpr a b (SetConstant [])
+constant_none {a = a} g = whole_expr (SetConstant []) (bare a.line op.SET_NONE ∷ []) refl g
+
+members_push : (line : ℕ) (ms : List ℕ) (m : ℕ) → members_code line (ms ++ m ∷ []) ≡ members_code line ms ++ push line (pos m) ∷ bare line op.SET_ADD ∷ []
+members_push line [] m = refl
+members_push line (k ∷ ms) m = ap (λ l. push line (pos k) ∷ bare line op.SET_ADD ∷ l) (members_push line ms m)
+
+-- one member more
+constant_push : {a b c d : Code} (ms : List ℕ) (m : ℕ) → AppendsExpr a b (SetConstant ms) → Grows b c (push b.line (pos m) ∷ []) → Grows c d (bare c.line op.SET_ADD ∷ []) → AppendsExpr a d (SetConstant (ms ++ m ∷ []))
+constant_push {a = a} {d = d} ms m p q r =
+    let two : Grows a d (p.code ++ push a.line (pos m) ∷ bare a.line op.SET_ADD ∷ []) = grows_at (λ line. push line (pos m) ∷ bare line op.SET_ADD ∷ []) p.grows (grows_at (λ line. bare line op.SET_ADD ∷ []) q r) in
+    let all : p.code ++ push a.line (pos m) ∷ bare a.line op.SET_ADD ∷ [] ≡ bare a.line op.SET_NONE ∷ members_code a.line (ms ++ m ∷ []) =
+    ap (λ l. l ++ push a.line (pos m) ∷ bare a.line op.SET_ADD ∷ []) p.is_code ∙ ap (λ l. bare a.line op.SET_NONE ∷ l) (sym (members_push a.line ms m)) in
+    whole_expr (SetConstant (ms ++ m ∷ [])) (p.code ++ push a.line (pos m) ∷ bare a.line op.SET_ADD ∷ []) all two
+
+-- one more of a slice
+pub constant_more : {a b c d : Code} (xs : List ℕ) (k : ℕ) → k < length xs → AppendsExpr a b (SetConstant (take k xs)) → Grows b c (push b.line (pos (get_or xs k 0)) ∷ []) → Grows c d (bare c.line op.SET_ADD ∷ []) → AppendsExpr a d (SetConstant (take (k + 1) xs))
+constant_more {a = a} {d = d} xs k h p q r =
+    subst (λ l. AppendsExpr a d (SetConstant l)) (sym (take_more xs k 0 h)) (constant_push (take k xs) (get_or xs k 0) p q r)
 
 -- an operation on sets
 pub appends_on_sets : {a b c d : Code} (operation : SetOperation) (x y : Expr) → AppendsExpr a b x → AppendsExpr b c y → Grows c d (set_code c.line operation ∷ []) → AppendsExpr a d (OnSets operation x y)
@@ -52,7 +73,7 @@ pub set_none : {a b : Code} → Grows a b (bare a.line op.SET_NONE ∷ []) → A
 set_none {a = a} g = whole_expr (SetOf (designators [])) (bare a.line op.SET_NONE ∷ []) ([], refl, refl) g
 
 -- one after others
-set_push : {a b c : Code} (given : List Designator) (x : Designator) → AppendsExpr a b (SetOf (designators given)) → AppendsDesignator b c x → AppendsExpr a c (SetOf (designators (given ++ x ∷ [])))
+pub set_push : {a b c : Code} (given : List Designator) (x : Designator) → AppendsExpr a b (SetOf (designators given)) → AppendsDesignator b c x → AppendsExpr a c (SetOf (designators (given ++ x ∷ [])))
 set_push {a = a} {b = b} {c = c} given x p q =
     let at = length a.instructions in
     let members = p.is_code in

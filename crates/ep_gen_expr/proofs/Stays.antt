@@ -1,15 +1,19 @@
 -- Code stays code when the tables grow, and is short.
-use Rattle.std.proofs.Common.{◌≡◌, ℕ, ℤ, pos, ◌+◌, ◌*◌, ◌≤◌, Bool, true, false, List, [], ◌∷◌, ◌++◌, length, ap, arith, length-append}
+use Rattle.std.proofs.Common.{◌≡◌, ℕ, ℤ, pos, suc, ◌+◌, ◌*◌, ◌≤◌, Bool, true, false, List, [], ◌∷◌, ◌++◌, length, refl, ap, arith, length-append}
+use Rattle.std.specs.Prelude.{if◌then◌else◌}
 use Rattle.ep_outside.specs.Known.{IsPrefix}
 use Rattle.ep_object.specs.declared.code.Instr.{Instr}
 use Rattle.ep_object.specs.declared.code.Reference.{Reference}
-use Rattle.ep_typed.specs.Trees.{Place, Variable, Own, Standard, Indexed, Field, Expr, Constant, Text, Read, One, Two, Short, Step, Function, IndexedValue, FieldValue, SetOf, OnSets, Card, Designator, Single, Range, Designators, no_member, next_member, Actual, Evaluated, Accessed, Actuals, no_actual, next_actual}
+use Rattle.ep_typed.specs.Trees.{Place, Variable, Own, Standard, Indexed, Field, Variant, Expr, Constant, Text, Read, One, Two, Short, Step, Function, IndexedValue, FieldValue, SetConstant, SetOf, OnSets, Card, Designator, Single, Range, Designators, no_member, next_member, Actual, Evaluated, Accessed, Actuals, no_actual, next_actual}
 use Rattle.ep_typed.specs.declared.operations.Unary.{Unary}
 use Rattle.ep_typed.specs.declared.operations.Unary.TheVariants as unary
 use Rattle.ep_typed.specs.declared.operations.ShortOperation.{ShortOperation}
 use Rattle.ep_typed.specs.declared.operations.ShortOperation.TheVariants as short
-use Rattle.ep_typed.specs.Nodes.{place_nodes, expr_nodes, actual_nodes, actuals_nodes, designator_nodes, designators_nodes}
-use Rattle.ep_gen_expr.specs.ExprCode.{IsPlaceCode, IsExprCode, IsActualCode, AreActualsCode, IsDesignatorCode, AreDesignatorsCode, instr, reference, one_code, set_code, two_code, keep_code, step_code, bare}
+use Rattle.ep_typed.specs.Nodes.{place_nodes, expr_nodes, actual_nodes, actuals_nodes, designator_nodes, designators_nodes, labels_nodes}
+use Rattle.ep_typed.specs.Steps.{is_number}
+use Rattle.ep_typed.specs.declared.tree.CaseRange.{CaseRange}
+use Rattle.ep_typed.specs.declared.tree.Selection.{Selection}
+use Rattle.ep_gen_expr.specs.ExprCode.{IsPlaceCode, IsExprCode, IsActualCode, AreActualsCode, IsDesignatorCode, AreDesignatorsCode, instr, reference, members_code, one_code, set_code, two_code, keep_code, step_code, bare, test_code, tests_code, labels_code, labels_count, tag_code, rest_code, ends_code, variant_code}
 use Rattle.ep_gen_expr.proofs.Pushed.{get_later}
 use Rattle.ep_object.specs.declared.op.TheConstants as op
 
@@ -22,6 +26,7 @@ module _ (ts us : List (List ℕ)) (rs ss : List Reference) (line : ℕ) (a : Is
     place_code_stays at (Standard file) is h = h
     place_code_stays at (Indexed p x) is h = (h.0, h.1, place_code_stays at p h.0 h.2, expr_code_stays (at + length h.0) x h.1 h.3, h.4)
     place_code_stays at (Field p number) is h = (h.0, place_code_stays at p h.0 h.1, h.2)
+    place_code_stays at (Variant p selection number) is h = (h.0, place_code_stays at p h.0 h.1, h.2)
 
     -- that of an expression
     pub expr_code_stays : (at : ℕ) (x : Expr) (is : List Instr) → IsExprCode ts rs line at x is → IsExprCode us ss line at x is
@@ -36,6 +41,7 @@ module _ (ts us : List (List ℕ)) (rs ss : List Reference) (line : ℕ) (a : Is
     expr_code_stays at (Function callee given) is h = (h.0, h.1, actuals_code_stays at given h.0 h.2, get_later h.1 (reference callee.unit callee.number) b h.3, h.4)
     expr_code_stays at (IndexedValue x y) is h = (h.0, h.1, expr_code_stays at x h.0 h.2, expr_code_stays (at + length h.0) y h.1 h.3, h.4)
     expr_code_stays at (FieldValue x number) is h = (h.0, expr_code_stays at x h.0 h.1, h.2)
+    expr_code_stays at (SetConstant ms) is h = h
     expr_code_stays at (SetOf ds) is h = (h.0, designators_code_stays (at + 1) ds h.0 h.1, h.2)
     expr_code_stays at (OnSets operation x y) is h = (h.0, h.1, expr_code_stays at x h.0 h.2, expr_code_stays (at + length h.0) y h.1 h.3, h.4)
     expr_code_stays at (Card x) is h = (h.0, expr_code_stays at x h.0 h.1, h.2)
@@ -79,6 +85,38 @@ keep_short line short.OrElse = omega arith
 short_short : (xs ks ys : List Instr) (i j : Instr) (is : List Instr) → is ≡ xs ++ (ks ++ i ∷ j ∷ ys) → (k m : ℕ) → length ks ≤ 2 → length xs + 8 ≤ 32 * k → length ys + 8 ≤ 32 * m → length is + 8 ≤ 32 * (1 + k + m)
 short_short xs ks ys i j is e k m few p q = omega (arith, ap length e, length-append xs (ks ++ i ∷ j ∷ ys), length-append ks (i ∷ j ∷ ys), few, p, q)
 
+-- how many instructions the tests of ranges are
+pub tests_length : (line body at : ℕ) (rs : List CaseRange) → length (tests_code line body at rs) ≡ 6 * length rs
+tests_length line body at [] = refl
+tests_length line body at (r ∷ rs) = omega (arith, length-append (test_code line body at r) (tests_code line body (at + 6) rs), tests_length line body (at + 6) rs)
+
+-- and those of labels
+pub labels_length : (line good bad number k at : ℕ) (labels : List (List CaseRange)) → length (labels_code line good bad number k at labels) ≡ 6 * labels_count labels
+labels_length line good bad number k at [] = refl
+labels_length line good bad number k at (ranges ∷ more) =
+    let body = if is_number k number then good else bad in
+    omega (arith, length-append (tests_code line body at ranges) (labels_code line good bad number (suc k) (at + 6 * length ranges) more), tests_length line body at ranges, labels_length line good bad number (suc k) (at + 6 * length ranges) more)
+
+labels_three : (labels : List (List CaseRange)) → labels_nodes labels ≡ 3 * labels_count labels
+labels_three [] = refl
+labels_three (ranges ∷ more) = omega (arith, labels_three more)
+
+-- how many those of a variant are
+pub variant_length : (line at : ℕ) (s : Selection) (number : ℕ) → length (variant_code line at s number) ≡ 11 + 6 * labels_count s.labels
+variant_length line at s number =
+    let bad = at + 7 + 6 * labels_count s.labels + 1 in
+    let ls = labels_code line (bad + 1) bad number 0 (at + 7) s.labels in
+    let last = rest_code line (bad + 1) bad s number ∷ ends_code line s number in
+    omega (arith, length-append (tag_code line bad s.tag) (ls ++ last), length-append ls last, labels_length line (bad + 1) bad number 0 (at + 7) s.labels)
+
+variant_short : (xs : List Instr) (line at : ℕ) (s : Selection) (number : ℕ) (is : List Instr) → is ≡ xs ++ variant_code line at s number → (k : ℕ) → length xs ≤ 32 * k → length is ≤ 32 * (1 + k + labels_nodes s.labels)
+variant_short xs line at s number is e k p = omega (arith, ap length e, length-append xs (variant_code line at s number), variant_length line at s number, labels_three s.labels, p)
+
+-- two instructions for each member
+members_short : (line : ℕ) (ms : List ℕ) → length (members_code line ms) ≡ 2 * length ms
+members_short line [] = omega arith
+members_short line (m ∷ ms) = let rest = members_short line ms in omega (arith, rest)
+
 -- a call behind code that is short, and one more instruction
 call_short : (xs : List Instr) (i j : Instr) (is : List Instr) → is ≡ xs ++ i ∷ j ∷ [] → (k : ℕ) → length xs ≤ 32 * k → length is + 8 ≤ 32 * (1 + k)
 call_short xs i j is e k p = omega (arith, ap length e, length-append xs (i ∷ j ∷ []), p)
@@ -97,6 +135,7 @@ module _ (ts : List (List ℕ)) (rs : List Reference) (line : ℕ) where
     place_code_short at (Indexed p x) is h =
         index_short h.0 h.1 _ is h.4 (place_nodes p) (expr_nodes x) (place_code_short at p h.0 h.2) (expr_code_short (at + length h.0) x h.1 h.3)
     place_code_short at (Field p number) is h = omega (arith, ap length h.2, length-append h.0 (instr op.FIELD (pos number) 0 line ∷ []), place_code_short at p h.0 h.1)
+    place_code_short at (Variant p selection number) is h = variant_short h.0 line (at + length h.0) selection number is h.2 (place_nodes p) (place_code_short at p h.0 h.1)
 
     -- so is that of an expression
     pub expr_code_short : (at : ℕ) (x : Expr) (is : List Instr) → IsExprCode ts rs line at x is → length is + 8 ≤ 32 * expr_nodes x
@@ -113,6 +152,7 @@ module _ (ts : List (List ℕ)) (rs : List Reference) (line : ℕ) where
     expr_code_short at (Function callee given) is h = call_short h.0 _ _ is h.4 (actuals_nodes given) (actuals_code_short at given h.0 h.2)
     expr_code_short at (IndexedValue x y) is h =
         omega (arith, ap length h.4, length-append h.0 (h.1 ++ bare line op.INDEX ∷ []), length-append h.1 (bare line op.INDEX ∷ []), expr_code_short at x h.0 h.2, expr_code_short (at + length h.0) y h.1 h.3)
+    expr_code_short at (SetConstant ms) is h = omega (arith, ap length h, members_short line ms)
     expr_code_short at (SetOf ds) is h = omega (arith, ap length h.2, designators_code_short (at + 1) ds h.0 h.1)
     expr_code_short at (OnSets operation x y) is h =
         omega (arith, ap length h.4, length-append h.0 (h.1 ++ set_code line operation ∷ []), length-append h.1 (set_code line operation ∷ []), expr_code_short at x h.0 h.2, expr_code_short (at + length h.0) y h.1 h.3)

@@ -1,12 +1,13 @@
 -- Which instructions are the code of an expression or a place, under given tables of texts and references. Jumps name
 -- places of the object, so the code of an expression depends on where it begins, and so does that of a place, since an index
 -- is an expression.
-use Rattle.std.specs.Prelude.{◌≡◌, ℕ, ℤ, pos, ◌+◌, Bool, true, false, List, [], ◌∷◌, ◌++◌, length, Some, slice_get}
+use Rattle.std.specs.Prelude.{◌≡◌, ℕ, ℤ, pos, suc, ◌+◌, ◌*◌, Bool, true, false, ◌&&◌, if◌then◌else◌, List, [], ◌∷◌, ◌++◌, length, Some, slice_get}
 pub use Rattle.ep_object.specs.Table.{instr}
 use Rattle.ep_object.specs.declared.code.Instr.{Instr}
 use Rattle.ep_object.specs.declared.code.Reference.{Reference}
 use Rattle.ep_typed.specs.Operations.{last_char}
-use Rattle.ep_typed.specs.Trees.{Place, Variable, Own, Standard, Indexed, Field, Expr, Constant, Text, Read, One, Two, Short, Step, Function, IndexedValue, FieldValue, SetOf, OnSets, Card, Designator, Single, Range, Designators, no_member, next_member, Actual, Evaluated, Accessed, Actuals, no_actual, next_actual}
+use Rattle.ep_typed.specs.Steps.{is_number, variant_number}
+use Rattle.ep_typed.specs.Trees.{Place, Variable, Own, Standard, Indexed, Field, Variant, Expr, Constant, Text, Read, One, Two, Short, Step, Function, IndexedValue, FieldValue, SetConstant, SetOf, OnSets, Card, Designator, Single, Range, Designators, no_member, next_member, Actual, Evaluated, Accessed, Actuals, no_actual, next_actual}
 use Rattle.ep_typed.specs.declared.operations.Unary.{Unary}
 use Rattle.ep_typed.specs.declared.operations.Unary.TheVariants as unary
 use Rattle.ep_typed.specs.declared.operations.Binary.{Binary}
@@ -18,6 +19,8 @@ use Rattle.ep_typed.specs.declared.operations.ShortOperation.TheVariants as shor
 use Rattle.ep_object.specs.declared.op.TheConstants as op
 use Rattle.ep_gen_expr.specs.declared.operations.TheConstants as cmp
 use Rattle.ep_gen_expr.specs.declared.standard.TheConstants as constant
+use Rattle.ep_typed.specs.declared.tree.CaseRange.{CaseRange}
+use Rattle.ep_typed.specs.declared.tree.Selection.{Selection}
 use Rattle.ep_typed.specs.declared.tree.StandardFile.{StandardFile}
 use Rattle.ep_typed.specs.declared.tree.StandardFile.TheVariants as file
 use Rattle.ep_typed.specs.declared.run_error.TheConstants as run_error
@@ -77,6 +80,11 @@ module _ (line : ℕ) where
   set_code set.Superset = instr op.SET_CMP cmp.AT_LEAST 0 line
   set_code set.In = bare op.IN
 
+  -- after a set: `Push` and `SetAdd` of each of these members
+  abbrev pub members_code : List ℕ → List Instr
+  members_code [] = []
+  members_code (m ∷ ms) = push (pos m) ∷ bare op.SET_ADD ∷ members_code ms
+
   -- after a left operand: it stands there twice, and the upper one is true where the operand decides nothing
   abbrev pub keep_code : ShortOperation → List Instr
   keep_code short.AndThen = bare op.DUP ∷ []
@@ -100,6 +108,48 @@ standard_number file.Output = constant.OUTPUT
 abbrev pub standard_code : ℕ → StandardFile → Instr
 standard_code line file = instr op.UNIT constant.STANDARD_UNIT (standard_number file) line
 
+-- how many labels variants have
+abbrev pub labels_count : List (List CaseRange) → ℕ
+labels_count [] = 0
+labels_count (ranges ∷ more) = length ranges + labels_count more
+
+module _ (line : ℕ) where
+  -- With the value of a selector on top: on to one place where the range has it, and else on behind this code, which begins at
+  -- another place.
+  abbrev pub test_code : ℕ → ℕ → CaseRange → List Instr
+  test_code body at r =
+      bare line op.DUP ∷ push line r.low ∷ push line r.high ∷ bare line op.BETWEEN ∷ instr op.JUMP_FALSE (pos (at + 6)) 0 line ∷ instr op.JUMP (pos body) 0 line ∷ []
+
+  -- ranges, one after another
+  abbrev pub tests_code : ℕ → ℕ → List CaseRange → List Instr
+  tests_code body at [] = []
+  tests_code body at (r ∷ rs) = test_code body at r ++ tests_code body (at + 6) rs
+
+  -- With the value of a tag on top: on to one place where a label of the variant with this number has it, and to another one
+  -- where a label of another variant has it. The first of these variants has the number k.
+  abbrev pub labels_code : (good bad number k at : ℕ) → List (List CaseRange) → List Instr
+  labels_code good bad number k at [] = []
+  labels_code good bad number k at (ranges ∷ more) = tests_code (if is_number k number then good else bad) at ranges ++ labels_code good bad number (suc k) (at + 6 * length ranges) more
+
+  -- With a record on top, from this place on: the place of its tag, or on to another place where that is undefined, and its value.
+  abbrev pub tag_code : (bad tag : ℕ) → List Instr
+  tag_code bad tag =
+      bare line op.DUP ∷ instr op.FIELD (pos tag) 0 line ∷ instr op.FIELD (pos 0) 0 line ∷ bare line op.DUP ∷ bare line op.DEFINED ∷ instr op.JUMP_FALSE (pos bad) 0 line ∷ bare line op.LOAD ∷ []
+
+  -- where no label has the value: on to one place where the completing variant has this number, and else to another one
+  abbrev pub rest_code : (good bad : ℕ) → Selection → (number : ℕ) → Instr
+  rest_code good bad s number = instr op.JUMP (pos (if s.completed && is_number (length s.labels) number then good else bad)) 0 line
+
+  -- the error that the variant is not active; and, without the value of the tag, the variant
+  abbrev pub ends_code : Selection → (number : ℕ) → List Instr
+  ends_code s number = instr op.FAIL (pos run_error.INACTIVE_VARIANT) 0 line ∷ bare line op.DROP ∷ instr op.FIELD (pos (variant_number s number)) 0 line ∷ []
+
+  -- With a record on top, from this place on: its variant with this number, where that is selected (ISO 10206, 6.5.3.3).
+  abbrev pub variant_code : ℕ → Selection → ℕ → List Instr
+  variant_code at s number =
+      let bad = at + 7 + 6 * labels_count s.labels + 1 in
+      tag_code bad s.tag ++ (labels_code (bad + 1) bad number 0 (at + 7) s.labels ++ rest_code (bad + 1) bad s number ∷ ends_code s number)
+
 module _ (texts : List (List ℕ)) (references : List Reference) (line : ℕ) where
   abbrev mutual
     -- The code of a place that begins at this place of the object, whose instructions have this line. An indexed variable (ISO
@@ -110,6 +160,7 @@ module _ (texts : List (List ℕ)) (references : List Reference) (line : ℕ) wh
     IsPlaceCode at (Standard file) is = is ≡ standard_code line file ∷ []
     IsPlaceCode at (Indexed p x) is = (xs ys : List Instr) × IsPlaceCode at p xs × IsExprCode (at + length xs) x ys × (is ≡ xs ++ (ys ++ bare line op.INDEX ∷ []))
     IsPlaceCode at (Field p number) is = (xs : List Instr) × IsPlaceCode at p xs × (is ≡ xs ++ instr op.FIELD (pos number) 0 line ∷ [])
+    IsPlaceCode at (Variant p selection number) is = (xs : List Instr) × IsPlaceCode at p xs × (is ≡ xs ++ variant_code line (at + length xs) selection number)
 
     -- the code of an expression that begins at this place, whose instructions have this line
     pub IsExprCode : ℕ → Expr → List Instr → Type 0
@@ -131,6 +182,7 @@ module _ (texts : List (List ℕ)) (references : List Reference) (line : ℕ) wh
     -- (6.8.6.3).
     IsExprCode at (IndexedValue x y) is = (xs ys : List Instr) × IsExprCode at x xs × IsExprCode (at + length xs) y ys × (is ≡ xs ++ (ys ++ bare line op.INDEX ∷ []))
     IsExprCode at (FieldValue x number) is = (xs : List Instr) × IsExprCode at x xs × (is ≡ xs ++ instr op.FIELD (pos number) 0 line ∷ [])
+    IsExprCode at (SetConstant ms) is = is ≡ bare line op.SET_NONE ∷ members_code line ms
     -- A set constructor (ISO 10206, 6.8.7.4): the empty set, to which each member designator adds what it gives.
     IsExprCode at (SetOf ds) is = (xs : List Instr) × AreDesignatorsCode (at + 1) ds xs × (is ≡ bare line op.SET_NONE ∷ xs)
     IsExprCode at (OnSets operation x y) is = (xs ys : List Instr) × IsExprCode at x xs × IsExprCode (at + length xs) y ys × (is ≡ xs ++ (ys ++ set_code line operation ∷ []))

@@ -16,11 +16,11 @@ use Rattle.ep_typed.specs.Steady.{IsSteadyHandler}
 use Rattle.ep_typed.specs.Calls.{Handler}
 use Rattle.ep_typed.specs.Meaning.{eval, place}
 use Rattle.ep_typed.specs.Results.{weight_of}
-use Rattle.ep_typed.specs.Steps.{State, Computation}
-use Rattle.ep_typed.specs.Trees.{Place, Variable, Own, Standard, Indexed, Field, Expr}
+use Rattle.ep_typed.specs.Steps.{State, Computation, variant_number}
+use Rattle.ep_typed.specs.Trees.{Place, Variable, Own, Standard, Indexed, Field, Variant, Expr}
 use Rattle.ep_typed.specs.Valid.{Declarations, Kind, IsExpr, IsPlaceWhere, variables_up}
 use Rattle.ep_typed.specs.declared.unit.UnitVariable.{UnitVariable}
-use Rattle.ep_typed.specs.TypeValues.{ComponentTypes, TypeValue, Array, Record, type_among}
+use Rattle.ep_typed.specs.TypeValues.{ComponentTypes, TypeValue, Ordinal, Array, Record, no_component, next_component, type_among}
 
 -- the credit that is there before each fragment of code: what instructions without a step may cost within it
 abbrev pub least_credit : ℕ
@@ -34,13 +34,15 @@ IsFollowedThrough declared G p unit untouched n at code c Then gain =
     → Fragment declared G (Since untouched injection begun memory) n (point injection memory (p.instructions.before + at) below) c (p.instructions.before + (at + length code)) (λ a. Inside untouched injection memory (Then below a)) credit (λ a. credit + gain a)
 
 -- the type value of a place: that of a variable which is declared, of one of the routine or of those around it, or of the
--- components of an array, or of a component of a record
+-- components of an array, of a component of a record, or of a variant of one whose tag is of an ordinal type
 abbrev pub HasPlaceType : Declarations → Place → TypeValue → Type 0
 HasPlaceType declared (Variable unit k) t = (v : UnitVariable) × (declared.variables unit k ≡ Some v) × HasType declared unit v t
 HasPlaceType declared (Own up k) t = (v : UnitVariable) × (slice_get (variables_up declared up) k ≡ Some v) × HasOwnType declared v t
 HasPlaceType declared (Standard file) t = ⊥
 HasPlaceType declared (Indexed p x) t = (low high : ℤ) × HasPlaceType declared p (Array low high t)
 HasPlaceType declared (Field p k) t = (ts : ComponentTypes) × HasPlaceType declared p (Record ts) × (type_among ts k ≡ Some t)
+HasPlaceType declared (Variant p s k) t =
+    (ts : ComponentTypes) × (low high : ℤ) × HasPlaceType declared p (Record ts) × (type_among ts s.tag ≡ Some (Record (next_component (Ordinal low high) no_component))) × (type_among ts (variant_number s k) ≡ Some t)
 
 -- the place is valid, whatever type it has
 abbrev pub IsValidPlace : Declarations → Place → Type 0

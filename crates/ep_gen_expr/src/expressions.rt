@@ -2,7 +2,7 @@
 
 ghost use Rattle.std.specs.Prelude.{OnOk, map};
 ghost use Rattle.ep_typed.specs.Trees as tree;
-ghost use Rattle.ep_typed.specs.Trees.{entire, Card, Constant, Field, FieldValue, Function, Indexed, IndexedValue, One, OnSets, Own, Range, Read, SetOf, Short, Single, Step, Text, Two, Variable};
+ghost use Rattle.ep_typed.specs.Trees.{entire, Card, Constant, Field, FieldValue, Function, Indexed, IndexedValue, One, OnSets, Own, Range, Read, SetConstant, SetOf, Short, Single, Step, Text, Two, Variable, Variant};
 ghost use Rattle.ep_typed.specs.Viewed.{actual_of, callee_of, designator_of, entire_of, expr_of, place_of};
 ghost use Rattle.ep_gen_expr.specs.Growth.{AppendsActual, AppendsActuals, AppendsDesignator, AppendsExpr, AppendsPlace};
 
@@ -11,11 +11,12 @@ use crate::jumps::{land, next_place};
 use crate::operations::{apply_binary, apply_on_sets, apply_step, apply_unary, keep_operand};
 use crate::standard::standard_code;
 use crate::tables::{reference_number, text_number};
+use crate::variants::active_code;
 use ep_base::{Name, NoMemory};
 use ep_object::op;
 use ep_typed::{
-    Actual, Binary, Callee, EntireVariable, MemberDesignator, SetOperation, ShortOperation,
-    TypedExpr, TypedPlace, Unary,
+    Actual, Binary, Callee, EntireVariable, MemberDesignator, Selection, SetOperation,
+    ShortOperation, TypedExpr, TypedPlace, Unary,
 };
 use std::alloc::Global;
 
@@ -31,6 +32,9 @@ pub fn place_code(alloc: Global, p: &TypedPlace, code: &mut Code) -> Result<(), 
         TypedPlace::Standard(file) => standard_code(*file, code),
         TypedPlace::Indexed(array, index) => index_code(alloc, array.get(), index.get(), code),
         TypedPlace::Field(variable, number) => field_code(alloc, variable.get(), *number, code),
+        TypedPlace::Variant(whole, selection, number) => {
+            variant_code(alloc, whole.get(), selection, *number, code)
+        }
     }
 }
 
@@ -92,6 +96,22 @@ fn field_code(
     emit(code, op::FIELD, number as i64, 0)
 }
 
+/// Appends the code of the variant of a record with this number (ISO 10206, 6.5.3.3).
+#[cycle(expression)]
+#[tactic(auto, using(crate::proofs::Forms::forms))]
+fn variant_code(
+    alloc: Global,
+    whole: &TypedPlace,
+    selection: &Selection,
+    number: u32,
+    code: &mut Code,
+) -> Result<(), NoMemory>
+    ensures { OnOk result (AppendsPlace code.old code.new (Variant (place_of whole.now) selection.now number)) }
+{
+    place_code(alloc, whole, code)?;
+    active_code(selection, number, code)
+}
+
 /// Appends the code of an expression, which leaves its value.
 #[cycle(expression)]
 pub fn expression_code(alloc: Global, e: &TypedExpr, code: &mut Code) -> Result<(), NoMemory>
@@ -118,6 +138,7 @@ pub fn expression_code(alloc: Global, e: &TypedExpr, code: &mut Code) -> Result<
         TypedExpr::FieldValue(whole, number) => {
             field_value_code(alloc, whole.get(), *number, code)
         }
+        TypedExpr::SetConstant(members) => set_constant_code(members.items(), code),
         TypedExpr::Set(members) => constructor_code(alloc, members.items(), code),
         TypedExpr::OnSets(operation, left, right) => {
             on_sets_code(alloc, *operation, left.get(), right.get(), code)
@@ -280,6 +301,18 @@ fn field_value_code(
 {
     expression_code(alloc, whole, code)?;
     emit(code, op::FIELD, number as i64, 0)
+}
+
+/// Appends the code of a constant that is a set: the empty set, to which each member is added.
+fn set_constant_code(members: &[u8], code: &mut Code) -> Result<(), NoMemory>
+    ensures { OnOk result (AppendsExpr code.old code.new (SetConstant members.now)) }
+{
+    emit(code, op::SET_NONE, 0, 0)?;
+    for member in members {
+        emit(code, op::PUSH, *member as i64, 0)?;
+        emit(code, op::SET_ADD, 0, 0)?;
+    }
+    Ok(())
 }
 
 /// Appends the code of a set constructor: the empty set, and what each member designator adds to it.

@@ -22,6 +22,17 @@ pub fn field_number(place: usize) -> Result<u32, NoMemory>
     }
 }
 
+/// A place as a number that a field holds. A greater one is refused.
+pub fn place_number(place: u64) -> Result<u32, NoMemory>
+    ensures { IfOk result (λ k. (k ≡ place) × (k < 2 ^ 32 - 1)) }
+{
+    if place < u32::MAX as u64 {
+        Ok(place as u32)
+    } else {
+        Err(AllocError)
+    }
+}
+
 /// The place of the instruction that will be appended next. It is refused where it has more than 32 bits.
 pub fn next_place(code: &Code) -> Result<u32, NoMemory>
     ensures { IfOk result (λ k. IsNextPlace code.now k) }

@@ -1,49 +1,21 @@
 -- The code of `case`, from that of its parts.
-use Rattle.std.proofs.Common.{◌≡◌, ℕ, pos, ◌+◌, ◌*◌, ◌<◌, List, [], ◌∷◌, ◌++◌, map, take, length, get_or, refl, sym, ap, ◌∙◌, subst, append_assoc, append-nil, arith, length-append}
-use Rattle.std.proofs.lemmas.List.{map_more, take_more, length-take-le}
+use Rattle.std.proofs.Common.{◌≡◌, ℕ, pos, ◌+◌, ◌*◌, ◌<◌, List, [], ◌∷◌, ◌++◌, map, take, length, get_or, refl, sym, ap, ◌∙◌, subst, append_assoc, arith, length-append}
+use Rattle.std.proofs.lemmas.List.{map_more}
 use Rattle.ep_object.specs.declared.code.Instr.{Instr}
 use Rattle.ep_object.specs.declared.code.Reference.{Reference}
 use Rattle.ep_typed.specs.Trees.{Expr, Stmt, Stmts, Case, Arm, Arms, Other, no_other, otherwise_do, arms}
 use Rattle.ep_typed.specs.declared.run_error.TheConstants as run_error
 use Rattle.ep_typed.specs.declared.tree.CaseRange.{CaseRange}
-use Rattle.ep_gen_expr.specs.ExprCode.{bare, push, instr}
+use Rattle.ep_gen_expr.specs.ExprCode.{bare, instr, tests_code}
+use Rattle.ep_gen_expr.proofs.Stays.{tests_length}
 use Rattle.ep_gen_expr.specs.Growth.{Grows, AppendsExpr}
 use Rattle.ep_gen_expr.specs.Jumps.{IsNextPlace, LeavesHole, landed}
 use Rattle.ep_gen_expr.specs.declared.code.Code.{Code}
-use Rattle.ep_gen_expr.proofs.Forms.{grows_at}
-use Rattle.ep_gen_unit.specs.StmtCode.{IsStmtCode, AreStmtsCode, AreArmsCode, IsOtherCode, test_code, tests_code}
+use Rattle.ep_gen_unit.specs.StmtCode.{IsStmtCode, AreStmtsCode, AreArmsCode, IsOtherCode}
 use Rattle.ep_gen_unit.specs.StmtGrowth.{Follows, AppendsStmt, AppendsStmts, AppendsArms, AppendsOther, AppendsTests, OpensCase, ClosesCase}
-use Rattle.ep_gen_unit.proofs.StmtStays.{stmt_code_short, arms_code_stays, other_code_stays, tests_length}
+use Rattle.ep_gen_unit.proofs.StmtStays.{stmt_code_short, arms_code_stays, other_code_stays}
 use Rattle.ep_gen_unit.proofs.Following.{IsLater, later_then, later_grows, later_follows, later_landed, expr_later, stmt_later, follows_none, follows_grows, follows_line, follows_then, follows_middle, follows_landed, grown_length}
 use Rattle.ep_object.specs.declared.op.TheConstants as op
-
--- ---- the tests of ranges
-
--- the test of one range
-pub appends_test : {a b c d e f g : Code} (body n : ℕ) (r : CaseRange) → IsNextPlace a n → Grows a b (bare a.line op.DUP ∷ []) → Grows b c (push b.line r.low ∷ []) → Grows c d (push c.line r.high ∷ []) → Grows d e (bare d.line op.BETWEEN ∷ []) → Grows e f (instr op.JUMP_FALSE (pos (n + 6)) 0 e.line ∷ [])
-    → Grows f g (instr op.JUMP (pos body) 0 f.line ∷ []) → Grows a g (test_code a.line body (length a.instructions) r)
-appends_test {a = a} {g = g} body n r start p q s t u v =
-    subst (λ k. Grows a g (test_code a.line body k r)) start.is_length
-    (grows_at (λ line. instr op.JUMP (pos body) 0 line ∷ []) (grows_at (λ line. instr op.JUMP_FALSE (pos (n + 6)) 0 line ∷ []) (grows_at (λ line. bare line op.BETWEEN ∷ []) (grows_at (λ line. push line r.high ∷ []) (grows_at (λ line. push line r.low ∷ []) p q) s) t) u) v)
-
-tests_snoc : (line body at : ℕ) (rs : List CaseRange) (r : CaseRange) → tests_code line body at (rs ++ r ∷ []) ≡ tests_code line body at rs ++ test_code line body (at + 6 * length rs) r
-tests_snoc line body at [] r =
-    let here : at ≡ at + 6 * 0 = omega arith in
-    append-nil (test_code line body at r) ∙ ap (λ k. test_code line body k r) here
-tests_snoc line body at (x ∷ rs) r =
-    let there : at + 6 + 6 * length rs ≡ at + 6 * length (x ∷ rs) = omega arith in
-    ap (λ l. test_code line body at x ++ l) (tests_snoc line body (at + 6) rs r ∙ ap (λ k. tests_code line body (at + 6) rs ++ test_code line body k r) there)
-    ∙ sym (append_assoc (test_code line body at x) (tests_code line body (at + 6) rs) (test_code line body (at + 6 * length (x ∷ rs)) r))
-
--- the test of one more range of a slice
-pub tests_more : {b c : Code} (a : Code) (body at : ℕ) (rs : List CaseRange) (k : ℕ) (r : CaseRange) → at ≡ length a.instructions → k < length rs → r ≡ get_or rs k r → Grows a b (tests_code a.line body at (take k rs)) → Grows b c (test_code b.line body (length b.instructions) r) → Grows a c (tests_code a.line body at (take (k + 1) rs))
-tests_more {b = b} {c = c} a body at rs k r start h e p q =
-    let long : length (take k rs) ≡ k = length-take-le k rs (omega (arith, h)) in
-    let place : length b.instructions ≡ at + 6 * length (take k rs) = omega (arith, start, grown_length (follows_grows p), tests_length a.line body at (take k rs)) in
-    let both : Grows a c (tests_code a.line body at (take k rs) ++ test_code a.line body (length b.instructions) r) = grows_at (λ line. test_code line body (length b.instructions) r) p q in
-    subst (λ l. Grows a c l)
-    (ap (λ n. tests_code a.line body at (take k rs) ++ test_code a.line body n r) place ∙ sym (tests_snoc a.line body at (take k rs) r) ∙ ap (λ x. tests_code a.line body at (take k rs ++ x ∷ [])) e ∙ ap (tests_code a.line body at) (sym (take_more rs k r h)))
-    both
 
 -- ---- arms
 

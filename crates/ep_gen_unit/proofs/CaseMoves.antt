@@ -1,28 +1,25 @@
 -- The machine follows `case`.
-use Rattle.std.proofs.Common.{◌≡◌, ℕ, ℤ, pos, suc, ◌+◌, ◌*◌, ◌-◌, ◌≤◌, ◌<◌, Bool, true, false, List, [], ◌∷◌, length, refl, sym, ap, ◌∙◌, arith}
-use Rattle.std.specs.Prelude.{if◌then◌else◌}
-use Rattle.ep_object.specs.Follows.{point, Facts, After, Fragment, Inside, Bare}
-use Rattle.ep_object.specs.Matching.{Slots, Memory, Injection, at as standing}
+use Rattle.std.proofs.Common.{◌≡◌, ℕ, ℤ, pos, suc, ◌+◌, ◌*◌, ◌≤◌, ◌<◌, List, [], ◌∷◌, length, refl, sym, ap, ◌∙◌, arith}
+use Rattle.ep_object.specs.Follows.{point, Facts, Fragment, Inside, Bare}
+use Rattle.ep_object.specs.Matching.{Slots, Memory, Injection}
 use Rattle.ep_object.specs.Operands.{Operand, Word}
 use Rattle.ep_object.specs.Placing.{Placement, CodeStands}
 use Rattle.ep_object.specs.Runs.{unit_in}
-use Rattle.ep_object.specs.State.{Running, Stopped, Error}
+use Rattle.ep_object.specs.State.{Stopped, Error}
 use Rattle.ep_object.specs.declared.code.Image.{Image}
 use Rattle.ep_object.specs.declared.code.Instr.{Instr}
 use Rattle.ep_object.specs.declared.code.Reference.{Reference}
-use Rattle.ep_object.proofs.following.Choices.{fragment_branch_one}
-use Rattle.ep_object.proofs.following.Fragments.{fragment_give, fragment_stop, fragment_from, fragment_less, fragment_credit, fragment_one, fragment_waits, fragment_move, fragment_bind_number, fragment_bind_bare}
+use Rattle.ep_object.proofs.following.Fragments.{fragment_give, fragment_stop, fragment_from, fragment_less, fragment_one, fragment_waits, fragment_move, fragment_bind_number, fragment_bind_bare}
 use Rattle.ep_object.proofs.matching.Growing.{unit_in-same, inside_here}
-use Rattle.ep_object.proofs.rows.Rows.{push_pushes, between_pushes, jump_jumps, jump_false_jumps, fail_fails}
-use Rattle.ep_object.proofs.rows.TextRows.{drop_drops, dup_pushes}
+use Rattle.ep_object.proofs.rows.Rows.{jump_jumps, fail_fails}
+use Rattle.ep_object.proofs.rows.TextRows.{drop_drops}
 use Rattle.ep_typed.specs.Calls.{Handler}
 use Rattle.ep_typed.specs.Hosts.{Host}
-use Rattle.ep_typed.specs.Meaning.{exec, exec_all, exec_arms, exec_other, tried}
+use Rattle.ep_typed.specs.Meaning.{exec, exec_all, exec_arms, exec_other}
 use Rattle.ep_typed.specs.Results.{weight_of}
-use Rattle.ep_typed.specs.Operations.{is_in, is_true, ordinal_of}
 use Rattle.ep_typed.specs.Printing.{number_of}
 use Rattle.ep_typed.specs.Steady.{IsSteadyHandler}
-use Rattle.ep_typed.specs.Steps.{Computation, spend}
+use Rattle.ep_typed.specs.Steps.{Computation}
 use Rattle.ep_typed.specs.Trees.{Expr, Stmt, Stmts, Arms, next_arm, Other, no_other, otherwise_do, Case}
 use Rattle.ep_typed.specs.Valid as kind
 use Rattle.ep_typed.specs.Valid.{Declarations, IsExpr}
@@ -31,47 +28,11 @@ use Rattle.ep_typed.specs.declared.tree.CaseRange.{CaseRange}
 use Rattle.ep_typed.proofs.Steady.{steady_spend, steady_give, steady_exec_arms, steady_exec_other}
 use Rattle.ep_gen_expr.specs.ExprCode.{instr, bare, IsExprCode}
 use Rattle.ep_gen_expr.proofs.Answering.{row_waits}
-use Rattle.ep_gen_expr.proofs.Placed.{instr_at, jump_has, jump_false_has}
-use Rattle.ep_gen_unit.specs.StmtCode.{test_code, tests_code}
-use Rattle.ep_gen_unit.proofs.Parts.{statement_credit, Moves, ExpressionsFollow, code_stands-parts}
+use Rattle.ep_gen_expr.proofs.Placed.{jump_has}
+use Rattle.ep_gen_expr.proofs.RangeMoves.{tests_follow}
+use Rattle.ep_gen_expr.specs.ExprCode.{tests_code}
+use Rattle.ep_gen_unit.proofs.Parts.{statement_credit, Moves, ExpressionsFollow}
 use Rattle.ep_object.specs.declared.op.TheConstants as op
-
--- the word of a truth value is true exactly if that is
-true_ordinal : (b : Bool) → is_true (ordinal_of b) ≡ b
-true_ordinal true = refl
-true_ordinal false = refl
-
-module _ {declared : Declarations} {G : Image} {Here : Facts} (ps : List Placement) (p : Placement) (references : List Reference) (call : Handler) (n : ℕ) (unit : List ℕ) (room : p.instructions.before + p.instructions.own ≤ length G.instructions) where
-  -- The test of a range spends a step, and leads to the statement of the arm where the range has the value.
-  test_follows : (line body at : ℕ) (r : CaseRange) (z : ℤ) → CodeStands G ps p references at (test_code line body at r) → body < p.instructions.own → at + 6 < p.instructions.own → (injection : Injection) (memory : Memory) (below : List Operand) {to d : ℕ} {x y : Computation (Unit {0})} {P : Unit {0} → After} {e : Unit {0} → ℕ} → 8 ≤ d
-      → Fragment declared G Here n (point injection memory (p.instructions.before + body) (Word z ∷ below)) x to P (d + 9) e
-      → Fragment declared G Here n (point injection memory (p.instructions.before + (at + 6)) (Word z ∷ below)) y to P (d + 9) e
-      → Fragment declared G Here (suc n) (point injection memory (p.instructions.before + at) (Word z ∷ below)) (spend 1 (if is_in r z then x else y)) to P d e
-  test_follows line body at r z stands inside inside_next injection memory below {d = d} enough fits fails =
-      let place : ℕ = p.instructions.before + at in
-      row_waits {d1 = d - 1} (dup_pushes G place line below z stands.0) (omega (arith, enough))
-      (row_waits {d1 = d - 2} (push_pushes G (place + 1) line (Word z ∷ Word z ∷ below) r.low (instr_at G (omega arith) stands.1.0)) (omega (arith, enough))
-      (row_waits {d1 = d - 3} (push_pushes G (place + 1 + 1) line (Word r.low ∷ Word z ∷ Word z ∷ below) r.high (instr_at G (omega arith) stands.1.1.0)) (omega (arith, enough))
-      (row_waits {d1 = d - 4} (between_pushes G (place + 1 + 1 + 1) line (Word z ∷ below) z r.low r.high (instr_at G (omega arith) stands.1.1.1.0)) (omega (arith, enough))
-      (fragment_branch_one {then_place = place + 1 + 1 + 1 + 1 + 1} {else_place = p.instructions.before + (at + 6)} {d1 = d + 10} (is_in r z)
-      (λ s matches. jump_false_jumps G (place + 1 + 1 + 1 + 1) line (Word z ∷ below) (ordinal_of (is_in r z)) (p.instructions.before + (at + 6)) (omega (arith, room, inside_next)) (instr_at G (omega arith) (jump_false_has G ps p references line (at + 1 + 1 + 1 + 1) (at + 6) (instr op.JUMP (pos body) 0 line ∷ []) inside_next stands.1.1.1.1)) memory s.trace
-      ∙ ap (λ b. record { weight = 0; to = Running 0 (standing (if b then place + 1 + 1 + 1 + 1 + 1 else p.instructions.before + (at + 6)) (Word z ∷ below) memory s.trace) }) (true_ordinal (is_in r z)))
-      (omega (arith, enough))
-      (λ is. fragment_waits {place1 = p.instructions.before + body} {d1 = d + 9} (λ s matches. jump_jumps G (place + 1 + 1 + 1 + 1 + 1) line (Word z ∷ below) (p.instructions.before + body) (omega (arith, room, inside)) (instr_at G (omega arith) (jump_has G ps p references line (at + 1 + 1 + 1 + 1 + 1) body [] inside stands.1.1.1.1.1)) memory s.trace) (omega arith) fits)
-      (λ is. fragment_credit {d = d + 9} (omega arith) (λ a. omega arith) fails)))))
-
-  -- the ranges of an arm
-  tests_follow : (line body at : ℕ) (r : CaseRange) (rs : List CaseRange) (z : ℤ) → CodeStands G ps p references at (tests_code line body at (r ∷ rs)) → body < p.instructions.own → at + 6 * length (r ∷ rs) < p.instructions.own → (injection : Injection) (memory : Memory) (below : List Operand) {to d : ℕ} {x y : Computation (Unit {0})} {P : Unit {0} → After} {e : Unit {0} → ℕ} → 8 ≤ d
-      → Fragment declared G Here n (point injection memory (p.instructions.before + body) (Word z ∷ below)) x to P (d + 9) e
-      → Fragment declared G Here n (point injection memory (p.instructions.before + (at + 6 * length (r ∷ rs))) (Word z ∷ below)) y to P (d + 9) e
-      → Fragment declared G Here n (point injection memory (p.instructions.before + at) (Word z ∷ below)) (tried call n unit z (r ∷ rs) x y) to P d e
-  tests_follow line body at r [] z stands inside inside_end injection memory below enough fits fails =
-      let first = code_stands-parts G ps p references at (test_code line body at r) [] stands in
-      fragment_less {n = suc n} (omega arith) (test_follows line body at r z first.0 inside (omega (arith, inside_end)) injection memory below enough fits (fragment_from (omega arith) fails))
-  tests_follow line body at r (r2 ∷ rs) z stands inside inside_end injection memory below {d = d} enough fits fails =
-      let first = code_stands-parts G ps p references at (test_code line body at r) (tests_code line body (at + 6) (r2 ∷ rs)) stands in
-      fragment_less {n = suc n} (omega arith) (test_follows line body at r z first.0 inside (omega (arith, inside_end)) injection memory below enough fits
-      (fragment_credit {d = d} (omega arith) (λ a. omega arith) (tests_follow line body (at + 6) r2 rs z first.1 inside (omega (arith, inside_end)) injection memory below enough fits (fragment_from (omega arith) fails))))
 
 module _ (declared : Declarations) (G : Image) (untouched : Slots) (Here : Facts) (ps : List Placement) (p : Placement) (texts : List (List ℕ)) (references : List Reference) (call : Handler) (steady_call : IsSteadyHandler call) (n : ℕ) (unit : List ℕ) (room : p.instructions.before + p.instructions.own ≤ length G.instructions) where
   -- With the value of a selector on top, the machine follows the computation to another place, where that value is gone. Some of the credit before is for the instruction that drops it and for the step of the `case`.
@@ -91,7 +52,7 @@ module _ (declared : Declarations) (G : Image) (untouched : Slots) (Here : Facts
       → Selects at end z (exec_arms call n unit z (next_arm (r ∷ rs) s arms) fails)
   arm_parts line leave at test_end body_end end r rs s arms z fails tests_end at_tests at_over at_away at_leave inside_test inside_body inside_leave inside_end body_moves rest_selects injection memory below d enough home =
       let place : ℕ = p.instructions.before + (test_end + 1) in
-      tests_follow ps p references call n unit room line (test_end + 1) at r rs z at_tests inside_test (omega (arith, tests_end, inside_test)) injection memory below {d = d + 7} (omega (arith, enough))
+      tests_follow ps p references call n unit room n line (test_end + 1) at r rs z at_tests inside_test (omega (arith, tests_end, inside_test)) injection memory below {d = d + 7} (omega (arith, enough))
       (row_waits {d1 = d + 8} (drop_drops G place line below (Word z) at_over.1.0) (omega arith)
       (fragment_from {place = p.instructions.before + (test_end + 2)} (omega arith)
       (fragment_bind_bare {e = λ a. d + 8} (λ a. steady_spend 1 (steady_give tt)) (body_moves injection memory below (d + 8) (omega (arith, enough)) home) (λ a longer after grown routine.

@@ -1,14 +1,15 @@
 -- The variables that a unit declares, and their types.
-use Rattle.std.proofs.Common.{◌≡◌, ℕ, zero, suc, ◌+◌, ◌⊎◌, inl, inr, Bool, true, false, List, [], ◌∷◌, ◌++◌, Option, Some, None, slice_get, bytes_eq, refl, sym, ap, ◌∙◌, subst, arith, zero-add}
+use Rattle.std.proofs.Common.{◌≡◌, ℕ, zero, suc, ◌+◌, ◌⊎◌, inl, inr, Bool, true, false, List, [], ◌∷◌, ◌++◌, Some, None, slice_get, bytes_eq, refl, sym, ap, ◌∙◌, subst, arith, zero-add}
 use Rattle.std.proofs.lemmas.Option.{get_or_from_slice_get, slice_get_within}
 use Rattle.std.proofs.lemmas.Slice.Eq.{bytes_eq-Decides}
 use Rattle.std.specs.Prelude.{All, if◌then◌else◌}
 use Rattle.ep_gen_unit.specs.UnitLaws.{AreDeclared}
 use Rattle.ep_object.proofs.matching.Growing.{slice_get-prefix}
 use Rattle.ep_object.specs.Scene.{HaveValidTypes}
-use Rattle.ep_typed.proofs.Auxiliaries.{auxiliaries_valid, withs_denoted}
-use Rattle.ep_typed.specs.Auxiliaries.{auxiliary_variables, first_for, with_variables}
+use Rattle.ep_typed.proofs.Auxiliaries.{block_valid, withs_denoted}
+use Rattle.ep_typed.specs.Auxiliaries.{block_auxiliaries, with_variables}
 use Rattle.ep_typed.specs.Routines.{made_by_unit, unit_variables}
+use Rattle.ep_typed.specs.Trees.{Stmt}
 use Rattle.ep_typed.specs.declared.unit.UnitType.{UnitType}
 use Rattle.ep_typed.specs.Valid.{Declarations, IsDenoter, IsValid, IsVariable, own}
 use Rattle.ep_typed.specs.Viewed.{denoter_of, stmt_of}
@@ -44,12 +45,12 @@ pub own_types : (u : TypedUnit) → (own u).types u.name ≡ u.types
 own_types u = ap (λ b. if b then u.types else []) (name_same u.name u.name refl)
 
 -- variables that are valid, and the auxiliary ones behind them
-pub variables_valid : (types : List UnitType) (vs : List UnitVariable) (o : Option ℕ) → All (IsVariable types) vs → (k : ℕ) (v : UnitVariable) → slice_get (vs ++ auxiliary_variables o) k ≡ Some v → IsVariable types v
-variables_valid types vs o valid k v h = either (slice_get-either vs (auxiliary_variables o) k v h)
+pub variables_valid : (types : List UnitType) (vs : List UnitVariable) (block : Stmt) → All (IsVariable types) vs → (k : ℕ) (v : UnitVariable) → slice_get (vs ++ block_auxiliaries block) k ≡ Some v → IsVariable types v
+variables_valid types vs block valid k v h = either (slice_get-either vs (block_auxiliaries block) k v h)
   where
-    either : (slice_get vs k ≡ Some v) ⊎ ((j : ℕ) × (slice_get (auxiliary_variables o) j ≡ Some v)) → IsVariable types v
+    either : (slice_get vs k ≡ Some v) ⊎ ((j : ℕ) × (slice_get (block_auxiliaries block) j ≡ Some v)) → IsVariable types v
     either (inl e) = subst (λ x. IsVariable types x) (get_or_from_slice_get vs k v v e) (valid k v (slice_get_within vs k v e))
-    either (inr e) = auxiliaries_valid types o e.0 v e.1
+    either (inr e) = block_valid types block e.0 v e.1
 
 -- those that a unit makes are declared where all of them are
 pub made_declared : (declared : Declarations) (unit : List ℕ) (vs ws : List UnitVariable) → AreDeclared declared unit 0 (vs ++ ws) → AreDeclared declared unit 0 vs
@@ -63,5 +64,5 @@ own_valid u valid unit k v h =
     subst (λ ts. IsDenoter ts (denoter_of v.denoter)) (sym types) (either (slice_get-either (made_by_unit u) (with_variables (stmt_of u.start)) k v w.1))
   where
     either : (slice_get (made_by_unit u) k ≡ Some v) ⊎ ((j : ℕ) × (slice_get (with_variables (stmt_of u.start)) j ≡ Some v)) → IsDenoter u.types (denoter_of v.denoter)
-    either (inl e) = (variables_valid u.types u.variables (first_for (stmt_of u.start)) valid.variables k v e).denoter
+    either (inl e) = (variables_valid u.types u.variables (stmt_of u.start) valid.variables k v e).denoter
     either (inr e) = withs_denoted (own u) u.types refl (own_types u) valid.types (stmt_of u.start) valid.start e.0 v e.1

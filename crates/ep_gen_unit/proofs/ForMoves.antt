@@ -141,7 +141,7 @@ module _ {declared : Declarations} {G : Image} {untouched : Slots} {Here : Facts
   -- ---- the end
 
   -- the instruction that makes a variable undefined
-  undefine_moves : (low high : ℤ) (a : Component) (q : PlaceOf) (line at : ℕ) → CodeStands G ps p references at (bare line op.UNDEFINE ∷ []) → (injection : Injection) (memory : Memory) (below : List Operand) (d : ℕ) → 2 ≤ d → unit_in G memory.frames ≡ unit → IsSpot injection memory.types a q → Describes memory.types q.type_number (type.Ordinal low high)
+  pub undefine_moves : (low high : ℤ) (a : Component) (q : PlaceOf) (line at : ℕ) → CodeStands G ps p references at (bare line op.UNDEFINE ∷ []) → (injection : Injection) (memory : Memory) (below : List Operand) (d : ℕ) → 2 ≤ d → unit_in G memory.frames ≡ unit → IsSpot injection memory.types a q → Describes memory.types q.type_number (type.Ordinal low high)
       → Fragment declared G Here n (point injection memory (p.instructions.before + at) (operand.Place q ∷ below)) (using (meaning.Error run_error.DISPOSED unit line) a.allocation (spend 1 (change (assigned a Undefined)))) (p.instructions.before + at + 1) (λ b. Inside untouched injection memory (Bare below b)) d (λ b. d)
   undefine_moves low high a q line at stands injection memory below d enough home spot described =
       fragment_less {n = suc n} (omega arith) (fragment_using {n = suc n} {e = λ b. d} a.allocation

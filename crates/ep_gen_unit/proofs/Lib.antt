@@ -9,6 +9,8 @@ pub mod ForForms
 pub mod ForMoves
 pub mod ItemForms
 pub mod Makes
+pub mod MemberForms
+pub mod MemberMoves
 pub mod OwnMakes
 mod Parts
 mod ProcedureMoves

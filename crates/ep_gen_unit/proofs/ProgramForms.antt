@@ -6,7 +6,7 @@ use Rattle.ep_object.proofs.matching.Elements.{slice_get-push}
 use Rattle.ep_object.specs.declared.code.Instr.{Instr}
 use Rattle.ep_object.specs.declared.code.CodeRoutine.{CodeRoutine}
 use Rattle.ep_object.specs.declared.code.Object.{Object}
-use Rattle.ep_typed.specs.Auxiliaries.{auxiliary_variables, first_for, with_variables}
+use Rattle.ep_typed.specs.Auxiliaries.{block_auxiliaries, with_variables}
 use Rattle.ep_typed.specs.Trees.{Stmt}
 use Rattle.ep_typed.specs.Routines.{formal_variable, made_by_unit, made_variables, result_variable, unit_variables, variables_of}
 use Rattle.ep_typed.specs.Viewed.{denoter_of, stmt_of}
@@ -95,9 +95,9 @@ nothing_distinct : {A : Type 0} → AreDistinct {A = A} []
 nothing_distinct = λ j k x p q. cc
 
 -- the code of the start and of the stop, from that of their parts
-module _ (u : TypedUnit) {a b c d e : Code} (ts : List UnitType) (types_are : ts ≡ u.types) (vs : List UnitVariable) (variables_are : vs ≡ u.variables) (makes : Follows a b (make_all_code ts 0 (vs ++ auxiliary_variables (first_for (stmt_of u.start))))) (s : AppendsStmt b c (stmt_of u.start)) (r : Grows (record c { line = code.NO_LINE }) d (return_code ∷ [])) (last : Grows d e (bare d.line op.RETURN ∷ [])) (stop_entry : ℕ) (next : IsNextPlace d stop_entry) where
+module _ (u : TypedUnit) {a b c d e : Code} (ts : List UnitType) (types_are : ts ≡ u.types) (vs : List UnitVariable) (variables_are : vs ≡ u.variables) (makes : Follows a b (make_all_code ts 0 (vs ++ block_auxiliaries (stmt_of u.start)))) (s : AppendsStmt b c (stmt_of u.start)) (r : Grows (record c { line = code.NO_LINE }) d (return_code ∷ [])) (last : Grows d e (bare d.line op.RETURN ∷ [])) (stop_entry : ℕ) (next : IsNextPlace d stop_entry) where
   m : Follows a b (make_all_code u.types 0 (made_by_unit u))
-  m = subst (λ l. Follows a b (make_all_code u.types 0 (l ++ auxiliary_variables (first_for (stmt_of u.start))))) variables_are (subst (λ l. Follows a b (make_all_code l 0 (vs ++ auxiliary_variables (first_for (stmt_of u.start))))) types_are makes)
+  m = subst (λ l. Follows a b (make_all_code u.types 0 (l ++ block_auxiliaries (stmt_of u.start)))) variables_are (subst (λ l. Follows a b (make_all_code l 0 (vs ++ block_auxiliaries (stmt_of u.start)))) types_are makes)
 
   ends : Follows c e (return_code ∷ return_code ∷ [])
   ends = follows_line c code.NO_LINE (follows_grows (grows_at (λ l. bare l op.RETURN ∷ []) r last))
@@ -157,12 +157,12 @@ pub makes_block : {b c : Code} (a : Code) (types : List UnitType) (first : ℕ) 
 makes_block {c = c} a types first vs ws p q = subst (λ l. Follows a c l) (sym (make_append types first vs ws)) (follows_then p q)
 
 -- both, by the steps of its function
-pub block_made : {b c : Code} (a : Code) (types : List UnitType) (first middle behind : ℕ) (vs ws ys zs : List UnitVariable) (block : Stmt) → middle ≡ first + length vs → ws ≡ auxiliary_variables (first_for block) → ys ≡ ws → zs ≡ ws → behind ≡ middle + length ys → Follows a b (make_all_code types first vs) → Follows b c (make_all_code types middle zs)
+pub block_made : {b c : Code} (a : Code) (types : List UnitType) (first middle behind : ℕ) (vs ws ys zs : List UnitVariable) (block : Stmt) → middle ≡ first + length vs → ws ≡ block_auxiliaries block → ys ≡ ws → zs ≡ ws → behind ≡ middle + length ys → Follows a b (make_all_code types first vs) → Follows b c (make_all_code types middle zs)
     → MakesBlock a c types first vs block behind
 block_made {b = b} {c = c} a types first middle behind vs ws ys zs block at is same other count p q =
     record {
-      follows = makes_block a types first vs (auxiliary_variables (first_for block)) p (subst (λ n. Follows b c (make_all_code types n (auxiliary_variables (first_for block)))) at (subst (λ l. Follows b c (make_all_code types middle l)) (other ∙ is) q));
-      count = omega (arith, count, at, ap length same, ap length is, length-append vs (auxiliary_variables (first_for block)));
+      follows = makes_block a types first vs (block_auxiliaries block) p (subst (λ n. Follows b c (make_all_code types n (block_auxiliaries block))) at (subst (λ l. Follows b c (make_all_code types middle l)) (other ∙ is) q));
+      count = omega (arith, count, at, ap length same, ap length is, length-append vs (block_auxiliaries block));
     }
 
 -- how many variables a routine has
@@ -175,7 +175,7 @@ pub makes_own : {b c : Code} (a : Code) (types : List UnitType) (r : UnitRoutine
     → slots ≡ made + length (with_variables (stmt_of r.block)) → MakesOwn a c types r slots
 makes_own {b = b} {c = c} a types r vs first made slots variables_are result makes whole_count =
     let results : List UnitVariable = result_variable r.name r.line r.result in
-    let more : List UnitVariable = auxiliary_variables (first_for (stmt_of r.block)) in
+    let more : List UnitVariable = block_auxiliaries (stmt_of r.block) in
     let others : Follows b c (make_all_code types (length r.formals + length results) (r.variables ++ more)) = subst (λ n. Follows b c (make_all_code types n (r.variables ++ more))) result.count (subst (λ l. Follows b c (make_all_code types first (l ++ more))) variables_are makes.follows) in
     record {
       follows = subst (λ l. Follows a c l) (sym (make_append types (length r.formals) results (r.variables ++ more))) (follows_then result.follows others);

@@ -1,18 +1,20 @@
 -- The machine follows the end of a function: it leaves the value of the variable that has the result.
-use Rattle.std.proofs.Common.{◌≡◌, ℕ, ℤ, pos, suc, ◌+◌, ◌*◌, ◌-◌, ◌≤◌, ◌<◌, List, [], ◌∷◌, length, Option, Some, None, slice_get, false, refl, sym, ap, ◌∙◌, subst, arith}
+use Rattle.std.proofs.Common.{◌≡◌, ℕ, ℤ, pos, suc, ◌+◌, ◌*◌, ◌-◌, ◌≤◌, ◌<◌, List, [], ◌∷◌, length, Some, None, slice_get, false, refl, sym, ap, ◌∙◌, subst, arith}
 use Rattle.std.specs.Prelude.{if◌then◌else◌, is_some}
 use Rattle.ep_gen_expr.specs.ExprCode.{instr, bare}
 use Rattle.ep_gen_expr.proofs.Placed.{instr_at, jump_false_has}
 use Rattle.ep_gen_unit.specs.StmtCode.{result_code, structure_code}
-use Rattle.ep_object.proofs.following.Bind.{Met, follows_credit, follows_give, follows_stop, follows_waits}
+use Rattle.ep_object.proofs.following.Bind.{follows_credit, follows_give, follows_stop, follows_waits}
 use Rattle.ep_object.proofs.following.Choices.{Reads, ReadsResult, Nothing, Result_of, fragment_fetched, fragment_using}
 use Rattle.ep_object.proofs.following.Fragments.{FailsWith, fragment_bind, fragment_from, fragment_waits}
 use Rattle.ep_object.proofs.matching.Awaiting.{value_on_top}
 use Rattle.ep_object.proofs.matching.Growing.{not_left-here, still_routine, unit_in-same}
 use Rattle.ep_object.proofs.rows.ChangeRows.{variable_type}
 use Rattle.ep_object.proofs.rows.OwnRows.{own_reads}
+use Rattle.ep_object.proofs.rows.TextRows.{dup_place}
+use Rattle.ep_gen_expr.proofs.VariantMoves.{follows_found}
 use Rattle.ep_object.proofs.rows.PlaceRows.{defined_fails, defined_tells, load_fails, load_reads, structure_found}
-use Rattle.ep_object.proofs.rows.Rows.{RowPushes, outcome_at, fail_fails, jump_false_jumps}
+use Rattle.ep_object.proofs.rows.Rows.{fail_fails, jump_false_jumps}
 use Rattle.ep_object.specs.Activations.{KnowsNames}
 use Rattle.ep_object.specs.Follows.{Facts, Follows, Fragment, Lands, Inside, OnTop, PlaceOnTop, IsNotLeft, point}
 use Rattle.ep_object.specs.Matching.{Memory, Injection, Matches, Slots, HasOwnType, IsSpot, Describes, at as standing}
@@ -46,17 +48,6 @@ use Rattle.ep_typed.specs.TypeValues as type
 -- the value of the variable that has the result, or the error where it has none
 abbrev gives_result : List ℕ → ℕ → Component → Computation (List Result)
 gives_result unit line a = bind (fetch_or (λ s. meaning.Error (unresulting (type_at a s)) unit line) (result_of a)) (λ r. give (r ∷ []))
-
--- what is read of a state, by what it is there, and with which end
-follows_found : {A B : Type 0} {Within : State → Type 0} {G : Image} {n : ℕ} {k : State} {s : meaning.State} {Post : B → meaning.State → State → Type 0} {d : ℕ} {e : B → ℕ} (x : meaning.State → meaning.End) (h : meaning.State → Option A) (f : A → Computation B) (end : meaning.End) (o : Option A)
-    → x s ≡ end → h s ≡ o → Follows Within G n k s (bind (found end o) f) Post d e → Follows Within G n k s (bind (fetch_or x h) f) Post d e
-follows_found {Within = Within} {G = G} {k = k} {s = s} {Post = Post} {d = d} {e = e} x h f end o ends is z =
-    record { by = λ m l. subst (λ y. Met Within G k m Post d e (bind (found y (h s)) f m s)) (sym ends) (subst (λ y. Met Within G k m Post d e (bind (found end y) f m s)) (sym is) (z.by m l)) }
-
--- `Dup`, of a place
-dup_place : (G : Image) (place line : ℕ) (below : List Operand) (q : PlaceOf) → slice_get G.instructions place ≡ Some (instr op.DUP (pos 0) 0 line)
-    → RowPushes G place (operand.Place q ∷ below) 0 (operand.Place q ∷ operand.Place q ∷ below)
-dup_place G place line below q has memory trace = outcome_at G (instr op.DUP (pos 0) 0 line) place (operand.Place q ∷ below) memory trace has
 
 module _ {declared : Declarations} {G : Image} {Here : Facts} (untouched : Slots) (knows : KnowsNames declared Here) (ps : List Placement) (p : Placement) (references : List Reference) (n : ℕ) (unit : List ℕ) (room : p.instructions.before + p.instructions.own ≤ length G.instructions)
     (number line at : ℕ) (h : Host) (low high : ℤ) (of_host : IsTypeOf h (type.Ordinal low high)) (stands : CodeStands G ps p references at (result_code line number at)) (inside : at + 6 < p.instructions.own) where

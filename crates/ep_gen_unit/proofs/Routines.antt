@@ -45,7 +45,7 @@ use Rattle.ep_object.specs.declared.state.FrameNumber.{FrameNumber}
 use Rattle.ep_object.specs.declared.state.FrameNumber.TheVariants as frame
 use Rattle.ep_object.specs.declared.op.TheConstants as op
 use Rattle.ep_typed.proofs.Steady.{steady_bind, steady_routine_of, steady_runs_routine, steady_results_given, steady_make_all_own, steady_exec}
-use Rattle.ep_typed.specs.Auxiliaries.{auxiliary_variables, first_for, with_variables}
+use Rattle.ep_typed.specs.Auxiliaries.{block_auxiliaries, with_variables}
 use Rattle.ep_typed.specs.Calls.{Argument, Handler}
 use Rattle.ep_typed.specs.Meaning.{weights_of, exec, make_all_own, results_given, Found, found_among, routine_in, runs_routine, routine_does, routine_of}
 use Rattle.ep_typed.specs.Printing.{Result}
@@ -202,8 +202,8 @@ module _ (u : TypedUnit) (o : Object) (is : IsProgramCode u o) (valid : IsValid 
       its = valid.routines number r there
 
       made_typed : (j : ℕ) (w : UnitVariable) → slice_get (made_variables r) j ≡ Some w → IsDenoter u.types (denoter_of w.denoter)
-      made_typed = made_valid r.name r.line r.result its.result (r.variables ++ auxiliary_variables (first_for (stmt_of r.block)))
-          (λ j w q. (variables_valid u.types r.variables (first_for (stmt_of r.block)) its.variables j w q).denoter)
+      made_typed = made_valid r.name r.line r.result its.result (r.variables ++ block_auxiliaries (stmt_of r.block))
+          (λ j w q. (variables_valid u.types r.variables (stmt_of r.block) its.variables j w q).denoter)
 
       behind_typed : (j : ℕ) (w : UnitVariable) → (slice_get (made_variables r) j ≡ Some w) ⊎ ((i : ℕ) × (slice_get (with_variables (stmt_of r.block)) i ≡ Some w)) → IsDenoter u.types (denoter_of w.denoter)
       behind_typed j w (inl q) = made_typed j w q
@@ -369,7 +369,7 @@ module _ (u : TypedUnit) (o : Object) (is : IsProgramCode u o) (valid : IsValid 
     -- the variable of the result is the first one that the routine makes
     result_is : (y : RoutineResult) → r.result ≡ Some y → slice_get variables (length formals) ≡ Some (result_of_name y)
     result_is y is_some =
-        let first : slice_get (made_variables r) 0 ≡ Some (result_of_name y) = ap (λ z. slice_get (result_variable r.name line_of z ++ (r.variables ++ auxiliary_variables (first_for (stmt_of r.block)))) 0) is_some in
+        let first : slice_get (made_variables r) 0 ≡ Some (result_of_name y) = ap (λ z. slice_get (result_variable r.name line_of z ++ (r.variables ++ block_auxiliaries (stmt_of r.block))) 0) is_some in
         ap (slice_get variables) {x = length formals} {y = length formals + 0} (omega arith) ∙ variable_is 0 (result_of_name y) first
 
     -- the end of a function whose result is of an ordinal type
@@ -517,15 +517,15 @@ module _ (u : TypedUnit) (o : Object) (is : IsProgramCode u o) (valid : IsValid 
           (λ b last final above i. (still_routine i.routine, subst (λ st. Fragment within G Here m (point last final (p.instructions.before + end) st) gives ends.place (λ rs. ResultsOnTop results below rs) (63 + more) (λ rs. 1 + credit_of rs)) (sym i.operands_are) (ends.moves knows last final below (unit_in-same G i.routine ∙ at_home))))
 
       -- the making of the variables, of which that of the result leaves a credit
-      makes_all : (y : Option RoutineResult) (valid_result : IsResult u.types y) (at : ℕ) → ((i : ℕ) (v : UnitVariable) → slice_get (result_variable r.name line_of y ++ (r.variables ++ auxiliary_variables (first_for (stmt_of r.block)))) i ≡ Some v → slice_get (variables_up within 0) (length formals + i) ≡ Some v)
-          → CodeStands G ps p o.references at (make_all_code u.types (length formals) (result_variable r.name line_of y ++ (r.variables ++ auxiliary_variables (first_for (stmt_of r.block)))))
+      makes_all : (y : Option RoutineResult) (valid_result : IsResult u.types y) (at : ℕ) → ((i : ℕ) (v : UnitVariable) → slice_get (result_variable r.name line_of y ++ (r.variables ++ block_auxiliaries (stmt_of r.block))) i ≡ Some v → slice_get (variables_up within 0) (length formals + i) ≡ Some v)
+          → CodeStands G ps p o.references at (make_all_code u.types (length formals) (result_variable r.name line_of y ++ (r.variables ++ block_auxiliaries (stmt_of r.block))))
           → (longer : Injection) (after : Memory) (below : List Operand)
-          → Fragment within G Here m (point longer after (p.instructions.before + at) below) (make_all_own call m u.name u.types (length formals) (result_variable r.name line_of y ++ (r.variables ++ auxiliary_variables (first_for (stmt_of r.block))))) (p.instructions.before + (at + length (make_all_code u.types (length formals) (result_variable r.name line_of y ++ (r.variables ++ auxiliary_variables (first_for (stmt_of r.block))))))) (λ a. StillBare after below) 63 (λ a. 63 + spare y valid_result)
+          → Fragment within G Here m (point longer after (p.instructions.before + at) below) (make_all_own call m u.name u.types (length formals) (result_variable r.name line_of y ++ (r.variables ++ block_auxiliaries (stmt_of r.block)))) (p.instructions.before + (at + length (make_all_code u.types (length formals) (result_variable r.name line_of y ++ (r.variables ++ block_auxiliaries (stmt_of r.block)))))) (λ a. StillBare after below) 63 (λ a. 63 + spare y valid_result)
       makes_all None valid_result at are_declared at_stands longer after below =
           fragment_credit {d = 63} {e = λ a. 63} (omega arith) (λ a. omega arith)
-          (make_all_own_moves within G untouched injection begun lasts ps p o.references call steady_call m u.name scene.own_types_valid m (length formals) at (r.variables ++ auxiliary_variables (first_for (stmt_of r.block))) are_declared at_stands longer after below 63 (omega arith))
+          (make_all_own_moves within G untouched injection begun lasts ps p o.references call steady_call m u.name scene.own_types_valid m (length formals) at (r.variables ++ block_auxiliaries (stmt_of r.block)) are_declared at_stands longer after below 63 (omega arith))
       makes_all (Some y) valid_result at are_declared at_stands longer after below =
-          make_sized_moves within G untouched injection begun lasts ps p o.references call steady_call m u.name scene.own_types_valid m (length formals) at (result_of_name y) (r.variables ++ auxiliary_variables (first_for (stmt_of r.block))) (valid_result.denoter).type_value (valid_result.denoter).has_type are_declared at_stands longer after below 63 (omega arith)
+          make_sized_moves within G untouched injection begun lasts ps p o.references call steady_call m u.name scene.own_types_valid m (length formals) at (result_of_name y) (r.variables ++ block_auxiliaries (stmt_of r.block)) (valid_result.denoter).type_value (valid_result.denoter).has_type are_declared at_stands longer after below 63 (omega arith)
 
       -- the making of the variables, and then the block
       makes : (longer : Injection) (after : Memory) (pushed : List Operand) → unit_in G after.frames ≡ u.name → pushed ≡ below

@@ -29,7 +29,7 @@ use Rattle.ep_typed.proofs.Steady.{steady_bind, steady_eval, steady_assign}
 use Rattle.ep_typed.specs.Meaning.{exec, assign, assigns}
 use Rattle.ep_typed.specs.Results.{misfit, suits, value_of, weight_of}
 use Rattle.ep_typed.specs.Printing.{Result}
-use Rattle.ep_typed.specs.Steps.{Component, assigned, type_at, has_ended}
+use Rattle.ep_typed.specs.Steps.{Component, assigned, type_at}
 use Rattle.ep_typed.specs.Trees.{Place, Expr, Empty, Halt}
 use Rattle.ep_typed.specs.Valid.{Declarations, IsExpr, IsOfKind, IsPlaceWhere, IsTypeOfKind, Kind}
 use Rattle.ep_typed.specs.TypeValues.{TypeValue}
@@ -46,7 +46,7 @@ module _ {declared : Declarations} {G : Image} {untouched : Slots} {Here : Facts
       fragment_stop {weight = 0} (λ s matches. outcome_at G (bare line op.HALT) (p.instructions.before + at) below memory s.trace stands.0) (omega arith)
 
   -- `Store`, where the variable's place and the value are on top
-  store_moves : (k : Kind) (t : TypeValue) (r : Result) (o : Operand) (a : Component) (q : PlaceOf) → MayTake k t → (line at : ℕ) → CodeStands G ps p references at (bare line op.STORE ∷ []) → (injection : Injection) (memory : Memory) → IsValueOf injection memory k r o → (below : List Operand) (d : ℕ) → least_credit ≤ d → unit_in G memory.frames ≡ unit → IsSpot injection memory.types a q → Describes memory.types q.type_number t
+  pub store_moves : (k : Kind) (t : TypeValue) (r : Result) (o : Operand) (a : Component) (q : PlaceOf) → MayTake k t → (line at : ℕ) → CodeStands G ps p references at (bare line op.STORE ∷ []) → (injection : Injection) (memory : Memory) → IsValueOf injection memory k r o → (below : List Operand) (d : ℕ) → least_credit ≤ d → unit_in G memory.frames ≡ unit → IsSpot injection memory.types a q → Describes memory.types q.type_number t
       → Fragment declared G Here n (point injection memory (p.instructions.before + at) (o ∷ operand.Place q ∷ below)) (assign call n unit line a r) (p.instructions.before + at + 1) (λ b. Inside untouched injection memory (Bare below b)) (d + weight_of r) (λ b. d)
   store_moves k t r o a q takes line at stands injection memory value below d enough home spot described =
       fragment_less {n = suc n} (omega arith) (fragment_using {n = suc n} {e = λ b. d} a.allocation

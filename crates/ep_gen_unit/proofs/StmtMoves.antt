@@ -2,16 +2,17 @@
 use Rattle.std.proofs.Common.{◌≡◌, ℕ, pos, ◌+◌, ◌≤◌, ◌<◌, List, [], ◌∷◌, ◌++◌, length, length-append, refl, sym, ap, ◌∙◌, subst, arith, ℤ, ◌*◌}
 use Rattle.ep_object.specs.Follows.{Facts, Lasts}
 use Rattle.ep_object.specs.Matching.{Slots}
-use Rattle.ep_gen_expr.specs.ExprCode.{instr, bare}
-use Rattle.ep_gen_unit.specs.StmtCode.{IsStmtCode, AreStmtsCode, AreArmsCode, IsOtherCode, tests_code}
+use Rattle.ep_gen_expr.specs.ExprCode.{instr, bare, tests_code}
+use Rattle.ep_gen_unit.specs.StmtCode.{IsStmtCode, AreStmtsCode, AreArmsCode, IsOtherCode}
 use Rattle.ep_gen_unit.proofs.Parts.{Moves, ExpressionsFollow, PlacesFollow, CallsFollow, code_stands-parts}
 use Rattle.ep_object.proofs.rows.ChangeRows.{may_take}
 use Rattle.ep_gen_unit.proofs.Simple.{empty_moves, halt_moves, assigned_moves}
 use Rattle.ep_gen_unit.proofs.Branching.{if_parts, repeat_parts, while_parts}
 use Rattle.ep_gen_unit.proofs.ForMoves.{for_stands, for_parts}
+use Rattle.ep_gen_unit.proofs.MemberMoves.{members_stand, members_parts}
 use Rattle.ep_gen_unit.proofs.ProcedureMoves.{procedure_moves}
 use Rattle.ep_gen_unit.proofs.CaseMoves.{Selects, arm_parts, fail_parts, otherwise_parts, case_parts}
-use Rattle.ep_gen_unit.proofs.StmtStays.{tests_length}
+use Rattle.ep_gen_expr.proofs.Stays.{tests_length}
 use Rattle.ep_gen_unit.proofs.WithMoves.{BindsFollow, with_parts}
 use Rattle.ep_gen_unit.proofs.Writing.{write_moves}
 use Rattle.ep_object.specs.Placing.{Placement, CodeStands}
@@ -26,7 +27,7 @@ use Rattle.ep_typed.specs.Steady.{IsSteadyHandler}
 use Rattle.ep_typed.specs.Calls.{Handler}
 use Rattle.ep_typed.proofs.Steady.{steady_exec_all}
 use Rattle.ep_typed.specs.Meaning.{exec, exec_all, exec_arms, exec_other}
-use Rattle.ep_typed.specs.Trees.{Stmt, Stmts, Empty, Compound, Assign, If, While, Repeat, For, With, Procedure, Halt, Write, none, next, Case, Arms, no_arm, next_arm, Other, no_other, otherwise_do}
+use Rattle.ep_typed.specs.Trees.{Stmt, Stmts, Empty, Compound, Assign, If, While, Repeat, For, ForIn, With, Procedure, Halt, Write, none, next, Case, Arms, no_arm, next_arm, Other, no_other, otherwise_do}
 use Rattle.ep_typed.specs.Valid.{Declarations, IsStmt, AreStmts, AreArms, IsOther}
 use Rattle.ep_typed.specs.Steps.{Computation}
 use Rattle.ep_typed.specs.Hosts.{Host}
@@ -71,6 +72,11 @@ module _ {declared : Declarations} {G : Image} {untouched : Slots} {Here : Facts
         let body_moves = statement_moves s (at + length h.0 + 1 + length h.1) h.2 valid.1 h.8 parts.body_stands (omega (arith, parts.room)) in
         subst (λ k. Moves declared G untouched Here ps p texts references call n unit at (at + length k) (exec call n unit (For line c x y s))) (sym h.12)
         (for_parts lasts ps p texts references call steady_call n unit room scene expressions places line at c x y s h.0 h.1 h.2 h.3 h.4 h.5 valid.0.0 valid.0.1 valid.0.2 valid.0.3 parts body_moves)
+    statement_moves (ForIn line c x s) at is valid h stands inside =
+        let parts = members_stand G ps p texts references line at c x h.0 h.1 h.2 h.3 h.4 h.5 h.6 h.7 h.8 h.9 h.11 (subst (λ k. CodeStands G ps p references at k) h.12 stands) (omega (arith, ap length h.12, inside)) in
+        let body_moves = statement_moves s (at + length h.0 + length h.1 + 1 + length h.2 + length h.3) h.4 valid.1 h.10 parts.body_stands (omega (arith, parts.room)) in
+        subst (λ k. Moves declared G untouched Here ps p texts references call n unit at (at + length k) (exec call n unit (ForIn line c x s))) (sym h.12)
+        (members_parts lasts ps p texts references call steady_call n unit room scene expressions places line at c x s h.0 h.1 h.2 h.3 h.4 h.5 valid.0.0 valid.0.1 valid.0.2 parts body_moves)
     statement_moves (Repeat line ss x) at is valid h stands inside =
         let body_end : ℕ = at + length h.0 in
         let test_end : ℕ = at + length h.0 + length h.1 in

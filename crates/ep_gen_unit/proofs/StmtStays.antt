@@ -3,16 +3,17 @@ use Rattle.std.proofs.Common.{◌≡◌, ℕ, ℤ, pos, ◌+◌, ◌*◌, ◌≤
 use Rattle.ep_outside.specs.Known.{IsPrefix}
 use Rattle.ep_object.specs.declared.code.Instr.{Instr}
 use Rattle.ep_object.specs.declared.code.Reference.{Reference}
-use Rattle.ep_typed.specs.Controls.{in_order, next_value}
-use Rattle.ep_typed.specs.Trees.{Entire, OfUnit, OfRoutine, entire, Place, Function, Item, Plain, Wide, Stmt, Stmts, Empty, Compound, Assign, If, While, Repeat, Control, For, With, Read, Expr, Procedure, Halt, Write, none, next, Case, Arms, no_arm, next_arm, Other, no_other, otherwise_do}
-use Rattle.ep_typed.specs.declared.tree.CaseRange.{CaseRange}
+use Rattle.ep_typed.specs.Controls.{has_more, in_order, next_value, others}
+use Rattle.ep_typed.specs.Trees.{One, SetOf, Single, no_member, next_member, Entire, OfUnit, OfRoutine, entire, Place, Function, Item, Plain, Wide, Stmt, Stmts, Empty, Compound, Assign, If, While, Repeat, Control, For, MemberControl, ForIn, With, Read, Expr, Procedure, Halt, Write, none, next, Case, Arms, no_arm, next_arm, Other, no_other, otherwise_do}
 use Rattle.ep_typed.specs.declared.operations.Print.{Print}
 use Rattle.ep_typed.specs.declared.operations.Print.TheVariants as print
 use Rattle.std.specs.Prelude.{if◌then◌else◌}
-use Rattle.ep_gen_expr.specs.ExprCode.{bare, instr, step_code, two_code, IsPlaceCode, IsExprCode}
+use Rattle.ep_gen_expr.specs.ExprCode.{bare, instr, one_code, push, set_code, step_code, tests_code, two_code, IsPlaceCode, IsExprCode}
 use Rattle.ep_typed.specs.declared.operations.Binary.TheVariants as binary
-use Rattle.ep_gen_expr.proofs.Stays.{place_code_stays, expr_code_stays, place_code_short, expr_code_short}
-use Rattle.ep_gen_unit.specs.StmtCode.{for_code, IsAssignCode, AreBoundsCode, IsFirstCode, IsTestCode, IsUndefineCode, IsBindCode, IsItemCode, AreItemsCode, IsStmtCode, AreStmtsCode, AreArmsCode, IsOtherCode, plain_code, before_width, wide_code, test_code, tests_code}
+use Rattle.ep_typed.specs.declared.operations.Unary.TheVariants as unary
+use Rattle.ep_typed.specs.declared.operations.SetOperation.TheVariants as set_operation
+use Rattle.ep_gen_expr.proofs.Stays.{place_code_stays, expr_code_stays, place_code_short, expr_code_short, tests_length}
+use Rattle.ep_gen_unit.specs.StmtCode.{for_code, for_in_code, IsLeastCode, IsKeptCode, IsAssignCode, AreBoundsCode, IsFirstCode, IsTestCode, IsUndefineCode, IsBindCode, IsItemCode, AreItemsCode, IsStmtCode, AreStmtsCode, AreArmsCode, IsOtherCode, plain_code, before_width, wide_code}
 use Rattle.ep_typed.specs.Nodes.{place_nodes, expr_nodes, item_nodes, items_nodes, stmt_nodes, stmts_nodes, arms_nodes, other_nodes}
 use Rattle.ep_object.specs.declared.op.TheConstants as op
 
@@ -41,6 +42,13 @@ module _ (ts us : List (List ℕ)) (rs ss : List Reference) (a : IsPrefix ts us)
   pub test_code_stays : (line at : ℕ) (c : Control) (is : List Instr) → IsTestCode ts rs line at c is → IsTestCode us ss line at c is
   test_code_stays line at c is h = (h.0, expr_code_stays ts us rs ss line a b (at + 1) (Read (entire c.variable)) h.0 h.1, h.2)
 
+  -- the parts of a `for` over members
+  pub least_code_stays : (line at : ℕ) (c : MemberControl) (is : List Instr) → IsLeastCode ts rs line at c is → IsLeastCode us ss line at c is
+  least_code_stays line at c is h = (h.0, h.1, place_code_stays ts us rs ss line a b at (entire c.variable) h.0 h.2, expr_code_stays ts us rs ss line a b (at + length h.0 + 1) (Read (entire c.rest)) h.1 h.3, h.4)
+
+  pub kept_code_stays : (line at : ℕ) (c : MemberControl) (is : List Instr) → IsKeptCode ts rs line at c is → IsKeptCode us ss line at c is
+  kept_code_stays line at c is h = (h.0, h.1, place_code_stays ts us rs ss line a b at (entire c.rest) h.0 h.2, expr_code_stays ts us rs ss line a b (at + length h.0) (others c) h.1 h.3, h.4)
+
   -- the beginning of a `with`
   pub bind_code_stays : (line at : ℕ) (v : Entire) (p : Place) (is : List Instr) → IsBindCode ts rs line at v p is → IsBindCode us ss line at v p is
   bind_code_stays line at v p is h = (h.0, place_code_stays ts us rs ss line a b at p h.0 h.1, h.2)
@@ -67,6 +75,21 @@ module _ (ts us : List (List ℕ)) (rs ss : List Reference) (a : IsPrefix ts us)
       test_code_stays line (at + length h.0 + 1 + length h.1 + length h.2) c h.3 h.9,
       assign_code_stays line (at + length h.0 + 1 + length h.1 + length h.2 + length h.3 + 1) (entire c.variable) (next_value c) h.4 h.10,
       (h.11.0, place_code_stays ts us rs ss line a b (at + length h.0 + 1 + length h.1 + length h.2 + length h.3 + 1 + length h.4 + 1 + 1) (entire c.variable) h.11.0 h.11.1, h.11.2),
+      h.12,
+    )
+    stmt_code_stays at (ForIn line c x s) is h = (
+      h.0,
+      h.1,
+      h.2,
+      h.3,
+      h.4,
+      h.5,
+      assign_code_stays line at (entire c.rest) x h.0 h.6,
+      expr_code_stays ts us rs ss line a b (at + length h.0) (has_more c) h.1 h.7,
+      least_code_stays line (at + length h.0 + length h.1 + 1) c h.2 h.8,
+      kept_code_stays line (at + length h.0 + length h.1 + 1 + length h.2) c h.3 h.9,
+      stmt_code_stays (at + length h.0 + length h.1 + 1 + length h.2 + length h.3) s h.4 h.10,
+      (h.11.0, place_code_stays ts us rs ss line a b (at + length h.0 + length h.1 + 1 + length h.2 + length h.3 + length h.4 + 1 + 1) (entire c.variable) h.11.0 h.11.1, h.11.2),
       h.12,
     )
     stmt_code_stays at (With line v of p s) is h = (h.0, h.1, bind_code_stays line at v p h.0 h.2, stmt_code_stays (at + length h.0) s h.1 h.3, h.4)
@@ -132,14 +155,28 @@ for_length line at bounds first body test step ends =
       length-append step tail,
     )
 
+-- how many instructions a `for` over members has, by its parts
+pub for_in_length : (line at : ℕ) (sets test first kept body ends : List Instr) → length (for_in_code line at sets test first kept body ends) ≡ length sets + length test + 1 + length first + length kept + length body + 2 + length ends
+for_in_length line at sets test first kept body ends =
+    let out : Instr = instr op.JUMP_FALSE (pos (at + length sets + length test + 1 + length first + length kept + length body + 1 + 1)) 0 line in
+    let back : Instr = instr op.JUMP (pos (at + length sets)) 0 line in
+    let stored : List Instr = body ++ bare line op.STORE ∷ [] in
+    let turn : List Instr = first ++ (kept ++ stored) in
+    let loop : List Instr = test ++ out ∷ (turn ++ back ∷ []) in
+    omega (
+      arith,
+      length-append sets (loop ++ ends),
+      length-append loop ends,
+      length-append test (out ∷ (turn ++ back ∷ [])),
+      length-append turn (back ∷ []),
+      length-append first (kept ++ stored),
+      length-append kept stored,
+      length-append body (bare line op.STORE ∷ []),
+    )
+
 step_length : (line : ℕ) (down : Bool) (low high : ℤ) → length (step_code line down low high) ≤ 4
 step_length line false low high = omega arith
 step_length line true low high = omega arith
-
--- how many instructions the tests of ranges are
-pub tests_length : (line body at : ℕ) (rs : List CaseRange) → length (tests_code line body at rs) ≡ 6 * length rs
-tests_length line body at [] = refl
-tests_length line body at (r ∷ rs) = omega (arith, length-append (test_code line body at r) (tests_code line body (at + 6) rs), tests_length line body (at + 6) rs)
 
 arms_short : (xs ss rest : List Instr) (i j l : Instr) (is : List Instr) → is ≡ xs ++ i ∷ j ∷ (ss ++ l ∷ rest) → (c k m : ℕ) → length xs ≡ 6 * c → length ss + 8 ≤ 32 * k → length rest ≤ 32 * m → length is ≤ 32 * (3 * c + k + m)
 arms_short xs ss rest i j l is e c k m p q r = omega (arith, ap length e, length-append xs (i ∷ j ∷ (ss ++ l ∷ rest)), length-append ss (l ∷ rest), p, q, r)
@@ -231,6 +268,50 @@ module _ (ts : List (List ℕ)) (rs : List Reference) where
   undefine_short : (line at : ℕ) (v : Entire) (is : List Instr) → IsUndefineCode ts rs line at v is → length is ≤ 2
   undefine_short line at v is h = omega (arith, ap length h.2, length-append h.0 (bare line op.UNDEFINE ∷ []), entire_length line at v h.0 h.1)
 
+  -- ---- a `for` over members
+
+  more_short : (line at : ℕ) (c : MemberControl) (is : List Instr) → IsExprCode ts rs line at (has_more c) is → length is ≤ 4
+  more_short line at c is h =
+      omega (arith, ap length h.4, length-append h.0 (h.1 ++ set_code line set_operation.Unequal ∷ []), length-append h.1 (set_code line set_operation.Unequal ∷ []), read_short line at c.rest h.0 h.2, ap length h.3.2, ap length h.3.1)
+
+  least_short : (line at : ℕ) (c : MemberControl) (is : List Instr) → IsLeastCode ts rs line at c is → length is ≤ 6
+  least_short line at c is h =
+      omega (arith, ap length h.4, length-append h.0 (push line (pos 0) ∷ (h.1 ++ bare line op.NEXT ∷ bare line op.STORE ∷ [])), length-append h.1 (bare line op.NEXT ∷ bare line op.STORE ∷ []), entire_length line at c.variable h.0 h.2, read_short line (at + length h.0 + 1) c.rest h.1 h.3)
+
+  -- the code of the control variable's value, added to the empty set
+  single_short : (line at : ℕ) (c : MemberControl) (is : List Instr) → IsExprCode ts rs line at (SetOf (next_member (Single (One unary.Same (Read (entire c.variable)))) no_member)) is → length is ≤ 6
+  single_short line at c is h =
+      let d = h.1 in
+      let one = d.2 in
+      let number = one.1 in
+      omega (
+        arith,
+        ap length h.2,
+        ap length d.4,
+        length-append d.0 d.1,
+        ap length d.3,
+        ap length one.2,
+        length-append one.0 (bare line op.SET_ADD ∷ []),
+        ap length number.2,
+        length-append number.0 (one_code line unary.Same),
+        read_short line (at + 1) c.variable number.0 number.1,
+      )
+
+  kept_short : (line at : ℕ) (c : MemberControl) (is : List Instr) → IsKeptCode ts rs line at c is → length is ≤ 10
+  kept_short line at c is h =
+      let x = h.3 in
+      omega (
+        arith,
+        ap length h.4,
+        length-append h.0 h.1,
+        entire_length line at c.rest h.0 h.2,
+        ap length x.4,
+        length-append x.0 (x.1 ++ set_code line set_operation.Difference ∷ []),
+        length-append x.1 (set_code line set_operation.Difference ∷ []),
+        read_short line (at + length h.0) c.rest x.0 x.2,
+        single_short line (at + length h.0 + length x.0) c x.1 x.3,
+      )
+
   -- The code of a statement, with some room for what the form around it adds.
   mutual
     stmt_code_room : (at : ℕ) (s : Stmt) (is : List Instr) → IsStmtCode ts rs at s is → length is + 8 ≤ 32 * stmt_nodes s
@@ -256,6 +337,19 @@ module _ (ts : List (List ℕ)) (rs : List Reference) where
           test_short line (at + length h.0 + 1 + length h.1 + length h.2) c h.3 h.9,
           next_short line (at + length h.0 + 1 + length h.1 + length h.2 + length h.3 + 1) c h.4 h.10,
           undefine_short line (at + length h.0 + 1 + length h.1 + length h.2 + length h.3 + 1 + length h.4 + 1 + 1) c.variable h.5 h.11,
+          entire_one c.variable,
+        )
+    stmt_code_room at (ForIn line c x s) is h =
+        omega (
+          arith,
+          ap length h.12,
+          for_in_length line at h.0 h.1 h.2 h.3 h.4 h.5,
+          assign_short line at c.rest x h.0 h.6,
+          more_short line (at + length h.0) c h.1 h.7,
+          least_short line (at + length h.0 + length h.1 + 1) c h.2 h.8,
+          kept_short line (at + length h.0 + length h.1 + 1 + length h.2) c h.3 h.9,
+          stmt_code_room (at + length h.0 + length h.1 + 1 + length h.2 + length h.3) s h.4 h.10,
+          undefine_short line (at + length h.0 + length h.1 + 1 + length h.2 + length h.3 + length h.4 + 1 + 1) c.variable h.5 h.11,
           entire_one c.variable,
         )
     stmt_code_room at (With line v of p s) is h =

@@ -13,7 +13,10 @@ use Rattle.ep_gen_unit.specs.TypeCode.{code_within, each_code, found_code, how_m
 use Rattle.std.specs.Prelude.{Bool, is_some}
 use Rattle.ep_typed.specs.Denoters.{found_of, host_within}
 use Rattle.ep_typed.specs.Trees as tree
-use Rattle.ep_typed.specs.Viewed.{bound_of, denoter_of}
+use Rattle.ep_typed.specs.Viewed.{bound_of, components_of, denoter_of, denoter_step, field_of, field_step, part_step, selector_of, selector_step, variant_of, variant_part_step, variant_step, variants_of}
+use Rattle.ep_typed.specs.declared.denoter.Denoter.TheFolds.{fold-roll-FieldPart, fold-roll-VariantPart}
+use Rattle.ep_typed.specs.declared.denoter.FieldPart.{FieldPart, fold-FieldPart, out-FieldPart, roll-FieldPart, roll-out-FieldPart}
+use Rattle.ep_typed.specs.declared.denoter.VariantPart.{VariantPart, fold-VariantPart, out-VariantPart, roll-VariantPart, roll-out-VariantPart}
 use Rattle.ep_typed.specs.declared.denoter.Bound.{Bound}
 use Rattle.ep_typed.specs.declared.unit.UnitType.{UnitType}
 use Rattle.ep_object.specs.declared.op.TheConstants as op
@@ -66,24 +69,61 @@ module _ (types : List UnitType) (a : Code) where
   pub no_components : (left : ℕ) → Grows a a (each_code types a.line (code_within types a.line left) tree.no_denoter)
   no_components left = grows_none a
 
-  each_push : (find : tree.Denoter → List Instr) (ds : List tree.Denoter) (d : tree.Denoter) → each_code types a.line find (tree.denoters (ds ++ d ∷ [])) ≡ each_code types a.line find (tree.denoters ds) ++ step_code types a.line find d
-  each_push find [] d = append-nil (step_code types a.line find d)
-  each_push find (e ∷ ds) d =
-      ap (λ l. step_code types a.line find e ++ l) (each_push find ds d) ∙ sym (append_assoc (step_code types a.line find e) (each_code types a.line find (tree.denoters ds)) (step_code types a.line find d))
+  each_both : (find : tree.Denoter → List Instr) (ds es : List tree.Denoter) → each_code types a.line find (tree.denoters (ds ++ es)) ≡ each_code types a.line find (tree.denoters ds) ++ each_code types a.line find (tree.denoters es)
+  each_both find [] es = refl
+  each_both find (d ∷ ds) es =
+      ap (λ l. step_code types a.line find d ++ l) (each_both find ds es) ∙ sym (append_assoc (step_code types a.line find d) (each_code types a.line find (tree.denoters ds)) (each_code types a.line find (tree.denoters es)))
+
+  -- components behind others
+  pub components_both : {b c : Code} (left : ℕ) (ds es : List tree.Denoter) → Grows a b (each_code types a.line (code_within types a.line left) (tree.denoters ds)) → Grows b c (each_code types b.line (code_within types b.line left) (tree.denoters es))
+      → Grows a c (each_code types a.line (code_within types a.line left) (tree.denoters (ds ++ es)))
+  components_both {c = c} left ds es p q =
+      subst (λ l. Grows a c l) (sym (each_both (code_within types a.line left) ds es)) (grows_at (λ line. each_code types line (code_within types line left) (tree.denoters es)) p q)
+
+  -- none behind others
+  pub components_alone : {b : Code} (left : ℕ) (ds : List tree.Denoter) → Grows a b (each_code types a.line (code_within types a.line left) (tree.denoters ds)) → Grows a b (each_code types a.line (code_within types a.line left) (tree.denoters (ds ++ [])))
+  components_alone {b = b} left ds p = subst (λ l. Grows a b (each_code types a.line (code_within types a.line left) (tree.denoters l))) (sym (append-nil ds)) p
+
+  -- one behind others
+  pub components_one : {b c : Code} (left : ℕ) (ds : List tree.Denoter) (d : tree.Denoter) → Grows a b (each_code types a.line (code_within types a.line left) (tree.denoters ds)) → Grows b c (code_within types b.line (suc left) d)
+      → Grows a c (each_code types a.line (code_within types a.line left) (tree.denoters (ds ++ d ∷ [])))
+  components_one {c = c} left ds d p q =
+      subst (λ l. Grows a c l) (sym (each_both (code_within types a.line left) ds (d ∷ []) ∙ ap (λ l. each_code types a.line (code_within types a.line left) (tree.denoters ds) ++ l) (append-nil (step_code types a.line (code_within types a.line left) d))))
+      (grows_at (λ line. code_within types line (suc left) d) p q)
+
+  -- others behind one
+  pub components_first : {b c : Code} (left : ℕ) (d : tree.Denoter) (es : List tree.Denoter) → Grows a b (code_within types a.line (suc left) d) → Grows b c (each_code types b.line (code_within types b.line left) (tree.denoters es))
+      → Grows a c (each_code types a.line (code_within types a.line left) (tree.denoters (d ∷ es)))
+  components_first left d es p q = grows_at (λ line. each_code types line (code_within types line left) (tree.denoters es)) p q
+
+  -- the record of one component
+  pub by_one : {b c : Code} (left : ℕ) (d : tree.Denoter) → Grows a b (code_within types a.line (suc left) d) → Grows b c (instr op.T_REC (pos 1) 0 b.line ∷ []) → Grows a c (code_within types a.line (suc left) (tree.Record (tree.denoters (d ∷ []))))
+  by_one {b = b} left d p q =
+      by_components left (tree.denoters (d ∷ [])) (subst (λ l. Grows a b l) (sym (append-nil (step_code types a.line (code_within types a.line left) d))) p) q
 
   -- one component more
   pub components_more : {X : Type 0} {b c : Code} (left : ℕ) (view : X → tree.Denoter) (xs : List X) (k : ℕ) (x : X) → k < length xs → x ≡ get_or xs k x
       → Grows a b (each_code types a.line (code_within types a.line left) (tree.denoters (map view (take k xs)))) → Grows b c (code_within types b.line (suc left) (view x))
       → Grows a c (each_code types a.line (code_within types a.line left) (tree.denoters (map view (take (k + 1) xs))))
   components_more {c = c} left view xs k x h e p q =
-      let find : tree.Denoter → List Instr = code_within types a.line left in
-      let all : map view (take k xs) ++ view x ∷ [] ≡ map view (take (k + 1) xs) = ap (λ y. map view (take k xs) ++ view y ∷ []) e ∙ sym (map_more view xs k x h) in
-      subst (λ l. Grows a c (each_code types a.line find (tree.denoters l))) all (subst (λ l. Grows a c l) (sym (each_push find (map view (take k xs)) (view x))) (grows_at (λ line. code_within types line (suc left) (view x)) p q))
+      subst (λ l. Grows a c (each_code types a.line (code_within types a.line left) (tree.denoters l))) (ap (λ y. map view (take k xs) ++ view y ∷ []) e ∙ sym (map_more view xs k x h)) (components_one left (map view (take k xs)) (view x) p q)
 
 -- how many components a record has
-pub how_many-of : {X : Type 0} (view : X → tree.Denoter) (xs : List X) → how_many (tree.denoters (map view xs)) ≡ length xs
-how_many-of view [] = refl
-how_many-of view (x ∷ xs) = ap suc (how_many-of view xs)
+pub how_many-of : (ds : List tree.Denoter) → how_many (tree.denoters ds) ≡ length ds
+how_many-of [] = refl
+how_many-of (d ∷ ds) = ap suc (how_many-of ds)
+
+-- what a field part gives that has a variant part
+pub part_some : (part : FieldPart) (v : VariantPart) → (out-FieldPart part).variant_part ≡ Some v → components_of part ≡ map field_of (out-FieldPart part).fields ++ variants_of v
+part_some part v is =
+    ap (fold-FieldPart tree.Denoter tree.Denoter (List tree.Denoter) tree.Denoter tree.Denoter (List tree.Denoter) denoter_step selector_step part_step field_step variant_step variant_part_step) (sym (roll-out-FieldPart part) ∙ ap (λ o. roll-FieldPart (record { fields = (out-FieldPart part).fields; variant_part = o })) is)
+    ∙ fold-roll-FieldPart tree.Denoter tree.Denoter (List tree.Denoter) tree.Denoter tree.Denoter (List tree.Denoter) denoter_step selector_step part_step field_step variant_step variant_part_step (record { fields = (out-FieldPart part).fields; variant_part = Some v })
+
+-- and what a variant part does that a variant completes
+pub variants_some : (part : VariantPart) (x : FieldPart) → (out-VariantPart part).completing ≡ Some x → variants_of part ≡ selector_of (out-VariantPart part).selector ∷ (map variant_of (out-VariantPart part).variants ++ tree.Record (tree.denoters (components_of x)) ∷ [])
+variants_some part x is =
+    ap (fold-VariantPart tree.Denoter tree.Denoter (List tree.Denoter) tree.Denoter tree.Denoter (List tree.Denoter) denoter_step selector_step part_step field_step variant_step variant_part_step) (sym (roll-out-VariantPart part) ∙ ap (λ o. roll-VariantPart (record { selector = (out-VariantPart part).selector; variants = (out-VariantPart part).variants; completing = o })) is)
+    ∙ fold-roll-VariantPart tree.Denoter tree.Denoter (List tree.Denoter) tree.Denoter tree.Denoter (List tree.Denoter) denoter_step selector_step part_step field_step variant_step variant_part_step (record { selector = (out-VariantPart part).selector; variants = (out-VariantPart part).variants; completing = Some x })
 
 -- ---- the host of a name
 

@@ -2,20 +2,19 @@
 -- the object, so the code of a statement depends on where it begins.
 use Rattle.std.specs.Prelude.{◌≡◌, ℕ, pos, suc, ◌+◌, Bool, true, false, List, [], ◌∷◌, ◌++◌, length, Option, Some, None, ◌*◌}
 use Rattle.ep_typed.specs.declared.operations.Binary.TheVariants as binary
-use Rattle.ep_typed.specs.Controls.{in_order, next_value}
-use Rattle.ep_gen_expr.specs.ExprCode.{instr, bare, two_code, push, standard_code, IsPlaceCode, IsExprCode}
+use Rattle.ep_typed.specs.Controls.{has_more, in_order, next_value, others}
+use Rattle.ep_gen_expr.specs.ExprCode.{instr, bare, two_code, push, standard_code, tests_code, IsPlaceCode, IsExprCode}
 use Rattle.ep_gen_expr.specs.declared.code.TheConstants as code
 use Rattle.ep_gen_unit.specs.TypeCode.{type_code}
 use Rattle.ep_object.specs.declared.code.Instr.{Instr}
 use Rattle.ep_object.specs.declared.code.Reference.{Reference}
-use Rattle.ep_typed.specs.Trees.{Place, Expr, Read, Function, Item, Plain, Wide, Stmt, Stmts, Empty, Compound, Assign, If, While, Repeat, Control, For, With, Procedure, Halt, Write, none, next, Case, Arms, no_arm, next_arm, Other, no_other, otherwise_do, Entire, OfUnit, OfRoutine, entire}
+use Rattle.ep_typed.specs.Trees.{Place, Expr, Read, Function, Item, Plain, Wide, Stmt, Stmts, Empty, Compound, Assign, If, While, Repeat, Control, For, MemberControl, ForIn, With, Procedure, Halt, Write, none, next, Case, Arms, no_arm, next_arm, Other, no_other, otherwise_do, Entire, OfUnit, OfRoutine, entire}
 use Rattle.ep_typed.specs.Denoters.{host_of}
 use Rattle.ep_typed.specs.Hosts.{Host}
 use Rattle.ep_typed.specs.Viewed.{denoter_of}
 use Rattle.ep_typed.specs.declared.operations.Print.{Print}
 use Rattle.ep_typed.specs.declared.operations.Print.TheVariants as print
 use Rattle.ep_typed.specs.declared.run_error.TheConstants as run_error
-use Rattle.ep_typed.specs.declared.tree.CaseRange.{CaseRange}
 use Rattle.ep_typed.specs.declared.tree.StandardFile.TheVariants as file
 use Rattle.ep_typed.specs.declared.unit.UnitType.{UnitType}
 use Rattle.ep_typed.specs.declared.interface.Formal.{Formal}
@@ -56,16 +55,6 @@ module _ (line : ℕ) where
   abbrev pub line_end_code : List Instr
   line_end_code = output_code ∷ push line constant.LINE_END ∷ bare line op.CHARS ∷ bare line op.PUT ∷ []
 
-  -- with the value of a selector on top: on to the statement of the arm, at a place, where the range has it, and else on behind this code, which begins at another place
-  abbrev pub test_code : ℕ → ℕ → CaseRange → List Instr
-  test_code body at r =
-      bare line op.DUP ∷ push line r.low ∷ push line r.high ∷ bare line op.BETWEEN ∷ instr op.JUMP_FALSE (pos (at + 6)) 0 line ∷ instr op.JUMP (pos body) 0 line ∷ []
-
-  -- the ranges of an arm, one after another
-  abbrev pub tests_code : ℕ → ℕ → List CaseRange → List Instr
-  tests_code body at [] = []
-  tests_code body at (r ∷ rs) = test_code body at r ++ tests_code body (at + 6) rs
-
 -- the slot of an entire variable of the block, which has its number
 abbrev pub slot_of : Entire → ℕ
 slot_of (OfUnit unit number) = number
@@ -77,6 +66,12 @@ for_code line at bounds first body test step ends =
     let body_at = at + length bounds + 1 + length first in
     let done = body_at + length body + length test + 1 + length step + 1 in
     bounds ++ instr op.JUMP_FALSE (pos (done + 1)) 0 line ∷ (first ++ (body ++ (test ++ instr op.JUMP_FALSE (pos done) 0 line ∷ (step ++ instr op.JUMP (pos body_at) 0 line ∷ bare line op.DROP ∷ ends))))
+
+-- The code of a `for` over members that begins at this place, by its parts: the set; whether members are to come; the least one, what is to come after it, the body, which what is to come is stored behind, and the jump back; and the end.
+abbrev pub for_in_code : ℕ → ℕ → List Instr → List Instr → List Instr → List Instr → List Instr → List Instr → List Instr
+for_in_code line at sets test first kept body ends =
+    let done = at + length sets + length test + 1 + length first + length kept + length body + 1 + 1 in
+    sets ++ ((test ++ instr op.JUMP_FALSE (pos done) 0 line ∷ ((first ++ (kept ++ (body ++ bare line op.STORE ∷ []))) ++ instr op.JUMP (pos (at + length sets)) 0 line ∷ [])) ++ ends)
 
 module _ (texts : List (List ℕ)) (references : List Reference) where
   -- the code that writes an item, which has this line and begins at this place
@@ -114,6 +109,17 @@ module _ (texts : List (List ℕ)) (references : List Reference) where
   abbrev pub IsUndefineCode : ℕ → ℕ → Entire → List Instr → Type 0
   IsUndefineCode line at v is = (ps : List Instr) × IsPlaceCode texts references line at (entire v) ps × (is ≡ ps ++ bare line op.UNDEFINE ∷ [])
 
+  -- the control variable gets the least member that is to come
+  abbrev pub IsLeastCode : ℕ → ℕ → MemberControl → List Instr → Type 0
+  IsLeastCode line at c is =
+      (vs rs : List Instr) × IsPlaceCode texts references line at (entire c.variable) vs × IsExprCode texts references line (at + length vs + 1) (Read (entire c.rest)) rs
+      × (is ≡ vs ++ push line (pos 0) ∷ (rs ++ bare line op.NEXT ∷ bare line op.STORE ∷ []))
+
+  -- the place of the auxiliary variable, and the members that are to come behind that one
+  abbrev pub IsKeptCode : ℕ → ℕ → MemberControl → List Instr → Type 0
+  IsKeptCode line at c is =
+      (vs xs : List Instr) × IsPlaceCode texts references line at (entire c.rest) vs × IsExprCode texts references line (at + length vs) (others c) xs × (is ≡ vs ++ xs)
+
   -- the beginning of a `with`: the place, which goes into the slot of the variable that stands for it
   abbrev pub IsBindCode : ℕ → ℕ → Entire → Place → List Instr → Type 0
   IsBindCode line at v p is = (ps : List Instr) × IsPlaceCode texts references line at p ps × (is ≡ ps ++ instr op.BIND (pos (slot_of v)) 0 line ∷ [])
@@ -137,6 +143,12 @@ module _ (texts : List (List ℕ)) (references : List Reference) where
         × IsStmtCode (at + length bounds + 1 + length first) s body × IsTestCode line (at + length bounds + 1 + length first + length body) c test
         × IsAssignCode line (at + length bounds + 1 + length first + length body + length test + 1) (entire c.variable) (next_value c) step × IsUndefineCode line (at + length bounds + 1 + length first + length body + length test + 1 + length step + 1 + 1) c.variable ends
         × (is ≡ for_code line at bounds first body test step ends)
+    IsStmtCode at (ForIn line c x s) is =
+        (sets test first kept body ends : List Instr) × IsAssignCode line at (entire c.rest) x sets × IsExprCode texts references line (at + length sets) (has_more c) test
+        × IsLeastCode line (at + length sets + length test + 1) c first × IsKeptCode line (at + length sets + length test + 1 + length first) c kept
+        × IsStmtCode (at + length sets + length test + 1 + length first + length kept) s body
+        × IsUndefineCode line (at + length sets + length test + 1 + length first + length kept + length body + 1 + 1) c.variable ends
+        × (is ≡ for_in_code line at sets test first kept body ends)
     IsStmtCode at (With line v of p s) is = (xs ys : List Instr) × IsBindCode line at v p xs × IsStmtCode (at + length xs) s ys × (is ≡ xs ++ ys)
     -- that of a function designator: the jump behind the call has the tick for the step that the statement spends when the call is done
     IsStmtCode at (Procedure line callee given) is = IsExprCode texts references line at (Function callee given) is

@@ -1,16 +1,17 @@
 -- How code under construction grows by statements, whose lines differ.
 use Rattle.std.specs.Prelude.{◌≡◌, ℕ, pos, ◌+◌, ◌*◌, ◌<◌, ◌≤◌, Bool, false, List, [], ◌∷◌, ◌++◌, length}
-use Rattle.ep_gen_expr.specs.ExprCode.{IsExprCode, instr}
+use Rattle.ep_gen_expr.specs.ExprCode.{IsExprCode, instr, tests_code}
 use Rattle.ep_gen_expr.specs.Growth.{TableGrows, Grows, IsTable, AreDistinct}
 use Rattle.ep_gen_expr.specs.Jumps.{landed}
 use Rattle.ep_gen_expr.specs.declared.code.Code.{Code}
-use Rattle.ep_gen_unit.specs.StmtCode.{IsItemCode, AreItemsCode, IsStmtCode, AreStmtsCode, AreBoundsCode, IsFirstCode, IsTestCode, IsUndefineCode, IsBindCode, make_all_code, return_code, end_code, AreArmsCode, IsOtherCode, tests_code}
+use Rattle.ep_gen_unit.specs.StmtCode.{IsItemCode, AreItemsCode, IsStmtCode, AreStmtsCode, AreBoundsCode, IsFirstCode, IsTestCode, IsUndefineCode, IsLeastCode, IsKeptCode, IsBindCode, make_all_code, return_code, end_code, AreArmsCode, IsOtherCode}
 use Rattle.ep_gen_unit.specs.UnitCode.{AreRoutinesCode, own_code, entry_of, its_end}
 use Rattle.ep_object.specs.declared.code.CodeRoutine.{CodeRoutine}
 use Rattle.ep_object.specs.declared.code.Instr.{Instr}
 use Rattle.ep_object.specs.declared.code.Object.{Object}
 use Rattle.ep_object.specs.declared.op.TheConstants as op
-use Rattle.ep_typed.specs.Auxiliaries.{auxiliary_variables, first_for}
+use Rattle.ep_typed.specs.Auxiliaries.{block_auxiliaries}
+use Rattle.ep_typed.specs.Controls.{has_more}
 use Rattle.ep_typed.specs.Nodes.{stmt_nodes}
 use Rattle.ep_typed.specs.Routines.{made_by_unit, made_variables, result_variable, variables_of}
 use Rattle.ep_typed.specs.Viewed.{stmt_of}
@@ -19,7 +20,7 @@ use Rattle.ep_typed.specs.declared.unit.UnitRoutine.{UnitRoutine}
 use Rattle.ep_typed.specs.declared.unit.UnitType.{UnitType}
 use Rattle.ep_typed.specs.declared.unit.UnitVariable.{UnitVariable}
 use Rattle.ep_object.specs.declared.code.Reference.{Reference}
-use Rattle.ep_typed.specs.Trees.{Control, Entire, Item, Place, Stmt, Stmts, Expr, Arms, Other}
+use Rattle.ep_typed.specs.Trees.{Control, MemberControl, Entire, Item, Place, Stmt, Stmts, Expr, Arms, Other}
 use Rattle.ep_typed.specs.declared.tree.CaseRange.{CaseRange}
 
 -- these instructions are appended, the line is any, and all else is as before but for new items of the two tables
@@ -66,6 +67,16 @@ AppendsTest line old new c = AppendsPart (λ texts references at is. IsTestCode 
 
 abbrev pub AppendsUndefine : ℕ → Code → Code → Entire → Type 0
 AppendsUndefine line old new v = AppendsPart (λ texts references at is. IsUndefineCode texts references line at v is) old new
+
+-- the parts of a `for` over members on this line
+abbrev pub AppendsMore : ℕ → Code → Code → MemberControl → Type 0
+AppendsMore line old new c = AppendsPart (λ texts references at is. IsExprCode texts references line at (has_more c) is) old new
+
+abbrev pub AppendsLeast : ℕ → Code → Code → MemberControl → Type 0
+AppendsLeast line old new c = AppendsPart (λ texts references at is. IsLeastCode texts references line at c is) old new
+
+abbrev pub AppendsKept : ℕ → Code → Code → MemberControl → Type 0
+AppendsKept line old new c = AppendsPart (λ texts references at is. IsKeptCode texts references line at c is) old new
 
 -- the beginning of a `with` on this line
 abbrev pub AppendsBind : ℕ → Code → Code → Entire → Place → Type 0
@@ -168,8 +179,8 @@ pub record MakesOwn (old new : Code) (types : List UnitType) (r : UnitRoutine) (
 -- The code that makes these variables of a unit with these types, and the auxiliary ones of its block, is appended, from
 -- this number on, and the first number behind them is that.
 pub record MakesBlock (old new : Code) (types : List UnitType) (first : ℕ) (vs : List UnitVariable) (block : Stmt) (behind : ℕ) : Type 0 where
-  pub follows : Follows old new (make_all_code types first (vs ++ auxiliary_variables (first_for block)))
-  pub count : behind ≡ first + length (vs ++ auxiliary_variables (first_for block))
+  pub follows : Follows old new (make_all_code types first (vs ++ block_auxiliaries block))
+  pub count : behind ≡ first + length (vs ++ block_auxiliaries block)
 
 -- The code that makes the variable of a routine's result is appended, where it has one, and the first variable behind it
 -- has this number.

@@ -1,18 +1,18 @@
-//! The parts of the code of a `for`. Each sets the line.
+//! The parts of the code of `for` statements. Each sets the line.
 
 ghost use Rattle.std.specs.Prelude.{OnOk};
 ghost use Rattle.ep_typed.specs.Controls.{next_value};
 ghost use Rattle.ep_typed.specs.Trees.{entire, Assign, Read};
-ghost use Rattle.ep_typed.specs.Viewed.{control_of, entire_of, expr_of};
-ghost use Rattle.ep_gen_unit.specs.StmtGrowth.{AppendsBounds, AppendsFirst, AppendsStmt, AppendsTest, AppendsUndefine};
+ghost use Rattle.ep_typed.specs.Viewed.{control_of, entire_of, expr_of, member_control_of};
+ghost use Rattle.ep_gen_unit.specs.StmtGrowth.{AppendsBounds, AppendsFirst, AppendsKept, AppendsLeast, AppendsMore, AppendsStmt, AppendsTest, AppendsUndefine};
 
 use ep_base::{Line, NoMemory};
 use ep_gen_expr::{
-    Code, apply_binary, emit, entire_code, entire_value_code, expression_code, in_order_code,
-    next_value_code,
+    Code, apply_binary, emit, entire_code, entire_value_code, expression_code, has_more_code,
+    in_order_code, next_value_code, others_code,
 };
 use ep_object::op;
-use ep_typed::{Binary, EntireVariable, ForControl, TypedExpr};
+use ep_typed::{Binary, EntireVariable, ForControl, MemberControl, TypedExpr};
 use std::alloc::Global;
 
 /// Appends the code before the turns: the auxiliary variables get the bounds, and whether there is a turn is left.
@@ -34,7 +34,7 @@ pub(crate) fn bounds_code(
 }
 
 /// Appends the code of an assignment to an entire variable.
-fn assign_entire(
+pub(crate) fn assign_entire(
     alloc: Global,
     line: Line,
     variable: &EntireVariable,
@@ -125,4 +125,48 @@ pub(crate) fn undefine_code(
     code.line = line;
     entire_code(alloc, variable, code)?;
     emit(code, op::UNDEFINE, 0, 0)
+}
+
+/// Appends the code that tells whether members are still to come in a `for` over members.
+pub(crate) fn more_code(
+    alloc: Global,
+    line: Line,
+    control: &MemberControl,
+    code: &mut Code,
+) -> Result<(), NoMemory>
+    ensures { OnOk result (AppendsMore line code.old code.new (member_control_of control.now)) }
+{
+    code.line = line;
+    has_more_code(alloc, control, code)
+}
+
+/// Appends the code that gives the control variable the least of them.
+pub(crate) fn least_code(
+    alloc: Global,
+    line: Line,
+    control: &MemberControl,
+    code: &mut Code,
+) -> Result<(), NoMemory>
+    ensures { OnOk result (AppendsLeast line code.old code.new (member_control_of control.now)) }
+{
+    code.line = line;
+    entire_code(alloc, &control.variable, code)?;
+    emit(code, op::PUSH, 0, 0)?;
+    entire_value_code(alloc, &control.rest, code)?;
+    emit(code, op::NEXT, 0, 0)?;
+    emit(code, op::STORE, 0, 0)
+}
+
+/// Appends the code that leaves the place of the auxiliary variable, and the members behind that one.
+pub(crate) fn kept_code(
+    alloc: Global,
+    line: Line,
+    control: &MemberControl,
+    code: &mut Code,
+) -> Result<(), NoMemory>
+    ensures { OnOk result (AppendsKept line code.old code.new (member_control_of control.now)) }
+{
+    code.line = line;
+    entire_code(alloc, &control.rest, code)?;
+    others_code(alloc, control, code)
 }

@@ -4,7 +4,7 @@ ghost use Rattle.std.specs.Prelude.{◌≡◌, ◌+◌, ◌<◌, ◌^◌, OnOk, 
 ghost use Rattle.ep_gen_expr.specs.Growth.{Grows};
 ghost use Rattle.ep_gen_unit.specs.StmtCode.{function_end, result_code, make_code, make_all_code, value_code, place_taken, take_code, take_all_code};
 ghost use Rattle.ep_gen_unit.specs.StmtGrowth.{AppendsEnd, AppendsStart, AppendsRoutine, AppendsRoutines, Follows, IsCompact, MakesBlock, MakesOwn, MakesResult, assembled};
-ghost use Rattle.ep_typed.specs.Auxiliaries.{auxiliary_variables, first_for, with_variables};
+ghost use Rattle.ep_typed.specs.Auxiliaries.{block_auxiliaries, with_variables};
 ghost use Rattle.ep_typed.specs.Denoters.{host_of};
 ghost use Rattle.ep_typed.specs.Viewed.{denoter_of, stmt_of};
 ghost use Rattle.ep_gen_unit.specs.UnitCode.{IsProgramCode, routine_at};
@@ -16,7 +16,7 @@ use ep_gen_expr::{Code, NO_LINE, emit, field_number, next_place};
 use ep_object::{CodeRoutine, CodeRoutines, Object, op};
 use ep_typed::{
     Denoter, Formal, FormalMode, TypedStmt, Unit, UnitRoutine, UnitType, UnitVariable,
-    auxiliary_variables, first_for, run_error, with_count,
+    block_auxiliaries, first_for, first_for_in, run_error, with_count,
 };
 use std::alloc::{AllocError, Global};
 
@@ -142,7 +142,7 @@ fn make_block(
 ) -> Result<u32, NoMemory>
     ensures { IfOk result (λ behind. MakesBlock code.old code.new types.now first variables.now (stmt_of block.now) behind) }
 {
-    let auxiliaries = auxiliary_variables(alloc, first_for(block))?;
+    let auxiliaries = block_auxiliaries(alloc, block)?;
     let middle = field_sum(first, variables.len())?;
     let behind = field_sum(middle as usize, auxiliaries.items().len())?;
     make_all(types, first, variables, code)?;
@@ -159,11 +159,15 @@ fn with_slots(made: u32, block: &TypedStmt) -> Result<u32, NoMemory>
 
 /// How many auxiliary variables of `for` a block has.
 fn auxiliary_count(block: &TypedStmt) -> usize
-    ensures { result ≡ length (auxiliary_variables (first_for (stmt_of block.now))) }
+    ensures { result ≡ length (block_auxiliaries (stmt_of block.now)) }
 {
-    match first_for(block) {
+    let bounds = match first_for(block) {
         None => 0,
         Some(_) => 2,
+    };
+    match first_for_in(block) {
+        None => bounds,
+        Some(_) => bounds + 1,
     }
 }
 

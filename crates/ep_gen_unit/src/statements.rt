@@ -3,23 +3,26 @@
 //! A statement sets the line, so it is set again after a part that is a statement.
 
 ghost use Rattle.std.specs.Prelude.{◌≡◌, OnOk, map, IfOk, ◌<◌, length, [], ◌∷◌};
-ghost use Rattle.ep_typed.specs.Trees.{Compound, Assign, If, While, Repeat, For, Procedure, Halt, Write, stmts};
-ghost use Rattle.ep_typed.specs.Viewed.{expr_of, actual_of, callee_of, control_of, entire_of, item_of, place_of, stmt_of, arm_of};
+ghost use Rattle.ep_typed.specs.Trees.{Compound, Assign, If, While, Repeat, For, ForIn, Procedure, Halt, Write, stmts};
+ghost use Rattle.ep_typed.specs.Viewed.{expr_of, actual_of, callee_of, control_of, entire_of, item_of, member_control_of, place_of, stmt_of, arm_of};
 ghost use Rattle.ep_gen_unit.specs.StmtCode.{slot_of};
 ghost use Rattle.ep_gen_unit.specs.StmtGrowth.{AppendsBind, AppendsStmt, AppendsStmts, AppendsArms, ClosesCase, OpensCase};
 ghost use Rattle.ep_typed.specs.Trees as tree;
 
 use crate::items::items_code;
-use crate::loops::{bounds_code, first_code, next_code, test_code, undefine_code};
-use crate::ranges::tests_code;
+use crate::loops::{
+    assign_entire, bounds_code, first_code, kept_code, least_code, more_code, next_code, test_code,
+    undefine_code,
+};
+use crate::ranges::arm_tests_code;
 use ep_base::{Line, NoMemory};
 use ep_gen_expr::{
     Code, call_code, emit, expression_code, land, leave_hole, next_place, place_code,
 };
 use ep_object::op;
 use ep_typed::{
-    Actual, Callee, CaseArm, EntireVariable, ForControl, TypedExpr, TypedPlace, TypedStmt,
-    WriteItem, run_error,
+    Actual, Callee, CaseArm, EntireVariable, ForControl, MemberControl, TypedExpr, TypedPlace,
+    TypedStmt, WriteItem, run_error,
 };
 use std::alloc::Global;
 
@@ -50,6 +53,9 @@ pub fn statement_code(alloc: Global, s: &TypedStmt, code: &mut Code) -> Result<(
         }
         TypedStmt::Repeat(line, body, condition) => {
             repeat_code(alloc, *line, body.items(), condition.get(), code)
+        }
+        TypedStmt::ForIn(line, control, set, body) => {
+            for_in_code(alloc, *line, control, set.get(), body.get(), code)
         }
         TypedStmt::For(line, control, initial, last, body) => {
             for_code(
@@ -207,6 +213,35 @@ fn for_code(
     undefine_code(alloc, line, &control.variable, code)
 }
 
+/// Appends the code of a `for` over members: the set, which the auxiliary variable gets; the jump out of the turns where no
+/// member is to come, the least one, what is to come after it, the body, and the jump back; and the end. What is to come stays
+/// on the operands while the body is done.
+#[cycle(statement)]
+fn for_in_code(
+    alloc: Global,
+    line: Line,
+    control: &MemberControl,
+    set: &TypedExpr,
+    body: &TypedStmt,
+    code: &mut Code,
+) -> Result<(), NoMemory>
+    ensures { OnOk result (AppendsStmt code.old code.new (ForIn line (member_control_of control.now)
+        (expr_of set.now) (stmt_of body.now))) }
+{
+    assign_entire(alloc, line, &control.rest, set, code)?;
+    let again = next_place(code)?;
+    more_code(alloc, line, control, code)?;
+    let leave = leave_hole(code)?;
+    least_code(alloc, line, control, code)?;
+    kept_code(alloc, line, control, code)?;
+    statement_code(alloc, body, code)?;
+    code.line = line;
+    emit(code, op::STORE, 0, 0)?;
+    emit(code, op::JUMP, again as i64, 0)?;
+    land(code, leave, op::JUMP_FALSE, line)?;
+    undefine_code(alloc, line, &control.variable, code)
+}
+
 /// Appends the beginning of the code of a `with`: the place, which goes into the slot of the variable that stands for it.
 fn bind_code(
     alloc: Global,
@@ -330,7 +365,7 @@ fn arm_code(
     ensures { OnOk result (AppendsArms line leave code.old code.new (tree.arms (arm_of arm.now ∷ []))) }
 {
     code.line = line;
-    tests_code(arm.ranges.items(), code)?;
+    arm_tests_code(arm.ranges.items(), code)?;
     let over = leave_hole(code)?;
     emit(code, op::DROP, 0, 0)?;
     statement_code(alloc, arm.body.get(), code)?;

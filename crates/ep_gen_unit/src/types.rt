@@ -1,16 +1,18 @@
 //! The code that elaborates types (ISO 10206, 6.4.1).
 
-ghost use Rattle.std.specs.Prelude.{◌≡◌, OnOk, suc, is_some, map, Some};
+ghost use Rattle.std.specs.Prelude.{◌≡◌, [], ◌∷◌, IfOk, OnOk, suc, is_some, length, map, Some};
 ghost use Rattle.ep_typed.specs.Denoters as denoters;
 ghost use Rattle.ep_typed.specs.Trees.{denoters as in_order, Array, Named, Record, Set};
-ghost use Rattle.ep_typed.specs.Viewed.{bound_of, denoter_of};
+ghost use Rattle.ep_typed.specs.Viewed.{bound_of, components_of, denoter_of, field_of, selector_of, variant_of, variants_of};
 ghost use Rattle.ep_gen_expr.specs.Growth.{Grows};
 ghost use Rattle.ep_gen_unit.specs.TypeCode.{code_within, each_code, ordinal_code, simple_code, type_code};
 
 use ep_base::{Name, NoMemory};
-use ep_gen_expr::{Code, emit};
+use ep_gen_expr::{Code, emit, field_number, place_number};
 use ep_object::op;
-use ep_typed::{Bound, Denoter, RecordField, RequiredType, UnitType};
+use ep_typed::{
+    Bound, Denoter, FieldPart, RecordField, RequiredType, Selector, UnitType, Variant, VariantPart,
+};
 
 /// Appends the code that elaborates a denoter, in which names are those of this list of types, and leaves the type. What
 /// has no type value has no meaning and no code.
@@ -43,7 +45,7 @@ fn elaborate_within(
         Denoter::Array(index, component) => {
             array_code(types, left, index.get(), component.get(), code)
         }
-        Denoter::Record(fields) => record_code(types, left, fields.items(), code),
+        Denoter::Record(part) => record_code(types, left, part, code),
         Denoter::Set(base) => set_code(types, left, base.get(), code),
     }
 }
@@ -102,38 +104,169 @@ fn set_code(
     emit(code, op::T_SET, 0, 0)
 }
 
-/// Appends the code of a record, behind that of its components.
+/// Appends the code of a record or a variant, behind that of its components.
 #[cycle(denoters)]
 fn record_code(
     types: &[UnitType],
     left: usize,
-    fields: &[RecordField],
+    part: &FieldPart,
     code: &mut Code,
 ) -> Result<(), NoMemory>
     ensures { OnOk result (Grows code.old code.new
-        (code_within types.now code.old.line (suc left)
-        (Record (in_order (map (λ f. denoter_of f.denoter) fields.now))))) }
+        (code_within types.now code.old.line (suc left) (Record (in_order (components_of part.now))))) }
 {
-    components_code(types, left, fields, code)?;
-    emit(code, op::T_REC, fields.len() as i64, 0)
+    let count = components_count(part)?;
+    part_code(types, left, part, code)?;
+    emit(code, op::T_REC, count as i64, 0)
 }
 
-/// Appends the code of the components of a record, one after another.
+/// Appends the code of the components that a field part gives, one after another.
 #[cycle(denoters)]
-fn components_code(
+fn part_code(
+    types: &[UnitType],
+    left: usize,
+    part: &FieldPart,
+    code: &mut Code,
+) -> Result<(), NoMemory>
+    ensures { OnOk result (Grows code.old code.new
+        (each_code types.now code.old.line (code_within types.now code.old.line left) (in_order (components_of part.now)))) }
+{
+    fields_code(types, left, part.fields.items(), code)?;
+    match &part.variant_part {
+        None => Ok(()),
+        Some(variants) => variant_part_code(types, left, variants.get(), code),
+    }
+}
+
+/// Appends the code of the types of fields.
+#[cycle(denoters)]
+fn fields_code(
     types: &[UnitType],
     left: usize,
     fields: &[RecordField],
     code: &mut Code,
 ) -> Result<(), NoMemory>
     ensures { OnOk result (Grows code.old code.new
-        (each_code types.now code.old.line (code_within types.now code.old.line left)
-        (in_order (map (λ f. denoter_of f.denoter) fields.now)))) }
+        (each_code types.now code.old.line (code_within types.now code.old.line left) (in_order (map field_of fields.now)))) }
 {
     for field in fields {
-        elaborate_within(types, left, &field.denoter, code)?;
+        field_code(types, left, field, code)?;
     }
     Ok(())
+}
+
+/// Appends the code of the type of a field.
+#[cycle(denoters)]
+fn field_code(
+    types: &[UnitType],
+    left: usize,
+    field: &RecordField,
+    code: &mut Code,
+) -> Result<(), NoMemory>
+    ensures { OnOk result (Grows code.old code.new
+        (code_within types.now code.old.line (suc left) (field_of field.now))) }
+{
+    elaborate_within(types, left, &field.denoter, code)
+}
+
+/// Appends the code of what a variant part adds: the record of what selects a variant, and the variants.
+#[cycle(denoters)]
+fn variant_part_code(
+    types: &[UnitType],
+    left: usize,
+    part: &VariantPart,
+    code: &mut Code,
+) -> Result<(), NoMemory>
+    ensures { OnOk result (Grows code.old code.new
+        (each_code types.now code.old.line (code_within types.now code.old.line left) (in_order (variants_of part.now)))) }
+{
+    selector_code(types, left, &part.selector, code)?;
+    variants_code(types, left, part.variants.items(), code)?;
+    match &part.completing {
+        None => Ok(()),
+        Some(part) => record_code(types, left, part.get(), code),
+    }
+}
+
+/// Appends the code of the record of what selects a variant.
+#[cycle(denoters)]
+fn selector_code(
+    types: &[UnitType],
+    left: usize,
+    selector: &Selector,
+    code: &mut Code,
+) -> Result<(), NoMemory>
+    ensures { OnOk result (Grows code.old code.new
+        (code_within types.now code.old.line (suc left) (selector_of selector.now))) }
+{
+    match selector {
+        Selector::Tag(_, of) => tag_code(types, left, of.get(), code),
+    }
+}
+
+/// Appends the code of the record of a tag field.
+#[cycle(denoters)]
+fn tag_code(types: &[UnitType], left: usize, of: &Denoter, code: &mut Code) -> Result<(), NoMemory>
+    ensures { OnOk result (Grows code.old code.new
+        (code_within types.now code.old.line (suc left) (Record (in_order (denoter_of of.now ∷ []))))) }
+{
+    elaborate_within(types, left, of, code)?;
+    emit(code, op::T_REC, 1, 0)
+}
+
+/// Appends the code of variants, one after another.
+#[cycle(denoters)]
+fn variants_code(
+    types: &[UnitType],
+    left: usize,
+    variants: &[Variant],
+    code: &mut Code,
+) -> Result<(), NoMemory>
+    ensures { OnOk result (Grows code.old code.new
+        (each_code types.now code.old.line (code_within types.now code.old.line left) (in_order (map variant_of variants.now)))) }
+{
+    for variant in variants {
+        variant_code(types, left, variant, code)?;
+    }
+    Ok(())
+}
+
+/// Appends the code of a variant.
+#[cycle(denoters)]
+fn variant_code(
+    types: &[UnitType],
+    left: usize,
+    variant: &Variant,
+    code: &mut Code,
+) -> Result<(), NoMemory>
+    ensures { OnOk result (Grows code.old code.new
+        (code_within types.now code.old.line (suc left) (variant_of variant.now))) }
+{
+    record_code(types, left, &variant.part, code)
+}
+
+/// How many components a field part gives. A number that a field cannot hold is refused.
+fn components_count(part: &FieldPart) -> Result<u32, NoMemory>
+    ensures { IfOk result (λ k. k ≡ length (components_of part.now)) }
+{
+    let own = field_number(part.fields.items().len())?;
+    let behind = match &part.variant_part {
+        None => 0,
+        Some(variants) => variants_count(variants.get())?,
+    };
+    place_number(own as u64 + behind as u64)
+}
+
+/// How many of them a variant part adds.
+fn variants_count(part: &VariantPart) -> Result<u32, NoMemory>
+    ensures { IfOk result (λ k. k ≡ length (variants_of part.now)) }
+{
+    let count = field_number(part.variants.items().len())?;
+    let completing = match part.completing {
+        None => 0,
+        Some(_) => 1,
+    };
+    place_number(1 + count as u64 + completing)
 }
 
 /// Whether a denoter is that of an ordinal type, in which names are those of this list of types.

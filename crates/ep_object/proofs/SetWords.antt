@@ -1,13 +1,12 @@
 -- Sets in words: what the words of a set tell is the set.
-use Rattle.std.proofs.Common.{◌≡◌, ℕ, ℤ, pos, zero, suc, ◌+◌, ◌*◌, ◌/◌, ◌%◌, ◌<◌, ◌≤◌, ◌==◌, Bool, true, false, List, [], ◌∷◌, length, Option, Some, None, slice_get, refl, sym, ap, ◌∙◌, arith}
-use Rattle.std.specs.Prelude.{int_lt}
+use Rattle.std.proofs.Common.{◌≡◌, ℕ, pos, zero, suc, ◌+◌, ◌*◌, ◌/◌, ◌%◌, ◌<◌, ◌≤◌, ◌==◌, ◌||◌, Bool, true, false, List, [], ◌∷◌, length, Some, slice_get, refl, sym, ap, ◌∙◌, subst, arith}
+use Rattle.std.specs.Prelude.{⊤}
 use Rattle.std.specs.Int.{bit_at}
-use Rattle.std.proofs.Math.Nat.{div-add-mod}
 use Rattle.std.proofs.lemmas.Nat.Bits.{bit_at_lowest, bit_at-suc}
-use Rattle.ep_object.specs.Effects.{Effect, Continues, index}
+use Rattle.ep_object.specs.Effects.{Continues}
 use Rattle.ep_object.specs.Operands.{Operand, Set}
 use Rattle.ep_object.specs.Places.{set_loaded}
-use Rattle.ep_object.specs.Sets.{IsSet, bits_from, digit, has, member_limit, members, passing, put_where, set_in, set_size, tells, word_members, words_from, words_of_set}
+use Rattle.ep_object.specs.Sets.{IsSet, bits_from, digit, has, member_limit, members, passing, put_where, set_in, set_size, tells, word_members, with_member, words_from, words_of_set}
 use Rattle.ep_object.proofs.Sets.{has_members, members_same}
 
 -- the lowest bit of a number that is made so, and the others
@@ -87,3 +86,53 @@ few_members ms is = let many : length ms ≡ length (passing (λ n. has n ms) 0 
 pub none_set : IsSet []
 unfolding members
 none_set = refl
+
+-- ---- members one after another
+
+-- the set with all of these besides
+abbrev pub with_members : List ℕ → List ℕ → List ℕ
+with_members [] ns = ns
+with_members (m ∷ ms) ns = with_members ms (with_member m ns)
+
+-- all of them may be members
+abbrev pub AreOrdinals : List ℕ → Type 0
+AreOrdinals [] = ⊤
+AreOrdinals (m ∷ ms) = (m < member_limit) × AreOrdinals ms
+
+below_limit : (f : ℕ → Bool) (n count : ℕ) → n + count ≤ member_limit → AreOrdinals (passing f n count)
+below_limit f n zero le = tt
+below_limit f n (suc count) le = put (f n) (below_limit f (suc n) count (omega (arith, le)))
+  where
+    put : (b : Bool) → AreOrdinals (passing f (suc n) count) → AreOrdinals (put_where b n (passing f (suc n) count))
+    put true h = (omega (arith, le), h)
+    put false h = h
+
+-- so it is with those of a set
+pub set_ordinals : (ms : List ℕ) → IsSet ms → AreOrdinals ms
+unfolding members
+set_ordinals ms is = subst AreOrdinals (sym is) (below_limit (λ n. has n ms) 0 member_limit (omega arith))
+
+with_set : (ms ns : List ℕ) → IsSet ns → IsSet (with_members ms ns)
+with_set [] ns is = is
+with_set (m ∷ ms) ns is = with_set ms (with_member m ns) (members_set (λ n. m == n || has n ns))
+
+-- what is in it is one of these, or was in it
+with_has : (ms ns : List ℕ) (n : ℕ) → n < member_limit → has n (with_members ms ns) ≡ (has n ms || has n ns)
+with_has [] ns n less = refl
+with_has (m ∷ ms) ns n less =
+    with_has ms (with_member m ns) n less ∙ (ap (λ b. has n ms || b) (has_members (λ k. m == k || has k ns) n less) ∙ turned (has n ms) (m == n) (has n ns))
+  where
+    turned : (a b c : Bool) → (a || (b || c)) ≡ ((b || a) || c)
+    turned true true c = refl
+    turned true false c = refl
+    turned false true c = refl
+    turned false false c = refl
+
+-- the set with all members of a set, one after another, is that set
+pub all_members : (ms : List ℕ) → IsSet ms → with_members ms [] ≡ ms
+all_members ms is =
+    with_set ms [] none_set ∙ (members_same (λ n. has n (with_members ms [])) (λ n. has n ms) (λ n less. with_has ms [] n less ∙ right_false (has n ms)) ∙ sym is)
+  where
+    right_false : (b : Bool) → (b || false) ≡ b
+    right_false true = refl
+    right_false false = refl

@@ -1,16 +1,20 @@
--- Auxiliary variables are valid: those of `for` are integers, and those of `with` are of record types of the unit.
+-- Auxiliary variables are valid: those of `for` with bounds are integers, that of `for` over members is a set of integers, and those of `with` are of record types of the unit.
 use Rattle.std.specs.Prelude.{All}
-use Rattle.std.proofs.Common.{◌≡◌, ◌∙◌, ◌+◌, ℕ, suc, zero, List, [], ◌∷◌, ◌++◌, length, map, Option, Some, None, slice_get, refl, ap, subst, sym, arith}
+use Rattle.std.proofs.Common.{◌≡◌, ◌∙◌, ◌+◌, ℕ, pos, suc, zero, List, [], ◌∷◌, ◌++◌, length, map, Option, Some, None, slice_get, refl, ap, subst, sym, arith}
 use Rattle.std.proofs.lemmas.List.{length-map}
 use Rattle.std.proofs.lemmas.Option.{get_or_from_slice_get, same_Some, slice_get_within}
-use Rattle.ep_typed.specs.Auxiliaries.{auxiliary_variable, auxiliary_variables, with_variable, with_variables, with_variables_of, with_variables_in, with_variables_other}
-use Rattle.ep_typed.specs.Denoters.{definition_of, host_of, required_type, type_of}
+use Rattle.ep_typed.specs.Auxiliaries.{block_auxiliaries, auxiliary_variable, auxiliary_variables, first_for, first_for_in, member_variable, member_variables, with_variable, with_variables, with_variables_of, with_variables_in, with_variables_other}
+use Rattle.ep_typed.specs.Denoters.{base_of, definition_of, host_of, required_type, type_of}
 use Rattle.ep_typed.specs.Hosts as host
 use Rattle.ep_typed.specs.Hosts.{Host}
 use Rattle.ep_typed.specs.Routines.{first_with, formal_variable, made_by_unit, made_variables, unit_variables, variables_of}
-use Rattle.ep_typed.specs.Trees.{Required, Named, Place, Entire, OfUnit, OfRoutine, entire, Stmt, Stmts, Empty, Compound, Assign, If, While, Repeat, For, With, Procedure, Halt, Write, none, next, Case, Arms, no_arm, next_arm, Other, no_other, otherwise_do}
+use Rattle.ep_typed.specs.Trees.{Fixed, Denoter, Required, Named, Subrange, Set, Place, Entire, OfUnit, OfRoutine, entire, Stmt, Stmts, Empty, Compound, Assign, If, While, Repeat, For, ForIn, With, Procedure, Halt, Write, none, next, Case, Arms, no_arm, next_arm, Other, no_other, otherwise_do}
 use Rattle.ep_typed.specs.TypeValues.{TypeValue, Record}
-use Rattle.ep_typed.specs.Valid.{required, named, Declarations, IsDenoter, IsPlaceWhere, IsStmt, AreStmts, AreArms, IsOther, IsType, IsTyped, IsUnmade, IsVariable, IsWith}
+use Rattle.ep_typed.specs.TypeValues as type
+use Rattle.ep_typed.specs.Sets.{last_member}
+use Rattle.ep_typed.specs.declared.denoter.Bound.TheVariants as bound
+use Rattle.ep_typed.specs.declared.denoter.Denoter.TheVariants as written
+use Rattle.ep_typed.specs.Valid.{required, named, subrange, set, Declarations, IsDenoter, IsPlaceWhere, IsStmt, AreStmts, AreArms, IsOther, IsType, IsTyped, IsUnmade, IsVariable, IsWith}
 use Rattle.ep_typed.specs.Viewed.{denoter_of, stmt_of}
 use Rattle.ep_typed.specs.declared.denoter.RequiredType.TheVariants as simple
 use Rattle.ep_typed.specs.declared.unit.Unit.{Unit as TypedUnit}
@@ -18,7 +22,7 @@ use Rattle.ep_typed.specs.declared.unit.UnitRoutine.{UnitRoutine}
 use Rattle.ep_typed.specs.declared.unit.UnitType.{UnitType}
 use Rattle.ep_typed.specs.declared.unit.UnitVariable.{UnitVariable}
 use Rattle.ep_typed.proofs.Denoters.{is_of, instances_are_one, types_are_instances}
-use Rattle.ep_typed.proofs.Forms.{named_is, required_is}
+use Rattle.ep_typed.proofs.Forms.{named_is, required_is, set_is, subrange_is}
 use Rattle.ep_typed.proofs.Typed.{typed_instance}
 
 integer_valid : (types : List UnitType) → IsDenoter types (Required simple.Integer)
@@ -36,6 +40,45 @@ auxiliaries_valid types None k v h = cc
 auxiliaries_valid types (Some line) zero v h = let e : auxiliary_variable line ≡ v = cc in subst (λ w. IsVariable types w) e (auxiliary_valid types line)
 auxiliaries_valid types (Some line) (suc zero) v h = let e : auxiliary_variable line ≡ v = cc in subst (λ w. IsVariable types w) e (auxiliary_valid types line)
 auxiliaries_valid types (Some line) (suc (suc k)) v h = cc
+
+-- the denoter of sets of any ordinals that may be members
+abbrev any_members : Denoter
+any_members = Set (Subrange (Required simple.Integer) (Fixed (pos 0)) (Fixed (pos last_member)))
+
+pub members_is : (line : ℕ) → denoter_of (member_variable line).denoter ≡ any_members
+members_is line =
+    let base = subrange_is (written.Required simple.Integer) (bound.Constant (pos 0)) (bound.Constant (pos last_member)) in
+    set_is (written.Subrange (written.Required simple.Integer) (bound.Constant (pos 0)) (bound.Constant (pos last_member)))
+    ∙ (ap Set base ∙ ap (λ d. Set (Subrange d (Fixed (pos 0)) (Fixed (pos last_member)))) (required_is simple.Integer))
+
+members_denoter : (types : List UnitType) → IsDenoter types any_members
+members_denoter types = record {
+  type_value = type.Set (pos 0) (pos last_member);
+  has_type = refl;
+  typed = set (Subrange (Required simple.Integer) (Fixed (pos 0)) (Fixed (pos last_member))) (pos 0) (pos last_member) (subrange (Required simple.Integer) (pos 0) (pos last_member) host.Integer refl (refl, refl, refl, refl, refl)) refl refl;
+}
+
+pub member_valid : (types : List UnitType) (line : ℕ) → IsVariable types (member_variable line)
+member_valid types line = record { denoter = subst (λ d. IsDenoter types d) (sym (members_is line)) (members_denoter types); tuple = refl }
+
+-- it is a set of integers
+pub member_base : (types : List UnitType) (line : ℕ) → (base : Denoter) × (base_of types (denoter_of (member_variable line).denoter) ≡ Some base) × (host_of types base ≡ Some host.Integer)
+member_base types line = (Subrange (Required simple.Integer) (Fixed (pos 0)) (Fixed (pos last_member)), ap (λ d. base_of types d) (members_is line), refl)
+
+-- those of a block that are made
+pub block_valid : (types : List UnitType) (s : Stmt) (k : ℕ) (v : UnitVariable) → slice_get (block_auxiliaries s) k ≡ Some v → IsVariable types v
+block_valid types s = go (first_for s) (first_for_in s)
+  where
+    one : (o : Option ℕ) (k : ℕ) (v : UnitVariable) → slice_get (member_variables o) k ≡ Some v → IsVariable types v
+    one None k v h = cc
+    one (Some line) zero v h = let e : member_variable line ≡ v = cc in subst (λ w. IsVariable types w) e (member_valid types line)
+    one (Some line) (suc k) v h = cc
+
+    go : (o q : Option ℕ) (k : ℕ) (v : UnitVariable) → slice_get (auxiliary_variables o ++ member_variables q) k ≡ Some v → IsVariable types v
+    go None q k v h = one q k v h
+    go (Some line) q zero v h = auxiliaries_valid types (Some line) zero v h
+    go (Some line) q (suc zero) v h = auxiliaries_valid types (Some line) (suc zero) v h
+    go (Some line) q (suc (suc k)) v h = one q k v h
 
 -- ---- `with`
 
@@ -94,6 +137,7 @@ module _ (declared : Declarations) (types : List UnitType) (own_types : declared
     withs_denoted (While line x s) h k v e = withs_denoted s h.1 k v e
     withs_denoted (Repeat line ss x) h k v e = withs_of_denoted ss h.0 k v e
     withs_denoted (For line c x y s) h k v e = withs_denoted s h.1 k v e
+    withs_denoted (ForIn line c x s) h k v e = withs_denoted s h.1 k v e
     withs_denoted (With line w of p s) h zero v e = subst (λ (u : UnitVariable). IsDenoter types (denoter_of u.denoter)) (same_Some (with_variable line of) v e) (one_denoted line of w p h.0)
     withs_denoted (With line w of p s) h (suc k) v e = withs_denoted s h.1 k v e
     withs_denoted (Procedure line callee given) h k v e = cc

@@ -1,7 +1,7 @@
 -- The meaning computes the answers of small programs.
 use Rattle.std.proofs.Common.{◌≡◌, ℕ, ℤ, pos, negsuc, Bool, true, false, Some, None, [], ◌∷◌, refl, codes}
 use Rattle.ep_typed.specs.Events.{Trace, Write}
-use Rattle.ep_typed.specs.Trees.{Variable, OfUnit, Indexed, Field, Expr, Constant, Function, Evaluated, no_actual, next_actual, Read, One, Two, SetOf, OnSets, Card, Single, Range, designators, Plain, Wide, Stmt, Compound, Assign, While, Repeat, For, With, Case, Short, Write, stmts, none, next, Other, no_other, otherwise_do, arms}
+use Rattle.ep_typed.specs.Trees.{Variable, OfUnit, Indexed, Field, Expr, Constant, Function, Evaluated, no_actual, next_actual, Read, One, Two, SetConstant, SetOf, OnSets, Card, Single, Range, designators, Plain, Wide, Stmt, Compound, Assign, While, Repeat, For, With, Case, Short, Write, stmts, none, next, Other, no_other, otherwise_do, arms}
 use Rattle.ep_typed.specs.Trees as tree
 use Rattle.ep_typed.specs.Sets.{members}
 use Rattle.ep_typed.specs.declared.operations.SetOperation.TheVariants as set
@@ -261,3 +261,60 @@ empty_range = refl
 
 undefined_set : end_of (in_set (tells (OnSets set.In (number (pos 1)) (Read x)))) ≡ Error run_error.UNDEFINED_VALUE (codes "p") 9
 undefined_set = refl
+
+-- a constant is the set that its members make
+constant_members : trace_of (in_set (tells (OnSets set.Equal (SetConstant (3 ∷ 4 ∷ 5 ∷ [])) three))) ≡ Write (codes "True") ∷ []
+unfolding members
+constant_members = refl
+
+-- what is assigned to s, and then the end of the run, within so many steps
+abbrev ends_within : ℕ → Expr → End
+ends_within m e = end_of (exec (routine_of [] 0) m (codes "p") (Compound (next (Assign 3 x e) (next (tree.Halt 4) none))) m (made (codes "p") 0 (Set (pos 1) (pos 9)) first_state))
+
+-- a constant spends nine steps, and a constructor one and those of its values, besides those of the variable and the assignment
+steps_of_a_constant : ends_within 11 (SetConstant (3 ∷ 5 ∷ [])) ≡ Halted
+steps_of_a_constant = refl
+
+no_fewer_for_a_constant : ends_within 10 (SetConstant (3 ∷ 5 ∷ [])) ≡ Normal
+no_fewer_for_a_constant = refl
+
+steps_of_a_constructor : ends_within 5 (SetOf (designators (Single (number (pos 3)) ∷ Single (number (pos 5)) ∷ []))) ≡ Halted
+unfolding members
+steps_of_a_constructor = refl
+
+-- ---- `for` over members
+
+-- a variable x of this type, and the auxiliary one behind it
+abbrev with_members : TypeValue → State
+with_members t = made (codes "p") 1 (Set (pos 0) (pos 255)) (made (codes "p") 0 t first_state)
+
+-- over the characters z and x
+abbrev taking : Stmt → Stmt
+taking body = tree.ForIn 3 (record { variable = OfUnit (codes "p") 0; rest = OfUnit (codes "p") 1 }) (SetOf (designators (Single (number (pos 122)) ∷ Single (number (pos 120)) ∷ []))) body
+
+abbrev takes_in : TypeValue → Stmt → Outcome (Unit {0})
+takes_in t s = exec (routine_of [] 0) 200 (codes "p") s 200 (with_members t)
+
+-- in rising order
+members_rise : trace_of (takes_in (Ordinal (pos 0) (pos 255)) (taking shows_x)) ≡ Write (codes "x") ∷ Write (codes "z") ∷ []
+unfolding members
+members_rise = refl
+
+-- an inner statement has the same auxiliary variable
+members_stay : trace_of (takes_in (Ordinal (pos 0) (pos 255)) (taking (Compound (next shows_x (next (Assign 5 (Variable (codes "p") 1) (SetOf (designators []))) none))))) ≡ Write (codes "x") ∷ Write (codes "z") ∷ []
+unfolding members
+members_stay = refl
+
+-- a member outside of the type is an error when it comes
+member_ends : end_of (takes_in (Ordinal (pos 1) (pos 121)) (taking shows_x)) ≡ Error run_error.OUTSIDE_TYPE (codes "p") 3
+unfolding members
+member_ends = refl
+
+first_is_shown : trace_of (takes_in (Ordinal (pos 1) (pos 121)) (taking shows_x)) ≡ Write (codes "x") ∷ []
+unfolding members
+first_is_shown = refl
+
+-- in the end the control variable is undefined
+no_member_left : end_of (takes_in (Ordinal (pos 0) (pos 255)) (Compound (next (taking tree.Empty) (next shows_x none)))) ≡ Error run_error.UNDEFINED_VALUE (codes "p") 4
+unfolding members
+no_member_left = refl

@@ -1,21 +1,21 @@
 -- With more steps, and more turns of its loops, a computation comes to the same, or goes on from where it was cut.
 use Rattle.std.proofs.Common.{slice_get, ◌≡◌, ℕ, ℤ, pos, negsuc, zero, suc, ◌+◌, List, [], ◌∷◌, Option, Some, None, Bool, true, false, length, refl, ap, arith}
 use Rattle.std.specs.Prelude.{if◌then◌else◌}
-use Rattle.ep_typed.specs.Controls.{in_order, next_value}
+use Rattle.ep_typed.specs.Controls.{in_order, next_value, has_more, others}
 use Rattle.ep_typed.specs.Denoters.{definition_of, required_type, subrange_type, enumeration_type, array_type, set_type}
-use Rattle.ep_typed.specs.Meaning.{argument, arguments, extended, collected, members_found, one_result, weights_of, results_given, initialized, takes_by, takes_all, elaborate, elaborate_each, answered, indexed, selected, part, place, eval, write_piece, write_wide, write_item, write_items, assign, turns, turns_until, assigns, undefines, turns_to, counts, names, exec, exec_all, elaborated, elaborated_where, elaborated_found, elaborate_step, elaborate_within, make, make_all, make_own, make_all_own, start_of, starts_of, Found, routine_in, activation, runs_routine, routine_does, routine_of, read, assign_living, tried, exec_arms, exec_other}
+use Rattle.ep_typed.specs.Meaning.{argument, arguments, extended, collected, members_found, one_result, weights_of, results_given, initialized, takes_by, takes_all, elaborate, elaborate_each, answered, indexed, selected, selecting, selects, chosen, active, part, place, eval, write_piece, write_wide, write_item, write_items, assign, turns, turns_until, assigns, undefines, turns_to, counts, takes_least, member_turn, names, exec, exec_all, elaborated, elaborated_where, elaborated_found, elaborate_step, elaborate_within, make, make_all, make_own, make_all_own, start_of, starts_of, Found, routine_in, activation, runs_routine, routine_does, routine_of, read, assign_living, tried, exec_arms, exec_other}
 use Rattle.ep_typed.specs.Operations.{Answer, Number, Fault, is_same, is_true, decides, is_in}
 use Rattle.ep_typed.specs.Printing.{Result, number_of, members_of, plain_text, wide_text, piece_events}
 use Rattle.ep_typed.specs.Printing as result
 use Rattle.ep_typed.specs.Calls.{Argument, Value, Handler, entered, given_back, in_call}
 use Rattle.ep_typed.specs.Calls as argument_is
 use Rattle.ep_typed.specs.Steady.{Grows, Steady, IsSteadyHandler}
-use Rattle.ep_typed.specs.Steps.{Call, End, Normal, Halted, Error, Undefined, State, Outcome, Gives, Ends, Cut, state_of, Computation, give, cut, stop, go_on, bind, spend, change, found, fetch, fetch_or, assigned, type_at, Component, component, whole, size_of, with_type, counted, made, made_own, allocate, allocate_own, newest_assigned, with_bound, with_own_bound, standard_file, first_state, using, has_ended, own_variable}
+use Rattle.ep_typed.specs.Steps.{Call, End, Normal, Halted, Error, Undefined, State, Outcome, Gives, Ends, Cut, state_of, Computation, give, cut, stop, go_on, bind, spend, change, found, fetch, fetch_or, assigned, type_at, Component, component, is_number, variant_number, whole, size_of, with_type, counted, made, made_own, allocate, allocate_own, newest_assigned, with_bound, with_own_bound, standard_file, first_state, using, has_ended, own_variable}
 use Rattle.ep_typed.specs.Steps.{Value as ValueOf}
 use Rattle.ep_typed.specs.SetOperations.{set_answer}
-use Rattle.ep_typed.specs.Sets.{with_number, with_numbers}
+use Rattle.ep_typed.specs.Sets.{least_member, with_number, with_numbers}
 use Rattle.ep_typed.specs.Results.{misfit, result_of, suits, unresulting, value_of, weight_of}
-use Rattle.ep_typed.specs.Trees.{Array, Enumeration, Subrange, Named, Record, Set, Required, Denoter, Denoters, no_denoter, next_denoter, Callee, Place, Variable, Own, Standard, Indexed, Field, Expr, Constant, Text, Read, One, Two, Short, Step, Function, IndexedValue, FieldValue, SetOf, OnSets, Card, Designator, Single, Range, Designators, no_member, next_member, Actual, Evaluated, Accessed, Actuals, no_actual, next_actual, Item, Plain, Wide, Stmt, Stmts, Empty, Compound, Assign, If, While, Repeat, Control, For, With, Procedure, Halt, Write, none, next, Case, Arms, no_arm, next_arm, Other, no_other, otherwise_do, Entire, OfUnit, OfRoutine, entire}
+use Rattle.ep_typed.specs.Trees.{Array, Enumeration, Subrange, Named, Record, Set, Required, Denoter, Denoters, no_denoter, next_denoter, Callee, Place, Variable, Own, Standard, Indexed, Field, Variant, Expr, Constant, Text, Read, One, Two, Short, Step, Function, IndexedValue, FieldValue, SetOf, OnSets, Card, Designator, Single, Range, Designators, no_member, next_member, Actual, Evaluated, Accessed, Actuals, no_actual, next_actual, Item, Plain, Wide, Stmt, Stmts, Empty, Compound, Assign, If, While, Repeat, Control, For, MemberControl, ForIn, With, Procedure, Halt, Write, none, next, Case, Arms, no_arm, next_arm, Other, no_other, otherwise_do, Entire, OfUnit, OfRoutine, entire, SetConstant}
 use Rattle.ep_typed.specs.Routines.{made_variables, made_by_unit}
 use Rattle.ep_typed.specs.Viewed.{denoter_of, stmt_of}
 use Rattle.ep_typed.specs.declared.interface.Formal.{Formal}
@@ -27,8 +27,9 @@ use Rattle.ep_typed.specs.declared.unit.Unit.{Unit as TypedUnit}
 use Rattle.ep_typed.specs.declared.unit.UnitType.{UnitType}
 use Rattle.ep_typed.specs.declared.unit.UnitVariable.{UnitVariable}
 use Rattle.ep_typed.specs.declared.tree.CaseRange.{CaseRange}
+use Rattle.ep_typed.specs.declared.tree.Selection.{Selection}
 use Rattle.ep_typed.specs.TypeValues as type
-use Rattle.ep_typed.specs.TypeValues.{TypeValue}
+use Rattle.ep_typed.specs.TypeValues.{TypeValue, set_size}
 use Rattle.ep_typed.specs.Laws.{IsLonger, MeaningsLast}
 use Rattle.ep_typed.proofs.Steady.{grows_refl, grows_trans, grows_quiet, grows_events, grows_type, grows_counted, grows_made, grows_made_own, steady_give, steady_cut, steady_stop, steady_bind, steady_spend, steady_change, steady_fetch, steady_fetch_or, steady_turns, steady_turns_until, steady_turns_to, steady_in_call, steady_routine_of, steady_using, steady_assign_living}
 use Rattle.ep_typed.specs.declared.run_error.TheConstants as run_error
@@ -144,9 +145,19 @@ lasting_turns_until call other h i (suc g) j unit x y =
     rw one (lasting_bind x (λ _. lasting_bind y (λ r. lasting_spend 1 (lasting_if (is_true (number_of r)) (lasting_spend 1 (lasting_give tt)) (lasting_turns_until call other h i g j unit x y)))))
 
 -- ranges that are tried
-lasting_tried : (call other : Handler) (h i : ℕ) (unit : List ℕ) (z : ℤ) (rs : List CaseRange) {fits fits2 fails fails2 : Computation (Unit {0})} → Lasting fits fits2 → Lasting fails fails2 → Lasting (tried call h unit z rs fits fails) (tried other i unit z rs fits2 fails2)
+lasting_tried : {A : Type 0} (call other : Handler) (h i : ℕ) (unit : List ℕ) (z : ℤ) (rs : List CaseRange) {fits fits2 fails fails2 : Computation A} → Lasting fits fits2 → Lasting fails fails2 → Lasting (tried call h unit z rs fits fails) (tried other i unit z rs fits2 fails2)
 lasting_tried call other h i unit z [] x y = y
 lasting_tried call other h i unit z (r ∷ rs) x y = lasting_spend 1 (lasting_if (is_in r z) x (lasting_tried call other h i unit z rs x y))
+
+-- a variant that is selected
+lasting_selecting : {A : Type 0} (call other : Handler) (h i : ℕ) (unit : List ℕ) (z : ℤ) (labels : List (List CaseRange)) (k : ℕ) {chosen chosen2 : ℕ → Computation A} {none none2 : Computation A} → ((j : ℕ) → Lasting (chosen j) (chosen2 j)) → Lasting none none2
+    → Lasting (selecting call h unit z labels k chosen none) (selecting other i unit z labels k chosen2 none2)
+lasting_selecting call other h i unit z [] k x y = y
+lasting_selecting call other h i unit z (ranges ∷ more) k x y = lasting_tried call other h i unit z ranges (x k) (lasting_selecting call other h i unit z more (suc k) x y)
+
+lasting_selects : {A : Type 0} (call other : Handler) (h i : ℕ) (unit : List ℕ) (s : Selection) (z : ℤ) {chosen chosen2 : ℕ → Computation A} {none none2 : Computation A} → ((j : ℕ) → Lasting (chosen j) (chosen2 j)) → Lasting none none2
+    → Lasting (selects call h unit s z chosen none) (selects other i unit s z chosen2 none2)
+lasting_selects call other h i unit s z x y = lasting_selecting call other h i unit z s.labels 0 x (lasting_if s.completed (x (length s.labels)) y)
 
 -- ---- the forms
 
@@ -177,6 +188,13 @@ module _ (call other : Handler) (lasts : IsLastingHandler call other) (g j : ℕ
   lasting_selected : (line : ℕ) (c : Component) (k : ℕ) → Lasting (selected call g unit line c k) (selected other (g + j) unit line c k)
   lasting_selected line c k = lasting_using _ c.allocation (lasting_spend 1 (lasting_give (component c k)))
 
+  -- a variant of a record
+  lasting_chosen : (line : ℕ) (c : Component) (s : Selection) (k i : ℕ) → Lasting (chosen call g unit line c s k i) (chosen other (g + j) unit line c s k i)
+  lasting_chosen line c s k i = lasting_if (is_number i k) (lasting_selected line c (variant_number s k)) (lasting_stop (Error run_error.INACTIVE_VARIANT unit line))
+
+  lasting_active : (line : ℕ) (c : Component) (s : Selection) (k : ℕ) → Lasting (active call g unit line c s k) (active other (g + j) unit line c s k)
+  lasting_active line c s k = lasting_using _ c.allocation (lasting_bind (lasting_fetch _ _) (λ r. lasting_selects call other g (g + j) unit s (number_of r) (lasting_chosen line c s k) (lasting_stop (Error run_error.INACTIVE_VARIANT unit line))))
+
   -- members that are found
   lasting_members_found : (line : ℕ) (o : Option (List ℕ)) → Lasting (members_found call g unit line o) (members_found other (g + j) unit line o)
   lasting_members_found line o = lasting_fetch (Error run_error.SET_MEMBER unit line) (λ s. o)
@@ -189,6 +207,7 @@ module _ (call other : Handler) (lasts : IsLastingHandler call other) (g j : ℕ
     lasting_place line (Standard file) = lasting_spend 1 (lasting_give (whole (standard_file file)))
     lasting_place line (Indexed p x) = lasting_bind (lasting_place line p) (λ c. lasting_bind (lasting_eval line x) (λ r. lasting_indexed line c (number_of r)))
     lasting_place line (Field p number) = lasting_bind (lasting_place line p) (λ c. lasting_selected line c number)
+    lasting_place line (Variant p selection number) = lasting_bind (lasting_place line p) (λ c. lasting_active line c selection number)
 
     -- an expression
     lasting_eval : (line : ℕ) (x : Expr) → Lasting (eval call g unit line x) (eval other (g + j) unit line x)
@@ -207,6 +226,7 @@ module _ (call other : Handler) (lasts : IsLastingHandler call other) (g j : ℕ
         lasting_bind (lasting_arguments line given) (λ xs. lasting_bind (lasts.by unit line callee xs) lasting_one_result)
     lasting_eval line (IndexedValue x y) = lasting_bind (lasting_eval line x) (λ a. lasting_bind (lasting_eval line y) (λ b. lasting_bind (lasting_fetch _ _) (λ k. lasting_part line a k)))
     lasting_eval line (FieldValue x number) = lasting_bind (lasting_eval line x) (λ a. lasting_part line a number)
+    lasting_eval line (SetConstant ms) = lasting_spend (suc set_size) (lasting_give (result.Members ms))
     lasting_eval line (SetOf ds) = lasting_spend 1 (lasting_bind (lasting_collected line [] ds) (λ ms. lasting_give (result.Members ms)))
     lasting_eval line (OnSets operation x y) = lasting_bind (lasting_eval line x) (λ a. lasting_bind (lasting_eval line y) (λ b. lasting_spend 1 (lasting_give (set_answer operation a b))))
     lasting_eval line (Card x) = lasting_bind (lasting_eval line x) (λ a. lasting_spend 1 (lasting_give (result.Number (pos (length (members_of a))))))
@@ -284,6 +304,16 @@ module _ (call other : Handler) (lasts : IsLastingHandler call other) (g j : ℕ
       let one : suc turns + j ≡ suc (turns + j) = omega arith in
       rw one (lasting_bind x (λ _. lasting_bind (lasting_eval line (Read (entire c.variable))) (λ r. lasting_spend 1 (lasting_if (is_same last (number_of r)) (lasting_give tt) (lasting_bind (lasting_assigns line (entire c.variable) (next_value c)) (λ _. lasting_turns_to turns line c last x))))))
 
+  -- the least member, for the control variable
+  lasting_takes_least : (line : ℕ) (c : MemberControl) → Lasting (takes_least call g unit line c) (takes_least other (g + j) unit line c)
+  lasting_takes_least line c =
+      lasting_bind (lasting_place line (entire c.variable)) (λ v. lasting_bind (lasting_eval line (Read (entire c.rest))) (λ r. lasting_assign line v (result.Number (least_member (members_of r)))))
+
+  -- a turn of a `for` over members
+  lasting_member_turn : (line : ℕ) (c : MemberControl) {body body2 : Computation (Unit {0})} → Lasting body body2 → Lasting (member_turn call g unit line c body) (member_turn other (g + j) unit line c body2)
+  lasting_member_turn line c x =
+      lasting_bind (lasting_takes_least line c) (λ _. lasting_bind (lasting_place line (entire c.rest)) (λ v. lasting_bind (lasting_eval line (others c)) (λ r. lasting_bind x (λ _. lasting_assign line v r))))
+
   lasting_counts : (line : ℕ) (c : Control) {body body2 : Computation (Unit {0})} → Lasting body body2 → Lasting (counts call g unit line c body) (counts other (g + j) unit line c body2)
   lasting_counts line c x =
       lasting_bind (lasting_eval line (Read (entire c.last))) (λ b. lasting_bind (lasting_assigns line (entire c.variable) (Read (entire c.last))) (λ _. lasting_bind (lasting_assigns line (entire c.variable) (Read (entire c.initial))) (λ _. lasting_turns_to g line c (number_of b) x)))
@@ -307,6 +337,8 @@ module _ (call other : Handler) (lasts : IsLastingHandler call other) (g j : ℕ
         lasting_bind (lasting_assigns line (entire c.initial) x) (λ _. lasting_bind (lasting_assigns line (entire c.last) y) (λ _.
         lasting_bind (lasting_bind (lasting_eval line (in_order c)) (λ r. lasting_if (is_true (number_of r)) (lasting_counts line c (lasting_exec s)) (lasting_give tt))) (λ _.
         lasting_bind (lasting_undefines line (entire c.variable)) (λ _. lasting_spend 1 (lasting_give tt)))))
+    lasting_exec (ForIn line c x s) =
+        lasting_bind (lasting_assigns line (entire c.rest) x) (λ _. lasting_bind (lasting_turns call other g (g + j) g j unit (lasting_eval line (has_more c)) (lasting_member_turn line c (lasting_exec s))) (λ _. lasting_undefines line (entire c.variable)))
     lasting_exec (With line v of p s) = lasting_bind (lasting_place line p) (λ c. lasting_bind (lasting_names v c) (λ _. lasting_exec s))
     lasting_exec (Procedure line callee given) =
         lasting_bind (lasting_arguments line given) (λ xs. lasting_bind (lasts.by unit line callee xs) (λ results. lasting_spend 1 (lasting_give tt)))

@@ -3,22 +3,22 @@ use Rattle.std.proofs.Common.{slice_get, ◌≡◌, ℕ, ℤ, pos, negsuc, zero,
 use Rattle.std.specs.Prelude.{if◌then◌else◌}
 use Rattle.std.specs.List.{list_any}
 use Rattle.ep_outside.specs.Known.{IsPrefix}
-use Rattle.ep_typed.specs.Controls.{in_order, next_value}
+use Rattle.ep_typed.specs.Controls.{in_order, next_value, has_more, others}
 use Rattle.ep_typed.specs.Denoters.{definition_of, required_type, subrange_type, enumeration_type, array_type, set_type}
 use Rattle.ep_typed.specs.Events.{Trace}
-use Rattle.ep_typed.specs.Meaning.{argument, arguments, extended, collected, members_found, one_result, weights_of, result_at, results_given, initialized, takes_by, takes_all, elaborate, elaborate_each, answered, indexed, selected, part, place, eval, write_piece, write_wide, write_item, write_items, assign, turns, turns_until, assigns, undefines, turns_to, counts, names, exec, exec_all, elaborated, elaborated_where, elaborated_found, elaborate_step, elaborate_within, make, make_all, make_own, make_all_own, start_of, starts_of, Found, routine_in, activation, runs_routine, routine_does, routine_of, read, assign_living, tried, exec_arms, exec_other}
+use Rattle.ep_typed.specs.Meaning.{argument, arguments, extended, collected, members_found, one_result, weights_of, result_at, results_given, initialized, takes_by, takes_all, elaborate, elaborate_each, answered, indexed, selected, selecting, selects, chosen, active, part, place, eval, write_piece, write_wide, write_item, write_items, assign, turns, turns_until, assigns, undefines, turns_to, counts, takes_least, member_turn, names, exec, exec_all, elaborated, elaborated_where, elaborated_found, elaborate_step, elaborate_within, make, make_all, make_own, make_all_own, start_of, starts_of, Found, routine_in, activation, runs_routine, routine_does, routine_of, read, assign_living, tried, exec_arms, exec_other}
 use Rattle.ep_typed.specs.Operations.{Answer, Number, Fault, is_same, is_true, decides, is_in}
 use Rattle.ep_typed.specs.Printing.{Result, number_of, members_of, plain_text, wide_text, piece_events}
 use Rattle.ep_typed.specs.Printing as result
 use Rattle.ep_typed.specs.Calls.{Argument, Value, Handler, entered, given_back, in_call}
 use Rattle.ep_typed.specs.Calls as argument_is
 use Rattle.ep_typed.specs.Steady.{Grows, Steady, IsSteadyHandler}
-use Rattle.ep_typed.specs.Steps.{Call, End, Normal, Halted, Error, Undefined, State, Outcome, Gives, Ends, Cut, state_of, Computation, give, cut, stop, go_on, bind, spend, change, found, fetch, fetch_or, with_events, assigned, type_at, Component, component, whole, size_of, same_type, Resources, watched, words_of_type, sized, met, with_type, counted, made, made_own, allocate, allocate_own, newest_assigned, with_bound, with_own_bound, standard_file, using, has_ended, own_variable}
+use Rattle.ep_typed.specs.Steps.{Call, End, Normal, Halted, Error, Undefined, State, Outcome, Gives, Ends, Cut, state_of, Computation, give, cut, stop, go_on, bind, spend, change, found, fetch, fetch_or, with_events, assigned, type_at, Component, component, is_number, variant_number, whole, size_of, same_type, Resources, watched, words_of_type, sized, met, with_type, counted, made, made_own, allocate, allocate_own, newest_assigned, with_bound, with_own_bound, standard_file, using, has_ended, own_variable}
 use Rattle.ep_typed.specs.Steps.{Value as ValueOf}
 use Rattle.ep_typed.specs.SetOperations.{set_answer}
-use Rattle.ep_typed.specs.Sets.{with_number, with_numbers}
+use Rattle.ep_typed.specs.Sets.{least_member, with_number, with_numbers}
 use Rattle.ep_typed.specs.Results.{misfit, result_of, suits, unresulting, value_of, weight_of}
-use Rattle.ep_typed.specs.Trees.{Array, Enumeration, Subrange, Named, Record, Set, Required, Denoter, Denoters, no_denoter, next_denoter, Callee, Place, Variable, Own, Standard, Indexed, Field, Expr, Constant, Text, Read, One, Two, Short, Step, Function, IndexedValue, FieldValue, SetOf, OnSets, Card, Designator, Single, Range, Designators, no_member, next_member, Actual, Evaluated, Accessed, Actuals, no_actual, next_actual, Item, Plain, Wide, Stmt, Stmts, Empty, Compound, Assign, If, While, Repeat, Control, For, With, Procedure, Halt, Write, none, next, Case, Arms, no_arm, next_arm, Other, no_other, otherwise_do, Entire, OfUnit, OfRoutine, entire}
+use Rattle.ep_typed.specs.Trees.{Array, Enumeration, Subrange, Named, Record, Set, Required, Denoter, Denoters, no_denoter, next_denoter, Callee, Place, Variable, Own, Standard, Indexed, Field, Variant, Expr, Constant, Text, Read, One, Two, Short, Step, Function, IndexedValue, FieldValue, SetOf, OnSets, Card, Designator, Single, Range, Designators, no_member, next_member, Actual, Evaluated, Accessed, Actuals, no_actual, next_actual, Item, Plain, Wide, Stmt, Stmts, Empty, Compound, Assign, If, While, Repeat, Control, For, MemberControl, ForIn, With, Procedure, Halt, Write, none, next, Case, Arms, no_arm, next_arm, Other, no_other, otherwise_do, Entire, OfUnit, OfRoutine, entire, SetConstant}
 use Rattle.ep_typed.specs.Routines.{made_variables, made_by_unit}
 use Rattle.ep_typed.specs.Viewed.{denoter_of, stmt_of}
 use Rattle.ep_typed.specs.declared.interface.Formal.{Formal}
@@ -27,8 +27,9 @@ use Rattle.ep_typed.specs.declared.interface.FormalMode.TheVariants as mode
 use Rattle.ep_typed.specs.declared.interface.RoutineResult.{RoutineResult}
 use Rattle.ep_typed.specs.declared.operations.Print.{Print}
 use Rattle.ep_typed.specs.declared.tree.CaseRange.{CaseRange}
+use Rattle.ep_typed.specs.declared.tree.Selection.{Selection}
 use Rattle.ep_typed.specs.TypeValues as type
-use Rattle.ep_typed.specs.TypeValues.{TypeValue}
+use Rattle.ep_typed.specs.TypeValues.{TypeValue, set_size}
 use Rattle.ep_typed.specs.declared.unit.Unit.{Unit as TypedUnit}
 use Rattle.ep_typed.specs.declared.unit.UnitType.{UnitType}
 use Rattle.ep_typed.specs.declared.unit.UnitVariable.{UnitVariable}
@@ -175,9 +176,17 @@ steady_turns_until call h (suc g) unit x y =
     steady_bind x (λ _. steady_bind y (λ r. steady_spend 1 (steady_if (is_true (number_of r)) (steady_spend 1 (steady_give tt)) (steady_turns_until call h g unit x y))))
 
 -- ranges that are tried
-pub steady_tried : (call : Handler) (h : ℕ) (unit : List ℕ) (z : ℤ) (rs : List CaseRange) {fits fails : Computation (Unit {0})} → Steady fits → Steady fails → Steady (tried call h unit z rs fits fails)
+pub steady_tried : {A : Type 0} (call : Handler) (h : ℕ) (unit : List ℕ) (z : ℤ) (rs : List CaseRange) {fits fails : Computation A} → Steady fits → Steady fails → Steady (tried call h unit z rs fits fails)
 steady_tried call h unit z [] x y = y
 steady_tried call h unit z (r ∷ rs) x y = steady_spend 1 (steady_if (is_in r z) x (steady_tried call h unit z rs x y))
+
+-- a variant that is selected
+pub steady_selecting : {A : Type 0} (call : Handler) (h : ℕ) (unit : List ℕ) (z : ℤ) (labels : List (List CaseRange)) (k : ℕ) {chosen : ℕ → Computation A} {none : Computation A} → ((j : ℕ) → Steady (chosen j)) → Steady none → Steady (selecting call h unit z labels k chosen none)
+steady_selecting call h unit z [] k x y = y
+steady_selecting call h unit z (ranges ∷ more) k x y = steady_tried call h unit z ranges (x k) (steady_selecting call h unit z more (suc k) x y)
+
+pub steady_selects : {A : Type 0} (call : Handler) (h : ℕ) (unit : List ℕ) (s : Selection) (z : ℤ) {chosen : ℕ → Computation A} {none : Computation A} → ((j : ℕ) → Steady (chosen j)) → Steady none → Steady (selects call h unit s z chosen none)
+steady_selects call h unit s z x y = steady_selecting call h unit z s.labels 0 x (steady_if s.completed (x (length s.labels)) y)
 
 -- ---- the forms
 
@@ -209,6 +218,13 @@ module _ (call : Handler) (steady : IsSteadyHandler call) (g : ℕ) (unit : List
   pub steady_selected : (line : ℕ) (c : Component) (k : ℕ) → Steady (selected call g unit line c k)
   steady_selected line c k = steady_using _ c.allocation (steady_spend 1 (steady_give (component c k)))
 
+  -- a variant of a record
+  pub steady_chosen : (line : ℕ) (c : Component) (s : Selection) (k j : ℕ) → Steady (chosen call g unit line c s k j)
+  steady_chosen line c s k j = steady_if (is_number j k) (steady_selected line c (variant_number s k)) (steady_stop (Error run_error.INACTIVE_VARIANT unit line))
+
+  pub steady_active : (line : ℕ) (c : Component) (s : Selection) (k : ℕ) → Steady (active call g unit line c s k)
+  steady_active line c s k = steady_using _ c.allocation (steady_bind (steady_fetch _ _) (λ r. steady_selects call g unit s (number_of r) (steady_chosen line c s k) (steady_stop (Error run_error.INACTIVE_VARIANT unit line))))
+
   -- members that are found
   steady_members_found : (line : ℕ) (o : Option (List ℕ)) → Steady (members_found call g unit line o)
   steady_members_found line o = steady_fetch (Error run_error.SET_MEMBER unit line) (λ s. o)
@@ -221,6 +237,7 @@ module _ (call : Handler) (steady : IsSteadyHandler call) (g : ℕ) (unit : List
     steady_place line (Standard file) = steady_spend 1 (steady_give (whole (standard_file file)))
     steady_place line (Indexed p x) = steady_bind (steady_place line p) (λ c. steady_bind (steady_eval line x) (λ r. steady_indexed line c (number_of r)))
     steady_place line (Field p number) = steady_bind (steady_place line p) (λ c. steady_selected line c number)
+    steady_place line (Variant p selection number) = steady_bind (steady_place line p) (λ c. steady_active line c selection number)
 
     -- an expression
     pub steady_eval : (line : ℕ) (x : Expr) → Steady (eval call g unit line x)
@@ -238,6 +255,7 @@ module _ (call : Handler) (steady : IsSteadyHandler call) (g : ℕ) (unit : List
     steady_eval line (Function callee given) = steady_bind (steady_arguments line given) (λ xs. steady_bind (steady unit line callee xs) steady_one_result)
     steady_eval line (IndexedValue x y) = steady_bind (steady_eval line x) (λ a. steady_bind (steady_eval line y) (λ b. steady_bind (steady_fetch _ _) (λ k. steady_part line a k)))
     steady_eval line (FieldValue x number) = steady_bind (steady_eval line x) (λ a. steady_part line a number)
+    steady_eval line (SetConstant ms) = steady_spend (suc set_size) (steady_give (result.Members ms))
     steady_eval line (SetOf ds) = steady_spend 1 (steady_bind (steady_collected line [] ds) (λ ms. steady_give (result.Members ms)))
     steady_eval line (OnSets operation x y) = steady_bind (steady_eval line x) (λ a. steady_bind (steady_eval line y) (λ b. steady_spend 1 (steady_give (set_answer operation a b))))
     steady_eval line (Card x) = steady_bind (steady_eval line x) (λ a. steady_spend 1 (steady_give (result.Number (pos (length (members_of a))))))
@@ -315,6 +333,16 @@ module _ (call : Handler) (steady : IsSteadyHandler call) (g : ℕ) (unit : List
   steady_turns_to (suc turns) line c last x =
       steady_bind x (λ _. steady_bind (steady_eval line (Read (entire c.variable))) (λ r. steady_spend 1 (steady_if (is_same last (number_of r)) (steady_give tt) (steady_bind (steady_assigns line (entire c.variable) (next_value c)) (λ _. steady_turns_to turns line c last x)))))
 
+  -- the least member, for the control variable
+  pub steady_takes_least : (line : ℕ) (c : MemberControl) → Steady (takes_least call g unit line c)
+  steady_takes_least line c =
+      steady_bind (steady_place line (entire c.variable)) (λ v. steady_bind (steady_eval line (Read (entire c.rest))) (λ r. steady_assign line v (result.Number (least_member (members_of r)))))
+
+  -- a turn of a `for` over members
+  pub steady_member_turn : (line : ℕ) (c : MemberControl) {body : Computation (Unit {0})} → Steady body → Steady (member_turn call g unit line c body)
+  steady_member_turn line c x =
+      steady_bind (steady_takes_least line c) (λ _. steady_bind (steady_place line (entire c.rest)) (λ v. steady_bind (steady_eval line (others c)) (λ r. steady_bind x (λ _. steady_assign line v r))))
+
   pub steady_counts : (line : ℕ) (c : Control) {body : Computation (Unit {0})} → Steady body → Steady (counts call g unit line c body)
   steady_counts line c x =
       steady_bind (steady_eval line (Read (entire c.last))) (λ b. steady_bind (steady_assigns line (entire c.variable) (Read (entire c.last))) (λ _. steady_bind (steady_assigns line (entire c.variable) (Read (entire c.initial))) (λ _. steady_turns_to g line c (number_of b) x)))
@@ -338,6 +366,8 @@ module _ (call : Handler) (steady : IsSteadyHandler call) (g : ℕ) (unit : List
         steady_bind (steady_assigns line (entire c.initial) x) (λ _. steady_bind (steady_assigns line (entire c.last) y) (λ _.
         steady_bind (steady_bind (steady_eval line (in_order c)) (λ r. steady_if (is_true (number_of r)) (steady_counts line c (steady_exec s)) (steady_give tt))) (λ _.
         steady_bind (steady_undefines line (entire c.variable)) (λ _. steady_spend 1 (steady_give tt)))))
+    steady_exec (ForIn line c x s) =
+        steady_bind (steady_assigns line (entire c.rest) x) (λ _. steady_bind (steady_turns call g g unit (steady_eval line (has_more c)) (steady_member_turn line c (steady_exec s))) (λ _. steady_undefines line (entire c.variable)))
     steady_exec (With line v of p s) = steady_bind (steady_place line p) (λ c. steady_bind (steady_names v c) (λ _. steady_exec s))
     steady_exec (Procedure line callee given) =
         steady_bind (steady_arguments line given) (λ xs. steady_bind (steady unit line callee xs) (λ results. steady_spend 1 (steady_give tt)))

@@ -7,7 +7,7 @@ use Rattle.ep_typed.specs.Denoters.{ArrayParts, AreInstances, IsInstance, array_
 use Rattle.ep_typed.specs.Denoters as instance
 use Rattle.ep_typed.specs.Hosts.{Host, is_of_host}
 use Rattle.ep_typed.specs.Hosts as host
-use Rattle.ep_typed.specs.Trees.{Denoter, Denoters, Required, Named, Subrange, Enumeration, Array, Record, Set, no_denoter, next_denoter}
+use Rattle.ep_typed.specs.Trees.{Denoter, Denoters, Required, Named, Subrange, Enumeration, Array, Record, Set}
 use Rattle.ep_typed.specs.TypeValues as type
 use Rattle.ep_typed.specs.TypeValues.{ComponentTypes, TypeValue, type_among}
 use Rattle.ep_typed.specs.Valid.{AreTyped, IsTyped, required, named, subrange, enumeration, array, components, set, none_typed, next_typed, AreTypeValues, IsSetOf, IsTypeOf, IsTypeValue}

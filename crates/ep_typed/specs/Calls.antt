@@ -14,9 +14,10 @@ pub data Argument : Type 0 where
 abbrev pub Handler : Type 0
 Handler = List ℕ → ℕ → Callee → List Argument → Computation (List Result)
 
--- The words that are set aside for an activation. With the two auxiliary variables of `for`, of two words each, none counts more than 64 besides its own variables.
+-- The words that are set aside for an activation. With the auxiliary variables of `for`, which are two of two words each and
+-- one of nine, none counts more than 64 besides its own variables.
 abbrev pub activation_words : ℕ
-activation_words = 60
+activation_words = 51
 
 -- every run has room for so many calls in each other
 abbrev pub room_for_calls : ℕ

@@ -90,6 +90,11 @@ denoter_at no_denoter k = None
 denoter_at (next_denoter d ds) zero = Some d
 denoter_at (next_denoter d ds) (suc k) = denoter_at ds k
 
+-- how many there are
+abbrev pub denoters_count : Denoters → ℕ
+denoters_count no_denoter = 0
+denoters_count (next_denoter d ds) = suc (denoters_count ds)
+
 module _ (types : List UnitType) where
   -- the parts of a denoter of an array, by those of the definition where it is a name
   abbrev pub array_step : (Denoter → Option ArrayParts) → Denoter → Option ArrayParts

@@ -3,18 +3,18 @@ use Rattle.std.specs.Str.{bytes_eq}
 use Rattle.std.specs.Prelude.{ℕ, ℤ, pos, negsuc, zero, suc, ◌+◌, Bool, true, false, List, [], ◌∷◌, length, slice_get, Option, Some, None, if◌then◌else◌}
 use Rattle.ep_typed.specs.Calls.{Argument, Value, Handler, in_call}
 use Rattle.ep_typed.specs.Calls as argument_is
-use Rattle.ep_typed.specs.Controls.{in_order, next_value}
+use Rattle.ep_typed.specs.Controls.{in_order, next_value, has_more, others}
 use Rattle.ep_typed.specs.Denoters.{required_type, subrange_type, enumeration_type, array_type, set_type, definition_of}
-use Rattle.ep_typed.specs.Trees.{Denoter, Required, Named, Subrange, Enumeration, Array, Record, Denoters, no_denoter, next_denoter, Set, Callee, Place, Variable, Own, Standard, Indexed, Field, Expr, Constant, Text, Read, One, Two, Short, Step, Function, IndexedValue, FieldValue, SetOf, OnSets, Card, Designator, Single, Range, Designators, no_member, next_member, Actual, Evaluated, Accessed, Actuals, no_actual, next_actual, Item, Plain, Wide, Stmt, Stmts, Empty, Compound, Assign, If, While, Repeat, Control, For, With, Procedure, Halt, Write, none, next, Case, Arms, no_arm, next_arm, Other, no_other, otherwise_do, Entire, OfUnit, OfRoutine, entire}
+use Rattle.ep_typed.specs.Trees.{Denoter, Required, Named, Subrange, Enumeration, Array, Record, Denoters, no_denoter, next_denoter, Set, Callee, Place, Variable, Own, Standard, Indexed, Field, Variant, Expr, Constant, Text, Read, One, Two, Short, Step, Function, IndexedValue, FieldValue, SetOf, OnSets, Card, Designator, Single, Range, Designators, no_member, next_member, Actual, Evaluated, Accessed, Actuals, no_actual, next_actual, Item, Plain, Wide, Stmt, Stmts, Empty, Compound, Assign, If, While, Repeat, Control, For, MemberControl, ForIn, With, Procedure, Halt, Write, none, next, Case, Arms, no_arm, next_arm, Other, no_other, otherwise_do, Entire, OfUnit, OfRoutine, entire, SetConstant}
 use Rattle.ep_typed.specs.Routines.{made_variables, made_by_unit}
 use Rattle.ep_typed.specs.Viewed.{denoter_of, stmt_of}
-use Rattle.ep_typed.specs.Steps.{Call, Normal, Halted, Error, Undefined, Outcome, Computation, give, cut, stop, bind, spend, change, fetch, fetch_or, with_events, assigned, type_at, whole, Component, component, component_number, with_type, allocate, allocate_own, own_variable, newest_assigned, with_bound, with_own_bound, standard_file, first_state, using}
+use Rattle.ep_typed.specs.Steps.{Call, Normal, Halted, Error, Undefined, Outcome, Computation, give, cut, stop, bind, spend, change, fetch, fetch_or, with_events, assigned, type_at, whole, Component, component, component_number, is_number, tag_of, variant_number, with_type, allocate, allocate_own, own_variable, newest_assigned, with_bound, with_own_bound, standard_file, first_state, using}
 use Rattle.ep_typed.specs.Operations.{Answer, Number, Fault, unary_answer, binary_answer, step_answer, is_same, is_true, decides, is_in}
 use Rattle.ep_typed.specs.Printing.{Result, Bytes, number_of, members_of, line_end, plain_text, wide_text, piece_events}
 use Rattle.ep_typed.specs.Printing as result
 use Rattle.ep_typed.specs.Results.{misfit, part_at, part_of, result_of, suits, unresulting, value_of, weight_of}
 use Rattle.ep_typed.specs.SetOperations.{set_answer}
-use Rattle.ep_typed.specs.Sets.{with_number, with_numbers}
+use Rattle.ep_typed.specs.Sets.{least_member, with_number, with_numbers}
 use Rattle.ep_typed.specs.declared.interface.Formal.{Formal}
 use Rattle.ep_typed.specs.declared.interface.FormalMode.{FormalMode}
 use Rattle.ep_typed.specs.declared.interface.FormalMode.TheVariants as mode
@@ -23,10 +23,11 @@ use Rattle.ep_typed.specs.declared.operations.Print.{Print}
 use Rattle.ep_typed.specs.declared.run_error.TheConstants as run_error
 use Rattle.ep_typed.specs.declared.unit.UnitRoutine.{UnitRoutine}
 use Rattle.ep_typed.specs.declared.tree.CaseRange.{CaseRange}
+use Rattle.ep_typed.specs.declared.tree.Selection.{Selection}
 use Rattle.ep_typed.specs.declared.unit.UnitType.{UnitType}
 use Rattle.ep_typed.specs.declared.unit.UnitVariable.{UnitVariable}
 use Rattle.ep_typed.specs.TypeValues as type
-use Rattle.ep_typed.specs.TypeValues.{TypeValue, ComponentTypes}
+use Rattle.ep_typed.specs.TypeValues.{TypeValue, ComponentTypes, set_size}
 use Rattle.ep_typed.specs.declared.unit.Unit.{Unit as TypedUnit}
 
 -- The forms at a line of a unit, where `call` does calls, and `g` is the most turns that a loop makes.
@@ -43,6 +44,32 @@ module _ (call : Handler) (g : ℕ) (unit : List ℕ) where
   -- the component of a record with this number, likewise
   abbrev pub selected : ℕ → Component → ℕ → Computation Component
   selected line c k = using (Error run_error.DISPOSED unit line) c.allocation (spend 1 (give (component c k)))
+
+  -- The ranges of some labels are tried in order, up to the first one that has the value. One that is tried spends a step.
+  abbrev pub tried : {A : Type 0} → ℤ → List CaseRange → Computation A → Computation A → Computation A
+  tried z [] fits fails = fails
+  tried z (r ∷ rs) fits fails = spend 1 (if is_in r z then fits else tried z rs fits fails)
+
+  -- What is done with the number of the variant that a value selects (ISO 10206, 6.4.3.4), of variants with these labels, so
+  -- many of which are before them: the labels of all are tried in order. Where none has the value, the last thing is done.
+  abbrev pub selecting : {A : Type 0} → ℤ → List (List CaseRange) → ℕ → (ℕ → Computation A) → Computation A → Computation A
+  selecting z [] k chosen fails = fails
+  selecting z (ranges ∷ more) k chosen fails = tried z ranges (chosen k) (selecting z more (suc k) chosen fails)
+
+  -- the same of a variant part, which a variant may complete that is selected where no label has the value
+  abbrev pub selects : {A : Type 0} → Selection → ℤ → (ℕ → Computation A) → Computation A → Computation A
+  selects s z chosen fails = selecting z s.labels 0 chosen (if s.completed then chosen (length s.labels) else fails)
+
+  -- the variant of a record with this number, where it is the one that is selected, and else an error
+  abbrev pub chosen : ℕ → Component → Selection → ℕ → ℕ → Computation Component
+  chosen line c s k j = if is_number j k then selected line c (variant_number s k) else stop (Error run_error.INACTIVE_VARIANT unit line)
+
+  -- The variant of a record with this number (ISO 10206, 6.5.3.3): an error where the record has ended, and else where its tag
+  -- is undefined, or selects another variant or none.
+  abbrev pub active : ℕ → Component → Selection → ℕ → Computation Component
+  active line c s k =
+      using (Error run_error.DISPOSED unit line) c.allocation (bind (fetch (Error run_error.INACTIVE_VARIANT unit line) (result_of (tag_of c s))) (λ r.
+      selects s (number_of r) (chosen line c s k) (stop (Error run_error.INACTIVE_VARIANT unit line))))
 
   -- the value of a variable: an error where its allocation has ended, and else where the value is undefined
   abbrev pub read : ℕ → Component → Computation Result
@@ -74,6 +101,7 @@ module _ (call : Handler) (g : ℕ) (unit : List ℕ) where
     place line (Standard file) = spend 1 (give (whole (standard_file file)))
     place line (Indexed p x) = bind (place line p) (λ c. bind (eval line x) (λ r. indexed line c (number_of r)))
     place line (Field p number) = bind (place line p) (λ c. selected line c number)
+    place line (Variant p selection number) = bind (place line p) (λ c. active line c selection number)
 
     -- an expression spends a step and its weight when it is done
     pub eval : ℕ → Expr → Computation Result
@@ -90,6 +118,8 @@ module _ (call : Handler) (g : ℕ) (unit : List ℕ) where
     eval line (Function callee given) = bind (arguments line given) (λ xs. bind (call unit line callee xs) one_result)
     eval line (IndexedValue x y) = bind (eval line x) (λ a. bind (eval line y) (λ b. part_indexed line a (number_of b)))
     eval line (FieldValue x number) = bind (eval line x) (λ a. part line a number)
+    -- a constant that is a set spends as many steps besides as it has words
+    eval line (SetConstant ms) = spend (suc set_size) (give (result.Members ms))
     -- a set constructor spends its step when it is begun
     eval line (SetOf ds) = spend 1 (bind (collected line [] ds) (λ ms. give (result.Members ms)))
     eval line (OnSets operation x y) = bind (eval line x) (λ a. bind (eval line y) (λ b. spend 1 (give (set_answer operation a b))))
@@ -175,10 +205,15 @@ module _ (call : Handler) (g : ℕ) (unit : List ℕ) where
       bind (eval line (Read (entire c.last))) (λ b. bind (assigns line (entire c.variable) (Read (entire c.last))) (λ _. bind (assigns line (entire c.variable) (Read (entire c.initial))) (λ _.
       turns_to g line c (number_of b) body)))
 
-  -- The ranges of an arm are tried in order, up to the first one that has the value. One that is tried spends a step.
-  abbrev pub tried : ℤ → List CaseRange → Computation (Unit {0}) → Computation (Unit {0}) → Computation (Unit {0})
-  tried z [] fits fails = fails
-  tried z (r ∷ rs) fits fails = spend 1 (if is_in r z then fits else tried z rs fits fails)
+  -- The control variable gets the least of the members that are still to come.
+  abbrev pub takes_least : ℕ → MemberControl → Computation (Unit {0})
+  takes_least line c = bind (place line (entire c.variable)) (λ v. bind (eval line (Read (entire c.rest))) (λ r. assign line v (result.Number (least_member (members_of r)))))
+
+  -- A turn of a `for` over members, with its body. The others are to come after it: they are found before the body, since a
+  -- `for` in the body has the same auxiliary variable.
+  abbrev pub member_turn : ℕ → MemberControl → Computation (Unit {0}) → Computation (Unit {0})
+  member_turn line c body =
+      bind (takes_least line c) (λ _. bind (place line (entire c.rest)) (λ v. bind (eval line (others c)) (λ r. bind body (λ _. assign line v r))))
 
   -- The variable of a `with` is this one from here on (ISO 10206, 6.9.3.10), which spends a step. It is one of the unit or
   -- of the routine that runs; what is none has no meaning.
@@ -201,6 +236,9 @@ module _ (call : Handler) (g : ℕ) (unit : List ℕ) where
         bind (assigns line (entire c.initial) x) (λ _. bind (assigns line (entire c.last) y) (λ _.
         bind (bind (eval line (in_order c)) (λ r. if is_true (number_of r) then counts line c (exec s) else give tt)) (λ _.
         bind (undefines line (entire c.variable)) (λ _. spend 1 (give tt)))))
+    -- The set is evaluated once, and the members are taken in rising order while there are any. The control variable is undefined in the end.
+    exec (ForIn line c x s) =
+        bind (assigns line (entire c.rest) x) (λ _. bind (turns g (eval line (has_more c)) (member_turn line c (exec s))) (λ _. undefines line (entire c.variable)))
     -- the place is found once, and the body is done with what was found
     exec (With line v of p s) = bind (place line p) (λ c. bind (names v c) (λ _. exec s))
     exec (Procedure line callee given) =

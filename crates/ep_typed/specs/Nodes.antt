@@ -1,11 +1,21 @@
--- How many typed nodes a unit has: its expressions, places, statements, ranges of `case` statements, imports, routines, formals, variables, denoters, bounds and values. An expression that is a constant or a text counts one, and its value one more.
+-- How many typed nodes a unit has: its expressions, places, statements, ranges of `case` statements, of variants and of places in variants, imports, routines, formals, variables, denoters, bounds and values. An expression that is a constant or a text counts one, and its value one more; that of a set one more for each member.
 use Rattle.std.specs.Prelude.{ℕ, ◌+◌, ◌*◌, List, [], ◌∷◌, length, map, sum, Option, Some, None}
-use Rattle.ep_typed.specs.Trees.{Denoter, Required, Named, Subrange, Enumeration, Array, Record, Denoters, no_denoter, next_denoter, Set, Place, Variable, Own, Standard, Indexed, Field, Expr, Constant, Text, Read, One, Two, Short, Step, Function, IndexedValue, FieldValue, SetOf, OnSets, Card, Designator, Single, Range, Designators, no_member, next_member, Actual, Evaluated, Accessed, Actuals, no_actual, next_actual, Item, Plain, Wide, Stmt, Stmts, Empty, Compound, Assign, If, While, Repeat, For, With, Procedure, Case, Halt, Write, none, next, Arm, Arms, no_arm, next_arm, Other, no_other, otherwise_do, entire}
-use Rattle.ep_typed.specs.Viewed.{denoter_of, expr_of, stmt_of}
+use Rattle.ep_typed.specs.Trees.{Place, Variable, Own, Standard, Indexed, Field, Variant, Expr, Constant, Text, Read, One, Two, Short, Step, Function, IndexedValue, FieldValue, SetOf, OnSets, Card, Designator, Single, Range, Designators, no_member, next_member, Actual, Evaluated, Accessed, Actuals, no_actual, next_actual, Item, Plain, Wide, Stmt, Stmts, Empty, Compound, Assign, If, While, Repeat, For, ForIn, With, Procedure, Case, Halt, Write, none, next, Arm, Arms, no_arm, next_arm, Other, no_other, otherwise_do, entire, SetConstant}
+use Rattle.ep_typed.specs.Viewed.{expr_of, stmt_of}
+use Rattle.ep_typed.specs.declared.denoter.Denoter.{Denoter}
+use Rattle.ep_typed.specs.declared.denoter.Denoter.TheOpen as denoter
+use Rattle.ep_typed.specs.declared.denoter.Denoter.TheOpen.{Denoter-F, Selector-F, FieldPart-F, RecordField-F, Variant-F, VariantPart-F}
+use Rattle.ep_typed.specs.declared.denoter.Denoter.TheFolds.{fold-Denoter}
+use Rattle.ep_typed.specs.declared.denoter.FieldPart.{FieldPart, fold-FieldPart}
+use Rattle.ep_typed.specs.declared.denoter.RecordField.{RecordField, fold-RecordField}
+use Rattle.ep_typed.specs.declared.denoter.Selector.{Selector, fold-Selector}
+use Rattle.ep_typed.specs.declared.denoter.Variant.{Variant as WrittenVariant, fold-Variant}
+use Rattle.ep_typed.specs.declared.denoter.VariantPart.{VariantPart, fold-VariantPart}
 use Rattle.ep_typed.specs.declared.interface.ConstantEntry.{ConstantEntry}
 use Rattle.ep_typed.specs.declared.interface.Formal.{Formal}
 use Rattle.ep_typed.specs.declared.interface.RoutineResult.{RoutineResult}
 use Rattle.ep_typed.specs.declared.interface.SchemaFormal.{SchemaFormal}
+use Rattle.ep_typed.specs.declared.tree.CaseRange.{CaseRange}
 use Rattle.ep_typed.specs.declared.tree.TypedExpr.{TypedExpr}
 use Rattle.ep_typed.specs.declared.unit.Unit.{Unit as TypedUnit}
 use Rattle.ep_typed.specs.declared.unit.UnitRoutine.{UnitRoutine}
@@ -14,22 +24,65 @@ use Rattle.ep_typed.specs.declared.unit.UnitVariable.{UnitVariable}
 
 -- ---- types
 
--- a denoter, those in it, and their bounds
-abbrev mutual
-  pub denoter_nodes : Denoter → ℕ
-  denoter_nodes (Required required) = 1
-  denoter_nodes (Named index tuple) = 1 + length tuple
-  denoter_nodes (Subrange host low high) = 3 + denoter_nodes host
-  denoter_nodes (Enumeration names) = 1
-  denoter_nodes (Array index component) = 1 + denoter_nodes index + denoter_nodes component
-  denoter_nodes (Record ds) = 1 + denoters_nodes ds
-  denoter_nodes (Set base) = 1 + denoter_nodes base
+-- the number that is there, or 0
+abbrev pub count_where : Option ℕ → ℕ
+count_where None = 0
+count_where (Some n) = n
 
-  pub denoters_nodes : Denoters → ℕ
-  denoters_nodes no_denoter = 0
-  denoters_nodes (next_denoter d ds) = denoter_nodes d + denoters_nodes ds
+-- A denoter, those in it, their bounds, and the labels of variants, each of which is a range with two bounds.
+abbrev pub denoter_count : Denoter-F ℕ ℕ ℕ ℕ ℕ ℕ → ℕ
+denoter_count (denoter.Required required) = 1
+denoter_count (denoter.Named index tuple) = 1 + length tuple
+denoter_count (denoter.Subrange host low high) = 3 + host
+denoter_count (denoter.Enumeration names) = 1
+denoter_count (denoter.Array index component) = 1 + index + component
+denoter_count (denoter.Record part) = 1 + part
+denoter_count (denoter.Set base) = 1 + base
+
+-- a field by its denoter
+abbrev pub field_count : RecordField-F ℕ ℕ ℕ ℕ ℕ ℕ → ℕ
+field_count f = f.denoter
+
+-- the fields of a record or a variant, and its variant part, where it has one
+abbrev pub part_count : FieldPart-F ℕ ℕ ℕ ℕ ℕ ℕ → ℕ
+part_count p = sum p.fields + count_where p.variant_part
+
+-- the selector, the variants, and the one that completes them
+abbrev pub variant_part_count : VariantPart-F ℕ ℕ ℕ ℕ ℕ ℕ → ℕ
+variant_part_count p = p.selector + sum p.variants + count_where p.completing
+
+-- a tag field by its denoter
+abbrev pub selector_count : Selector-F ℕ ℕ ℕ ℕ ℕ ℕ → ℕ
+selector_count (denoter.Tag name of) = of
+
+-- the labels and the fields of a variant
+abbrev pub variant_count : Variant-F ℕ ℕ ℕ ℕ ℕ ℕ → ℕ
+variant_count v = 3 * length v.ranges + v.part
+
+abbrev pub denoter_nodes : Denoter → ℕ
+denoter_nodes = fold-Denoter ℕ ℕ ℕ ℕ ℕ ℕ denoter_count selector_count part_count field_count variant_count variant_part_count
+
+abbrev pub field_nodes : RecordField → ℕ
+field_nodes = fold-RecordField ℕ ℕ ℕ ℕ ℕ ℕ denoter_count selector_count part_count field_count variant_count variant_part_count
+
+abbrev pub part_nodes : FieldPart → ℕ
+part_nodes = fold-FieldPart ℕ ℕ ℕ ℕ ℕ ℕ denoter_count selector_count part_count field_count variant_count variant_part_count
+
+abbrev pub variant_part_nodes : VariantPart → ℕ
+variant_part_nodes = fold-VariantPart ℕ ℕ ℕ ℕ ℕ ℕ denoter_count selector_count part_count field_count variant_count variant_part_count
+
+abbrev pub selector_nodes : Selector → ℕ
+selector_nodes = fold-Selector ℕ ℕ ℕ ℕ ℕ ℕ denoter_count selector_count part_count field_count variant_count variant_part_count
+
+abbrev pub variant_nodes : WrittenVariant → ℕ
+variant_nodes = fold-Variant ℕ ℕ ℕ ℕ ℕ ℕ denoter_count selector_count part_count field_count variant_count variant_part_count
 
 -- ---- expressions
+
+-- the labels of variants
+abbrev pub labels_nodes : List (List CaseRange) → ℕ
+labels_nodes [] = 0
+labels_nodes (ranges ∷ more) = 3 * length ranges + labels_nodes more
 
 abbrev mutual
   pub place_nodes : Place → ℕ
@@ -38,6 +91,7 @@ abbrev mutual
   place_nodes (Standard file) = 1
   place_nodes (Indexed array index) = 1 + place_nodes array + expr_nodes index
   place_nodes (Field whole number) = 1 + place_nodes whole
+  place_nodes (Variant whole selection number) = 1 + place_nodes whole + labels_nodes selection.labels
 
   pub expr_nodes : Expr → ℕ
   expr_nodes (Constant value) = 2
@@ -50,6 +104,7 @@ abbrev mutual
   expr_nodes (Function callee given) = 1 + actuals_nodes given
   expr_nodes (IndexedValue array index) = 1 + expr_nodes array + expr_nodes index
   expr_nodes (FieldValue whole number) = 1 + expr_nodes whole
+  expr_nodes (SetConstant ms) = 2 + length ms
   expr_nodes (SetOf ds) = 1 + designators_nodes ds
   expr_nodes (OnSets operation x y) = 1 + expr_nodes x + expr_nodes y
   expr_nodes (Card x) = 1 + expr_nodes x
@@ -90,6 +145,7 @@ abbrev mutual
   stmt_nodes (Repeat line ss x) = 1 + stmts_nodes ss + expr_nodes x
   -- the auxiliary variables are no nodes
   stmt_nodes (For line c x y s) = 1 + place_nodes (entire c.variable) + expr_nodes x + expr_nodes y + stmt_nodes s
+  stmt_nodes (ForIn line c x s) = 1 + place_nodes (entire c.variable) + expr_nodes x + stmt_nodes s
   -- and neither is the variable that stands for the place
   stmt_nodes (With line v of p s) = 1 + place_nodes p + stmt_nodes s
   stmt_nodes (Procedure line callee given) = 1 + actuals_nodes given
@@ -117,15 +173,15 @@ arm_nodes a = 3 * length a.0 + stmt_nodes a.1
 
 -- a formal discriminant, and its denoter
 abbrev pub schema_formal_nodes : SchemaFormal → ℕ
-schema_formal_nodes f = 1 + denoter_nodes (denoter_of f.denoter)
+schema_formal_nodes f = 1 + denoter_nodes f.denoter
 
 -- the formals and the denoter of a type
 abbrev pub type_nodes : UnitType → ℕ
-type_nodes t = sum (map schema_formal_nodes t.entry.formals) + denoter_nodes (denoter_of t.entry.denoter)
+type_nodes t = sum (map schema_formal_nodes t.entry.formals) + denoter_nodes t.entry.denoter
 
 -- the denoter of a constant, and its value
 abbrev pub constant_nodes : ConstantEntry → ℕ
-constant_nodes c = denoter_nodes (denoter_of c.denoter) + 1
+constant_nodes c = denoter_nodes c.denoter + 1
 
 -- an expression of the code
 abbrev pub typed_expr_nodes : TypedExpr → ℕ
@@ -133,16 +189,16 @@ typed_expr_nodes x = expr_nodes (expr_of x)
 
 -- a variable, its denoter, and its discriminant values
 abbrev pub variable_nodes : UnitVariable → ℕ
-variable_nodes v = 1 + denoter_nodes (denoter_of v.denoter) + sum (map typed_expr_nodes v.tuple)
+variable_nodes v = 1 + denoter_nodes v.denoter + sum (map typed_expr_nodes v.tuple)
 
 -- a formal parameter, and its denoter
 abbrev pub formal_nodes : Formal → ℕ
-formal_nodes f = 1 + denoter_nodes (denoter_of f.denoter)
+formal_nodes f = 1 + denoter_nodes f.denoter
 
 -- the denoter of a result, where there is one
 abbrev pub result_nodes : Option RoutineResult → ℕ
 result_nodes None = 0
-result_nodes (Some r) = denoter_nodes (denoter_of r.denoter)
+result_nodes (Some r) = denoter_nodes r.denoter
 
 -- a routine, its formals, and its result
 abbrev pub heading_nodes : List Formal → Option RoutineResult → ℕ

@@ -1,6 +1,6 @@
 -- The variables of routines, by number: the formal parameters, the result of a function, those that it declares, and the auxiliary ones of `for` and of `with`; and those of units.
 use Rattle.std.specs.Prelude.{ℕ, ◌+◌, false, List, [], ◌∷◌, ◌++◌, length, map, Option, Some, None}
-use Rattle.ep_typed.specs.Auxiliaries.{auxiliary_variables, first_for, with_variables}
+use Rattle.ep_typed.specs.Auxiliaries.{block_auxiliaries, with_variables}
 use Rattle.ep_typed.specs.Viewed.{stmt_of}
 use Rattle.ep_typed.specs.declared.interface.Formal.{Formal}
 use Rattle.ep_typed.specs.declared.interface.RoutineEntry.{RoutineEntry}
@@ -30,11 +30,11 @@ result_variable name line (Some r) =
 
 -- the variables that a routine makes: the one that has its result, those that it declares, and the auxiliary ones of `for` in its block
 abbrev pub made_variables : UnitRoutine → List UnitVariable
-made_variables r = result_variable r.name r.line r.result ++ (r.variables ++ auxiliary_variables (first_for (stmt_of r.block)))
+made_variables r = result_variable r.name r.line r.result ++ (r.variables ++ block_auxiliaries (stmt_of r.block))
 
 -- the variables that a unit makes: those that it declares, and the auxiliary ones of `for` in its start
 abbrev pub made_by_unit : TypedUnit → List UnitVariable
-made_by_unit u = u.variables ++ auxiliary_variables (first_for (stmt_of u.start))
+made_by_unit u = u.variables ++ block_auxiliaries (stmt_of u.start)
 
 -- the variables of a unit: those that it makes, and those of `with` in its start
 abbrev pub unit_variables : TypedUnit → List UnitVariable

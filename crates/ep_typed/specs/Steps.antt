@@ -4,6 +4,7 @@ use Rattle.std.specs.List.{list_any}
 use Rattle.std.specs.Str.{bytes_eq}
 use Rattle.ep_typed.specs.Events.{Trace}
 use Rattle.ep_typed.specs.Operations.{maxint, last_char}
+use Rattle.ep_typed.specs.declared.tree.Selection.{Selection}
 use Rattle.ep_typed.specs.declared.tree.StandardFile.{StandardFile}
 use Rattle.ep_typed.specs.declared.tree.StandardFile.TheVariants.{Input, Output}
 use Rattle.ep_typed.specs.Bounds.{component_at}
@@ -35,6 +36,18 @@ whole n = record { allocation = n; path = [] }
 -- a component of a variable, by its number
 abbrev pub component : Component → ℕ → Component
 component c k = record c { path = c.path ++ k ∷ [] }
+
+-- the tag of a record with a variant part: the one component of the record in front of the variants
+abbrev pub tag_of : Component → Selection → Component
+tag_of c s = component (component c s.tag) 0
+
+-- the number of the component that is the variant with this number
+abbrev pub variant_number : Selection → ℕ → ℕ
+variant_number s k = suc (s.tag + k)
+
+-- whether two numbers are the same
+abbrev pub is_number : ℕ → ℕ → Bool
+is_number j k = nat_le j k && nat_le k j
 
 -- an allocation: a variable that a declaration makes, or a standard file. They are numbered from 1 in the order of
 -- their making, and `input` and `output` are the first two. One that has ended keeps its number.

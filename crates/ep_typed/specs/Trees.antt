@@ -7,6 +7,7 @@ use Rattle.ep_typed.specs.declared.operations.Print.{Print}
 use Rattle.ep_typed.specs.declared.operations.SetOperation.{SetOperation}
 use Rattle.ep_typed.specs.declared.denoter.RequiredType.{RequiredType}
 use Rattle.ep_typed.specs.declared.tree.CaseRange.{CaseRange}
+use Rattle.ep_typed.specs.declared.tree.Selection.{Selection}
 use Rattle.ep_typed.specs.declared.tree.StandardFile.{StandardFile}
 
 -- a bound of a type: a constant, by its ordinal number
@@ -56,6 +57,8 @@ mutual
     Indexed : (array : Place) (index : Expr) → Place
     -- the component of a record with this number
     Field : (whole : Place) (number : ℕ) → Place
+    -- the variant of a record with this number, as the record of its fields
+    Variant : (whole : Place) (selection : Selection) (number : ℕ) → Place
 
   -- an expression
   pub data Expr : Type 0 where
@@ -74,6 +77,8 @@ mutual
     IndexedValue : (array index : Expr) → Expr
     -- the component with this number of a record that a function gives (ISO 10206, 6.8.6.3)
     FieldValue : (whole : Expr) (number : ℕ) → Expr
+    -- a constant that is a set, by its members in rising order
+    SetConstant : (members : List ℕ) → Expr
     -- a set constructor, by its member designators (ISO 10206, 6.8.7.4)
     SetOf : (members : Designators) → Expr
     -- an operation on two values of which the right one at least is a set
@@ -135,6 +140,12 @@ pub record Control : Type 0 where
   pub low : ℤ
   pub high : ℤ
 
+-- What a `for` statement over the members of a set goes by (ISO 10206, 6.9.3.9.3): the control variable, and the auxiliary
+-- variable that has the members that are still to come.
+pub record MemberControl : Type 0 where
+  pub variable : Entire
+  pub rest : Entire
+
 mutual
   -- a statement, with the line of its first token
   pub data Stmt : Type 0 where
@@ -147,6 +158,8 @@ mutual
     Repeat : (line : ℕ) (body : Stmts) (condition : Expr) → Stmt
     -- the control, the initial and the final value, and the body
     For : (line : ℕ) (control : Control) (initial last : Expr) (body : Stmt) → Stmt
+    -- the control, the set, and the body
+    ForIn : (line : ℕ) (control : MemberControl) (set : Expr) (body : Stmt) → Stmt
     -- the variable that stands for the place, the number of its record type, the place, and the body
     With : (line : ℕ) (variable : Entire) (of : ℕ) (place : Place) (body : Stmt) → Stmt
     -- the procedure is called with these parameters

@@ -1,14 +1,14 @@
 -- Which typed trees the static rules give: each form has parts of the kinds, types and numbers that it asks for.
-use Rattle.std.specs.Prelude.{◌≡◌, ℕ, ℤ, pos, zero, suc, ◌<◌, ◌≤◌, Bool, true, false, All, List, [], ◌∷◌, ◌++◌, map, slice_get, drop, length, Option, Some, None, IsTrue, int_le, ⊤, if◌then◌else◌}
+use Rattle.std.specs.Prelude.{◌≡◌, ℕ, ℤ, pos, zero, suc, ◌+◌, ◌<◌, ◌≤◌, Bool, true, false, All, List, [], ◌∷◌, ◌++◌, map, slice_get, drop, length, Option, Some, None, IsTrue, int_le, ⊤, if◌then◌else◌}
 use Rattle.std.specs.Str.{bytes_eq}
-use Rattle.ep_typed.specs.Denoters.{ArrayParts, array_of, base_of, definition_of, denoter_at, record_of, required_type, type_of, host_of}
+use Rattle.ep_typed.specs.Denoters.{ArrayParts, array_of, base_of, definition_of, denoter_at, denoters_count, record_of, required_type, type_of, host_of}
 use Rattle.ep_typed.specs.Hosts.{Host, least, greatest, is_of_host}
 use Rattle.ep_typed.specs.Hosts as host
 use Rattle.ep_typed.specs.Operations.{is_integer, is_apart}
-use Rattle.ep_typed.specs.Sets.{is_ordinal}
-use Rattle.ep_typed.specs.Steps.{is_within}
+use Rattle.ep_typed.specs.Sets.{IsSet, are_between, is_ordinal}
+use Rattle.ep_typed.specs.Steps.{is_within, variant_number}
 use Rattle.ep_typed.specs.Trees as tree
-use Rattle.ep_typed.specs.Trees.{Fixed, Denoter, Required, Named, Subrange, Enumeration, Array, Record, Denoters, no_denoter, next_denoter, Callee, Place, Variable, Own, Standard, Indexed, Field, Expr, Constant, Text, Read, One, Two, Short, Step, Function, IndexedValue, FieldValue, SetOf, OnSets, Card, Designator, Single, Range, Designators, no_member, next_member, Actual, Evaluated, Accessed, Actuals, no_actual, next_actual, Item, Plain, Wide, Stmt, Stmts, Empty, Compound, Assign, If, While, Repeat, Control, For, With, Procedure, Halt, Write, none, next, Case, Arms, no_arm, next_arm, Other, no_other, otherwise_do, Entire, OfUnit, OfRoutine, entire}
+use Rattle.ep_typed.specs.Trees.{Fixed, Denoter, Required, Named, Subrange, Enumeration, Array, Record, Denoters, no_denoter, next_denoter, Callee, Place, Variable, Own, Standard, Indexed, Field, Variant, Expr, Constant, Text, Read, One, Two, Short, Step, Function, IndexedValue, FieldValue, SetOf, OnSets, Card, Designator, Single, Range, Designators, no_member, next_member, Actual, Evaluated, Accessed, Actuals, no_actual, next_actual, Item, Plain, Wide, Stmt, Stmts, Empty, Compound, Assign, If, While, Repeat, Control, For, MemberControl, ForIn, With, Procedure, Halt, Write, none, next, Case, Arms, no_arm, next_arm, Other, no_other, otherwise_do, Entire, OfUnit, OfRoutine, entire, SetConstant}
 pub use Rattle.ep_typed.specs.Routines.{heading_of, formal_variable, variables_of, unit_variables}
 use Rattle.ep_typed.specs.Routines.{first_with, made_by_unit}
 use Rattle.ep_typed.specs.Viewed.{denoter_of, stmt_of}
@@ -28,6 +28,7 @@ use Rattle.ep_typed.specs.declared.interface.FormalMode.TheVariants as mode
 use Rattle.ep_typed.specs.declared.interface.RoutineEntry.{RoutineEntry}
 use Rattle.ep_typed.specs.declared.interface.RoutineResult.{RoutineResult}
 use Rattle.ep_typed.specs.declared.tree.CaseRange.{CaseRange}
+use Rattle.ep_typed.specs.declared.tree.Selection.{Selection}
 use Rattle.ep_typed.specs.TypeValues.{TypeValue, ComponentTypes, type_among}
 use Rattle.ep_typed.specs.TypeValues as type
 use Rattle.ep_typed.specs.declared.value.Value.{Value}
@@ -223,7 +224,37 @@ abbrev pub AreApart : List CaseRange → Type 0
 AreApart [] = ⊤
 AreApart (r ∷ rs) = All (λ s. IsTrue (is_apart r s)) rs × AreApart rs
 
+-- the ranges of all variants
+abbrev pub labels_joined : List (List CaseRange) → List CaseRange
+labels_joined [] = []
+labels_joined (ranges ∷ more) = ranges ++ labels_joined more
+
+-- how many variants there are
+abbrev pub variants_count : Selection → ℕ
+variants_count s = length s.labels + (if s.completed then 1 else 0)
+
 module _ (declared : Declarations) where
+  -- the first value of a range is not above the last one, and both are of the host
+  abbrev pub IsRange : Host → CaseRange → Type 0
+  IsRange h r = IsTrue (int_le r.low r.high) × IsTrue (is_of_host h r.low) × IsTrue (is_of_host h r.high)
+
+  -- an arm or a variant has at least one range
+  abbrev pub HasRange : List CaseRange → Type 0
+  HasRange [] = ⊥
+  HasRange (r ∷ rs) = ⊤
+
+  -- Under a list of types the components of a record end with the record of a tag and with variants that it selects so: the
+  -- tag is of an ordinal type, and the labels are values of its host, of which none is in two ranges (ISO 10206, 6.4.3.4).
+  pub record IsSelection (types : List UnitType) (ds : Denoters) (s : Selection) : Type 0 where
+    pub tag : Denoter
+    pub host : Host
+    pub has_tag : denoter_at ds s.tag ≡ Some (Record (next_denoter tag no_denoter))
+    pub has_host : host_of types tag ≡ Some host
+    pub all : denoters_count ds ≡ suc s.tag + variants_count s
+    pub each : All HasRange s.labels
+    pub labels : All (IsRange host) (labels_joined s.labels)
+    pub apart : AreApart (labels_joined s.labels)
+
   abbrev mutual
     -- The place of a variable that is declared or of one of a routine, or of a component, of whose denoter, in the list of
     -- types in which it names, this holds; a standard file has no denoter.
@@ -235,6 +266,8 @@ module _ (declared : Declarations) where
         IsPlaceWhere (λ types d. (a : ArrayParts) × (array_of types d ≡ Some a) × Holds types a.component × ((h : Host) × (host_of types a.index ≡ Some h) × IsExpr (Ordinal h) x)) p
     IsPlaceWhere Holds (Field p number) =
         IsPlaceWhere (λ types d. (ds : Denoters) × (record_of types d ≡ Some ds) × (c : Denoter) × (denoter_at ds number ≡ Some c) × Holds types c) p
+    IsPlaceWhere Holds (Variant p selection number) =
+        IsPlaceWhere (λ types d. (ds : Denoters) × (record_of types d ≡ Some ds) × IsSelection types ds selection × (c : Denoter) × (denoter_at ds (variant_number selection number) ≡ Some c) × Holds types c) p
 
     -- an expression of this kind
     pub IsExpr : Kind → Expr → Type 0
@@ -249,6 +282,7 @@ module _ (declared : Declarations) where
         (r : RoutineEntry) × IsCallee declared callee r × IsFunction (declared.types callee.unit) kind r × AreGiven (declared.types callee.unit) r.formals given
     IsExpr kind (IndexedValue x y) =
         (low high : ℤ) × (of : TypeValue) × IsExpr (Structured (type.Array low high of)) x × IsTypeOfKind kind of × ((h : Host) × IsTypeOf h (type.Ordinal low high) × IsExpr (Ordinal h) y)
+    IsExpr kind (SetConstant ms) = (h : Host) × (kind ≡ Set h) × IsSet ms × IsTrue (are_between (least h) (greatest h) ms)
     IsExpr kind (SetOf ds) = (h : Host) × (kind ≡ Set h) × AreDesignators h ds
     IsExpr kind (OnSets operation x y) = (k l : Kind) × IsOnSets operation k l kind × IsExpr k x × IsExpr l y
     IsExpr kind (Card x) = (h : Host) × (kind ≡ Ordinal host.Integer) × IsExpr (Set h) x
@@ -301,15 +335,6 @@ module _ (declared : Declarations) where
   WritesSomething [] true = ⊤
   WritesSomething (i ∷ is) ends_line = ⊤
 
-  -- the first value of a range is not above the last one, and both are of the host
-  abbrev pub IsRange : Host → CaseRange → Type 0
-  IsRange h r = IsTrue (int_le r.low r.high) × IsTrue (is_of_host h r.low) × IsTrue (is_of_host h r.high)
-
-  -- an arm has at least one range
-  abbrev pub HasRange : List CaseRange → Type 0
-  HasRange [] = ⊥
-  HasRange (r ∷ rs) = ⊤
-
   -- The control variable has this host, whose least and greatest values those are, and the auxiliary variables are integers.
   pub record IsControl (h : Host) (c : Control) : Type 0 where
     pub variable : IsPlace h (entire c.variable)
@@ -317,6 +342,12 @@ module _ (declared : Declarations) where
     pub last : IsPlace host.Integer (entire c.last)
     pub low : c.low ≡ least h
     pub high : c.high ≡ greatest h
+
+  -- The control variable has this host, whose numbers are integers, and the auxiliary variable is of a set type over integers.
+  pub record IsMemberControl (h : Host) (c : MemberControl) : Type 0 where
+    pub variable : IsPlace h (entire c.variable)
+    pub rest : IsPlaceWhere (IsOfKind (Set host.Integer)) (entire c.rest)
+    pub numbered : IsTrue (int_le (greatest h) (greatest host.Integer))
 
   -- The variable that stands for the place is one that no code makes, of the record type of this number, which the place
   -- has too (ISO 10206, 6.9.3.10).
@@ -335,6 +366,7 @@ module _ (declared : Declarations) where
     IsStmt (While line x s) = IsExpr (Ordinal host.Boolean) x × IsStmt s
     IsStmt (Repeat line ss x) = AreStmts ss × IsExpr (Ordinal host.Boolean) x
     IsStmt (For line c x y s) = ((h : Host) × IsControl h c × IsExpr (Ordinal h) x × IsExpr (Ordinal h) y) × IsStmt s
+    IsStmt (ForIn line c x s) = ((h : Host) × IsMemberControl h c × IsExpr (Set h) x) × IsStmt s
     IsStmt (With line v of p s) = IsWith v of p × IsStmt s
     IsStmt (Procedure line callee given) =
         (r : RoutineEntry) × IsCallee declared callee r × IsProcedure r × AreGiven (declared.types callee.unit) r.formals given

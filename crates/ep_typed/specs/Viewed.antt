@@ -1,13 +1,18 @@
 -- The plain data of the code's typed trees.
-use Rattle.std.specs.Prelude.{List, Option, None, Some, map}
+use Rattle.std.specs.Prelude.{List, [], ◌∷◌, ◌++◌, Option, None, Some, map}
 use Rattle.std.specs.Option.{option_map}
 use Rattle.ep_typed.specs.Trees as tree
 use Rattle.ep_typed.specs.declared.denoter.Bound.{Bound}
 use Rattle.ep_typed.specs.declared.denoter.Bound.TheVariants.{Constant}
 use Rattle.ep_typed.specs.declared.denoter.Denoter.{Denoter}
 use Rattle.ep_typed.specs.declared.denoter.Denoter.TheOpen as denoter
-use Rattle.ep_typed.specs.declared.denoter.Denoter.TheOpen.{Denoter-F, RecordField-F}
+use Rattle.ep_typed.specs.declared.denoter.Denoter.TheOpen.{Denoter-F, Selector-F, FieldPart-F, RecordField-F, Variant-F, VariantPart-F}
 use Rattle.ep_typed.specs.declared.denoter.Denoter.TheFolds.{fold-Denoter}
+use Rattle.ep_typed.specs.declared.denoter.FieldPart.{FieldPart, fold-FieldPart}
+use Rattle.ep_typed.specs.declared.denoter.RecordField.{RecordField, fold-RecordField}
+use Rattle.ep_typed.specs.declared.denoter.Selector.{Selector, fold-Selector}
+use Rattle.ep_typed.specs.declared.denoter.Variant.{Variant, fold-Variant}
+use Rattle.ep_typed.specs.declared.denoter.VariantPart.{VariantPart, fold-VariantPart}
 use Rattle.ep_typed.specs.declared.operations.Print.{Print}
 use Rattle.ep_typed.specs.declared.tree.Actual.{Actual}
 use Rattle.ep_typed.specs.declared.tree.Callee.{Callee}
@@ -21,6 +26,7 @@ use Rattle.ep_typed.specs.declared.tree.WriteItem.{WriteItem}
 use Rattle.ep_typed.specs.declared.tree.EntireVariable.{EntireVariable}
 use Rattle.ep_typed.specs.declared.tree.EntireVariable.TheVariants as entire
 use Rattle.ep_typed.specs.declared.tree.ForControl.{ForControl}
+use Rattle.ep_typed.specs.declared.tree.MemberControl.{MemberControl}
 use Rattle.ep_typed.specs.declared.tree.TypedStmt.{TypedStmt}
 use Rattle.ep_typed.specs.declared.tree.TypedStmt.TheOpen as stmt
 use Rattle.ep_typed.specs.declared.tree.TypedStmt.TheOpen.{TypedStmt-F, CaseArm-F}
@@ -30,21 +36,64 @@ use Rattle.ep_typed.specs.declared.tree.CaseArm.{CaseArm}
 abbrev pub bound_of : Bound → tree.Bound
 bound_of (Constant value) = tree.Fixed value
 
-abbrev pub denoter_step : Denoter-F tree.Denoter tree.Denoter → tree.Denoter
+-- what is there, or nothing
+abbrev pub behind : Option (List tree.Denoter) → List tree.Denoter
+behind None = []
+behind (Some components) = components
+
+-- the record of the fields of a completing variant, where there is one
+abbrev pub completing : Option (List tree.Denoter) → List tree.Denoter
+completing None = []
+completing (Some components) = tree.Record (tree.denoters components) ∷ []
+
+abbrev pub denoter_step : Denoter-F tree.Denoter tree.Denoter (List tree.Denoter) tree.Denoter tree.Denoter (List tree.Denoter) → tree.Denoter
 denoter_step (denoter.Required required) = tree.Required required
 denoter_step (denoter.Named index tuple) = tree.Named index (map bound_of tuple)
 denoter_step (denoter.Subrange host low high) = tree.Subrange host (bound_of low) (bound_of high)
 denoter_step (denoter.Enumeration names) = tree.Enumeration names
 denoter_step (denoter.Array index component) = tree.Array index component
-denoter_step (denoter.Record fields) = tree.Record (tree.denoters fields)
+denoter_step (denoter.Record components) = tree.Record (tree.denoters components)
 denoter_step (denoter.Set base) = tree.Set base
 
 -- a field by its type
-abbrev pub field_step : RecordField-F tree.Denoter tree.Denoter → tree.Denoter
+abbrev pub field_step : RecordField-F tree.Denoter tree.Denoter (List tree.Denoter) tree.Denoter tree.Denoter (List tree.Denoter) → tree.Denoter
 field_step f = f.denoter
 
+-- the fields of a record or a variant, and then what its variant part adds
+abbrev pub part_step : FieldPart-F tree.Denoter tree.Denoter (List tree.Denoter) tree.Denoter tree.Denoter (List tree.Denoter) → List tree.Denoter
+part_step p = p.fields ++ behind p.variant_part
+
+-- a variant part by the record of what selects a variant, and then the variants, the completing one last
+abbrev pub variant_part_step : VariantPart-F tree.Denoter tree.Denoter (List tree.Denoter) tree.Denoter tree.Denoter (List tree.Denoter) → List tree.Denoter
+variant_part_step p = p.selector ∷ (p.variants ++ completing p.completing)
+
+-- a tag by the record of it alone
+abbrev pub selector_step : Selector-F tree.Denoter tree.Denoter (List tree.Denoter) tree.Denoter tree.Denoter (List tree.Denoter) → tree.Denoter
+selector_step (denoter.Tag name of) = tree.Record (tree.denoters (of ∷ []))
+
+-- a variant by the record of its fields
+abbrev pub variant_step : Variant-F tree.Denoter tree.Denoter (List tree.Denoter) tree.Denoter tree.Denoter (List tree.Denoter) → tree.Denoter
+variant_step v = tree.Record (tree.denoters v.part)
+
 abbrev pub denoter_of : Denoter → tree.Denoter
-denoter_of = fold-Denoter tree.Denoter tree.Denoter denoter_step field_step
+denoter_of = fold-Denoter tree.Denoter tree.Denoter (List tree.Denoter) tree.Denoter tree.Denoter (List tree.Denoter) denoter_step selector_step part_step field_step variant_step variant_part_step
+
+-- the components that a field part gives to its record or variant
+abbrev pub components_of : FieldPart → List tree.Denoter
+components_of = fold-FieldPart tree.Denoter tree.Denoter (List tree.Denoter) tree.Denoter tree.Denoter (List tree.Denoter) denoter_step selector_step part_step field_step variant_step variant_part_step
+
+abbrev pub field_of : RecordField → tree.Denoter
+field_of = fold-RecordField tree.Denoter tree.Denoter (List tree.Denoter) tree.Denoter tree.Denoter (List tree.Denoter) denoter_step selector_step part_step field_step variant_step variant_part_step
+
+abbrev pub selector_of : Selector → tree.Denoter
+selector_of = fold-Selector tree.Denoter tree.Denoter (List tree.Denoter) tree.Denoter tree.Denoter (List tree.Denoter) denoter_step selector_step part_step field_step variant_step variant_part_step
+
+abbrev pub variant_of : Variant → tree.Denoter
+variant_of = fold-Variant tree.Denoter tree.Denoter (List tree.Denoter) tree.Denoter tree.Denoter (List tree.Denoter) denoter_step selector_step part_step field_step variant_step variant_part_step
+
+-- and those that a variant part adds
+abbrev pub variants_of : VariantPart → List tree.Denoter
+variants_of = fold-VariantPart tree.Denoter tree.Denoter (List tree.Denoter) tree.Denoter tree.Denoter (List tree.Denoter) denoter_step selector_step part_step field_step variant_step variant_part_step
 
 abbrev pub callee_of : Callee → tree.Callee
 callee_of c = record { unit = c.unit; number = c.number; levels = c.levels }
@@ -55,6 +104,7 @@ place_step (expr.Own levels number) = tree.Own levels number
 place_step (expr.Standard file) = tree.Standard file
 place_step (expr.Indexed array index) = tree.Indexed array index
 place_step (expr.Field whole number) = tree.Field whole number
+place_step (expr.Variant whole selection number) = tree.Variant whole selection number
 
 abbrev pub expr_step : TypedExpr-F tree.Actual tree.Designator tree.Expr tree.Place → tree.Expr
 expr_step (expr.Constant value) = tree.Constant value
@@ -67,6 +117,7 @@ expr_step (expr.Step down low high value count) = tree.Step down low high value 
 expr_step (expr.Function callee given) = tree.Function (callee_of callee) (tree.actuals given)
 expr_step (expr.IndexedValue array index) = tree.IndexedValue array index
 expr_step (expr.FieldValue whole number) = tree.FieldValue whole number
+expr_step (expr.SetConstant members) = tree.SetConstant members
 expr_step (expr.Set members) = tree.SetOf (tree.designators members)
 expr_step (expr.OnSets operation left right) = tree.OnSets operation left right
 expr_step (expr.Card operand) = tree.Card operand
@@ -106,6 +157,9 @@ abbrev pub control_of : ForControl → tree.Control
 control_of c =
     record { variable = entire_of c.variable; initial = entire_of c.initial; last = entire_of c.last; falls = c.falls; low = c.low; high = c.high }
 
+abbrev pub member_control_of : MemberControl → tree.MemberControl
+member_control_of c = record { variable = entire_of c.variable; rest = entire_of c.rest }
+
 abbrev pub stmt_step : TypedStmt-F tree.Stmt tree.Arm → tree.Stmt
 stmt_step stmt.Empty = tree.Empty
 stmt_step (stmt.Compound statements) = tree.Compound (tree.stmts statements)
@@ -114,6 +168,7 @@ stmt_step (stmt.If line condition then_part else_part) = tree.If line (expr_of c
 stmt_step (stmt.While line condition body) = tree.While line (expr_of condition) body
 stmt_step (stmt.Repeat line body condition) = tree.Repeat line (tree.stmts body) (expr_of condition)
 stmt_step (stmt.For line control initial last body) = tree.For line (control_of control) (expr_of initial) (expr_of last) body
+stmt_step (stmt.ForIn line control set body) = tree.ForIn line (member_control_of control) (expr_of set) body
 stmt_step (stmt.With line variable of place body) = tree.With line (entire_of variable) of (place_of place) body
 stmt_step (stmt.Procedure line callee given) = tree.Procedure line (callee_of callee) (tree.actuals (map actual_of given))
 stmt_step (stmt.Case line selector arms other) = tree.Case line (expr_of selector) (tree.arms arms) (tree.other other)

@@ -6,13 +6,28 @@ ghost use Rattle.ep_typed.specs.Trees as tree;
 ghost use Rattle.ep_typed.specs.Trees.{stmts};
 ghost use Rattle.ep_typed.specs.Viewed.{arm_of, stmt_of};
 
-use crate::denoter::{Denoter, RequiredType};
+use crate::denoter::{Bound, Denoter, RequiredType};
 use crate::tree::{CaseArm, TypedStmt};
 use crate::unit::{UnitVariable, UnitVariables};
-use ep_base::{Line, List, Name, NameRefusal, NoMemory};
+use ep_base::{Boxed, Line, List, Name, NameRefusal, NoMemory};
 use std::alloc::{AllocError, Global};
 
-/// The auxiliary variables of a block whose first `for` is on this line, or which has none: that of the initial value, and
+/// The greatest ordinal that may be a member of a set.
+const LAST_MEMBER: i64 = 255;
+
+/// The auxiliary variables of a block that are made: those of `for` with bounds, and the one of `for` over members.
+pub fn block_auxiliaries(alloc: Global, block: &TypedStmt) -> Result<UnitVariables, NoMemory>
+    ensures { IfOk result (λ all. all ≡ spec.block_auxiliaries (stmt_of block.now)) }
+{
+    let mut all = auxiliary_variables(alloc, first_for(block))?;
+    if let Some(line) = first_for_in(block) {
+        let variable = member_variable(alloc, line)?;
+        all.push(variable)?;
+    }
+    Ok(all)
+}
+
+/// The auxiliary variables of a block whose first `for` with bounds is on this line, or which has none: that of the initial value, and
 /// that of the final one (ISO 10206, 6.9.3.9.2).
 pub fn auxiliary_variables(alloc: Global, line: Option<Line>) -> Result<UnitVariables, NoMemory>
     ensures { IfOk result (λ all. all ≡ spec.auxiliary_variables line) }
@@ -38,6 +53,41 @@ fn auxiliary_variable(alloc: Global, line: Line) -> Result<UnitVariable, NoMemor
     })
 }
 
+fn member_variable(alloc: Global, line: Line) -> Result<UnitVariable, NoMemory>
+    ensures { IfOk result (λ v. v ≡ spec.member_variable line) }
+{
+    let name = member_name(alloc)?;
+    let denoter = member_denoter(alloc)?;
+    Ok(UnitVariable {
+        name,
+        line,
+        declaration: 0,
+        denoter,
+        tuple: List::new(alloc),
+        parameter: false,
+    })
+}
+
+/// Sets of any ordinals that may be members.
+fn member_denoter(alloc: Global) -> Result<Denoter, NoMemory>
+    ensures { IfOk result (λ d. d ≡ (spec.member_variable 0).denoter) }
+{
+    let host = Boxed::new(alloc, Denoter::Required(RequiredType::Integer))?;
+    let base = Denoter::Subrange(host, Bound::Constant(0), Bound::Constant(LAST_MEMBER));
+    Ok(Denoter::Set(Boxed::new(alloc, base)?))
+}
+
+/// A word symbol, which no source gives to a variable.
+fn member_name(alloc: Global) -> Result<Name, NoMemory>
+    ensures { IfOk result (λ name. name ≡ codes "in") }
+{
+    match Name::from_bytes(alloc, b"in") {
+        Ok(name) => Ok(name),
+        Err(NameRefusal::NoMemory) => Err(AllocError),
+        Err(_) => unreachable!(),
+    }
+}
+
 /// A word symbol, which no source gives to a variable.
 fn auxiliary_name(alloc: Global) -> Result<Name, NoMemory>
     ensures { IfOk result (λ name. name ≡ codes "for") }
@@ -49,7 +99,7 @@ fn auxiliary_name(alloc: Global) -> Result<Name, NoMemory>
     }
 }
 
-/// The line of the first `for` in a statement, where it has one.
+/// The line of the first `for` with bounds in a statement, where it has one.
 #[cycle(for_statements)]
 pub fn first_for(s: &TypedStmt) -> Option<Line>
     ensures { result ≡ spec.first_for (stmt_of s.now) }
@@ -62,6 +112,7 @@ pub fn first_for(s: &TypedStmt) -> Option<Line>
         TypedStmt::While(_, _, body) => first_for(body.get()),
         TypedStmt::Repeat(_, all, _) => first_for_of(all.items()),
         TypedStmt::For(line, _, _, _, _) => Some(*line),
+        TypedStmt::ForIn(_, _, _, body) => first_for(body.get()),
         TypedStmt::With(_, _, _, _, body) => first_for(body.get()),
         TypedStmt::Case(_, _, arms, other) => {
             let rest = match other {
@@ -104,6 +155,62 @@ fn first_for_arms(all: &[CaseArm]) -> Option<Line>
     None
 }
 
+/// The line of the first `for` over members in a statement, where it has one.
+#[cycle(member_statements)]
+pub fn first_for_in(s: &TypedStmt) -> Option<Line>
+    ensures { result ≡ spec.first_for_in (stmt_of s.now) }
+{
+    match s {
+        TypedStmt::Compound(all) => first_for_in_of(all.items()),
+        TypedStmt::If(_, _, then_part, else_part) => {
+            first_for_in(then_part.get()).or(first_for_in(else_part.get()))
+        }
+        TypedStmt::While(_, _, body) => first_for_in(body.get()),
+        TypedStmt::Repeat(_, all, _) => first_for_in_of(all.items()),
+        TypedStmt::For(_, _, _, _, body) => first_for_in(body.get()),
+        TypedStmt::ForIn(line, _, _, _) => Some(*line),
+        TypedStmt::With(_, _, _, _, body) => first_for_in(body.get()),
+        TypedStmt::Case(_, _, arms, other) => {
+            let rest = match other {
+                None => None,
+                Some(all) => first_for_in_of(all.items()),
+            };
+            first_for_in_arms(arms.items()).or(rest)
+        }
+        TypedStmt::Empty
+        | TypedStmt::Assign(_, _, _)
+        | TypedStmt::Procedure(_, _, _)
+        | TypedStmt::Halt(_)
+        | TypedStmt::Write(_, _, _) => None,
+    }
+}
+
+#[cycle(member_statements)]
+fn first_for_in_of(all: &[TypedStmt]) -> Option<Line>
+    ensures { result ≡ spec.first_for_in_of (stmts (map stmt_of all.now)) }
+{
+    for s in all {
+        let found = first_for_in(s);
+        if found.is_some() {
+            return found;
+        }
+    }
+    None
+}
+
+#[cycle(member_statements)]
+fn first_for_in_arms(all: &[CaseArm]) -> Option<Line>
+    ensures { result ≡ spec.first_for_in_arms (tree.arms (map arm_of all.now)) }
+{
+    for arm in all {
+        let found = first_for_in(arm.body.get());
+        if found.is_some() {
+            return found;
+        }
+    }
+    None
+}
+
 /// How many `with` statements are in a statement, each of which has a variable of its own, at most the greatest `usize`.
 #[cycle(with_statements)]
 pub fn with_count(s: &TypedStmt) -> usize
@@ -117,6 +224,7 @@ pub fn with_count(s: &TypedStmt) -> usize
         TypedStmt::While(_, _, body) => with_count(body.get()),
         TypedStmt::Repeat(_, all, _) => with_count_of(all.items()),
         TypedStmt::For(_, _, _, _, body) => with_count(body.get()),
+        TypedStmt::ForIn(_, _, _, body) => with_count(body.get()),
         TypedStmt::With(_, _, _, _, body) => with_count(body.get()).saturating_add(1),
         TypedStmt::Case(_, _, arms, other) => {
             let rest = match other {

@@ -17,8 +17,11 @@ mod tree;
 mod unit;
 mod value;
 
-pub use auxiliary::{auxiliary_variables, first_for, with_count};
-pub use denoter::{Bound, Bounds, Denoter, RecordField, RecordFields, RequiredType};
+pub use auxiliary::{auxiliary_variables, block_auxiliaries, first_for, first_for_in, with_count};
+pub use denoter::{
+    Bound, Bounds, Denoter, FieldPart, RecordField, RecordFields, RequiredType, Selector, Variant,
+    VariantPart, Variants,
+};
 pub use interface::{
     ConstantEntries, ConstantEntry, Constituent, ConstituentKind, Constituents, ExportEntries,
     ExportEntry, Formal, FormalMode, Formals, ImportSpec, ImportSpecs, Interface, NamePair,
@@ -30,8 +33,8 @@ pub use nodes::unit_nodes;
 pub use operations::{Binary, Print, SetOperation, ShortOperation, Unary};
 pub use tree::{
     Actual, Actuals, Callee, CaseArm, CaseArms, CaseRange, CaseRanges, EntireVariable, ForControl,
-    MemberDesignator, MemberDesignators, StandardFile, TypedExpr, TypedExprs, TypedPlace,
-    TypedStmt, TypedStmts, WriteItem, WriteItems,
+    MemberControl, MemberDesignator, MemberDesignators, Selection, StandardFile, TypedExpr,
+    TypedExprs, TypedPlace, TypedStmt, TypedStmts, VariantLabels, WriteItem, WriteItems,
 };
 pub use unit::{
     RoutineNumbers, Unit, UnitRoutine, UnitRoutines, UnitType, UnitTypes, UnitVariable,

@@ -2,14 +2,15 @@
 
 ghost use Rattle.std.specs.Prelude.{◌≡◌, min, map, sum};
 ghost use Rattle.ep_typed.specs.Nodes as nodes;
-ghost use Rattle.ep_typed.specs.Viewed.{actual_of, arm_of, denoter_of, designator_of, entire_of, expr_of, item_of, place_of, stmt_of};
+ghost use Rattle.ep_typed.specs.Viewed.{actual_of, arm_of, designator_of, entire_of, expr_of, item_of, place_of, stmt_of};
 ghost use Rattle.ep_typed.specs.Trees as tree;
-ghost use Rattle.ep_typed.specs.Trees.{denoters, stmts};
+ghost use Rattle.ep_typed.specs.Trees.{stmts};
 
-use crate::denoter::{Denoter, RecordField};
+use crate::denoter::{Denoter, FieldPart, RecordField, Selector, Variant, VariantPart};
 use crate::interface::{ConstantEntry, Formal, RoutineResult, SchemaFormal};
 use crate::tree::{
-    Actual, CaseArm, EntireVariable, MemberDesignator, TypedExpr, TypedPlace, TypedStmt, WriteItem,
+    Actual, CaseArm, CaseRanges, EntireVariable, MemberDesignator, TypedExpr, TypedPlace,
+    TypedStmt, WriteItem,
 };
 use crate::unit::{Unit, UnitRoutine, UnitType, UnitVariable};
 
@@ -141,7 +142,7 @@ fn result_of_routine(r: &Option<RoutineResult>) -> u64
 
 #[cycle(denoters)]
 fn denoter(d: &Denoter) -> u64
-    ensures { result ≡ min (nodes.denoter_nodes (denoter_of d.now)) u64.MAX }
+    ensures { result ≡ min (nodes.denoter_nodes d.now) u64.MAX }
 {
     match d {
         Denoter::Required(_) | Denoter::Enumeration(_) => 1,
@@ -150,21 +151,80 @@ fn denoter(d: &Denoter) -> u64
         Denoter::Array(index, component) => denoter(index.get())
             .saturating_add(denoter(component.get()))
             .saturating_add(1),
-        Denoter::Record(fields) => components(fields.items()).saturating_add(1),
+        Denoter::Record(part) => field_part(part).saturating_add(1),
         Denoter::Set(base) => denoter(base.get()).saturating_add(1),
     }
 }
 
-/// The nodes of the denoters of a record's components.
 #[cycle(denoters)]
-fn components(all: &[RecordField]) -> u64
-    ensures { result ≡ min (nodes.denoters_nodes (denoters (map (λ f. denoter_of f.denoter) all.now))) u64.MAX }
+fn field_part(part: &FieldPart) -> u64
+    ensures { result ≡ min (nodes.part_nodes part.now) u64.MAX }
+{
+    let behind = match &part.variant_part {
+        None => 0,
+        Some(part) => variant_part(part.get()),
+    };
+    fields(part.fields.items()).saturating_add(behind)
+}
+
+#[cycle(denoters)]
+fn fields(all: &[RecordField]) -> u64
+    ensures { result ≡ min (sum (map nodes.field_nodes all.now)) u64.MAX }
 {
     let mut total = 0;
-    for field in all {
-        total = denoter(&field.denoter).saturating_add(total);
+    for f in all {
+        total = field(f).saturating_add(total);
     }
     total
+}
+
+#[cycle(denoters)]
+fn field(f: &RecordField) -> u64
+    ensures { result ≡ min (nodes.field_nodes f.now) u64.MAX }
+{
+    denoter(&f.denoter)
+}
+
+#[cycle(denoters)]
+fn variant_part(part: &VariantPart) -> u64
+    ensures { result ≡ min (nodes.variant_part_nodes part.now) u64.MAX }
+{
+    let completing = match &part.completing {
+        None => 0,
+        Some(part) => field_part(part.get()),
+    };
+    selector(&part.selector)
+        .saturating_add(variants(part.variants.items()))
+        .saturating_add(completing)
+}
+
+#[cycle(denoters)]
+fn selector(s: &Selector) -> u64
+    ensures { result ≡ min (nodes.selector_nodes s.now) u64.MAX }
+{
+    match s {
+        Selector::Tag(_, of) => denoter(of.get()),
+    }
+}
+
+#[cycle(denoters)]
+fn variants(all: &[Variant]) -> u64
+    ensures { result ≡ min (sum (map nodes.variant_nodes all.now)) u64.MAX }
+{
+    let mut total = 0;
+    for v in all {
+        total = variant(v).saturating_add(total);
+    }
+    total
+}
+
+#[cycle(denoters)]
+fn variant(v: &Variant) -> u64
+    ensures { result ≡ min (nodes.variant_nodes v.now) u64.MAX }
+{
+    (v.ranges.items().len() as u64)
+        .saturating_mul(3)
+        .saturating_add(field_part(&v.part))
 }
 
 #[cycle(statements)]
@@ -194,6 +254,12 @@ fn statement(s: &TypedStmt) -> u64
         TypedStmt::Repeat(_, all, condition) => {
             statements(all.items())
                 .saturating_add(expression(condition.get()))
+                .saturating_add(1)
+        }
+        TypedStmt::ForIn(_, control, set, body) => {
+            entire(&control.variable)
+                .saturating_add(expression(set.get()))
+                .saturating_add(statement(body.get()))
                 .saturating_add(1)
         }
         TypedStmt::For(_, control, initial, last, body) => {
@@ -305,7 +371,25 @@ fn place(p: &TypedPlace) -> u64
                 .saturating_add(1)
         }
         TypedPlace::Field(whole, _) => place(whole.get()).saturating_add(1),
+        TypedPlace::Variant(whole, selection, _) => {
+            place(whole.get())
+                .saturating_add(labels(selection.labels.items()))
+                .saturating_add(1)
+        }
     }
+}
+
+/// The nodes of the labels of variants.
+fn labels(all: &[CaseRanges]) -> u64
+    ensures { result ≡ min (nodes.labels_nodes all.now) u64.MAX }
+{
+    let mut total = 0;
+    for ranges in all {
+        total = (ranges.items().len() as u64)
+            .saturating_mul(3)
+            .saturating_add(total);
+    }
+    total
 }
 
 /// The nodes of the place of an entire variable.
@@ -357,6 +441,7 @@ fn expression(x: &TypedExpr) -> u64
                 .saturating_add(1)
         }
         TypedExpr::FieldValue(whole, _) => expression(whole.get()).saturating_add(1),
+        TypedExpr::SetConstant(members) => (members.items().len() as u64).saturating_add(2),
         TypedExpr::Set(members) => designators(members.items()).saturating_add(1),
         TypedExpr::OnSets(_, left, right) => {
             expression(left.get())

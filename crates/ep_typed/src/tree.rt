@@ -26,7 +26,33 @@ pub enum TypedPlace {
     Indexed(Boxed<TypedPlace>, Boxed<TypedExpr>),
     /// The component of a record by its number (ISO 10206, 6.5.3.3).
     Field(Boxed<TypedPlace>, u32),
+    /// A variant of a record, as the record of its fields: what selects it, and its number among the variants of that
+    /// variant part.
+    Variant(Boxed<TypedPlace>, Selection, u32),
 }
+
+/// How a variant of a variant part is selected (ISO 10206, 6.4.3.4).
+pub struct Selection {
+    /// The number of the component that has the tag, in front of those of the variants.
+    pub tag: u32,
+    /// The labels of each variant, in order.
+    pub labels: VariantLabels,
+    /// Whether a variant follows them that every value selects which no label has.
+    pub completed: bool,
+}
+
+impl Drop for Selection {
+    fn drop(self) {
+        let Selection {
+            tag: _,
+            labels: _,
+            completed: _,
+        } = self;
+    }
+}
+
+/// The labels of variants, in order.
+pub type VariantLabels = List<CaseRanges>;
 
 /// An entire variable (ISO 10206, 6.5.2).
 pub enum EntireVariable {
@@ -91,6 +117,8 @@ pub enum TypedExpr {
     IndexedValue(Boxed<TypedExpr>, Boxed<TypedExpr>),
     /// The component of a record that a function gives, by its number (ISO 10206, 6.8.6.3).
     FieldValue(Boxed<TypedExpr>, u32),
+    /// A constant that is a set, by the ordinal numbers of its members in rising order.
+    SetConstant(Bytes),
     /// A set constructor (ISO 10206, 6.8.7.4).
     Set(MemberDesignators),
     /// An operator on sets. Both operands are evaluated, the left one first.
@@ -193,6 +221,24 @@ impl Drop for ForControl {
     }
 }
 
+/// What a `for` statement over the members of a set goes by (ISO 10206, 6.9.3.9.1 and 6.9.3.9.3). The auxiliary variable is a
+/// set of the block in which the statement is, and all its `for` statements over members have the same one.
+pub struct MemberControl {
+    /// The control variable.
+    pub variable: EntireVariable,
+    /// The auxiliary variable that has the members that are still to come.
+    pub rest: EntireVariable,
+}
+
+impl Drop for MemberControl {
+    fn drop(self) {
+        let MemberControl {
+            variable: _,
+            rest: _,
+        } = self;
+    }
+}
+
 /// A statement, with the line of its first token (ISO 10206, 6.9.1).
 #[cycle(statement)]
 #[derive(Drop)]
@@ -211,6 +257,8 @@ pub enum TypedStmt {
     Repeat(Line, TypedStmts, Boxed<TypedExpr>),
     /// `for`: what it counts with, the initial and the final value, and the statement.
     For(Line, ForControl, Boxed<TypedExpr>, Boxed<TypedExpr>, Boxed<TypedStmt>),
+    /// `for` over the members of a set: what it goes by, the set, and the statement.
+    ForIn(Line, MemberControl, Boxed<TypedExpr>, Boxed<TypedStmt>),
     /// `with` of one variable (ISO 10206, 6.9.3.10): the variable of the block that stands for it, which is its alone, the
     /// number of its record type in the unit's list of types, the place that it accesses, and the statement.
     With(Line, EntireVariable, u32, TypedPlace, Boxed<TypedStmt>),

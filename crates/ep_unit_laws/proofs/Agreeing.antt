@@ -8,7 +8,7 @@ use Rattle.ep_typed.specs.Trees as tree
 use Rattle.ep_typed.specs.TypeValues.{TypeValue}
 use Rattle.ep_typed.specs.Valid as valid
 use Rattle.ep_typed.specs.Valid.{Declarations, IsCallee, IsDeclaredUp, IsOfKind, IsPlace, around_in, heading_of, in_routine, levels_of, own}
-use Rattle.ep_typed.specs.Auxiliaries.{auxiliary_variables, first_for, with_variables}
+use Rattle.ep_typed.specs.Auxiliaries.{block_auxiliaries, with_variables}
 use Rattle.ep_typed.specs.Routines.{made_by_unit, unit_variables}
 use Rattle.ep_typed.specs.Viewed.{denoter_of, stmt_of}
 use Rattle.ep_typed.specs.declared.interface.Formal.{Formal}
@@ -150,7 +150,7 @@ module _ (u : TypedUnit) where
   declared_own : (unit : List ℕ) (number : ℕ) (v : UnitVariable) → unit ≡ u.name → slice_get u.variables number ≡ Some v → (own u).variables unit number ≡ Some v
   declared_own unit number v e at =
       variables_own unit number e
-      ∙ slice_get-front (made_by_unit u) (with_variables (stmt_of u.start)) number v (slice_get-front u.variables (auxiliary_variables (first_for (stmt_of u.start))) number v at)
+      ∙ slice_get-front (made_by_unit u) (with_variables (stmt_of u.start)) number v (slice_get-front u.variables (block_auxiliaries (stmt_of u.start)) number v at)
 
   own_place : (es : List Enclosing) (i level number : ℕ) (of : TypeName) (h : Host) → i ≤ length u.types → HoldsOwn u es i level number of (kind.Ordinal h) → IsPlace (in_routine (levels_at u.routines es) (own u)) (typed_host h) (tree.Own (length es - level) number)
   own_place es i level number of h le x = (x.variable, x.at, x.denotes.1.has_host (suc (length u.types)) (omega (arith, le)))

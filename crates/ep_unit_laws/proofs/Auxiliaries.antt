@@ -1,17 +1,25 @@
--- The auxiliary variables of a block with a `for` are there.
-use Rattle.std.proofs.Common.{◌≡◌, ℕ, suc, ◌+◌, List, [], ◌∷◌, ◌++◌, length, Some, slice_get, refl, sym, ap, ◌∙◌, subst, arith, append_assoc}
-use Rattle.ep_typed.proofs.Auxiliaries.{auxiliary_host}
-use Rattle.ep_typed.specs.Auxiliaries.{auxiliary_variable, auxiliary_variables, first_for, with_variables}
+-- The auxiliary variables of a block are there, behind those that it declares: two integers where it has a `for` with bounds, a set where it has a `for` over members, and those of its `with` statements.
+use Rattle.std.proofs.Common.{◌≡◌, ℕ, suc, ◌+◌, Bool, true, false, List, [], ◌∷◌, ◌++◌, length, Option, Some, None, slice_get, refl, sym, ap, ◌∙◌, subst, arith, append_assoc}
+use Rattle.std.specs.Prelude.{is_some, if◌then◌else◌}
+use Rattle.ep_tree.specs.declared.statement.Compound.{Compound}
+use Rattle.ep_typed.proofs.Auxiliaries.{auxiliary_host, member_base}
+use Rattle.ep_typed.specs.Auxiliaries.{auxiliary_variable, auxiliary_variables, block_auxiliaries, first_for_in_of, first_for_of, member_variable, member_variables, with_variables, with_variables_of}
 use Rattle.ep_typed.specs.Denoters.{host_of}
 use Rattle.ep_typed.specs.Hosts as host
 use Rattle.ep_typed.specs.Routines.{unit_variables}
-use Rattle.ep_typed.specs.Valid.{own}
+use Rattle.ep_typed.specs.Trees as tree
+use Rattle.ep_typed.specs.Trees.{Denoter, Stmts, entire}
+use Rattle.ep_typed.specs.Valid as valid
+use Rattle.ep_typed.specs.Valid.{Declarations, IsOfKind, IsPlaceWhere, own, variables_up}
 use Rattle.ep_typed.specs.Viewed.{denoter_of, stmt_of}
 use Rattle.ep_typed.specs.declared.unit.Unit.{Unit as TypedUnit}
+use Rattle.ep_typed.specs.declared.unit.UnitType.{UnitType}
 use Rattle.ep_typed.specs.declared.unit.UnitVariable.{UnitVariable}
-use Rattle.ep_check_stmt.specs.Laws.{AuxiliariesAreThere}
+use Rattle.ep_check_stmt.specs.Auxiliaries.{has_for}
+use Rattle.ep_check_stmt.specs.Laws.{AuxiliariesAreThere, MembersAreThere}
+use Rattle.ep_check_stmt.specs.Statements.{Locals, OfRoutine, OfUnit, block_variable}
 use Rattle.ep_check_unit.specs.Blocks.{Block, own_count}
-use Rattle.ep_check_unit.specs.Routines.{locals_in, locals_of}
+use Rattle.ep_check_unit.specs.Routines.{first_auxiliary, locals_in, locals_of, members_of}
 use Rattle.ep_check_unit.specs.declared.block.Enclosing.{Enclosing}
 use Rattle.ep_unit_laws.proofs.Agreeing.{types_own, variables_own, within}
 use Rattle.ep_unit_laws.proofs.Holds.{innermost, levels_at}
@@ -19,45 +27,96 @@ use Rattle.ep_unit_laws.proofs.Items.{own_length}
 use Rattle.ep_unit_laws.proofs.Leading.{variables_in}
 
 -- what stands behind a list
-first_behind : {A : Type 0} (xs : List A) (a b : A) (more : List A) → slice_get (xs ++ a ∷ b ∷ more) (length xs) ≡ Some a
-first_behind [] a b more = refl
-first_behind (x ∷ xs) a b more = first_behind xs a b more
+behind : {A : Type 0} (xs ys : List A) (k : ℕ) → slice_get (xs ++ ys) (length xs + k) ≡ slice_get ys k
+behind [] ys k = ap (slice_get ys) {x = 0 + k} {y = k} (omega arith)
+behind (x ∷ xs) ys k = ap (slice_get (x ∷ (xs ++ ys))) {x = suc (length xs) + k} {y = suc (length xs + k)} (omega arith) ∙ behind xs ys k
 
-next_behind : {A : Type 0} (xs : List A) (a b : A) (more : List A) → slice_get (xs ++ a ∷ b ∷ more) (suc (length xs)) ≡ Some b
-next_behind [] a b more = refl
-next_behind (x ∷ xs) a b more = next_behind xs a b more
+-- ---- all of a block
 
-second_behind : {A : Type 0} (xs : List A) (a b : A) (more : List A) → slice_get (xs ++ a ∷ b ∷ more) (length xs + 1) ≡ Some b
-second_behind xs a b more = ap (slice_get (xs ++ a ∷ b ∷ more)) {x = length xs + 1} {y = suc (length xs)} (omega arith) ∙ next_behind xs a b more
+-- all auxiliary ones of a block with these statements
+abbrev pub auxiliaries_of : Stmts → List UnitVariable
+auxiliaries_of ss = block_auxiliaries (tree.Compound ss) ++ with_variables_of ss
 
--- in a routine, to which the unit gives these variables, and those of its `with` statements behind them
-module _ (u : TypedUnit) (e : Enclosing) (es : List Enclosing) (c : Block) (line at : ℕ) (called : List ℕ) (withs : List UnitVariable)
-    (its : innermost (levels_at u.routines (e ∷ es)) ≡ variables_in line called c.own ++ (auxiliary_variables (Some at) ++ withs)) where
+-- those of `for` with bounds are two, where there is such a `for`
+integers_counted : (o : Option ℕ) (has : Bool) → is_some o ≡ has → length (auxiliary_variables o) ≡ (if has then 2 else 0)
+integers_counted None true e = cc
+integers_counted None false e = refl
+integers_counted (Some line) true e = refl
+integers_counted (Some line) false e = cc
+
+module _ (declared : Declarations) (types : List UnitType) where
+  -- under these types the variable of this number is that one
+  abbrev pub IsLocal : Locals → ℕ → UnitVariable → Type 0
+  IsLocal (OfUnit unit auxiliary) n v = (declared.variables unit n ≡ Some v) × (declared.types unit ≡ types)
+  IsLocal (OfRoutine routine first auxiliary) n v = (slice_get (variables_up declared 0) n ≡ Some v) × (declared.routine_types ≡ types)
+
+  -- so what holds of its denoter holds of its place
+  local_placed : (Here : List UnitType → Denoter → Type 0) (locals : Locals) (n : ℕ) (v : UnitVariable) → IsLocal locals n v → Here types (denoter_of v.denoter) → IsPlaceWhere declared Here (entire (block_variable locals n))
+  local_placed Here (OfUnit unit auxiliary) n v x h = (v, x.0, subst (λ ts. Here ts (denoter_of v.denoter)) (sym x.1) h)
+  local_placed Here (OfRoutine routine first auxiliary) n v x h = (v, x.0, subst (λ ts. Here ts (denoter_of v.denoter)) (sym x.1) h)
+
+  -- these variables stand behind those that the block declares
+  abbrev pub AreBehind : Locals → List UnitVariable → Type 0
+  AreBehind locals vs = (k : ℕ) (v : UnitVariable) → slice_get vs k ≡ Some v → IsLocal locals (first_auxiliary locals + k) v
+
+  -- the integers, where there is a `for` with bounds
+  integers_there : (locals : Locals) (o : Option ℕ) (more : List UnitVariable) (at : ℕ) → o ≡ Some at → AreBehind locals (auxiliary_variables o ++ more) → AuxiliariesAreThere declared locals
+  integers_there locals None more at e x = cc
+  integers_there (OfUnit unit auxiliary) (Some line) more at e x =
+      let v : UnitVariable = auxiliary_variable line in
+      let first : IsLocal (OfUnit unit auxiliary) auxiliary v = subst (λ n. IsLocal (OfUnit unit auxiliary) n v) {x = auxiliary + 0} {y = auxiliary} (omega arith) (x 0 v refl) in (
+        local_placed (λ ts d. host_of ts d ≡ Some host.Integer) (OfUnit unit auxiliary) auxiliary v first (auxiliary_host types line),
+        local_placed (λ ts d. host_of ts d ≡ Some host.Integer) (OfUnit unit auxiliary) (auxiliary + 1) v (x 1 v refl) (auxiliary_host types line),
+      )
+  integers_there (OfRoutine routine own auxiliary) (Some line) more at e x =
+      let v : UnitVariable = auxiliary_variable line in
+      let first : IsLocal (OfRoutine routine own auxiliary) auxiliary v = subst (λ n. IsLocal (OfRoutine routine own auxiliary) n v) {x = auxiliary + 0} {y = auxiliary} (omega arith) (x 0 v refl) in (
+        local_placed (λ ts d. host_of ts d ≡ Some host.Integer) (OfRoutine routine own auxiliary) auxiliary v first (auxiliary_host types line),
+        local_placed (λ ts d. host_of ts d ≡ Some host.Integer) (OfRoutine routine own auxiliary) (auxiliary + 1) v (x 1 v refl) (auxiliary_host types line),
+      )
+
+  -- the set behind them, where there is a `for` over members
+  set_there : (locals : Locals) (integers : List UnitVariable) (q : Option ℕ) (more : List UnitVariable) (at : ℕ) → q ≡ Some at → AreBehind locals ((integers ++ member_variables q) ++ more)
+      → MembersAreThere declared locals (first_auxiliary locals + length integers)
+  set_there locals integers None more at e x = cc
+  set_there locals integers (Some line) more at e x =
+      let v : UnitVariable = member_variable line in
+      let there : slice_get ((integers ++ v ∷ []) ++ more) (length integers) ≡ Some v =
+      ap (λ l. slice_get l (length integers)) (append_assoc integers (v ∷ []) more)
+      ∙ (ap (slice_get (integers ++ v ∷ more)) {x = length integers} {y = length integers + 0} (omega arith) ∙ behind integers (v ∷ more) 0) in
+      local_placed (IsOfKind (valid.Set host.Integer)) locals (first_auxiliary locals + length integers) v (x (length integers) v there) (member_base types line)
+
+  -- those of a block with these statements
+  module _ (locals : Locals) (ss : Stmts) (all : AreBehind locals (auxiliaries_of ss)) where
+    pub for_auxiliaries : (at : ℕ) → first_for_of ss ≡ Some at → AuxiliariesAreThere declared locals
+    for_auxiliaries at has =
+        integers_there locals (first_for_of ss) (member_variables (first_for_in_of ss) ++ with_variables_of ss) at has
+        (subst (AreBehind locals) (append_assoc (auxiliary_variables (first_for_of ss)) (member_variables (first_for_in_of ss)) (with_variables_of ss)) all)
+
+    pub for_in_auxiliaries : (c : Compound) → is_some (first_for_of ss) ≡ has_for c → (at : ℕ) → first_for_in_of ss ≡ Some at → MembersAreThere declared locals (members_of locals c)
+    for_in_auxiliaries c same at has =
+        subst (λ n. MembersAreThere declared locals (first_auxiliary locals + n)) (integers_counted (first_for_of ss) (has_for c) same)
+        (set_there locals (auxiliary_variables (first_for_of ss)) (first_for_in_of ss) (with_variables_of ss) at has all)
+
+-- ---- in a routine, to which the unit gives these variables
+
+module _ (u : TypedUnit) (e : Enclosing) (es : List Enclosing) (c : Block) (line : ℕ) (called : List ℕ) (all : List UnitVariable) (its : innermost (levels_at u.routines (e ∷ es)) ≡ variables_in line called c.own ++ all) where
   many : length (variables_in line called c.own) ≡ own_count c.own
   many = own_length line called c.own.parameters c.own.result c.own.variables
 
-  -- a variable of it
-  abbrev IsThere : ℕ → Type 0
-  IsThere n = slice_get (innermost (levels_at u.routines (e ∷ es))) n ≡ Some (auxiliary_variable at)
+  pub own_behind : AreBehind (within u (e ∷ es)) u.types (locals_in c (e ∷ es)) all
+  own_behind k v at = (
+    ap (λ vs. slice_get vs (own_count c.own + k)) its
+        ∙ (ap (λ n. slice_get (variables_in line called c.own ++ all) (n + k)) (sym many) ∙ (behind (variables_in line called c.own) all k ∙ at)),
+    refl,
+  )
 
-  first_there : IsThere (own_count c.own)
-  first_there = ap (λ vs. slice_get vs (own_count c.own)) its ∙ subst (λ n. slice_get (variables_in line called c.own ++ (auxiliary_variables (Some at) ++ withs)) n ≡ Some (auxiliary_variable at)) many (first_behind (variables_in line called c.own) (auxiliary_variable at) (auxiliary_variable at) withs)
+-- ---- in the block of a unit
 
-  second_there : IsThere (own_count c.own + 1)
-  second_there = ap (λ vs. slice_get vs (own_count c.own + 1)) its ∙ subst (λ n. slice_get (variables_in line called c.own ++ (auxiliary_variables (Some at) ++ withs)) (n + 1) ≡ Some (auxiliary_variable at)) many (second_behind (variables_in line called c.own) (auxiliary_variable at) (auxiliary_variable at) withs)
-
-  pub own_auxiliaries : AuxiliariesAreThere (within u (e ∷ es)) (locals_in c (e ∷ es))
-  own_auxiliaries = ((auxiliary_variable at, first_there, auxiliary_host u.types at), (auxiliary_variable at, second_there, auxiliary_host u.types at))
-
--- in the block of a unit
-pub unit_auxiliaries : (u : TypedUnit) (b : Block) (at : ℕ) → b.unit ≡ u.name → u.variables ≡ b.variables → first_for (stmt_of u.start) ≡ Some at → b.own.enclosing ≡ [] → AuxiliariesAreThere (own u) (locals_of b)
-unit_auxiliaries u b at named variables has outermost =
-    let v : UnitVariable = auxiliary_variable at in
-    let withs : List UnitVariable = with_variables (stmt_of u.start) in
-    let all : unit_variables u ≡ b.variables ++ v ∷ v ∷ withs =
-    ap (λ o. (u.variables ++ auxiliary_variables o) ++ withs) has ∙ (append_assoc u.variables (v ∷ v ∷ []) withs ∙ ap (λ l. l ++ v ∷ v ∷ withs) variables) in
-    let typed : host_of ((own u).types b.unit) (denoter_of v.denoter) ≡ Some host.Integer = ap (λ ts. host_of ts (denoter_of v.denoter)) (types_own u b.unit named) ∙ auxiliary_host u.types at in
-    subst (λ es. AuxiliariesAreThere (own u) (locals_in b es)) (sym outermost) (
-      (v, variables_own u b.unit (length b.variables) named ∙ (ap (λ l. slice_get l (length b.variables)) all ∙ first_behind b.variables v v withs), typed),
-      (v, variables_own u b.unit (length b.variables + 1) named ∙ (ap (λ l. slice_get l (length b.variables + 1)) all ∙ second_behind b.variables v v withs), typed),
-    )
+pub unit_behind : (u : TypedUnit) (b : Block) (ss : Stmts) → b.unit ≡ u.name → u.variables ≡ b.variables → stmt_of u.start ≡ tree.Compound ss → b.own.enclosing ≡ [] → AreBehind (own u) u.types (locals_of b) (auxiliaries_of ss)
+unit_behind u b ss named variables start outermost =
+    let all : unit_variables u ≡ b.variables ++ auxiliaries_of ss =
+    ap (λ s. (u.variables ++ block_auxiliaries s) ++ with_variables s) start
+    ∙ (append_assoc u.variables (block_auxiliaries (tree.Compound ss)) (with_variables_of ss) ∙ ap (λ l. l ++ auxiliaries_of ss) variables) in
+    subst (λ es. AreBehind (own u) u.types (locals_in b es) (auxiliaries_of ss)) (sym outermost)
+    (λ k v at. (variables_own u b.unit (length b.variables + k) named ∙ (ap (λ l. slice_get l (length b.variables + k)) all ∙ (behind b.variables (auxiliaries_of ss) k ∙ at)), types_own u b.unit named))

@@ -1,15 +1,15 @@
 -- Record types that are written in a block: the unit that has the block's lists has them as valid types.
-use Rattle.std.proofs.Common.{◌≡◌, ℕ, suc, ◌<◌, ◌≤◌, Bool, true, false, List, [], ◌∷◌, ◌++◌, map, length, Some, None, refl, sym, ap, ◌∙◌, subst, arith}
+use Rattle.std.proofs.Common.{◌≡◌, ℕ, suc, ◌<◌, ◌≤◌, Bool, true, false, List, [], ◌∷◌, ◌++◌, append-nil, map, length, Some, None, refl, sym, ap, ◌∙◌, subst, arith}
 use Rattle.std.proofs.lemmas.Option.{slice_get_within}
 use Rattle.std.specs.Prelude.{⊤, if◌then◌else◌}
 use Rattle.ep_typed.specs.Denoters.{record_of}
 use Rattle.ep_typed.specs.Trees as tree
 use Rattle.ep_typed.specs.TypeValues as type
 use Rattle.ep_typed.specs.TypeValues.{ComponentTypes, TypeValue, next_component, no_component}
-use Rattle.ep_typed.specs.Viewed.{denoter_of, denoter_step, field_step}
-use Rattle.ep_typed.specs.declared.denoter.Denoter.TheFolds.{fold-roll-RecordField}
+use Rattle.ep_typed.specs.Viewed as viewed
+use Rattle.ep_typed.specs.Viewed.{denoter_of, denoter_step, field_step, part_step, selector_step, variant_part_step, variant_step}
+use Rattle.ep_typed.specs.declared.denoter.Denoter.TheFolds.{fold-roll-FieldPart, fold-roll-RecordField}
 use Rattle.ep_typed.specs.declared.denoter.Denoter.TheVariants as denoter
-use Rattle.ep_typed.specs.declared.denoter.RecordField.{RecordField, fold-RecordField, out-RecordField, roll-out-RecordField}
 use Rattle.ep_typed.specs.declared.unit.Unit.{Unit as TypedUnit}
 use Rattle.ep_typed.proofs.Forms.{record_is}
 use Rattle.ep_scope.specs.declared.kind.Kind.TheVariants as kind
@@ -20,7 +20,7 @@ use Rattle.ep_check_expr.specs.Agreement.{AreFieldValues, Records}
 use Rattle.ep_check_expr.specs.Judgements.{Accepts, Breaks, when_accepted}
 use Rattle.ep_check_stmt.proofs.judged.Fits.{Fits, fits_then, fits_weaker}
 use Rattle.ep_check_unit.specs.Blocks.{Block}
-use Rattle.ep_check_unit.specs.Declarations.{Field, Fielded, Section, Written, field_of, field_type, fields_named, has_field, record_field, record_over, record_written, section_written, sections_written, settled_part}
+use Rattle.ep_check_unit.specs.Declarations.{Field, Fielded, Section, Written, field_of, field_part, field_type, fields_named, has_field, record_field, record_over, record_written, section_written, sections_written, settled_part}
 use Rattle.ep_check_unit.proofs.Denoters.{AreKept}
 use Rattle.ep_unit_laws.proofs.Denoting.{AreDenoted, DenotesStructured, denotes_record, kind_type, kind_typed, kind_valued, record_there}
 use Rattle.ep_unit_laws.proofs.Holds.{HasTypeHere, Holds, HoldsFields, HoldsStructuredType, ListsKind, has_type_more, holds_more, lists_kind_more, lists_kind_small, type_values}
@@ -95,19 +95,24 @@ module _ (u : TypedUnit) where
   abbrev components_of : List Field → tree.Denoters
   components_of fs = tree.denoters (map (λ f. denoter_of f.denoter) fs)
 
-  -- that of a field in the record's denoter
-  field_is : (g : RecordField) → fold-RecordField tree.Denoter tree.Denoter denoter_step field_step g ≡ denoter_of (out-RecordField g).denoter
-  field_is g = ap (fold-RecordField tree.Denoter tree.Denoter denoter_step field_step) (sym (roll-out-RecordField g)) ∙ fold-roll-RecordField tree.Denoter tree.Denoter denoter_step field_step (out-RecordField g)
+  -- that of a field, as the record's denoter has it
+  rolled_is : (f : Field) → viewed.field_of (record_field f) ≡ denoter_of f.denoter
+  rolled_is f =
+      fold-roll-RecordField tree.Denoter tree.Denoter (List tree.Denoter) tree.Denoter tree.Denoter (List tree.Denoter) denoter_step selector_step part_step field_step variant_step variant_part_step
+      (record { name = f.name; denoter = f.denoter })
 
-  rolled_is : (f : Field) → denoter_of (out-RecordField (record_field f)).denoter ≡ denoter_of f.denoter
-  rolled_is f = sym (field_is (record_field f)) ∙ fold-roll-RecordField tree.Denoter tree.Denoter denoter_step field_step (record { name = f.name; denoter = f.denoter })
-
-  all_rolled : (fs : List Field) → map (λ g. denoter_of (out-RecordField g).denoter) (map record_field fs) ≡ map (λ f. denoter_of f.denoter) fs
+  all_rolled : (fs : List Field) → map viewed.field_of (map record_field fs) ≡ map (λ f. denoter_of f.denoter) fs
   all_rolled [] = refl
-  all_rolled (f ∷ fs) = ap (λ d. d ∷ map (λ g. denoter_of (out-RecordField g).denoter) (map record_field fs)) (rolled_is f) ∙ ap (λ ds. denoter_of f.denoter ∷ ds) (all_rolled fs)
+  all_rolled (f ∷ fs) = ap (λ d. d ∷ map viewed.field_of (map record_field fs)) (rolled_is f) ∙ ap (λ ds. denoter_of f.denoter ∷ ds) (all_rolled fs)
 
-  denoter_is : (fs : List Field) → denoter_of (denoter.Record (map record_field fs)) ≡ tree.Record (components_of fs)
-  denoter_is fs = record_is (map record_field fs) ∙ ap (λ ds. tree.Record (tree.denoters ds)) (all_rolled fs)
+  part_is : (fs : List Field) → viewed.components_of (field_part fs) ≡ map (λ f. denoter_of f.denoter) fs
+  part_is fs =
+      fold-roll-FieldPart tree.Denoter tree.Denoter (List tree.Denoter) tree.Denoter tree.Denoter (List tree.Denoter) denoter_step selector_step part_step field_step variant_step variant_part_step
+      (record { fields = map record_field fs; variant_part = None })
+      ∙ (append-nil _ ∙ all_rolled fs)
+
+  denoter_is : (fs : List Field) → denoter_of (denoter.Record (field_part fs)) ≡ tree.Record (components_of fs)
+  denoter_is fs = record_is (field_part fs) ∙ ap (λ ds. tree.Record (tree.denoters ds)) (part_is fs)
 
   -- their type values
   types_of : (i : ℕ) (fs : List Field) → HaveFields i fs → ComponentTypes

@@ -11,7 +11,7 @@ use Rattle.ep_tree.specs.declared.routine.RoutineBody.{RoutineBody, map-RoutineB
 use Rattle.ep_tree.specs.declared.routine.RoutineStart.{RoutineStart}
 use Rattle.ep_tree.specs.declared.statement.Compound.{Compound}
 use Rattle.ep_outside.specs.Known.{IsPrefix}
-use Rattle.ep_typed.specs.Auxiliaries.{auxiliary_variables, first_for, first_for_of, with_variables, with_variables_of}
+use Rattle.ep_typed.specs.Auxiliaries.{block_auxiliaries, with_variables, with_variables_of}
 use Rattle.ep_typed.specs.Operations.{maxint}
 use Rattle.ep_typed.specs.Routines.{result_name, result_variable}
 use Rattle.ep_typed.specs.Trees as tree
@@ -29,18 +29,19 @@ use Rattle.ep_scope.specs.declared.parameter.Protection.TheVariants as protectio
 use Rattle.ep_scope.specs.declared.thing.Declaration.TheVariants as declaration
 use Rattle.ep_check_expr.specs.Judgements.{Judged, Accepts, Breaks}
 use Rattle.ep_check_expr.specs.Laws.{BoundsAreKnown, BoundsAreSound, ConstantsAreKnown, ConstantsAreSound}
-use Rattle.ep_check_stmt.specs.Laws.{AuxiliariesAreThere, StatementsAreSound}
-use Rattle.ep_check_stmt.specs.Statements.{Judgement, Passes, Waits, Fails, compound_judged}
+use Rattle.ep_check_stmt.specs.Laws.{StatementsAreSound}
+use Rattle.ep_check_stmt.specs.Statements.{Judgement, Passes, Waits, Fails}
+use Rattle.ep_check_stmt.proofs.judged.Auxiliaries.{bounded_there}
 use Rattle.ep_check_stmt.proofs.judged.Fits.{Fits, fits_then}
 use Rattle.ep_check_unit.specs.Blocks.{Block, RoutineForm, around_of, routine_form}
 use Rattle.ep_check_unit.specs.Declarations.{Standing, Stands, Falls, and_then, at_line, entered, own_thing, scopes_of, type_definitions, type_denoter}
 use Rattle.ep_check_unit.specs.Functions.{if_given, in_block, is_assigned, is_in_view, own_name_entered, own_result, result_entered, row_gives}
-use Rattle.ep_check_unit.specs.Routines.{BodyJudged, Headed, PartJudged, all_declared, assigns_among, block_declared, body_closed, body_declared, body_ended, context_of, formal_of, formals_entered, forwarded, has_number, heading_entered, inside_declared, locals_in, locals_of, of_body, of_part, of_routine, part_judged, parts_declared, routine_body_judged, routine_judged, scope_opened, set_to, start_headed, start_name, with_its_block}
+use Rattle.ep_check_unit.specs.Routines.{BodyJudged, Headed, PartJudged, all_declared, assigns_among, block_declared, body_closed, body_declared, body_ended, context_of, formal_of, formals_entered, forwarded, has_number, heading_entered, inside_declared, locals_in, locals_of, of_body, of_part, of_routine, part_judged, parts_declared, routine_body_judged, routine_judged, scope_opened, set_to, start_headed, start_name, statements_judged, with_its_block}
 use Rattle.ep_check_unit.specs.declared.block.Enclosing.{Enclosing}
 use Rattle.ep_check_unit.specs.declared.block.OwnResult.{OwnResult}
 use Rattle.ep_check_unit.specs.declared.functions.HeadingResult.{HeadingResult}
 use Rattle.ep_check_unit.proofs.Forms.{each_set}
-use Rattle.ep_unit_laws.proofs.Auxiliaries.{own_auxiliaries}
+use Rattle.ep_unit_laws.proofs.Auxiliaries.{AreBehind, auxiliaries_of, for_auxiliaries, for_in_auxiliaries, own_behind}
 use Rattle.ep_unit_laws.proofs.Denoting.{DenotesKind}
 use Rattle.ep_unit_laws.proofs.Headings.{HeadsOn, HoldsHeaded, IsResultOf, after_heading, forward_leads, front_get, headed_leads}
 use Rattle.ep_unit_laws.proofs.Agreeing.{holds_agrees, holds_results, within}
@@ -153,7 +154,7 @@ result_same line called result number variable (Some r) e =
 
 -- the variables of a routine, by its form
 abbrev form_variables : RoutineForm → List UnitVariable
-form_variables f = map (formal_variable f.line) f.formals ++ ((result_variable f.name f.line f.result ++ (f.variables ++ auxiliary_variables (first_for f.block))) ++ with_variables f.block)
+form_variables f = map (formal_variable f.line) f.formals ++ ((result_variable f.name f.line f.result ++ (f.variables ++ block_auxiliaries f.block)) ++ with_variables f.block)
 
 given_variables : (rs : List UnitRoutine) (n : ℕ) (f : RoutineForm) → slice_get (map routine_form rs) n ≡ Some f → given.variables_in (slice_get rs n) ≡ form_variables f
 given_variables [] n f e = cc
@@ -309,7 +310,7 @@ module _ (u : TypedUnit) (few : length u.constants ≤ maxint) (statements : Sta
 
       -- ---- with its statements
 
-      module _ (compound : Compound) (ss : Stmts) (pass : compound_judged (context_of c) compound ≡ Passes ss) where
+      module _ (compound : Compound) (ss : Stmts) (pass : statements_judged c compound ≡ Passes ss) where
         abbrev Given : RoutineForm → RoutineForm
         Given = with_its_block line c.own.variables (tree.Compound ss)
 
@@ -370,13 +371,13 @@ module _ (u : TypedUnit) (few : length u.constants ≤ maxint) (statements : Sta
               ∙ (ap (λ n. result_in line n (own_result h.number (length h.parameters) h.result)) (sym (ap variable_name at)) ∙ ap (result_in line Called) (sym inside.grows.result))
 
           -- so the unit gives it the variables of the block, and the auxiliary ones behind them
-          its_variables : innermost (levels_at u.routines (Inner ∷ Around)) ≡ variables_in line Called c.own ++ (auxiliary_variables (first_for_of ss) ++ with_variables_of ss)
+          its_variables : innermost (levels_at u.routines (Inner ∷ Around)) ≡ variables_in line Called c.own ++ auxiliaries_of ss
           its_variables =
               let r = found.0 in
               given_variables u.routines h.number (Given r) (e.bodies h.number (Given r) (pushed_there h.number c.bodies) (to_same c.routines h.number Given r found.1))
-              ∙ (ap (λ fs. map (formal_variable line) fs ++ ((result_variable r.name line r.result ++ (c.own.variables ++ auxiliary_variables (first_for_of ss))) ++ with_variables_of ss)) (formals_same r found.1)
-              ∙ (ap (λ rs. map (formal_variable line) (map formal_of c.own.parameters) ++ ((rs ++ (c.own.variables ++ auxiliary_variables (first_for_of ss))) ++ with_variables_of ss)) (result_there r found.1)
-              ∙ two_behind (map (formal_variable line) (map formal_of c.own.parameters)) (result_in line Called c.own.result) c.own.variables (auxiliary_variables (first_for_of ss)) (with_variables_of ss)))
+              ∙ (ap (λ fs. map (formal_variable line) fs ++ ((result_variable r.name line r.result ++ (c.own.variables ++ block_auxiliaries (tree.Compound ss))) ++ with_variables_of ss)) (formals_same r found.1)
+              ∙ (ap (λ rs. map (formal_variable line) (map formal_of c.own.parameters) ++ ((rs ++ (c.own.variables ++ block_auxiliaries (tree.Compound ss))) ++ with_variables_of ss)) (result_there r found.1)
+              ∙ two_behind (map (formal_variable line) (map formal_of c.own.parameters)) (result_in line Called c.own.result) c.own.variables (block_auxiliaries (tree.Compound ss)) (with_variables_of ss)))
 
           there : Extends u c
           there = record {
@@ -385,7 +386,7 @@ module _ (u : TypedUnit) (few : length u.constants ≤ maxint) (statements : Sta
             variables = e.variables;
             line = line;
             name = Called;
-            own = subst (λ es. IsPrefix (variables_in line Called c.own) (innermost (levels_at u.routines es))) (sym inside.grows.enclosing) (record { rest = auxiliary_variables (first_for_of ss) ++ with_variables_of ss; is = its_variables });
+            own = subst (λ es. IsPrefix (variables_in line Called c.own) (innermost (levels_at u.routines es))) (sym inside.grows.enclosing) (record { rest = auxiliaries_of ss; is = its_variables });
             headings = headings_there;
             bodies = λ n r has at. e.bodies n r (pushed_kept n h.number c.bodies has) (ended_others n r (another under n has) at);
           }
@@ -399,17 +400,19 @@ module _ (u : TypedUnit) (few : length u.constants ≤ maxint) (statements : Sta
           few_types : length c.types ≤ length u.types
           few_types = prefix_length c.types u.types e.types
 
-          -- the auxiliary variables, where there is a `for`
-          auxiliaries : (at : ℕ) → first_for_of ss ≡ Some at → AuxiliariesAreThere (within u c.own.enclosing) (locals_of c)
-          auxiliaries at has =
-              subst (λ es. AuxiliariesAreThere (within u es) (locals_in c es)) (sym inside.grows.enclosing)
-              (own_auxiliaries u Inner Around c line at Called (with_variables_of ss) (its_variables ∙ ap (λ o. variables_in line Called c.own ++ (auxiliary_variables o ++ with_variables_of ss)) has))
+          -- the auxiliary variables
+          auxiliaries : AreBehind (within u c.own.enclosing) u.types (locals_of c) (auxiliaries_of ss)
+          auxiliaries =
+              subst (λ es. AreBehind (within u es) u.types (locals_in c es) (auxiliaries_of ss)) (sym inside.grows.enclosing)
+              (own_behind u Inner Around c line Called (auxiliaries_of ss) its_variables)
 
           -- what the routine does is valid
           block_valid : AreStmts (within u (Inner ∷ Around)) ss
           block_valid =
               subst (λ es. AreStmts (within u es) ss) inside.grows.enclosing
-              (statements (context_of c) compound ss pass (within u c.own.enclosing) (holds_agrees u (length c.types) c c_open few_types c_held) (holds_results u (length c.types) c c_open few_types c_held) auxiliaries)
+              (statements (context_of c compound) compound ss pass (within u c.own.enclosing) (holds_agrees u (length c.types) c c_open few_types c_held) (holds_results u (length c.types) c c_open few_types c_held)
+              (for_auxiliaries (within u c.own.enclosing) u.types (locals_of c) ss auxiliaries)
+              (for_in_auxiliaries (within u c.own.enclosing) u.types (locals_of c) ss auxiliaries compound (bounded_there (context_of c compound) compound ss pass)))
 
           routine_valid : (o : Option RoutineForm) → slice_get c.routines h.number ≡ o → HoldsRoutines u (set_to c.routines h.number Given o)
           routine_valid None at = c_held.routines
@@ -443,7 +446,7 @@ module _ (u : TypedUnit) (few : length u.constants ≤ maxint) (statements : Sta
                 routines = routine_valid (slice_get c.routines h.number) refl;
               }
 
-      closed_leads : (compound : Compound) (row : Judgement Stmts) → compound_judged (context_of c) compound ≡ row → LeadsOn u b (body_closed line h.number h.block.own c row)
+      closed_leads : (compound : Compound) (row : Judgement Stmts) → statements_judged c compound ≡ row → LeadsOn u b (body_closed line h.number h.block.own c row)
       closed_leads compound (Passes ss) is = record { grows = ended_grows compound ss is; holds = λ under e w x. ended_held compound ss is under e w x }
       closed_leads compound (Waits at) is = record {
         grows = behind_grows c.routines (option_or c.waits (Some at)) refl refl (λ n r apart there. there) (λ w. absurd (waits_some c.waits at w));
@@ -454,7 +457,7 @@ module _ (u : TypedUnit) (few : length u.constants ≤ maxint) (statements : Sta
     module _ (name : List ℕ) (ps : List PartJudged) (parts_lead : (d : Block) → LeadsOn u d (all_declared ps d)) (c : Compound) where
       parts_ended : (s : Standing) → LeadsOn u Opened s → LeadsOn u b (and_then (body_declared line name h.number h.block.own c) s)
       parts_ended (Stands d) g =
-          let row = compound_judged (context_of d) c in
+          let row = statements_judged d c in
           given_leads b line (is_in_view d.own.result name d) (body_ended line h.number h.block.own d row)
           (given_leads b line (row_gives d row) (body_closed line h.number h.block.own d row) (closed_leads d g c row refl))
       parts_ended (Falls at rules) g = tt

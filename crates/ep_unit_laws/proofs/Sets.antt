@@ -7,13 +7,10 @@ use Rattle.ep_typed.specs.Sets.{is_ordinal}
 use Rattle.ep_typed.specs.Trees as tree
 use Rattle.ep_typed.specs.TypeValues as type
 use Rattle.ep_typed.specs.TypeValues.{TypeValue}
-use Rattle.ep_typed.specs.Viewed.{denoter_of, denoter_step, field_step}
-use Rattle.ep_typed.specs.declared.denoter.Denoter.{Denoter as Written_denoter}
-use Rattle.ep_typed.specs.declared.denoter.Denoter.TheFolds.{fold-roll-Denoter}
-use Rattle.ep_typed.specs.declared.denoter.Denoter.TheOpen as layer
-use Rattle.ep_typed.specs.declared.denoter.Denoter.TheVariants as denoter
+use Rattle.ep_typed.specs.Viewed.{denoter_of}
 use Rattle.ep_typed.specs.declared.unit.Unit.{Unit as TypedUnit}
 use Rattle.ep_typed.specs.declared.unit.UnitType.{UnitType}
+use Rattle.ep_typed.proofs.Forms.{set_is}
 use Rattle.ep_outside.specs.Known.{IsPrefix}
 use Rattle.ep_scope.specs.declared.kind.Host.{Host}
 use Rattle.ep_scope.specs.declared.kind.Kind.TheVariants as kind
@@ -33,9 +30,6 @@ use Rattle.ep_unit_laws.proofs.Leading.{Extends}
 use Rattle.ep_unit_laws.proofs.Open.{IsOpen}
 use Rattle.ep_unit_laws.proofs.Structures.{IsKnown, part_settles}
 use Rattle.ep_unit_laws.proofs.Types.{IsNext, Settles, Stood, Wrote, Writes, next_denotes}
-
-set_is : (base : Written_denoter) → denoter_of (denoter.Set base) ≡ tree.Set (denoter_of base)
-set_is base = ap denoter_of (sym (denoter.rolls-Set base)) ∙ fold-roll-Denoter tree.Denoter tree.Denoter denoter_step field_step (layer.Set base)
 
 -- ---- the values of a type that may be members
 

@@ -13,16 +13,16 @@ use Rattle.ep_typed.specs.declared.unit.Unit.{Unit as TypedUnit}
 use Rattle.ep_typed.specs.declared.unit.UnitRoutine.{UnitRoutine}
 use Rattle.ep_check_expr.specs.Judgements.{Judged, Accepts, Breaks}
 use Rattle.ep_check_expr.specs.Laws.{BoundsAreKnown, BoundsAreSound, ConstantsAreKnown, ConstantsAreSound}
-use Rattle.ep_typed.specs.Auxiliaries.{first_for}
-use Rattle.ep_unit_laws.proofs.Auxiliaries.{unit_auxiliaries}
+use Rattle.ep_unit_laws.proofs.Auxiliaries.{AreBehind, auxiliaries_of, for_auxiliaries, for_in_auxiliaries, unit_behind}
 use Rattle.ep_scope.specs.Scopes.{depth_in}
 use Rattle.ep_check_expr.specs.Agreement.{AgreesBy, structures_of}
 use Rattle.ep_check_stmt.specs.Laws.{ResultsAreThere, StatementsAreSound}
-use Rattle.ep_check_stmt.specs.Statements.{Judgement, Passes, Waits, Fails, after, compound_judged}
+use Rattle.ep_check_stmt.specs.Statements.{Judgement, Passes, Waits, Fails, after}
+use Rattle.ep_check_stmt.proofs.judged.Auxiliaries.{bounded_there}
 use Rattle.ep_check_stmt.proofs.judged.Fits.{Fits}
 use Rattle.ep_check_unit.specs.Declarations.{Standing, Stands, Falls, and_then, at_line, scopes_of}
 use Rattle.ep_check_unit.specs.Functions.{assigned_functions}
-use Rattle.ep_check_unit.specs.Routines.{context_of, parts_declared}
+use Rattle.ep_check_unit.specs.Routines.{context_of, locals_of, parts_declared, statements_judged}
 use Rattle.ep_unit_laws.specs.Laws.{UnitsAreValid}
 use Rattle.ep_check_unit.specs.Units.{IsTypedProgram, IsUnitOf, ProgramForm, body_judged, declarations_wait, first_missing, parameters_entered, program_block, program_form, program_judged, unless_missing}
 use Rattle.ep_check_unit.specs.Blocks.{Block, routine_form}
@@ -39,15 +39,15 @@ record IsMade (p : Program) (form : ProgramForm) : Type 0 where
   entered : parameters_entered p.parameters (program_block p) ≡ Accepts first
   declared : parts_declared p.parts first ≡ Stands form.block
   waits : form.block.waits ≡ None
-  statements : compound_judged (context_of form.block) p.body ≡ Passes form.statements
+  statements : statements_judged form.block p.body ≡ Passes form.statements
 
 -- the declarations and statements of what passes
 record BodyPasses (p : Program) (s : Standing) (form : ProgramForm) : Type 0 where
   stands : s ≡ Stands form.block
   waits : form.block.waits ≡ None
-  statements : compound_judged (context_of form.block) p.body ≡ Passes form.statements
+  statements : statements_judged form.block p.body ≡ Passes form.statements
 
-row_passes : (p : Program) (b : Block) (missing waits : Option ℕ) (row : Judgement Stmts) (form : ProgramForm) → b.waits ≡ waits → compound_judged (context_of b) p.body ≡ row
+row_passes : (p : Program) (b : Block) (missing waits : Option ℕ) (row : Judgement Stmts) (form : ProgramForm) → b.waits ≡ waits → statements_judged b p.body ≡ row
     → unless_missing missing (after program_form (declarations_wait b waits) row) ≡ Passes form → BodyPasses p (Stands b) form
 row_passes p b None None (Passes ss) form w c e =
     let is : program_form b ss ≡ form = cc in
@@ -65,7 +65,7 @@ row_passes p b (Some at) (Some line) (Waits other) form w c e = cc
 row_passes p b (Some at) (Some line) (Fails other rules) form w c e = cc
 
 body_passes : (p : Program) (s : Standing) (form : ProgramForm) → body_judged p s ≡ Passes form → BodyPasses p s form
-body_passes p (Stands b) form e = row_passes p b (first_missing b.forwards b.bodies) b.waits (compound_judged (context_of b) p.body) form refl refl e
+body_passes p (Stands b) form e = row_passes p b (first_missing b.forwards b.bodies) b.waits (statements_judged b p.body) form refl refl e
 body_passes p (Falls line rules) form e = cc
 
 parts_pass : (p : Program) (j : Judged Block) (form : ProgramForm) → parameters_entered p.parameters (program_block p) ≡ j → BodyPasses p (and_then (parts_declared p.parts) (at_line p.line j)) form → IsMade p form
@@ -143,6 +143,8 @@ module _ (statements : StatementsAreSound) (constants : ConstantsAreSound) (boun
       let made = program_made p t.form t.passes in
       let held = block_held p u t.form made few t.unit in
       let le : length t.form.block.types ≤ length u.types = omega (arith, ap length t.unit.types) in
+      let auxiliaries : AreBehind (own u) u.types (locals_of t.form.block) (auxiliaries_of t.form.statements) =
+      unit_behind u t.form.block t.form.statements held.unit t.unit.variables t.unit.start (none_under_way p u t.form made few) in
       record {
         interface = t.unit.interface;
         types = All-same (IsType u.types) u.types t.form.block.types t.unit.types held.types;
@@ -150,12 +152,13 @@ module _ (statements : StatementsAreSound) (constants : ConstantsAreSound) (boun
         variables = All-same (IsVariable u.types) u.variables t.form.block.variables t.unit.variables held.variables;
         routines = routines_valid u (subst (HoldsRoutines u) (sym t.unit.routines) held.routines);
         start = subst (IsStmt (own u)) (sym t.unit.start)
-            (statements (context_of t.form.block) p.body t.form.statements made.statements (own u) (
+            (statements (context_of t.form.block p.body) p.body t.form.statements made.statements (own u) (
               type_values u,
               subst (λ es. AgreesBy (within u es) (type_values u) (structures_of (scopes_of t.form.block)) (depth_in (scopes_of t.form.block)) (scopes_of t.form.block)) (none_under_way p u t.form made few)
                   (block_agrees u (length t.form.block.types) t.form.block (block_open p u t.form made few) le held),
             ) (no_result p u t.form made few)
-            (λ at has. unit_auxiliaries u t.form.block at held.unit t.unit.variables (ap first_for t.unit.start ∙ has) (none_under_way p u t.form made few)));
+            (for_auxiliaries (own u) u.types (locals_of t.form.block) t.form.statements auxiliaries)
+            (for_in_auxiliaries (own u) u.types (locals_of t.form.block) t.form.statements auxiliaries p.body (bounded_there (context_of t.form.block p.body) p.body t.form.statements made.statements)));
         stop = t.unit.stop;
       }
 

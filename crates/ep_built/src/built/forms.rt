@@ -184,7 +184,7 @@ fn target_is_built(a: &Access) -> bool
     are_components(behind_call(a.selectors.items())) && !names::is_later(&a.name)
 }
 
-/// The control variable of a `for` with bounds has a name that is built.
+/// The control variable of a `for` has a name that is built.
 fn control_is_built(name: &Name) -> bool
     ensures { result ≡ built_control name.now }
 {
@@ -211,7 +211,8 @@ pub(super) fn statement_is_built(s: &Statement) -> bool
         Statement::While(_, _, _) => true,
         Statement::Repeat(_, _, _) => true,
         Statement::For(_, name, _, _, _, _) => control_is_built(name),
-        _ => false,
+        Statement::ForIn(_, name, _, _) => control_is_built(name),
+        Statement::With(_, _, _) => false,
     }
 }
 

@@ -5,7 +5,7 @@ use Rattle.std.specs.List.{list_all}
 use Rattle.std.proofs.lemmas.List.Elements.{All-nil, All-push}
 use Rattle.ep_tree.specs.declared.expression.Expression.{Expression}
 use Rattle.ep_tree.specs.declared.expression.Label.{Label, out-Label}
-use Rattle.ep_typed.specs.Auxiliaries.{first_for, first_for_arms, first_for_other}
+use Rattle.ep_typed.specs.Auxiliaries.{first_for, first_for_arms, first_for_in, first_for_in_arms, first_for_in_other, first_for_other}
 use Rattle.ep_typed.specs.Hosts.{is_of_host}
 use Rattle.ep_typed.specs.Operations.{is_apart}
 use Rattle.ep_typed.specs.Trees as tree
@@ -30,7 +30,7 @@ use Rattle.ep_check_expr.specs.declared.constants.ConstantForm.{ConstantForm}
 use Rattle.ep_check_expr.proofs.Passing.{IfForm}
 use Rattle.ep_check_expr.proofs.SameHost.{host_same}
 use Rattle.ep_check_stmt.specs.Cases.{CaseSelector, added, arms_taken, at_least_one, end_judged, fitting, label_taken, labelled, labels_taken, no_labels, own_ranges, range_judged, ranges_formed, ranging}
-use Rattle.ep_check_stmt.specs.Statements.{ArmJudged, Judgement, Locals, after, arm_row, arms_in_order, at_item, case_row}
+use Rattle.ep_check_stmt.specs.Statements.{ArmJudged, Context, Judgement, after, arm_row, arms_in_order, at_item, case_row}
 use Rattle.ep_check_stmt.specs.declared.cases.Labels.{Labels}
 use Rattle.ep_check_stmt.proofs.judged.Fits.{Fits, fits_both, fits_then}
 use Rattle.ep_check_stmt.proofs.valid.Passing.{FitsRow, after_fits, item_fits}
@@ -113,7 +113,7 @@ module _ (scopes : List Region) (h : Host) where
       go (Breaks rules) is e = cc
       go (Accepts next) is e = q next more e ∙ (ap (λ l. l ++ ranges_of arms) (p found next is) ∙ append_assoc found.ranges rs (ranges_of arms))
 
-module _ (declared : Declarations) (locals : Locals) (labels : LabelsAreSound) (scopes : List Region) (agrees : Agrees declared scopes) (h : Host) where
+module _ (declared : Declarations) (context : Context) (labels : LabelsAreSound) (scopes : List Region) (agrees : Agrees declared scopes) (h : Host) where
   -- ---- labels
 
   -- an end of a label is a value of the host
@@ -212,21 +212,21 @@ module _ (declared : Declarations) (locals : Locals) (labels : LabelsAreSound) (
   -- the statement of each arm is valid, where it passes
   abbrev pub BodiesFit : List ArmJudged → Type 0
   BodiesFit [] = ⊤
-  BodiesFit (a ∷ all) = ((controls : List Entire) → FitsRow (IsSound declared locals) (a.1 controls)) × BodiesFit all
+  BodiesFit (a ∷ all) = ((controls : List Entire) → FitsRow (IsSound declared context) (a.1 controls)) × BodiesFit all
 
   abbrev labels_in : List ArmJudged → List (List Label)
   labels_in all = map (λ (a : ArmJudged). a.0) all
 
   abbrev AreOwnArms : List ArmJudged → Arms → Type 0
-  AreOwnArms all arms = ArmsAreSound declared locals (typed_host h) arms × HaveOwn scopes h (labels_in all) arms
+  AreOwnArms all arms = ArmsAreSound declared context (typed_host h) arms × HaveOwn scopes h (labels_in all) arms
 
   -- an arm with its own ranges
   abbrev IsOwnArm : List Label → tree.Arm → Type 0
-  IsOwnArm ls x = (AreOwn x.0 × HasOwn scopes h ls x.0) × IsSound declared locals x.1
+  IsOwnArm ls x = (AreOwn x.0 × HasOwn scopes h ls x.0) × IsSound declared context x.1
 
   one_arm_more : (a : ArmJudged) (all : List ArmJudged) (x : tree.Arm) (arms : Arms) → IsOwnArm a.0 x → AreOwnArms all arms → AreOwnArms (a ∷ all) (next_arm x.0 x.1 arms)
   one_arm_more a all x arms q r = (
-    λ there. (q.0.0.0, q.0.0.1, q.1 (first_part declared locals (first_for x.1) (first_for_arms arms) there), r.0 (second_part declared locals (first_for x.1) (first_for_arms arms) there)),
+    λ there. (q.0.0.0, q.0.0.1, q.1 (first_part declared context (first_for x.1) (first_for_arms arms) (first_for_in x.1) (first_for_in_arms arms) there), r.0 (second_part declared context (first_for x.1) (first_for_arms arms) (first_for_in x.1) (first_for_in_arms arms) there)),
     one_more scopes h a.0 (labels_in all) x.0 x.1 arms q.0.1 r.1,
   )
 
@@ -234,7 +234,7 @@ module _ (declared : Declarations) (locals : Locals) (labels : LabelsAreSound) (
   arms_fit line controls [] p = (λ there. tt, λ found more e. let same : found ≡ more = cc in ap (λ l. l.ranges) (sym same) ∙ sym (append-nil found.ranges))
   arms_fit line controls (a ∷ all) p =
       after_fits (IsOwnArm a.0) (AreOwnArms all) (AreOwnArms (a ∷ all)) _ (arm_row scopes line h controls a) (arms_in_order (map (arm_row scopes line h controls) all))
-      (after_fits (λ rs. AreOwn rs × HasOwn scopes h a.0 rs) (IsSound declared locals) (IsOwnArm a.0) _ (at_item line (own_ranges scopes h a.0)) (a.1 controls)
+      (after_fits (λ rs. AreOwn rs × HasOwn scopes h a.0 rs) (IsSound declared context) (IsOwnArm a.0) _ (at_item line (own_ranges scopes h a.0)) (a.1 controls)
       (item_fits (λ rs. AreOwn rs × HasOwn scopes h a.0 rs) line (own_ranges scopes h a.0) (pair_if AreOwn (HasOwn scopes h a.0) (own_ranges scopes h a.0) (own_fits a.0) (own_is scopes h a.0))) (p.0 controls) (λ rs s q r. (q, r)))
       (arms_fit line controls all p.1)
       (λ x arms q r. one_arm_more a all x arms q r)
@@ -249,13 +249,13 @@ module _ (declared : Declarations) (locals : Locals) (labels : LabelsAreSound) (
   abbrev pub IsSelected : List (List Label) → Option Expr → Type 0
   IsSelected all form = IfForm (λ x. IsExpr declared (valid.Ordinal (typed_host h)) x) form × AreApartIn all
 
-  pub row_fits : (line : ℕ) (controls : List Entire) (selector : Judged (Option Expr)) (all : List ArmJudged) (other : Judgement Other) → Fits (IfForm (λ x. IsExpr declared (valid.Ordinal (typed_host h)) x)) selector → AreApartIn (labels_in all) → BodiesFit all → FitsRow (OtherIsSound declared locals) other
-      → FitsRow (IsSound declared locals) (case_row line selector (arms_in_order (map (arm_row scopes line h controls) all)) other)
+  pub row_fits : (line : ℕ) (controls : List Entire) (selector : Judged (Option Expr)) (all : List ArmJudged) (other : Judgement Other) → Fits (IfForm (λ x. IsExpr declared (valid.Ordinal (typed_host h)) x)) selector → AreApartIn (labels_in all) → BodiesFit all → FitsRow (OtherIsSound declared context) other
+      → FitsRow (IsSound declared context) (case_row line selector (arms_in_order (map (arm_row scopes line h controls) all)) other)
   row_fits line controls selector all other p a q r =
-      after_fits (IsExpr declared (valid.Ordinal (typed_host h))) (λ (x : Arms × Other). AreOwnArms all x.0 × OtherIsSound declared locals x.1) (IsSound declared locals) _ (at_item line selector) (after (λ a b. (a, b)) (arms_in_order (map (arm_row scopes line h controls) all)) other)
+      after_fits (IsExpr declared (valid.Ordinal (typed_host h))) (λ (x : Arms × Other). AreOwnArms all x.0 × OtherIsSound declared context x.1) (IsSound declared context) _ (at_item line selector) (after (λ a b. (a, b)) (arms_in_order (map (arm_row scopes line h controls) all)) other)
       (item_fits (IsExpr declared (valid.Ordinal (typed_host h))) line selector p)
-      (after_fits (AreOwnArms all) (OtherIsSound declared locals) (λ (x : Arms × Other). AreOwnArms all x.0 × OtherIsSound declared locals x.1) (λ a b. (a, b)) (arms_in_order (map (arm_row scopes line h controls) all)) other (arms_fit line controls all q) r (λ a b x y. (x, y)))
-      (λ x parts e f. λ there. ((typed_host h, e, f.0.0 (first_part declared locals (first_for_arms parts.0) (first_for_other parts.1) there)), f.1 (second_part declared locals (first_for_arms parts.0) (first_for_other parts.1) there), subst AreApart (f.0.1 no_labels a.0 a.1) a.2))
+      (after_fits (AreOwnArms all) (OtherIsSound declared context) (λ (x : Arms × Other). AreOwnArms all x.0 × OtherIsSound declared context x.1) (λ a b. (a, b)) (arms_in_order (map (arm_row scopes line h controls) all)) other (arms_fit line controls all q) r (λ a b x y. (x, y)))
+      (λ x parts e f. λ there. ((typed_host h, e, f.0.0 (first_part declared context (first_for_arms parts.0) (first_for_other parts.1) (first_for_in_arms parts.0) (first_for_in_other parts.1) there)), f.1 (second_part declared context (first_for_arms parts.0) (first_for_other parts.1) (first_for_in_arms parts.0) (first_for_in_other parts.1) there), subst AreApart (f.0.1 no_labels a.0 a.1) a.2))
 
   -- the form, where the labels are built too
   pub labelled_fits : (all : List (List Label)) (form : Option Expr) → IfForm (λ x. IsExpr declared (valid.Ordinal (typed_host h)) x) form → Fits (λ (s : CaseSelector). (s.host ≡ h) × IsSelected all s.form) (labelled scopes all (record { host = h; form = form }))

@@ -1,12 +1,13 @@
--- A `for` statement that the rules accept is valid, where the auxiliary variables are there.
+-- A `for` statement of either form that the rules accept is valid, where the auxiliary variables are there.
 use Rattle.std.proofs.Common.{◌≡◌, ℕ, ◌-◌, Bool, true, false, List, [], ◌∷◌, Option, Some, None, refl, sym, subst}
 use Rattle.std.specs.Prelude.{⊤, if◌then◌else◌}
+use Rattle.std.specs.Option.{option_map}
 use Rattle.ep_tree.specs.declared.expression.Expression.{Expression}
 use Rattle.ep_typed.specs.Hosts as typed
 use Rattle.ep_typed.specs.Trees as tree
 use Rattle.ep_typed.specs.Trees.{Entire, Expr, Place, Stmt}
 use Rattle.ep_typed.specs.Valid as valid
-use Rattle.ep_typed.specs.Valid.{Declarations, IsControl, IsExpr, IsPlace}
+use Rattle.ep_typed.specs.Valid.{Declarations, IsControl, IsExpr, IsMemberControl, IsPlace}
 use Rattle.ep_scope.specs.Scopes.{Region, Meant, Declares, Standard, Requires, FieldOf, Nothing, depth_in, meant}
 use Rattle.ep_scope.specs.declared.kind.Host.{Host}
 use Rattle.ep_scope.specs.declared.kind.Kind.{Kind}
@@ -15,16 +16,16 @@ use Rattle.ep_scope.specs.declared.rule.TheConstants as rule
 use Rattle.ep_scope.specs.declared.thing.Declaration.{Declaration}
 use Rattle.ep_scope.specs.declared.thing.Declaration.TheVariants as declaration
 use Rattle.ep_scope.specs.declared.thing.Declared.{Declared}
-use Rattle.ep_check_expr.specs.Agreement.{Agrees, IsDeclaration, IsFormOf, IsStoredIn, structures_of}
+use Rattle.ep_check_expr.specs.Agreement.{Agrees, IsDeclaration, IsFormOf, IsHost, IsStoredIn, structures_of}
 use Rattle.ep_check_expr.specs.Arguments.{own_place}
 use Rattle.ep_check_expr.specs.Expressions.{judged}
 use Rattle.ep_check_expr.specs.Hosts.{typed_host}
 use Rattle.ep_check_expr.specs.Judgements.{Judged, Accepts, Breaks, Typed, when_accepted}
 use Rattle.ep_check_expr.specs.Operators.{map_both}
 use Rattle.ep_check_expr.proofs.Meant.{IsMeant, meant-declared}
-use Rattle.ep_check_expr.proofs.Passing.{IfForm, given-fits}
-use Rattle.ep_check_stmt.specs.Laws.{AuxiliariesAreThere}
-use Rattle.ep_check_stmt.specs.Statements.{Context, Counted, ForHead, Judgement, Locals, Named, Under, at_item, bound_judged, bounds_judged, control_if, control_judged, control_named, counted_by, declared_control, declares_own, declares_variable, for_head, for_judged, for_row, head_threat, is_threatened_in, unless_threatened_in, unless_threatening}
+use Rattle.ep_check_expr.proofs.Passing.{IfForm, given-fits, set-fits}
+use Rattle.ep_check_stmt.specs.Laws.{AuxiliariesAreThere, MembersAreThere}
+use Rattle.ep_check_stmt.specs.Statements.{Context, Counted, ForHead, Judgement, Locals, MemberHead, Named, Under, at_item, bound_judged, bounds_judged, control_if, control_judged, control_named, counted_by, declared_control, declares_own, declares_variable, for_head, for_in_judged, for_in_row, for_judged, for_row, head_threat, is_threatened_in, member_head, member_threat, members_judged, set_judged, unless_threatened_in, unless_threatening}
 use Rattle.ep_check_stmt.proofs.judged.Fits.{Fits, fits_both, fits_then}
 use Rattle.ep_check_stmt.proofs.valid.Passing.{FitsRow, after_fits, item_fits, unthreatening_fits}
 use Rattle.ep_check_stmt.proofs.valid.Sound.{IsSound}
@@ -32,9 +33,9 @@ use Rattle.ep_check_stmt.proofs.valid.Sound.{IsSound}
 module _ (declared : Declarations) (scopes : List Region) (agrees : Agrees declared scopes) (sound : (e : Expression) → Fits (λ t. IsFormOf declared agrees.0 (structures_of scopes) t.kind t.form) (judged scopes e)) where
   -- ---- the control variable
 
-  -- a variable of an ordinal type is a place
+  -- a variable of an ordinal type is a place, and the numbers of its host are integers
   abbrev IsVariableOf : Kind → Place → Type 0
-  IsVariableOf (kind.Ordinal h) place = IsPlace declared (typed_host h) place
+  IsVariableOf (kind.Ordinal h) place = IsHost h × IsPlace declared (typed_host h) place
   IsVariableOf (kind.Structured n) place = ⊤
   IsVariableOf (kind.Set base) place = ⊤
   IsVariableOf kind.EmptySet place = ⊤
@@ -45,7 +46,7 @@ module _ (declared : Declarations) (scopes : List Region) (agrees : Agrees decla
   IsVariable v = IsVariableOf v.kind (tree.entire v.variable)
 
   stored_fits : (place : Place) (k : Kind) → IsStoredIn declared agrees.0 (structures_of scopes) place k → IsVariableOf k place
-  stored_fits place (kind.Ordinal h) x = x.1
+  stored_fits place (kind.Ordinal h) x = x
   stored_fits place (kind.Structured n) x = tt
   stored_fits place (kind.Set base) x = tt
   stored_fits place kind.EmptySet x = tt
@@ -72,7 +73,7 @@ module _ (declared : Declarations) (scopes : List Region) (agrees : Agrees decla
   named_fits locals name Nothing x = tt
 
   abbrev IsCounted : Counted → Type 0
-  IsCounted c = IsPlace declared (typed_host c.host) (tree.entire c.variable)
+  IsCounted c = IsHost c.host × IsPlace declared (typed_host c.host) (tree.entire c.variable)
 
   counted_fits : (v : Entire) (k : Kind) → IsVariableOf k (tree.entire v) → Fits IsCounted (counted_by v k)
   counted_fits v (kind.Ordinal h) x = x
@@ -110,7 +111,7 @@ module _ (declared : Declarations) (scopes : List Region) (agrees : Agrees decla
   head_fits : (locals : Locals) (falls : Bool) (c : Counted) → IsCounted c → (x y : Option Expr) → IfForm (IsBound c.host) x → IfForm (IsBound c.host) y → IfForm (IsHead locals) (map_both (for_head locals falls c) x y)
   head_fits locals falls c is None y p q = tt
   head_fits locals falls c is (Some x) None p q = tt
-  head_fits locals falls c is (Some x) (Some y) p q = λ there. (typed_host c.host, record { variable = is; initial = there.0; last = there.1; low = refl; high = refl }, p, q)
+  head_fits locals falls c is (Some x) (Some y) p q = λ there. (typed_host c.host, record { variable = is.1; initial = there.0; last = there.1; low = refl; high = refl }, p, q)
 
   bounds_fit : (locals : Locals) (falls : Bool) (c : Counted) → IsCounted c → (start end : Expression) → Fits (IfForm (IsHead locals)) (bounds_judged locals falls c (judged scopes start) (judged scopes end))
   bounds_fit locals falls c is start end =
@@ -119,16 +120,51 @@ module _ (declared : Declarations) (scopes : List Region) (agrees : Agrees decla
 
   -- ---- the statement
 
-  row_fits : (locals : Locals) (line : ℕ) (head : Judgement ForHead) (body : Judgement Stmt) → FitsRow (IsHead locals) head → FitsRow (IsSound declared locals) body → FitsRow (IsSound declared locals) (for_row line head body)
-  row_fits locals line head body p q =
-      after_fits (IsHead locals) (IsSound declared locals) (IsSound declared locals) (λ h s. tree.For line h.control h.initial h.last s) head body p q
-      (λ h s f g. λ there. (f (there line refl), g (λ other e. there line refl)))
+  row_fits : (c : Context) (line : ℕ) (head : Judgement ForHead) (body : Judgement Stmt) → FitsRow (IsHead c.locals) head → FitsRow (IsSound declared c) body → FitsRow (IsSound declared c) (for_row line head body)
+  row_fits c line head body p q =
+      after_fits (IsHead c.locals) (IsSound declared c) (IsSound declared c) (λ h s. tree.For line h.control h.initial h.last s) head body p q
+      (λ h s f g. λ there. (f (there.0 line refl), g (λ other e. there.0 line refl, there.1)))
 
-  pub for_fits : (c : Context) → c.scopes ≡ scopes → (controls : List Entire) (line : ℕ) (j : Judged Counted) (falls : Bool) (start end : Expression) (body : Under Stmt) → Fits IsCounted j → ((inner : List Entire) → FitsRow (IsSound declared c.locals) (body inner))
-      → FitsRow (IsSound declared c.locals) (for_judged c controls line j falls start end body)
+  pub for_fits : (c : Context) → c.scopes ≡ scopes → (controls : List Entire) (line : ℕ) (j : Judged Counted) (falls : Bool) (start end : Expression) (body : Under Stmt) → Fits IsCounted j → ((inner : List Entire) → FitsRow (IsSound declared c) (body inner))
+      → FitsRow (IsSound declared c) (for_judged c controls line j falls start end body)
   for_fits c is controls line (Breaks rules) falls start end body p q = tt
   for_fits c is controls line (Accepts k) falls start end body p q =
-      subst (λ s. FitsRow (IsSound declared c.locals) (for_row line (at_item line (unless_threatening (head_threat c.routines) controls (bounds_judged c.locals falls k (judged s start) (judged s end)))) (body (k.variable ∷ controls)))) (sym is)
-      (row_fits c.locals line _ (body (k.variable ∷ controls))
+      subst (λ s. FitsRow (IsSound declared c) (for_row line (at_item line (unless_threatening (head_threat c.routines) controls (bounds_judged c.locals falls k (judged s start) (judged s end)))) (body (k.variable ∷ controls)))) (sym is)
+      (row_fits c line _ (body (k.variable ∷ controls))
       (item_fits (IsHead c.locals) line _ (unthreatening_fits (IsHead c.locals) (head_threat c.routines) controls (bounds_judged c.locals falls k (judged scopes start) (judged scopes end)) (bounds_fit c.locals falls k p start end)))
+      (q (k.variable ∷ controls)))
+
+  -- ---- the statement over members
+
+  abbrev IsSetOver : Host → Expr → Type 0
+  IsSetOver h x = IsExpr declared (valid.Set (typed_host h)) x
+
+  set_fits : (h : Host) (e : Expression) → Fits (IfForm (IsSetOver h)) (when_accepted (set_judged h) (judged scopes e))
+  set_fits h e =
+      fits_then (λ (t : Typed). IsFormOf declared agrees.0 (structures_of scopes) t.kind t.form) (IfForm (IsSetOver h)) (set_judged h) (judged scopes e) (sound e) (λ t f. set-fits declared agrees.0 (structures_of scopes) (IsSetOver h) (λ x. x) h (λ x q. q) t.kind t.form f)
+
+  -- its head is valid, where the auxiliary variable is there
+  abbrev IsMemberHead : Context → MemberHead → Type 0
+  IsMemberHead c head = MembersAreThere declared c.locals c.members → (h : typed.Host) × IsMemberControl declared h head.control × IsExpr declared (valid.Set h) head.set
+
+  member_head_fits : (c : Context) (k : Counted) → IsCounted k → (x : Option Expr) → IfForm (IsSetOver k.host) x → IfForm (IsMemberHead c) (option_map (member_head c.locals c.members k) x)
+  member_head_fits c k is None p = tt
+  member_head_fits c k is (Some x) p = λ there. (typed_host k.host, record { variable = is.1; rest = there; numbered = is.0 }, p)
+
+  members_fit : (c : Context) (k : Counted) → IsCounted k → (set : Expression) → Fits (IfForm (IsMemberHead c)) (members_judged c.locals c.members k (judged scopes set))
+  members_fit c k is set =
+      fits_then (IfForm (IsSetOver k.host)) (IfForm (IsMemberHead c)) (λ x. Accepts (option_map (member_head c.locals c.members k) x)) (when_accepted (set_judged k.host) (judged scopes set)) (set_fits k.host set) (λ x p. member_head_fits c k is x p)
+
+  member_row_fits : (c : Context) (line : ℕ) (head : Judgement MemberHead) (body : Judgement Stmt) → FitsRow (IsMemberHead c) head → FitsRow (IsSound declared c) body → FitsRow (IsSound declared c) (for_in_row line head body)
+  member_row_fits c line head body p q =
+      after_fits (IsMemberHead c) (IsSound declared c) (IsSound declared c) (λ h s. tree.ForIn line h.control h.set s) head body p q
+      (λ h s f g. λ there. (f (there.1 line refl), g (there.0, λ other e. there.1 line refl)))
+
+  pub for_in_fits : (c : Context) → c.scopes ≡ scopes → (controls : List Entire) (line : ℕ) (j : Judged Counted) (set : Expression) (body : Under Stmt) → Fits IsCounted j → ((inner : List Entire) → FitsRow (IsSound declared c) (body inner))
+      → FitsRow (IsSound declared c) (for_in_judged c controls line j set body)
+  for_in_fits c is controls line (Breaks rules) set body p q = tt
+  for_in_fits c is controls line (Accepts k) set body p q =
+      subst (λ s. FitsRow (IsSound declared c) (for_in_row line (at_item line (unless_threatening (member_threat c.routines) controls (members_judged c.locals c.members k (judged s set)))) (body (k.variable ∷ controls)))) (sym is)
+      (member_row_fits c line _ (body (k.variable ∷ controls))
+      (item_fits (IsMemberHead c) line _ (unthreatening_fits (IsMemberHead c) (member_threat c.routines) controls (members_judged c.locals c.members k (judged scopes set)) (members_fit c k p set)))
       (q (k.variable ∷ controls)))

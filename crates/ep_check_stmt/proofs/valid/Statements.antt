@@ -16,7 +16,7 @@ use Rattle.ep_tree.specs.declared.statement.Otherwise.{Otherwise, map-Otherwise,
 use Rattle.ep_tree.specs.declared.statement.Statement.{Statement, map-Statement, roll-Statement}
 use Rattle.ep_tree.specs.declared.statement.Statement.TheFolds.{fold-roll-Arm, fold-roll-Compound, fold-roll-Otherwise, fold-roll-Statement, ind-Compound}
 use Rattle.ep_tree.specs.declared.statement.Statement.TheOpen.{Statement-F, Arm-F, Compound-F, Otherwise-F}
-use Rattle.ep_typed.specs.Auxiliaries.{first_for, first_for_of}
+use Rattle.ep_typed.specs.Auxiliaries.{first_for, first_for_in, first_for_in_of, first_for_of}
 use Rattle.ep_typed.specs.Hosts as typed
 use Rattle.ep_typed.specs.Trees as tree
 use Rattle.ep_typed.specs.Trees.{Entire, Actual, Callee, Place, Expr, Item, Other, Stmt, Stmts}
@@ -60,7 +60,7 @@ use Rattle.ep_check_stmt.specs.Laws.{IsResultAt, ResultsAreThere, StatementsAreS
 use Rattle.ep_check_stmt.specs.Statements.{ArmJudged, Context, FunctionResult, Judgement, Passes, Shown, Target, Under, after, arm_judged, arm_row, arms_in_order, assigned, at_arm, at_compound, at_item, at_otherwise, at_statement, available, call_arguments, call_judged, case_judged, compound_under, condition, condition_judged, control_judged, declared_called, declared_target, expr_item, expr_threat, falls_by, file_given, formed, function_target, has_result, if_judged, in_order, item_form, item_judged, items_judged, measured, name_called, one_more, own_called, otherwise_judged, place_named, procedure_called, required_called, shown, something, statement_judged, stmt_item, stmt_threat, target_judged, target_of_selectors, tested, to_file, unless_threatening, usually_written, variable_target, width_judged, write_judged, written, written_or}
 use Rattle.ep_check_stmt.proofs.judged.Fits.{Any, Fits, fits_any, fits_both, fits_is, fits_pair, fits_then, fits_weaker}
 use Rattle.ep_check_stmt.proofs.valid.Passing.{FitsRow, after_fits, formed_fits, item_fits, unthreatening_fits}
-use Rattle.ep_check_stmt.proofs.valid.Loops.{control_fits, for_fits}
+use Rattle.ep_check_stmt.proofs.valid.Loops.{control_fits, for_fits, for_in_fits}
 use Rattle.ep_check_stmt.proofs.valid.Sound.{AreSound, IsSound, OtherIsSound, first_part, second_part}
 use Rattle.ep_check_stmt.proofs.valid.Cases.{BodiesFit, IsSelected, labelled_fits, row_fits as arms_row_fits}
 
@@ -119,12 +119,12 @@ module _ (declared : Declarations) (expressions : ExpressionsAreSound) (passed :
   -- ---- statements without statements inside
 
   -- one that is valid, inside of `for` statements
-  stmt_fits : (c : Context) (controls : List Entire) (line : ℕ) (j : Judged (Option Stmt)) → Fits (IfForm (IsStmt declared)) j → FitsRow (IsSound declared c.locals) (stmt_item c controls line j)
+  stmt_fits : (c : Context) (controls : List Entire) (line : ℕ) (j : Judged (Option Stmt)) → Fits (IfForm (IsStmt declared)) j → FitsRow (IsSound declared c) (stmt_item c controls line j)
   stmt_fits c controls line j h =
-      item_fits (IsSound declared c.locals) line (unless_threatening (stmt_threat c.routines) controls j)
-      (unthreatening_fits (IsSound declared c.locals) (stmt_threat c.routines) controls j (fits_weaker (IfForm (IsStmt declared)) (IfForm (IsSound declared c.locals)) j weaker h))
+      item_fits (IsSound declared c) line (unless_threatening (stmt_threat c.routines) controls j)
+      (unthreatening_fits (IsSound declared c) (stmt_threat c.routines) controls j (fits_weaker (IfForm (IsStmt declared)) (IfForm (IsSound declared c)) j weaker h))
     where
-      weaker : (form : Option Stmt) → IfForm (IsStmt declared) form → IfForm (IsSound declared c.locals) form
+      weaker : (form : Option Stmt) → IfForm (IsStmt declared) form → IfForm (IsSound declared c) form
       weaker None p = tt
       weaker (Some s) p = λ there. p
 
@@ -165,6 +165,7 @@ module _ (declared : Declarations) (expressions : ExpressionsAreSound) (passed :
   read_fits (kind.Ordinal h) (Some (tree.Function callee given)) f = tt
   read_fits (kind.Ordinal h) (Some (tree.IndexedValue array index)) f = tt
   read_fits (kind.Ordinal h) (Some (tree.FieldValue whole number)) f = tt
+  read_fits (kind.Ordinal h) (Some (tree.SetConstant members)) f = tt
   read_fits (kind.Ordinal h) (Some (tree.SetOf members)) f = tt
   read_fits (kind.Ordinal h) (Some (tree.OnSets operation x y)) f = tt
   read_fits (kind.Ordinal h) (Some (tree.Card x)) f = tt
@@ -179,6 +180,7 @@ module _ (declared : Declarations) (expressions : ExpressionsAreSound) (passed :
   read_fits (kind.Structured n) (Some (tree.Two operation x y)) f = tt
   read_fits (kind.Structured n) (Some (tree.Short operation x y)) f = tt
   read_fits (kind.Structured n) (Some (tree.Step down low high x y)) f = tt
+  read_fits (kind.Structured n) (Some (tree.SetConstant members)) f = tt
   read_fits (kind.Structured n) (Some (tree.SetOf members)) f = tt
   read_fits (kind.Structured n) (Some (tree.OnSets operation x y)) f = tt
   read_fits (kind.Structured n) (Some (tree.Card x)) f = tt
@@ -193,6 +195,7 @@ module _ (declared : Declarations) (expressions : ExpressionsAreSound) (passed :
   read_fits (kind.Set h) (Some (tree.Function callee given)) f = tt
   read_fits (kind.Set h) (Some (tree.IndexedValue array index)) f = tt
   read_fits (kind.Set h) (Some (tree.FieldValue whole number)) f = tt
+  read_fits (kind.Set h) (Some (tree.SetConstant members)) f = tt
   read_fits (kind.Set h) (Some (tree.SetOf members)) f = tt
   read_fits (kind.Set h) (Some (tree.OnSets operation x y)) f = tt
   read_fits (kind.Set h) (Some (tree.Card x)) f = tt
@@ -469,16 +472,16 @@ module _ (declared : Declarations) (expressions : ExpressionsAreSound) (passed :
     -- the statements of arms are valid, where they pass
     abbrev ArmsFit : List ArmJudged → Type 0
     ArmsFit [] = ⊤
-    ArmsFit (a ∷ all) = ((controls : List Entire) → FitsRow (IsSound declared c.locals) (a.1 controls)) × ArmsFit all
+    ArmsFit (a ∷ all) = ((controls : List Entire) → FitsRow (IsSound declared c) (a.1 controls)) × ArmsFit all
 
     -- a selector, with its labels
     abbrev IsChosen : List (List Label) → CaseSelector → Type 0
-    IsChosen all s = IsSelected declared c.locals labels scopes agrees s.host all s.form
+    IsChosen all s = IsSelected declared c labels scopes agrees s.host all s.form
 
     selecting_fits : (all : List (List Label)) (k : Kind) (form : Option Expr) → IsFormOf declared agrees.0 structures k form → Fits (IsChosen all) (when_accepted (labelled scopes all) (selecting k form))
     selecting_fits all (kind.Ordinal h) form f =
-        fits_weaker (λ (s : CaseSelector). (s.host ≡ h) × IsSelected declared c.locals labels scopes agrees h all s.form) (IsChosen all) (labelled scopes all (record { host = h; form = form }))
-        (λ s p. subst (λ g. IsSelected declared c.locals labels scopes agrees g all s.form) (sym p.0) p.1) (labelled_fits declared c.locals labels scopes agrees h all form (ordinal_form h form f))
+        fits_weaker (λ (s : CaseSelector). (s.host ≡ h) × IsSelected declared c labels scopes agrees h all s.form) (IsChosen all) (labelled scopes all (record { host = h; form = form }))
+        (λ s p. subst (λ g. IsSelected declared c labels scopes agrees g all s.form) (sym p.0) p.1) (labelled_fits declared c labels scopes agrees h all form (ordinal_form h form f))
     selecting_fits all (kind.Structured n) form f = tt
     selecting_fits all (kind.Set base) form f = tt
     selecting_fits all kind.EmptySet form f = tt
@@ -492,21 +495,21 @@ module _ (declared : Declarations) (expressions : ExpressionsAreSound) (passed :
         go (Accepts t) p = selecting_fits all t.kind t.form p
         go (Breaks rules) p = tt
 
-    chosen_fits : (controls : List Entire) (line : ℕ) (j : Judged CaseSelector) (all : List ArmJudged) (other : Judgement Other) → Fits (IsChosen (labels_in all)) j → ArmsFit all → FitsRow (OtherIsSound declared c.locals) other
-        → FitsRow (IsSound declared c.locals) (case_judged line (λ x. expr_item c controls (Accepts x)) j (λ h. arms_in_order (map (arm_row scopes line h controls) all)) other)
+    chosen_fits : (controls : List Entire) (line : ℕ) (j : Judged CaseSelector) (all : List ArmJudged) (other : Judgement Other) → Fits (IsChosen (labels_in all)) j → ArmsFit all → FitsRow (OtherIsSound declared c) other
+        → FitsRow (IsSound declared c) (case_judged line (λ x. expr_item c controls (Accepts x)) j (λ h. arms_in_order (map (arm_row scopes line h controls) all)) other)
     chosen_fits controls line (Accepts s) all other p q r =
-        arms_row_fits declared c.locals labels scopes agrees s.host line controls (expr_item c controls (Accepts s.form)) all other
+        arms_row_fits declared c labels scopes agrees s.host line controls (expr_item c controls (Accepts s.form)) all other
         (unthreatening_fits (IsExpr declared (valid.Ordinal (typed_host s.host))) (expr_threat c.routines) controls (Accepts s.form) p.0) p.1 (bodies s.host all q) r
       where
-        bodies : (h : Host) (all : List ArmJudged) → ArmsFit all → BodiesFit declared c.locals labels scopes agrees h all
+        bodies : (h : Host) (all : List ArmJudged) → ArmsFit all → BodiesFit declared c labels scopes agrees h all
         bodies h [] q = tt
         bodies h (a ∷ all) q = (q.0, bodies h all q.1)
     chosen_fits controls line (Breaks rules) all other p q r = tt
 
-    case_fits : (controls : List Entire) (line : ℕ) (e : Expression) (all : List ArmJudged) (other : Judgement Other) → ArmsFit all → FitsRow (OtherIsSound declared c.locals) other
-        → FitsRow (IsSound declared c.locals) (case_judged line (λ x. expr_item c controls (Accepts x)) (selector_judged c.scopes e (labels_in all)) (λ h. arms_in_order (map (arm_row c.scopes line h controls) all)) other)
+    case_fits : (controls : List Entire) (line : ℕ) (e : Expression) (all : List ArmJudged) (other : Judgement Other) → ArmsFit all → FitsRow (OtherIsSound declared c) other
+        → FitsRow (IsSound declared c) (case_judged line (λ x. expr_item c controls (Accepts x)) (selector_judged c.scopes e (labels_in all)) (λ h. arms_in_order (map (arm_row c.scopes line h controls) all)) other)
     case_fits controls line e all other q r =
-        subst (λ s. FitsRow (IsSound declared c.locals) (case_judged line (λ x. expr_item c controls (Accepts x)) (selector_judged s e (labels_in all)) (λ h. arms_in_order (map (arm_row s line h controls) all)) other)) (sym is)
+        subst (λ s. FitsRow (IsSound declared c) (case_judged line (λ x. expr_item c controls (Accepts x)) (selector_judged s e (labels_in all)) (λ h. arms_in_order (map (arm_row s line h controls) all)) other)) (sym is)
         (chosen_fits controls line (selector_judged scopes e (labels_in all)) all other (selector_fits e (labels_in all)) q r)
 
   -- ---- calls
@@ -570,10 +573,10 @@ module _ (declared : Declarations) (expressions : ExpressionsAreSound) (passed :
 
   module _ (c : Context) (is : c.scopes ≡ scopes) (there : Results c) where
     abbrev Sound : Judgement Stmt → Type 0
-    Sound = FitsRow (IsSound declared c.locals)
+    Sound = FitsRow (IsSound declared c)
 
     abbrev AllSound : Judgement Stmts → Type 0
-    AllSound = FitsRow (AreSound declared c.locals)
+    AllSound = FitsRow (AreSound declared c)
 
     -- inside of any `for` statements
     abbrev IsStatement : Statement → Type 0
@@ -626,24 +629,24 @@ module _ (declared : Declarations) (expressions : ExpressionsAreSound) (passed :
     rolled_compound x h controls = subst (λ (judge : Under Stmts). AllSound (judge controls)) (sym (fold-roll-Compound (Under Stmt) ArmJudged (Under Stmts) (Under Stmts) (at_statement c) (at_arm c) (at_compound c) (at_otherwise c) x)) (h controls)
 
     -- one statement before others
-    both_sound : (x : Stmt) (xs : Stmts) → IsSound declared c.locals x → AreSound declared c.locals xs → AreSound declared c.locals (tree.next x xs)
-    both_sound x xs p q = λ there. (p (first_part declared c.locals (first_for x) (first_for_of xs) there), q (second_part declared c.locals (first_for x) (first_for_of xs) there))
+    both_sound : (x : Stmt) (xs : Stmts) → IsSound declared c x → AreSound declared c xs → AreSound declared c (tree.next x xs)
+    both_sound x xs p q = λ there. (p (first_part declared c (first_for x) (first_for_of xs) (first_for_in x) (first_for_in_of xs) there), q (second_part declared c (first_for x) (first_for_of xs) (first_for_in x) (first_for_in_of xs) there))
 
     row_fits : (controls : List Entire) (ss : List ValidStatement) → AllSound (in_order (map (λ s. s controls) (map (statement_judged c) (map (λ s. s.0) ss))))
     row_fits controls [] = λ there. tt
     row_fits controls (s ∷ ss) =
-        after_fits (IsSound declared c.locals) (AreSound declared c.locals) (AreSound declared c.locals) tree.next (statement_judged c s.0 controls) (in_order (map (λ s. s controls) (map (statement_judged c) (map (λ s. s.0) ss)))) (s.1 controls) (row_fits controls ss)
+        after_fits (IsSound declared c) (AreSound declared c) (AreSound declared c) tree.next (statement_judged c s.0 controls) (in_order (map (λ s. s controls) (map (statement_judged c) (map (λ s. s.0) ss)))) (s.1 controls) (row_fits controls ss)
         (λ x xs p q. both_sound x xs p q)
 
     -- two statements
     abbrev BothSound : Stmt × Stmt → Type 0
-    BothSound p = IsSound declared c.locals p.0 × IsSound declared c.locals p.1
+    BothSound p = IsSound declared c p.0 × IsSound declared c p.1
 
     if_fits : (line : ℕ) (x : Judgement Expr) (y z : Judgement Stmt) → FitsRow (IsExpr declared (valid.Ordinal typed.Boolean)) x → Sound y → Sound z → Sound (if_judged line x y z)
     if_fits line x y z h k l =
-        after_fits (IsExpr declared (valid.Ordinal typed.Boolean)) BothSound (IsSound declared c.locals) _ x (after (λ a b. (a, b)) y z) h
-        (after_fits (IsSound declared c.locals) (IsSound declared c.locals) BothSound (λ a b. (a, b)) y z k l (λ a b p q. (p, q)))
-        (λ e p f g. λ there. (f, g.0 (first_part declared c.locals (first_for p.0) (first_for p.1) there), g.1 (second_part declared c.locals (first_for p.0) (first_for p.1) there)))
+        after_fits (IsExpr declared (valid.Ordinal typed.Boolean)) BothSound (IsSound declared c) _ x (after (λ a b. (a, b)) y z) h
+        (after_fits (IsSound declared c) (IsSound declared c) BothSound (λ a b. (a, b)) y z k l (λ a b p q. (p, q)))
+        (λ e p f g. λ there. (f, g.0 (first_part declared c (first_for p.0) (first_for p.1) (first_for_in p.0) (first_for_in p.1) there), g.1 (second_part declared c (first_for p.0) (first_for p.1) (first_for_in p.0) (first_for_in p.1) there)))
 
     bodies_fit : (all : List ValidArm) → ArmsFit c is (map (arm_judged c) (map (λ a. a.0) all))
     bodies_fit [] = tt
@@ -658,7 +661,7 @@ module _ (declared : Declarations) (expressions : ExpressionsAreSound) (passed :
     statement_step (Statement-F.Assignment line access v) =
         rolled (Statement-F.Assignment line access v) (λ controls. stmt_fits c controls line _ (assignment_fits c is there line access v))
     statement_step (Statement-F.Call line access) = rolled (Statement-F.Call line access) (λ controls. stmt_fits c controls line _ (called_fits c is line (out-Access access).name (call_arguments (out-Access access).selectors)))
-    statement_step (Statement-F.Compound s) = rolled (Statement-F.Compound s.0) (λ controls. formed_fits (AreSound declared c.locals) (IsSound declared c.locals) tree.Compound (compound_under c s.0 controls) (s.1 controls) (λ ss p. p))
+    statement_step (Statement-F.Compound s) = rolled (Statement-F.Compound s.0) (λ controls. formed_fits (AreSound declared c) (IsSound declared c) tree.Compound (compound_under c s.0 controls) (s.1 controls) (λ ss p. p))
     statement_step (Statement-F.If line e then_part None) =
         rolled (statement_layer (Statement-F.If line e then_part None))
         (λ controls. if_fits line (condition_judged c controls line e) (statement_judged c then_part.0 controls) (Passes tree.Empty) (condition_fits c is controls line e) (then_part.1 controls) (nothing_there controls))
@@ -667,20 +670,22 @@ module _ (declared : Declarations) (expressions : ExpressionsAreSound) (passed :
         (λ controls. if_fits line (condition_judged c controls line e) (statement_judged c then_part.0 controls) (statement_judged c other.0 controls) (condition_fits c is controls line e) (then_part.1 controls) (other.1 controls))
     statement_step (Statement-F.While line e body) =
         rolled (Statement-F.While line e body.0)
-        (λ controls. after_fits (IsExpr declared (valid.Ordinal typed.Boolean)) (IsSound declared c.locals) (IsSound declared c.locals) (tree.While line) (condition_judged c controls line e) (statement_judged c body.0 controls) (condition_fits c is controls line e) (body.1 controls) (λ x s p q. λ there. (p, q there)))
+        (λ controls. after_fits (IsExpr declared (valid.Ordinal typed.Boolean)) (IsSound declared c) (IsSound declared c) (tree.While line) (condition_judged c controls line e) (statement_judged c body.0 controls) (condition_fits c is controls line e) (body.1 controls) (λ x s p q. λ there. (p, q there)))
     statement_step (Statement-F.Case line e arms None) =
         rolled (statement_layer (Statement-F.Case line e arms None)) (λ controls. case_fits c is controls line e (map (arm_judged c) (map (λ a. a.0) arms)) (Passes tree.no_other) (bodies_fit arms) (λ there. tt))
     statement_step (Statement-F.Case line e arms (Some o)) =
         rolled (statement_layer (Statement-F.Case line e arms (Some o)))
         (λ controls. case_fits c is controls line e (map (arm_judged c) (map (λ a. a.0) arms)) (formed tree.otherwise_do (otherwise_judged c o.0 controls)) (bodies_fit arms)
-        (formed_fits (AreSound declared c.locals) (OtherIsSound declared c.locals) tree.otherwise_do (otherwise_judged c o.0 controls) (o.1 controls) (λ ss p. p)))
+        (formed_fits (AreSound declared c) (OtherIsSound declared c) tree.otherwise_do (otherwise_judged c o.0 controls) (o.1 controls) (λ ss p. p)))
     statement_step (Statement-F.Repeat line statements e) =
         rolled (statement_layer (Statement-F.Repeat line statements e))
-        (λ controls. after_fits (IsExpr declared (valid.Ordinal typed.Boolean)) (AreSound declared c.locals) (IsSound declared c.locals) (λ form body. tree.Repeat line body form) (condition_judged c controls line e) (in_order (map (λ s. s controls) (map (statement_judged c) (map (λ s. s.0) statements)))) (condition_fits c is controls line e) (row_fits controls statements) (λ x ss p q. λ there. (q there, p)))
+        (λ controls. after_fits (IsExpr declared (valid.Ordinal typed.Boolean)) (AreSound declared c) (IsSound declared c) (λ form body. tree.Repeat line body form) (condition_judged c controls line e) (in_order (map (λ s. s controls) (map (statement_judged c) (map (λ s. s.0) statements)))) (condition_fits c is controls line e) (row_fits controls statements) (λ x ss p q. λ there. (q there, p)))
     statement_step (Statement-F.For line variable start toward end body) =
         rolled (statement_layer (Statement-F.For line variable start toward end body))
         (λ controls. for_fits declared scopes agrees expression_fits c is controls line (control_judged c variable) (falls_by toward) start end (statement_judged c body.0) (control_fits declared scopes agrees expression_fits c is variable) body.1)
-    statement_step (Statement-F.ForIn line variable members body) = rolled (statement_layer (Statement-F.ForIn line variable members body)) (λ controls. tt)
+    statement_step (Statement-F.ForIn line variable set body) =
+        rolled (statement_layer (Statement-F.ForIn line variable set body))
+        (λ controls. for_in_fits declared scopes agrees expression_fits c is controls line (control_judged c variable) set (statement_judged c body.0) (control_fits declared scopes agrees expression_fits c is variable) body.1)
     statement_step (Statement-F.With line accesses body) = rolled (statement_layer (Statement-F.With line accesses body)) (λ controls. tt)
 
     -- the statements of a compound statement that pass are valid
@@ -694,6 +699,6 @@ module _ (declared : Declarations) (expressions : ExpressionsAreSound) (passed :
 
 -- the law
 pub statements_are_sound : ExpressionsAreSound → ArgumentsAreSound → ValuesAreSound → LabelsAreSound → VariablesAreSound → StatementsAreSound
-statements_are_sound expressions passed values labels variables context c ss is declared agrees there auxiliary =
-    let sound : AreSound declared context.locals ss = subst (FitsRow (AreSound declared context.locals)) is (compound_fits declared expressions passed values labels variables context.scopes agrees context refl there c []) in
-    sound auxiliary
+statements_are_sound expressions passed values labels variables context c ss is declared agrees there auxiliary members =
+    let sound : AreSound declared context ss = subst (FitsRow (AreSound declared context)) is (compound_fits declared expressions passed values labels variables context.scopes agrees context refl there c []) in
+    sound (auxiliary, members)

@@ -1,5 +1,5 @@
 -- Words that hold a value of a set type: what is loaded of them, and what is stored.
-use Rattle.std.proofs.Common.{◌≡◌, ℕ, ℤ, zero, suc, ◌+◌, ◌<◌, List, [], ◌∷◌, length, IsTrue, Some, slice_get, refl, sym, ap, ◌∙◌, arith}
+use Rattle.std.proofs.Common.{◌≡◌, ℕ, ℤ, suc, ◌+◌, ◌<◌, List, [], ◌∷◌, length, IsTrue, Some, slice_get, refl, sym, ap, ◌∙◌, arith}
 use Rattle.std.proofs.lemmas.Option.{same_Some}
 use Rattle.ep_object.specs.Effects.{Continues, Fails}
 use Rattle.ep_object.specs.Matching.{MembersAt}

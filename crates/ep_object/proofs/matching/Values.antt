@@ -3,8 +3,7 @@ use Rattle.std.proofs.Common.{◌≡◌, ℕ, ℤ, pos, negsuc, zero, suc, ◌+�
 use Rattle.std.specs.Prelude.{int_le}
 use Rattle.std.proofs.lemmas.Bool.Decides.{nat_tests}
 use Rattle.std.proofs.lemmas.List.{length-take-le}
-use Rattle.ep_object.specs.Matching.{Injection, Words, MembersAt, SetAt, HasAt, HaveAt, Part, part_along, all_of}
-use Rattle.ep_object.specs.Sets.{set_size}
+use Rattle.ep_object.specs.Matching.{Injection, Words, SetAt, HasAt, HaveAt, Part, part_along, all_of}
 use Rattle.ep_object.specs.Places.{words_at, words_replaced}
 use Rattle.ep_object.proofs.matching.Elements.{slice_get-drop}
 use Rattle.ep_object.proofs.matching.Words.{AreSameBut, has_at-same, part_within}

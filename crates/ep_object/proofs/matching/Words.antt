@@ -5,7 +5,7 @@ use Rattle.std.proofs.lemmas.Bool.Decides.{nat_tests}
 use Rattle.std.proofs.lemmas.Option.{same_Some}
 use native.Mathlib.Decide.{ℕ_discrete}
 use Rattle.ep_outside.specs.Known.{IsPrefix}
-use Rattle.ep_object.specs.Matching.{Injection, Part, part_among, part_behind, part_of, part_along, all_of, Words, OrdinalAt, MembersAt, SetAt, HasAt, HaveAt}
+use Rattle.ep_object.specs.Matching.{Injection, Part, part_among, part_behind, part_of, part_along, all_of, Words, OrdinalAt, SetAt, HasAt, HaveAt}
 use Rattle.ep_object.specs.Sets.{set_size}
 use Rattle.ep_object.specs.State.{undefined}
 use Rattle.ep_object.proofs.matching.Elements.{slice_get-set-same, slice_get-set-other}

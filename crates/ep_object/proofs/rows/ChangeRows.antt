@@ -28,7 +28,7 @@ use Rattle.ep_object.proofs.matching.Values.{part_fits, replaced_holds, replaced
 use Rattle.ep_object.proofs.matching.Words.{file_word, has_with, set-same_but, type_is-along, ordinal_word, ordinal-stored, ordinal-undefined}
 use Rattle.ep_object.proofs.rows.TextRows.{written-same}
 use Rattle.ep_typed.specs.Events.{Trace}
-use Rattle.ep_typed.specs.Printing.{piece_events, Result, Structure, Members}
+use Rattle.ep_typed.specs.Printing.{piece_events, Result, Structure}
 use Rattle.ep_typed.specs.Sets.{are_between}
 use Rattle.ep_typed.specs.Results.{has_base_for, misfit, suits, value_of, weight_of}
 use Rattle.ep_typed.specs.Steps.{Component, Value, Undefined, Allocation, value_along, value_with, type_along, is_among, type_in, type_at, ended_in, has_ended, is_within, assigned, with_events}

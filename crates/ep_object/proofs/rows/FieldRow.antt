@@ -9,7 +9,7 @@ use Rattle.ep_object.specs.Operands.{Operand}
 use Rattle.ep_object.specs.Operands as operand
 use Rattle.ep_object.specs.Places as row
 use Rattle.ep_object.specs.Runs.{outcome, after, unit_in}
-use Rattle.ep_object.specs.State.{State, TypeTable}
+use Rattle.ep_object.specs.State.{State, Running, TypeTable}
 use Rattle.ep_object.specs.Table.{on_operands}
 use Rattle.ep_object.specs.declared.code.Image.{Image}
 use Rattle.ep_object.specs.declared.state.Place.{Place}
@@ -57,6 +57,14 @@ part_entered types before (p ∷ ps) (type.next_component t ts) zero part h is =
 part_entered types before (p ∷ ps) (type.next_component t ts) (suc k) part h is =
     let x = part_entered types (before + size_of t) ps ts k part h.2 is in record { entered = x.entered; is = x.is; offset = x.offset; described = x.described }
 
+-- the place of a component of a variable, to which an instruction leads that pops the place of the variable, where that lives
+pub record LeadsTo (declared : Declarations) (G : Image) (place : ℕ) (below : List Operand) (k : ℕ) (of : TypeValue) (v : Component) (p : Place) (injection : Injection) (memory : Memory) : Type 0 where
+  pub its_place : Place
+  pub spot : IsSpot injection memory.types (component v k) its_place
+  pub described : Describes memory.types its_place.type_number of
+  pub leads : (s : meaning.State) → Matches declared G injection s memory → has_ended v.allocation s ≡ false
+      → outcome G (at place (operand.Place p ∷ below) memory s.trace) ≡ record { weight = 0; to = Running 0 (at (place + 1) (operand.Place its_place ∷ below) memory s.trace) }
+
 module _ (declared : Declarations) (G : Image) (place line : ℕ) (below : List Operand) (ts : ComponentTypes) (k : ℕ) (of : TypeValue) (v : Component) (p : Place) (has : slice_get G.instructions place ≡ Some (instr op.FIELD (pos k) 0 line)) (injection : Injection) (memory : Memory) (spot : IsSpot injection memory.types v p) (described : Describes memory.types p.type_number (type.Record ts)) (among : IsAmong 0 ts k of) where
   -- the state before it
   abbrev pub before : Trace → State
@@ -100,20 +108,15 @@ module _ (declared : Declarations) (G : Image) (place line : ℕ) (below : List 
         described = in_table.described;
       }
 
-  -- of a variable that lives
-  pub field_does : {untouched : Slots} {Here : Facts} (s : meaning.State) → Matches declared G injection s memory
-      → Here injection s memory → has_ended v.allocation s ≡ false
-      → Does declared G Here (before s.trace) 0 (place + 1) (Inside untouched injection memory (PlaceOnTop of below (component v k))) s
-  field_does {untouched = untouched} {Here = Here} s matches known living =
-      record {
-        injection = injection;
-        memory = memory;
-        operands = operand.Place component_place ∷ below;
-        does = field_outcome s.trace r.type_number r.words r.stands ∙ ap (λ b. in_one (after G (instr op.FIELD (pos k) 0 line) (before s.trace) (on_operands (before s.trace) (provided b (Continues (operand.Place component_place ∷ below)))))) within;
-        matches = matches;
-        here = known;
-        post = inside_here (record { place = component_place; is = refl; spot = component_spot; described = subst (λ t. Describes memory.types in_table.entered.type_number t) among.type_is in_table.described });
-      }
+  -- and of its type
+  component_described : Describes memory.types component_place.type_number of
+  component_described = subst (λ t. Describes memory.types in_table.entered.type_number t) among.type_is in_table.described
+
+  -- of a variable that lives: the place of the component is there
+  field_leads : (s : meaning.State) → Matches declared G injection s memory → has_ended v.allocation s ≡ false
+      → outcome G (before s.trace) ≡ record { weight = 0; to = Running 0 (at (place + 1) (operand.Place component_place ∷ below) memory s.trace) }
+  field_leads s matches living =
+      field_outcome s.trace r.type_number r.words r.stands ∙ ap (λ b. in_one (after G (instr op.FIELD (pos k) 0 line) (before s.trace) (on_operands (before s.trace) (provided b (Continues (operand.Place component_place ∷ below)))))) within
     where
       x : Stands injection s memory v p
       x = place_stands matches spot living
@@ -133,3 +136,22 @@ module _ (declared : Declarations) (G : Image) (place line : ℕ) (below : List 
           let inner = among_within 0 ts k among.part among.is in
           let fits : p.offset + in_table.entered.offset + entry_there.0.size ≤ length r.words = omega (arith, whole.1, inner.1, in_table.offset, entry_there.2, r.sized) in
           grind (arith, nat_tests)
+
+  -- which is that of the component of the variable
+  pub field_does : {untouched : Slots} {Here : Facts} (s : meaning.State) → Matches declared G injection s memory
+      → Here injection s memory → has_ended v.allocation s ≡ false
+      → Does declared G Here (before s.trace) 0 (place + 1) (Inside untouched injection memory (PlaceOnTop of below (component v k))) s
+  field_does {untouched = untouched} {Here = Here} s matches known living =
+      record {
+        injection = injection;
+        memory = memory;
+        operands = operand.Place component_place ∷ below;
+        does = field_leads s matches living;
+        matches = matches;
+        here = known;
+        post = inside_here (record { place = component_place; is = refl; spot = component_spot; described = component_described });
+      }
+
+  -- what it leads to, wherever the variable lives
+  pub field_leads_to : LeadsTo declared G place below k of v p injection memory
+  field_leads_to = record { its_place = component_place; spot = component_spot; described = component_described; leads = field_leads }

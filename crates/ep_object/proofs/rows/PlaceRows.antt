@@ -1,5 +1,6 @@
 -- What the rows on places and variables lead to, where the machine matches.
 use Rattle.std.proofs.Common.{◌≡◌, ℕ, ℤ, pos, negsuc, ◌+◌, ◌≤◌, ◌<◌, true, false, List, ◌∷◌, length, option_map, Option, Some, None, slice_get, refl, sym, ap, ◌∙◌, subst, arith}
+use Rattle.std.proofs.lemmas.Option.{same_Some}
 use Rattle.std.specs.Prelude.{int_lt, is_some}
 use Rattle.ep_object.specs.Follows.{Facts, OnTop, PlaceOnTop, Inside}
 use Rattle.ep_object.specs.Matching.{Memory, at, Injection, MatchesSlot, MatchesFrame, IsSpot, Describes, HasAt, OrdinalAt, SetAt, part_along, all_of, Represents, HasType, Matches, Slots}
@@ -25,7 +26,7 @@ use Rattle.ep_object.proofs.matching.Words.{type_is-along}
 use Rattle.ep_object.proofs.matching.Standing.{slice_get-some, Stands, place_stands, StandsOrdinal, ordinal_stands, place_ended, within_host, word_defined}
 use Rattle.ep_typed.specs.Events.{Trace}
 use Rattle.ep_object.proofs.matching.SetValues.{members_loaded, undefined_loaded}
-use Rattle.ep_typed.specs.Printing.{Number, Structure, Members}
+use Rattle.ep_typed.specs.Printing.{Number, Structure, Members, Result}
 use Rattle.ep_typed.specs.Steps.{Component, has_ended, type_along, type_at, type_in, value_along, value_at, value_in, Value, Undefined, Allocation, allocation_at, set_of, word_of}
 use Rattle.ep_typed.specs.Results.{given_by, result_of}
 use Rattle.ep_typed.specs.Steps as meaning
@@ -348,3 +349,31 @@ module _ (declared : Declarations) (G : Image) (place line : ℕ) (below : List 
           let at_place = word.is in
           let found : int_lt undefined w ≡ true = word_defined low high w word.low_fits at_place.1 in
           defined_outcome memory s.trace p low high type_number words w has described stands at_place.0 ∙ rw (some, found) refl
+
+  -- `Load`, of a variable of an ordinal type that lives and has a value: its number
+  pub load_leads : (low high : ℤ) (v : Component) (p : Place)
+      → slice_get G.instructions place ≡ Some (instr op.LOAD (pos 0) 0 line)
+      → (injection : Injection) (memory : Memory) → IsSpot injection memory.types v p
+      → Describes memory.types p.type_number (type.Ordinal low high) → (s : meaning.State)
+      → Matches declared G injection s memory → has_ended v.allocation s ≡ false → (r : Result) → result_of v s ≡ Some r
+      → (z : ℤ) × (r ≡ Number z) × (outcome G (at place (operand.Place p ∷ below) memory s.trace) ≡ record { weight = 0; to = Running 0 (at (place + 1) (Word z ∷ below) memory s.trace) })
+  load_leads low high v p has injection memory spot described s matches living r result =
+      let x : StandsOrdinal injection s memory v p low high = ordinal_stands low high matches spot described living in
+      let a : Allocation = x.allocation in
+      let t : Represents injection memory.segments memory.types p.segment a = x.represents in
+      go (sym (ordinal_result low high v p s a x.is x.leads) ∙ result) t.type_number t.words (value_along a.value v.path) refl t.stands x.word
+    where
+      go : {value2 : Value} → option_map Number (word_of value2) ≡ Some r → (type_number : ℕ) (words : List ℤ) (value : Value)
+          → value2 ≡ value
+          → slice_get memory.segments p.segment ≡ Some (Some (record { type_number = type_number; words = words }))
+          → OrdinalAt low high value (slice_get words p.offset)
+          → (z : ℤ) × (r ≡ Number z) × (outcome G (at place (operand.Place p ∷ below) memory s.trace) ≡ record { weight = 0; to = Running 0 (at (place + 1) (Word z ∷ below) memory s.trace) })
+      go is type_number words Undefined value_is stands word =
+          let none : ◌≡◌ {A = Option Result} None (Some r) = sym (ap (λ x. option_map Number (word_of x)) value_is) ∙ is in cc
+      go is type_number words (meaning.Components of) value_is stands word = absurd word.is
+      go is type_number words (meaning.Members ms) value_is stands word = absurd word.is
+      go is type_number words (meaning.Word w) value_is stands word =
+          let some : Some (Number w) ≡ Some r = sym (ap (λ x. option_map Number (word_of x)) value_is) ∙ is in
+          let at_place = word.is in
+          let found : int_lt undefined w ≡ true = word_defined low high w word.low_fits at_place.1 in
+          (w, same_Some r (Number w) (sym some), load_outcome memory s.trace p low high type_number words w has described stands at_place.0 ∙ rw found refl)

@@ -1,11 +1,14 @@
 -- What the rows on sets lead to.
-use Rattle.std.proofs.Common.{◌≡◌, ℕ, ℤ, pos, negsuc, ◌+◌, Bool, true, false, not, ◌&&◌, ltb, cond, List, [], ◌∷◌, length, Some, None, slice_get, refl, ap, ◌∙◌}
-use Rattle.std.specs.Prelude.{int_lt}
+use Rattle.std.proofs.Common.{◌≡◌, ℕ, ℤ, pos, negsuc, ◌+◌, Bool, true, false, not, ◌&&◌, ltb, List, [], ◌∷◌, length, Some, slice_get, refl, ap, ◌∙◌, arith, ◌<◌}
+use Rattle.std.specs.Prelude.{int_lt, int_le, IsTrue}
+use Rattle.std.proofs.lemmas.Bool.Decides.{nat_tests}
+use Rattle.std.proofs.lemmas.Bool.{lt-ltb}
 use Rattle.ep_object.specs.Follows.{Facts, Inside}
 use Rattle.ep_object.specs.Matching.{Memory, at, Injection, Matches, Slots}
 use Rattle.ep_object.specs.Operands.{Operand, Word, Set}
 use Rattle.ep_object.specs.Runs.{unit_in}
 use Rattle.ep_object.specs.Sets.{IsSet, member_limit}
+use Rattle.ep_object.specs.SetRows.{least_from}
 use Rattle.ep_object.specs.State.{Running}
 use Rattle.ep_object.specs.WordRows as rows
 use Rattle.ep_object.specs.declared.code.Image.{Image}
@@ -17,7 +20,7 @@ use Rattle.ep_object.proofs.rows.Answers.{bit-same}
 use Rattle.ep_object.proofs.rows.Rows.{instr, in_one, outcome_at, RowPushes}
 use Rattle.ep_typed.specs.Events.{Trace}
 use Rattle.ep_typed.specs.Operations.{ordinal_of}
-use Rattle.ep_typed.specs.Sets.{has, is_between, is_member, is_ordinal, is_same_set, is_subset, with_member, with_number, with_numbers, with_span, union, difference, intersection, symmetric_difference}
+use Rattle.ep_typed.specs.Sets.{has, is_member, is_ordinal, is_same_set, is_subset, least_member, with_member, with_number, with_numbers, with_span, union, difference, intersection, symmetric_difference}
 use Rattle.ep_typed.specs.Steps as meaning
 use Rattle.ep_typed.specs.Valid.{Declarations}
 use Rattle.ep_object.specs.declared.op.TheConstants as op
@@ -82,7 +85,23 @@ module _ (G : Image) (place line : ℕ) (below : List Operand) where
   pub card_pushes : (ms : List ℕ) → slice_get G.instructions place ≡ Some (instr op.CARD (pos 0) 0 line) → RowPushes G place (Set ms ∷ below) 0 (Word (pos (length ms)) ∷ below)
   card_pushes ms has memory trace = outcome_at G (instr op.CARD (pos 0) 0 line) place (Set ms ∷ below) memory trace has
 
+  -- `Next` from 0 on
+  pub least_pushes : (ms : List ℕ) → slice_get G.instructions place ≡ Some (instr op.NEXT (pos 0) 0 line) → RowPushes G place (Set ms ∷ Word (pos 0) ∷ below) 0 (Word (least_member ms) ∷ below)
+  least_pushes ms there memory trace = outcome_at G (instr op.NEXT (pos 0) 0 line) place (Set ms ∷ Word (pos 0) ∷ below) memory trace there ∙ ap (λ z. in_one (Running 0 (at (place + 1) (Word z ∷ below) memory trace))) (least_is ms)
+    where
+      least_is : (ns : List ℕ) → least_from (pos 0) ns ≡ least_member ns
+      least_is [] = refl
+      least_is (n ∷ ns) =
+          let first : IsTrue (int_le (pos 0) (pos n)) = grind (arith, nat_tests) in
+          rw first refl
+
 -- ---- members that are added
+
+-- `SetAdd`, of an ordinal that may be a member
+pub add_pushes : (G : Image) (place line : ℕ) (below : List Operand) (m : ℕ) (ms : List ℕ) → m < member_limit → slice_get G.instructions place ≡ Some (instr op.SET_ADD (pos 0) 0 line)
+    → RowPushes G place (Word (pos m) ∷ Set ms ∷ below) 0 (Set (with_member m ms) ∷ below)
+add_pushes G place line below m ms less has memory trace =
+    outcome_at G (instr op.SET_ADD (pos 0) 0 line) place (Word (pos m) ∷ Set ms ∷ below) memory trace has ∙ rw (lt-ltb m member_limit less) refl
 
 module _ {untouched : Slots} {Here : Facts} (declared : Declarations) (G : Image) (place line : ℕ) (below : List Operand) (injection : Injection) (memory : Memory) (s : meaning.State) (matches : Matches declared G injection s memory) (known : Here injection s memory) (ms : List ℕ) where
   -- `SetAdd`

@@ -8,6 +8,8 @@ use Rattle.std.specs.Fmt.{signed_decimal}
 use Rattle.std.specs.Prelude.{unsigned_abs}
 use Rattle.ep_object.specs.Matching.{Memory, at}
 use Rattle.ep_object.specs.Operands.{Operand, Word, Text, weight}
+use Rattle.ep_object.specs.Operands as operand
+use Rattle.ep_object.specs.declared.state.Place.{Place}
 use Rattle.ep_object.specs.Runs.{Outcome, outcome, unit_in}
 use Rattle.ep_object.specs.State.{Running, Stopped, Error}
 use Rattle.ep_object.specs.Texts as rows
@@ -106,6 +108,10 @@ module _ (G : Image) (place line : ℕ) (below : List Operand) where
   -- the top operand goes
   pub drop_drops : (x : Operand) → slice_get G.instructions place ≡ Some (instr op.DROP (pos 0) 0 line) → RowPushes G place (x ∷ below) (weight x) below
   drop_drops x has memory trace = outcome_at G (instr op.DROP (pos 0) 0 line) place (x ∷ below) memory trace has
+
+  -- a place is there twice
+  pub dup_place : (q : Place) → slice_get G.instructions place ≡ Some (instr op.DUP (pos 0) 0 line) → RowPushes G place (operand.Place q ∷ below) 0 (operand.Place q ∷ operand.Place q ∷ below)
+  dup_place q has memory trace = outcome_at G (instr op.DUP (pos 0) 0 line) place (operand.Place q ∷ below) memory trace has
 
   -- a number is there twice
   pub dup_pushes : (z : ℤ) → slice_get G.instructions place ≡ Some (instr op.DUP (pos 0) 0 line) → RowPushes G place (Word z ∷ below) 0 (Word z ∷ Word z ∷ below)

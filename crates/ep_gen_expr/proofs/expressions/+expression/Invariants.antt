@@ -17,6 +17,9 @@ decreases-index_code l = 4 * max (size-TypedPlace l.array.now) (size-TypedExpr l
 abbrev pub decreases-field_code : goal.decreases-field_code
 decreases-field_code l = 4 * size-TypedPlace l.variable.now + 1
 
+abbrev pub decreases-variant_code : goal.decreases-variant_code
+decreases-variant_code l = 4 * size-TypedPlace l.whole.now + 1
+
 abbrev pub decreases-read_code : goal.decreases-read_code
 decreases-read_code l = 4 * size-TypedPlace l.place.now + 1
 

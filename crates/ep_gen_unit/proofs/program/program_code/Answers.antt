@@ -1,5 +1,5 @@
 use Rattle.std.proofs.Common.{◌≡◌, ◌++◌, ◌∷◌, [], length, length-append, rules, arith, ap, ◌∙◌, append_assoc}
-use Rattle.ep_typed.specs.Auxiliaries.{auxiliary_variables, first_for, with_variables}
+use Rattle.ep_typed.specs.Auxiliaries.{block_auxiliaries, with_variables}
 use Rattle.ep_typed.specs.Routines.{unit_variables}
 use Rattle.ep_typed.specs.Viewed.{stmt_of}
 use Rattle.ep_gen_unit.specs.UnitCode.{plain_at}
@@ -20,7 +20,7 @@ starts c = search rules
 
 pub returns-clause-program : goal.returns-clause-program
 returns-clause-program c =
-    let more = auxiliary_variables (first_for (stmt_of c.args.u.now.start)) in
+    let more = block_auxiliaries (stmt_of c.args.u.now.start) in
     let slots : c.in_ok-unit_slots.unit_slots ≡ length (unit_variables c.args.u.now) = omega (arith, c.in_ok-unit_slots.ensures, ap length c.items.ensures, length-append c.args.u.now.variables more, length-append (c.args.u.now.variables ++ more) (with_variables (stmt_of c.args.u.now.start))) in
     is_program c.args.u.now c.new-code.ensures c.in_ok-name.name c.in_ok-name.ensures c.in_ok-unit_slots.unit_slots c.in_ok-stop_entry.stop_entry c.in_ok-start.start c.in_ok-stop_entry.ensures
     c.items-3.result.now c.items-3.ensures c.in_ok-routines.routines c.items-2.result.now c.items-2.ensures c.in_ok-routines.ensures c.push-2.new.self (pushed c) (starts c) c.assemble.result c.assemble.ensures slots

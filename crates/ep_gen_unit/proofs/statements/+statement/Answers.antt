@@ -1,13 +1,14 @@
 use Rattle.std.proofs.Common.{◌≡◌, ◌+◌, [], ◌∷◌, Some, None, map, w64, arith, OnOk, subst, sym, ap, ◌∙◌}
 use Rattle.std.proofs.lemmas.Int.{to_z_pos}
 use Rattle.ep_typed.specs.Trees.{Empty, Compound, Repeat, With, Case, Arm, stmts, arms, no_other, otherwise_do}
-use Rattle.ep_typed.specs.Viewed.{control_of, entire_of, expr_of, place_of, stmt_of, arm_of}
+use Rattle.ep_typed.specs.Viewed.{member_control_of, control_of, entire_of, expr_of, place_of, stmt_of, arm_of}
 use Rattle.ep_gen_expr.proofs.Forms.{on_ok}
 use Rattle.ep_gen_unit.specs.StmtGrowth.{AppendsArms, AppendsStmt}
 use Rattle.ep_typed.specs.declared.tree.CaseArm.{out-CaseArm}
 use Rattle.ep_typed.specs.declared.tree.TypedStmt.TheVariants as typed
 use Rattle.ep_gen_unit.proofs.CaseForms.{appends_arm, arms_more, appends_otherwise, opens_case, closes_case, appends_case}
 use Rattle.ep_gen_unit.proofs.ForForms.{appends_for}
+use Rattle.ep_gen_unit.proofs.MemberForms.{appends_for_in}
 use Rattle.ep_gen_unit.proofs.Compounds.{empty_is, arm_is, compound_is, repeat_is, with_is, case_is}
 use Rattle.ep_gen_unit.proofs.StmtForms.{appends_empty, appends_compound, appends_if, appends_repeat, appends_while, appends_with, stmts_more}
 use Rattle.ep_gen_unit.proofs.statements.+statement.Goals as goal
@@ -32,6 +33,12 @@ for_code-returns t c =
     let again = to_z_pos w64 c.in_ok-again.again (omega (arith, c.in_ok-again.ensures.small)) in
     on_ok c.undefine_code.result (appends_for c.args.code.now c.args.line c.in_ok-leave.leave c.in_ok-done.done c.in_ok-again.again (control_of c.args.control.now) (expr_of c.args.initial.now) (expr_of c.args.last.now) (stmt_of c.args.body.now)
     c.in_ok-bounds_code.ensures c.in_ok-leave.ensures c.in_ok-first_code.ensures c.in_ok-again.ensures c.in_ok-statement_code.ensures c.in_ok-test_code.ensures c.in_ok-done.ensures c.in_ok-next_code.ensures (rw again at c.in_ok-emit.ensures) c.in_ok-land.ensures c.in_ok-emit-2.ensures c.in_ok-land-2.ensures) c.undefine_code.ensures
+
+pub for_in_code-returns : goal.for_in_code-returns
+for_in_code-returns t c =
+    let again = to_z_pos w64 c.in_ok-again.again (omega (arith, c.in_ok-again.ensures.small)) in
+    on_ok c.undefine_code.result (appends_for_in c.args.code.now c.args.line c.in_ok-leave.leave c.in_ok-again.again (member_control_of c.args.control.now) (expr_of c.args.set.now) (stmt_of c.args.body.now)
+    c.in_ok-assign_entire.ensures c.in_ok-again.ensures c.in_ok-more_code.ensures c.in_ok-leave.ensures c.in_ok-least_code.ensures c.in_ok-kept_code.ensures c.in_ok-statement_code.ensures c.in_ok-emit.ensures (rw again at c.in_ok-emit-2.ensures) c.in_ok-land.ensures) c.undefine_code.ensures
 
 pub repeat_code-returns : goal.repeat_code-returns
 repeat_code-returns t c =
@@ -67,7 +74,7 @@ arm_code-returns t c =
     let over = c.emit-2.new.code in
     subst (λ (x : Arm). OnOk c.land.result (AppendsArms c.args.line c.args.leave c.args.code.now c.land.new.code (arms (x ∷ [])))) (sym is)
     (on_ok c.land.result (appends_arm c.args.code.now c.statement_code.new.code c.args.line c.args.leave c.in_ok-over.over (out-CaseArm c.args.arm.now).ranges (stmt_of (out-CaseArm c.args.arm.now).body)
-    (rw c.items.ensures at c.in_ok-tests_code.ensures) c.in_ok-over.ensures c.in_ok-emit.ensures (rw c.get.ensures at c.in_ok-statement_code.ensures) (rw leave at c.in_ok-emit-2.ensures)) c.land.ensures)
+    (rw c.items.ensures at c.in_ok-arm_tests_code.ensures) c.in_ok-over.ensures c.in_ok-emit.ensures (rw c.get.ensures at c.in_ok-statement_code.ensures) (rw leave at c.in_ok-emit-2.ensures)) c.land.ensures)
 
 pub open_case-returns : goal.open_case-returns
 open_case-returns t c =

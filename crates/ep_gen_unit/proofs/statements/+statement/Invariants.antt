@@ -21,6 +21,9 @@ decreases-while_code l = 4 * size-TypedStmt l.body.now + 1
 abbrev pub decreases-for_code : goal.decreases-for_code
 decreases-for_code l = 4 * size-TypedStmt l.body.now + 1
 
+abbrev pub decreases-for_in_code : goal.decreases-for_in_code
+decreases-for_in_code l = 4 * size-TypedStmt l.body.now + 1
+
 abbrev pub decreases-repeat_code : goal.decreases-repeat_code
 decreases-repeat_code l = 4 * goal.size-repeat_code l + 2
 

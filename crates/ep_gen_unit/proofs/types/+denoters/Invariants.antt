@@ -1,10 +1,15 @@
 use Rattle.std.proofs.Common.{◌+◌, ◌*◌, map, max, take}
 use Rattle.ep_typed.specs.declared.denoter.Denoter.{size-Denoter}
+use Rattle.ep_typed.specs.declared.denoter.FieldPart.{size-FieldPart}
+use Rattle.ep_typed.specs.declared.denoter.RecordField.{size-RecordField}
+use Rattle.ep_typed.specs.declared.denoter.Selector.{size-Selector}
+use Rattle.ep_typed.specs.declared.denoter.Variant.{size-Variant}
+use Rattle.ep_typed.specs.declared.denoter.VariantPart.{size-VariantPart}
 use Rattle.ep_gen_unit.proofs.TypeNames.{names_left}
 use Rattle.ep_gen_expr.specs.Growth.{Grows}
 use Rattle.ep_gen_unit.specs.TypeCode.{code_within, each_code}
 use Rattle.ep_typed.specs.Trees.{denoters}
-use Rattle.ep_typed.specs.Viewed.{denoter_of}
+use Rattle.ep_typed.specs.Viewed.{field_of, variant_of}
 use Rattle.ep_gen_unit.proofs.types.+denoters.Given as goal
 
 abbrev pub decreases-elaborate_within : goal.decreases-elaborate_within
@@ -17,13 +22,37 @@ abbrev pub decreases-array_code : goal.decreases-array_code
 decreases-array_code l = 2 * (names_left l.types.now l.left + max (size-Denoter l.index.now) (size-Denoter l.component.now)) + 2
 
 abbrev pub decreases-record_code : goal.decreases-record_code
-decreases-record_code l = 2 * (names_left l.types.now l.left + goal.size-record_code l) + 2
+decreases-record_code l = 2 * (names_left l.types.now l.left + size-FieldPart l.part.now) + 1
 
-abbrev pub decreases-components_code : goal.decreases-components_code
-decreases-components_code l = 2 * (names_left l.types.now l.left + goal.size-components_code l) + 1
+abbrev pub decreases-part_code : goal.decreases-part_code
+decreases-part_code l = 2 * (names_left l.types.now l.left + size-FieldPart l.part.now)
 
-abbrev pub invariant-components_code-loop-field : goal.invariant-components_code-loop-field
-invariant-components_code-loop-field l = Grows l.fn.code l.code (each_code l.types l.fn.code.line (code_within l.types l.fn.code.line l.left) (denoters (map (λ f. denoter_of f.denoter) (take l.field-index l.fields))))
+abbrev pub decreases-fields_code : goal.decreases-fields_code
+decreases-fields_code l = 2 * (names_left l.types.now l.left + goal.size-fields_code l) + 1
+
+abbrev pub decreases-field_code : goal.decreases-field_code
+decreases-field_code l = 2 * (names_left l.types.now l.left + size-RecordField l.field.now)
+
+abbrev pub decreases-variant_part_code : goal.decreases-variant_part_code
+decreases-variant_part_code l = 2 * (names_left l.types.now l.left + size-VariantPart l.part.now) + 1
+
+abbrev pub decreases-tag_code : goal.decreases-tag_code
+decreases-tag_code l = 2 * (names_left l.types.now l.left + size-Denoter l.of.now) + 2
+
+abbrev pub decreases-selector_code : goal.decreases-selector_code
+decreases-selector_code l = 2 * (names_left l.types.now l.left + size-Selector l.selector.now) + 1
+
+abbrev pub decreases-variants_code : goal.decreases-variants_code
+decreases-variants_code l = 2 * (names_left l.types.now l.left + goal.size-variants_code l) + 1
+
+abbrev pub decreases-variant_code : goal.decreases-variant_code
+decreases-variant_code l = 2 * (names_left l.types.now l.left + size-Variant l.variant.now)
+
+abbrev pub invariant-fields_code-loop-field : goal.invariant-fields_code-loop-field
+invariant-fields_code-loop-field l = Grows l.fn.code l.code (each_code l.types l.fn.code.line (code_within l.types l.fn.code.line l.left) (denoters (map field_of (take l.field-index l.fields))))
+
+abbrev pub invariant-variants_code-loop-variant : goal.invariant-variants_code-loop-variant
+invariant-variants_code-loop-variant l = Grows l.fn.code l.code (each_code l.types l.fn.code.line (code_within l.types l.fn.code.line l.left) (denoters (map variant_of (take l.variant-index l.variants))))
 
 abbrev pub decreases-set_code : goal.decreases-set_code
 decreases-set_code l = 2 * (names_left l.types.now l.left + size-Denoter l.base.now) + 2

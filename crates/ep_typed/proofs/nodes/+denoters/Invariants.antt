@@ -1,9 +1,9 @@
-use Rattle.std.proofs.Common.{◌≡◌, ◌+◌, ◌≤◌, min, drop, map}
-use Rattle.ep_typed.specs.Nodes.{denoters_nodes}
-use Rattle.ep_typed.specs.Trees.{denoters}
-use Rattle.ep_typed.specs.Viewed.{denoter_of}
+use Rattle.std.proofs.Common.{◌≡◌, ◌+◌, ◌≤◌, min, drop, map, sum}
+use Rattle.ep_typed.specs.Nodes.{field_nodes, variant_nodes}
 use Rattle.ep_typed.proofs.nodes.+denoters.Given as goal
 
-abbrev pub invariant-components-loop-field : goal.invariant-components-loop-field
-invariant-components-loop-field l =
-    (l.total ≤ 18446744073709551615) × (min (l.total + denoters_nodes (denoters (map (λ f. denoter_of f.denoter) (drop l.field-index l.all)))) 18446744073709551615 ≡ min (denoters_nodes (denoters (map (λ f. denoter_of f.denoter) l.all))) 18446744073709551615)
+abbrev pub invariant-fields-loop-f : goal.invariant-fields-loop-f
+invariant-fields-loop-f l = (l.total ≤ 18446744073709551615) × (min (l.total + sum (map field_nodes (drop l.f-index l.all))) 18446744073709551615 ≡ min (sum (map field_nodes l.all)) 18446744073709551615)
+
+abbrev pub invariant-variants-loop-v : goal.invariant-variants-loop-v
+invariant-variants-loop-v l = (l.total ≤ 18446744073709551615) × (min (l.total + sum (map variant_nodes (drop l.v-index l.all))) 18446744073709551615 ≡ min (sum (map variant_nodes l.all)) 18446744073709551615)

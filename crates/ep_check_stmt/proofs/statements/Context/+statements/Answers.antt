@@ -5,13 +5,13 @@ use Rattle.ep_tree.specs.declared.statement.Statement.TheViews.{the_lemmas}
 use Rattle.ep_built.specs.Built.{arm_unbuilt, first_in, statement_unbuilt}
 use Rattle.ep_typed.specs.Viewed.{arm_of, expr_of, other_of, stmt_of}
 use Rattle.ep_check_expr.specs.Judgements.{Accepts}
-use Rattle.ep_check_stmt.specs.Answers.{AnswersRow, context_of, counted_of, entire_of, head_of, labels_of, passed, selector_of}
+use Rattle.ep_check_stmt.specs.Answers.{AnswersRow, context_of, counted_of, entire_of, head_of, labels_of, member_head_of, passed, selector_of}
 use Rattle.ep_check_stmt.specs.Cases.{selector_judged}
 use Rattle.ep_check_stmt.specs.Statements.{arm_judged, arm_row, arms_in_order, at_item, control_judged, expr_item, other_judged, statement_judged}
 use Rattle.ep_check_stmt.proofs.CaseParts.{all_arms, arms_more, case_is, less_arms, more_arms, rest_judged, selector_falls}
 use Rattle.ep_check_stmt.proofs.judged.Rounds.{rest_built}
-use Rattle.ep_check_stmt.proofs.Branches.{call_is, for_is, other_built, repeat_is, then_built, while_is}
-use Rattle.ep_check_stmt.proofs.BuiltParts.{body_built, end_built, inner_built, start_built, target_built, value_built}
+use Rattle.ep_check_stmt.proofs.Branches.{call_is, for_in_is, for_is, other_built, repeat_is, then_built, while_is}
+use Rattle.ep_check_stmt.proofs.BuiltParts.{body_built, end_built, inner_built, set_built, start_built, target_built, turn_built, value_built}
 use Rattle.ep_check_stmt.proofs.Rows.{all_together, assignment_is, item_answers, less_together, more_together, statements_more}
 use Rattle.ep_check_stmt.proofs.statements.Context.+statements.Goals as goal
 use Rattle.ep_check_stmt.proofs.statements.Context.+statements.Goals.{arms-in-Passes+in_ok-push-in-Passes, arms-in-Waits, statement-in-None-other, statement-in-Some-other, statements-in-Passes+in_ok-push-in-Passes, statements-in-Waits}
@@ -65,6 +65,21 @@ counting-returns t c =
     let head : AnswersRow head_of c.item_at.result (at_item c.args.line _) =
     rw c.item_at.ensures (item_answers head_of c.args.line c.unless_head_threatens-form.result _ (c.unless_head_threatens-form.ensures _ (rw c.falls_by.ensures at c.head-head.ensures))) in
     rw chosen (c.for_form.ensures _ _ head c.statement_under-inner.ensures)
+
+pub statement-over_members-requires : goal.statement-over_members-requires
+statement-over_members-requires t c =
+    let built : statement_unbuilt (statement.ForIn c.in-ForIn.line c.in-ForIn.name c.in-ForIn.set c.in-ForIn.body) ≡ None = rw c.in-ForIn.is at c.requires in
+    (search (rules, the_lemmas), (rw c.get-in-ForIn.ensures (turn_built c.in-ForIn.line c.in-ForIn.name c.in-ForIn.set c.in-ForIn.body built), rw c.get-in-ForIn-2.ensures (set_built c.in-ForIn.line c.in-ForIn.name c.in-ForIn.set c.in-ForIn.body built)))
+
+pub statement-returns-in-ForIn : goal.statement-returns-in-ForIn
+statement-returns-in-ForIn t c = rw (c.in-ForIn.is, for_in_is) (rw (c.get-in-ForIn.ensures, c.get-in-ForIn-2.ensures) at c.over_members.ensures)
+
+pub over_members-returns : goal.over_members-returns
+over_members-returns t c =
+    let chosen : control_judged (context_of c.args.self.now) c.args.name.now ≡ Accepts (counted_of c.in-Ok.control) = c.in-Ok.ensures in
+    let head : AnswersRow member_head_of c.item_at.result (at_item c.args.line _) =
+    rw c.item_at.ensures (item_answers member_head_of c.args.line c.unless_member_threatens-form.result _ (c.unless_member_threatens-form.ensures _ c.member_head-head.ensures)) in
+    rw chosen (c.for_in_form.ensures _ _ head c.statement_under-inner.ensures)
 
 pub statement-returns-in-While : goal.statement-returns-in-While
 statement-returns-in-While t c =

@@ -1,0 +1,10 @@
+use Rattle.std.proofs.Common.{◌≡◌, drop, map}
+use Rattle.std.specs.List.{list_any}
+use Rattle.ep_check_stmt.specs.RoutineForms.{routine_form}
+use Rattle.ep_check_stmt.specs.Statements.{member_threat}
+use Rattle.ep_check_stmt.specs.Answers.{entire_of, member_head_of}
+use Rattle.ep_check_stmt.proofs.members.member_threatens_one.Given as goal
+
+abbrev pub invariant-loop-control : goal.invariant-loop-control
+invariant-loop-control l =
+    list_any (λ v. member_threat (map routine_form l.routines) v (member_head_of l.head)) (map entire_of (drop l.control-index l.controls)) ≡ list_any (λ v. member_threat (map routine_form l.routines) v (member_head_of l.head)) (map entire_of l.controls)
