@@ -8,7 +8,7 @@ use Rattle.ep_tree.specs.declared.statement.Statement.TheOpen.{Statement-F, Arm-
 use Rattle.ep_tree.specs.declared.statement.Statement.{Statement, fold-Statement}
 use Rattle.ep_tree.specs.declared.statement.Arm.{Arm, fold-Arm}
 use Rattle.ep_tree.specs.declared.statement.Compound.{Compound, fold-Compound}
-use Rattle.ep_typed.specs.Trees.{Entire, OfUnit, OfRoutine, entire, Place, Variable, Own, Standard, Indexed, Field, Variant, Expr, Constant, Text, Read, One, Two, Short, Step, Function, IndexedValue, FieldValue, Actual, Evaluated, Accessed, Actuals, no_actual, next_actual, Item, Plain, Wide, Stmt, Stmts, Empty, Assign, If, While, Repeat, For, ForIn, With, Procedure, Case, Halt, Write, none, next, Arms, no_arm, next_arm, Other, no_other, otherwise_do, SetOf, OnSets, Card, Designator, Single, Range, Designators, no_member, next_member, SetConstant}
+use Rattle.ep_typed.specs.Trees.{Entire, OfUnit, OfRoutine, entire, Place, Variable, Own, Standard, Indexed, Field, Variant, Expr, Constant, Text, Read, One, Two, Short, Step, Function, IndexedValue, FieldValue, Actual, Evaluated, Accessed, Actuals, no_actual, next_actual, Item, Plain, Wide, Stmt, Stmts, Empty, Assign, AssignTag, If, While, Repeat, For, ForIn, With, Procedure, Case, Halt, Write, none, next, Arms, no_arm, next_arm, Other, no_other, otherwise_do, SetOf, OnSets, Card, Designator, Single, Range, Designators, no_member, next_member, SetConstant}
 use Rattle.ep_typed.specs.Trees as tree
 use Rattle.ep_typed.specs.declared.interface.Formal.{Formal}
 use Rattle.ep_typed.specs.declared.interface.FormalMode.{FormalMode}
@@ -100,6 +100,8 @@ module _ (formals_of : List ℕ → ℕ → List Formal) where
     threatens v Empty = false
     threatens v (tree.Compound ss) = stmts_threaten v ss
     threatens v (Assign line place x) = is_variable v place || (place_threatens formals_of v place || expr_threatens formals_of v x)
+    -- a tag is a component of its record
+    threatens v (AssignTag line c place s x) = is_variable v place || (place_threatens formals_of v place || expr_threatens formals_of v x)
     threatens v (If line x a b) = expr_threatens formals_of v x || (threatens v a || threatens v b)
     threatens v (While line x s) = expr_threatens formals_of v x || threatens v s
     threatens v (Repeat line ss x) = stmts_threaten v ss || expr_threatens formals_of v x

@@ -139,6 +139,11 @@ pub(crate) fn statement_threatens(
                 || place_threatens(place, routines, variable)
                 || expr_threatens(value.get(), routines, variable)
         }
+        TypedStmt::AssignTag(_, _, whole, _, value) => {
+            is_variable(variable, whole)
+                || place_threatens(whole, routines, variable)
+                || expr_threatens(value.get(), routines, variable)
+        }
         TypedStmt::If(_, condition, then_part, else_part) => {
             expr_threatens(condition.get(), routines, variable)
                 || statement_threatens(then_part.get(), routines, variable)

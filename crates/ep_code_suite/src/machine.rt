@@ -440,7 +440,14 @@ Push:2 Push:1 Push:3 TOrd Push:0 TArr TArr Make:0 Slot:0 Push:1 Index Push:4 Ind
 Push:2 Push:1 Push:3 TOrd Push:0 TArr TArr Make:0 Slot:0 Push:1 Index Load Halt=|halt|22\n\
 Push:2 Push:2 TArr Make:0 Slot:0 Push:1 Index Push:2 Store=|error 2 at 9|11\n\
 Push:2 Push:0 TArr Make:0 Slot:0 Push:1 Store=|broken at 6|9\n\
-Push:2 Push:0 TArr Make:0 Slot:0 Undefine=|broken at 5|8\n\
+Push:2 Push:0 TArr Make:0 Slot:0 Undefine Halt=|halt|11\n\
+Push:2 Push:0 TArr Make:0 Slot:0 Undefine Halt=|budget|7=9\n\
+Push:2 Push:0 TArr New Dup Deref Bind:0 Dispose Slot:0 Undefine=|error 11 at 10|14\n\
+Push:0 Push:2 TRec:2 Make:0 Slot:0 Field:0 Push:5 Store Slot:0 Undefine Slot:0 Field:0 \
+Load=|error 1 at 13|19\n\
+Unit:-1:1 Push:0 Push:2 Push:0 TArr TRec:2 Make:0 Slot:0 Field:0 Push:5 Store Slot:0 Field:1 \
+Undefine Slot:0 Field:0 Load Form Put Return=5|normal|29\n\
+TRec:0 Make:0 Slot:0 Undefine Halt=|halt|5\n\
 Push:2 Push:0 TArr Make:0 Slot:0 Defined=|broken at 5|8\n\
 Push:2 Push:0 TArr Make:0 Slot:0 Text:0 Put=|broken at 6|11\n\
 Push:0 Make:0 Slot:0 Push:1 Index=|broken at 4|6\n\

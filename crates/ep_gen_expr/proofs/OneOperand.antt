@@ -68,7 +68,7 @@ module _ (declared : Declarations) (G : Image) (untouched : Slots) (Here : Facts
       let place : ℕ = p.instructions.before + at in
       fragment_to (omega arith) (row_waits {d1 = d + 7} (push_pushes G place line (Word z ∷ below) (pos 0) stands.0) (omega arith)
       (row_waits {d1 = d + 6} (push_pushes G (place + 1) line (Word (pos 0) ∷ Word z ∷ below) (pos last_char) (instr_at G (omega arith) stands.1.0)) (omega arith)
-      (answer_follows call g unit line n (place + 1 + 1) (Word (pos last_char) ∷ Word (pos 0) ∷ Word z ∷ below) below (unary_answer unary.Character z) (check_answers G (place + 1 + 1) line below z (pos 0) (pos last_char) (instr_at G (omega arith) stands.1.1.0)) host.Char (λ w is. within_answer host.Char run_error.SUCCESSOR z w is) injection memory (d + 6) (d + 8) unit_is (omega arith) (omega arith))))
+      (answer_follows call g unit line n (place + 1 + 1) (Word (pos last_char) ∷ Word (pos 0) ∷ Word z ∷ below) below (unary_answer unary.Character z) (check_answers G (place + 1 + 1) line below run_error.SUCCESSOR z (pos 0) (pos last_char) refl (instr_at G (omega arith) stands.1.1.0)) host.Char (λ w is. within_answer host.Char run_error.SUCCESSOR z w is) injection memory (d + 6) (d + 8) unit_is (omega arith) (omega arith))))
 
   pub unary_follows : (n at : ℕ) (operation : Unary) (operand_kind result_kind : Kind)
       → IsUnary operation operand_kind result_kind → CodeStands G ps p references at (one_code line operation)

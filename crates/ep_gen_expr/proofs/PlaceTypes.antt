@@ -75,14 +75,21 @@ are_alone types ds ts none_typed = refl
 are_alone types ds ts (next_typed d no_denoter u us x xs) = (u, ap (type.next_component u) (are_alone types no_denoter us xs), x)
 are_alone types ds ts (next_typed d (next_denoter e es) u us x xs) = tt
 
--- the type value of the record of a tag, whose host this is
+-- the type value of the record of a tag, and that of the tag
+pub tag_alone : (types : List UnitType) (tag : Denoter) (v : TypeValue) → IsTyped types (Record (next_denoter tag no_denoter)) v
+    → (t : TypeValue) × (v ≡ type.Record (type.next_component t type.no_component)) × IsTyped types tag t
+tag_alone types tag v typed =
+    let all : HasComponents types (next_denoter tag no_denoter) v = typed_components types (Record (next_denoter tag no_denoter)) v (next_denoter tag no_denoter) typed refl in
+    let one : (t : TypeValue) × (type.next_component t type.no_component ≡ all.types_of) × IsTyped types tag t = are_alone types (next_denoter tag no_denoter) all.types_of all.all in
+    (one.0, all.is ∙ ap type.Record (sym one.1), one.2)
+
+-- so it is where the tag has this host
 tag_type : (types : List UnitType) (tag : Denoter) (h : Host) (v : TypeValue) → host_of types tag ≡ Some h → IsTyped types (Record (next_denoter tag no_denoter)) v
     → (low high : ℤ) × (v ≡ type.Record (type.next_component (type.Ordinal low high) type.no_component))
 tag_type types tag h v has_host typed =
-    let all : HasComponents types (next_denoter tag no_denoter) v = typed_components types (Record (next_denoter tag no_denoter)) v (next_denoter tag no_denoter) typed refl in
-    let one : (t : TypeValue) × (type.next_component t type.no_component ≡ all.types_of) × IsTyped types tag t = are_alone types (next_denoter tag no_denoter) all.types_of all.all in
+    let one = tag_alone types tag v typed in
     let of = ordinal_of one.0 (typed_of_host types tag one.0 h one.2 has_host) in
-    (of.0, of.1, all.is ∙ (ap type.Record (sym one.1) ∙ ap (λ t. type.Record (type.next_component t type.no_component)) of.2))
+    (of.0, of.1, one.1 ∙ ap (λ t. type.Record (type.next_component t type.no_component)) of.2)
   where
     ordinal_of : (t : TypeValue) → IsTypeOf h t → (low high : ℤ) × (t ≡ type.Ordinal low high)
     ordinal_of (type.Ordinal low high) k = (low, high, refl)

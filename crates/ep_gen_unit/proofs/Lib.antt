@@ -24,6 +24,9 @@ pub mod Starts
 pub mod StmtMoves
 pub mod StmtForms
 pub mod StmtStays
+pub mod TagForms
+pub mod TagLengths
+pub mod TagMoves
 pub mod TypeForms
 pub mod TypeNames
 pub mod Units

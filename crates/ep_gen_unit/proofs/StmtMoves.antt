@@ -13,6 +13,9 @@ use Rattle.ep_gen_unit.proofs.MemberMoves.{members_stand, members_parts}
 use Rattle.ep_gen_unit.proofs.ProcedureMoves.{procedure_moves}
 use Rattle.ep_gen_unit.proofs.CaseMoves.{Selects, arm_parts, fail_parts, otherwise_parts, case_parts}
 use Rattle.ep_gen_expr.proofs.Stays.{tests_length}
+use Rattle.ep_gen_unit.specs.TagCode.{selected_code, selected_length}
+use Rattle.ep_gen_unit.proofs.TagLengths.{selected_code_length}
+use Rattle.ep_gen_unit.proofs.TagMoves.{tag_parts}
 use Rattle.ep_gen_unit.proofs.WithMoves.{BindsFollow, with_parts}
 use Rattle.ep_gen_unit.proofs.Writing.{write_moves}
 use Rattle.ep_object.specs.Placing.{Placement, CodeStands}
@@ -27,7 +30,7 @@ use Rattle.ep_typed.specs.Steady.{IsSteadyHandler}
 use Rattle.ep_typed.specs.Calls.{Handler}
 use Rattle.ep_typed.proofs.Steady.{steady_exec_all}
 use Rattle.ep_typed.specs.Meaning.{exec, exec_all, exec_arms, exec_other}
-use Rattle.ep_typed.specs.Trees.{Stmt, Stmts, Empty, Compound, Assign, If, While, Repeat, For, ForIn, With, Procedure, Halt, Write, none, next, Case, Arms, no_arm, next_arm, Other, no_other, otherwise_do}
+use Rattle.ep_typed.specs.Trees.{Stmt, Stmts, Empty, Compound, Assign, AssignTag, If, While, Repeat, For, ForIn, With, Procedure, Halt, Write, none, next, Case, Arms, no_arm, next_arm, Other, no_other, otherwise_do}
 use Rattle.ep_typed.specs.Valid.{Declarations, IsStmt, AreStmts, AreArms, IsOther}
 use Rattle.ep_typed.specs.Steps.{Computation}
 use Rattle.ep_typed.specs.Hosts.{Host}
@@ -43,6 +46,19 @@ module _ {declared : Declarations} {G : Image} {untouched : Slots} {Here : Facts
     statement_moves (Compound ss) at is valid h stands inside = statements_move ss at is valid h stands inside
     statement_moves (Assign line q x) at is valid h stands inside =
         assigned_moves lasts ps p texts references call steady_call n unit scene expressions places line at q valid.0 valid.0 (may_take valid.0) x is valid.1 valid.2 h inside stands
+    statement_moves (AssignTag line c q s x) at is valid h stands inside =
+        let ends : at + length h.0 + length h.1 + length h.2 + selected_length s + length h.3 + length h.4 ≡ at + length is = omega (
+          arith,
+          ap length h.10,
+          length-append h.0 (h.1 ++ (h.2 ++ (selected_code line (at + length h.0 + length h.1 + length h.2) s ++ (h.3 ++ h.4)))),
+          length-append h.1 (h.2 ++ (selected_code line (at + length h.0 + length h.1 + length h.2) s ++ (h.3 ++ h.4))),
+          length-append h.2 (selected_code line (at + length h.0 + length h.1 + length h.2) s ++ (h.3 ++ h.4)),
+          length-append (selected_code line (at + length h.0 + length h.1 + length h.2) s) (h.3 ++ h.4),
+          length-append h.3 h.4,
+          selected_code_length line (at + length h.0 + length h.1 + length h.2) s,
+        ) in
+        subst (λ k. Moves declared G untouched Here ps p texts references call n unit at k (exec call n unit (AssignTag line c q s x))) ends
+        (tag_parts lasts ps p texts references call steady_call n unit room scene expressions places line at c q s x valid.0 h.0 h.1 h.2 h.3 h.4 valid.1 valid.2 h.5 h.6 h.7 h.8 h.9 (subst (λ k. CodeStands G ps p references at k) h.10 stands) (omega (arith, ends, inside)))
     statement_moves (If line x a b) at is valid h stands inside =
         let test_end : ℕ = at + length h.0 in
         let then_end : ℕ = at + length h.0 + 1 + length h.1 in

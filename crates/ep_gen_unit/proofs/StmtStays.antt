@@ -4,7 +4,7 @@ use Rattle.ep_outside.specs.Known.{IsPrefix}
 use Rattle.ep_object.specs.declared.code.Instr.{Instr}
 use Rattle.ep_object.specs.declared.code.Reference.{Reference}
 use Rattle.ep_typed.specs.Controls.{has_more, in_order, next_value, others}
-use Rattle.ep_typed.specs.Trees.{One, SetOf, Single, no_member, next_member, Entire, OfUnit, OfRoutine, entire, Place, Function, Item, Plain, Wide, Stmt, Stmts, Empty, Compound, Assign, If, While, Repeat, Control, For, MemberControl, ForIn, With, Read, Expr, Procedure, Halt, Write, none, next, Case, Arms, no_arm, next_arm, Other, no_other, otherwise_do}
+use Rattle.ep_typed.specs.Trees.{One, SetOf, Single, no_member, next_member, Entire, OfUnit, OfRoutine, entire, Place, Function, Item, Plain, Wide, Stmt, Stmts, Empty, Compound, Assign, AssignTag, Tagging, If, While, Repeat, Control, For, MemberControl, ForIn, With, Read, Expr, Procedure, Halt, Write, none, next, Case, Arms, no_arm, next_arm, Other, no_other, otherwise_do}
 use Rattle.ep_typed.specs.declared.operations.Print.{Print}
 use Rattle.ep_typed.specs.declared.operations.Print.TheVariants as print
 use Rattle.std.specs.Prelude.{if◌then◌else◌}
@@ -14,7 +14,11 @@ use Rattle.ep_typed.specs.declared.operations.Unary.TheVariants as unary
 use Rattle.ep_typed.specs.declared.operations.SetOperation.TheVariants as set_operation
 use Rattle.ep_gen_expr.proofs.Stays.{place_code_stays, expr_code_stays, place_code_short, expr_code_short, tests_length}
 use Rattle.ep_gen_unit.specs.StmtCode.{for_code, for_in_code, IsLeastCode, IsKeptCode, IsAssignCode, AreBoundsCode, IsFirstCode, IsTestCode, IsUndefineCode, IsBindCode, IsItemCode, AreItemsCode, IsStmtCode, AreStmtsCode, AreArmsCode, IsOtherCode, plain_code, before_width, wide_code}
-use Rattle.ep_typed.specs.Nodes.{place_nodes, expr_nodes, item_nodes, items_nodes, stmt_nodes, stmts_nodes, arms_nodes, other_nodes}
+use Rattle.ep_gen_unit.specs.TagCode.{IsTriedCode, IsChangeCode, IsTakenCode, none_now, number_code, number_length, selected_code, selected_length, variants_code}
+use Rattle.ep_gen_unit.proofs.TagLengths.{number_code_length, selected_code_length, selections_short, variants_short}
+use Rattle.ep_typed.specs.declared.run_error.TheConstants as run_error
+use Rattle.ep_typed.specs.declared.tree.Selection.{Selection}
+use Rattle.ep_typed.specs.Nodes.{labels_nodes, place_nodes, expr_nodes, item_nodes, items_nodes, stmt_nodes, stmts_nodes, arms_nodes, other_nodes}
 use Rattle.ep_object.specs.declared.op.TheConstants as op
 
 module _ (ts us : List (List ℕ)) (rs ss : List Reference) (a : IsPrefix ts us) (b : IsPrefix rs ss) where
@@ -49,6 +53,16 @@ module _ (ts us : List (List ℕ)) (rs ss : List Reference) (a : IsPrefix ts us)
   pub kept_code_stays : (line at : ℕ) (c : MemberControl) (is : List Instr) → IsKeptCode ts rs line at c is → IsKeptCode us ss line at c is
   kept_code_stays line at c is h = (h.0, h.1, place_code_stays ts us rs ss line a b at (entire c.rest) h.0 h.2, expr_code_stays ts us rs ss line a b (at + length h.0) (others c) h.1 h.3, h.4)
 
+  -- the parts of an assignment to a tag
+  pub tried_code_stays : (line at : ℕ) (c : Tagging) (s : Selection) (is : List Instr) → IsTriedCode ts rs line at c s is → IsTriedCode us ss line at c s is
+  tried_code_stays line at c s is h = (h.0, expr_code_stays ts us rs ss line a b (at + 3) (Read (entire c.value)) h.0 h.1, h.2)
+
+  pub change_code_stays : (line at : ℕ) (c : Tagging) (s : Selection) (is : List Instr) → IsChangeCode ts rs line at c s is → IsChangeCode us ss line at c s is
+  change_code_stays line at c s is h = (h.0, expr_code_stays ts us rs ss line a b at (Read (entire c.value)) h.0 h.1, h.2)
+
+  pub taken_code_stays : (line at : ℕ) (c : Tagging) (s : Selection) (is : List Instr) → IsTakenCode ts rs line at c s is → IsTakenCode us ss line at c s is
+  taken_code_stays line at c s is h = (h.0, expr_code_stays ts us rs ss line a b (at + 2) (Read (entire c.value)) h.0 h.1, h.2)
+
   -- the beginning of a `with`
   pub bind_code_stays : (line at : ℕ) (v : Entire) (p : Place) (is : List Instr) → IsBindCode ts rs line at v p is → IsBindCode us ss line at v p is
   bind_code_stays line at v p is h = (h.0, place_code_stays ts us rs ss line a b at p h.0 h.1, h.2)
@@ -58,6 +72,19 @@ module _ (ts us : List (List ℕ)) (rs ss : List Reference) (a : IsPrefix ts us)
     stmt_code_stays at Empty is h = h
     stmt_code_stays at (Compound statements) is h = stmts_code_stays at statements is h
     stmt_code_stays at (Assign line p x) is h = assign_code_stays line at p x is h
+    stmt_code_stays at (AssignTag line c p s x) is h = (
+      h.0,
+      h.1,
+      h.2,
+      h.3,
+      h.4,
+      place_code_stays ts us rs ss line a b at p h.0 h.5,
+      assign_code_stays line (at + length h.0) (entire c.value) x h.1 h.6,
+      tried_code_stays line (at + length h.0 + length h.1) c s h.2 h.7,
+      change_code_stays line (at + length h.0 + length h.1 + length h.2 + selected_length s) c s h.3 h.8,
+      taken_code_stays line (at + length h.0 + length h.1 + length h.2 + selected_length s + length h.3) c s h.4 h.9,
+      h.10,
+    )
     stmt_code_stays at (If line x s t) is h =
         (h.0, h.1, h.2, expr_code_stays ts us rs ss line a b at x h.0 h.3, stmt_code_stays (at + length h.0 + 1) s h.1 h.4, stmt_code_stays (at + length h.0 + 1 + length h.1 + 1) t h.2 h.5, h.6)
     stmt_code_stays at (While line x s) is h = (h.0, h.1, expr_code_stays ts us rs ss line a b at x h.0 h.2, stmt_code_stays (at + length h.0 + 1) s h.1 h.3, h.4)
@@ -268,6 +295,29 @@ module _ (ts : List (List ℕ)) (rs : List Reference) where
   undefine_short : (line at : ℕ) (v : Entire) (is : List Instr) → IsUndefineCode ts rs line at v is → length is ≤ 2
   undefine_short line at v is h = omega (arith, ap length h.2, length-append h.0 (bare line op.UNDEFINE ∷ []), entire_length line at v h.0 h.1)
 
+  -- ---- an assignment to a tag
+
+  tried_short : (line at : ℕ) (c : Tagging) (s : Selection) (is : List Instr) → IsTriedCode ts rs line at c s is → length is ≤ 9
+  tried_short line at c s is h =
+      omega (arith, ap length h.2, length-append h.0 (push line c.low ∷ push line c.high ∷ instr op.CHECK (pos run_error.OUTSIDE_TYPE) 0 line ∷ bare line op.DROP ∷ []), read_short line (at + 3) c.value h.0 h.1)
+
+  change_short : (line at : ℕ) (c : Tagging) (s : Selection) (is : List Instr) → IsChangeCode ts rs line at c s is → length is ≤ number_length s + labels_nodes s.labels + 7
+  change_short line at c s is h =
+      let skip : Instr = instr op.JUMP_FALSE (pos (at + length h.0 + number_length s + 2 + length (variants_code line s))) 0 line in
+      let number : List Instr = number_code line (at + length h.0) s none_now in
+      omega (
+        arith,
+        ap length h.2,
+        length-append h.0 (number ++ two_code line binary.Unequal ∷ skip ∷ variants_code line s),
+        length-append number (two_code line binary.Unequal ∷ skip ∷ variants_code line s),
+        number_code_length line (at + length h.0) s none_now,
+        variants_short line s,
+        read_short line at c.value h.0 h.1,
+      )
+
+  taken_short : (line at : ℕ) (c : Tagging) (s : Selection) (is : List Instr) → IsTakenCode ts rs line at c s is → length is ≤ 5
+  taken_short line at c s is h = omega (arith, ap length h.2, length-append h.0 (bare line op.STORE ∷ []), read_short line (at + 2) c.value h.0 h.1)
+
   -- ---- a `for` over members
 
   more_short : (line at : ℕ) (c : MemberControl) (is : List Instr) → IsExprCode ts rs line at (has_more c) is → length is ≤ 4
@@ -319,6 +369,24 @@ module _ (ts : List (List ℕ)) (rs : List Reference) where
     stmt_code_room at (Compound statements) is h = omega (arith, stmts_code_short at statements is h)
     stmt_code_room at (Assign line p x) is h =
         omega (arith, ap length h.4, length-append h.0 (h.1 ++ bare line op.STORE ∷ []), length-append h.1 (bare line op.STORE ∷ []), place_code_short ts rs line at p h.0 h.2, expr_code_short ts rs line (at + length h.0) x h.1 h.3)
+    stmt_code_room at (AssignTag line c p s x) is h =
+        let choice : List Instr = selected_code line (at + length h.0 + length h.1 + length h.2) s in
+        omega (
+          arith,
+          ap length h.10,
+          length-append h.0 (h.1 ++ (h.2 ++ (choice ++ (h.3 ++ h.4)))),
+          length-append h.1 (h.2 ++ (choice ++ (h.3 ++ h.4))),
+          length-append h.2 (choice ++ (h.3 ++ h.4)),
+          length-append choice (h.3 ++ h.4),
+          length-append h.3 h.4,
+          place_code_short ts rs line at p h.0 h.5,
+          assign_short line (at + length h.0) c.value x h.1 h.6,
+          tried_short line (at + length h.0 + length h.1) c s h.2 h.7,
+          selected_code_length line (at + length h.0 + length h.1 + length h.2) s,
+          change_short line (at + length h.0 + length h.1 + length h.2 + selected_length s) c s h.3 h.8,
+          taken_short line (at + length h.0 + length h.1 + length h.2 + selected_length s + length h.3) c s h.4 h.9,
+          selections_short s.labels,
+        )
     stmt_code_room at (If line x s t) is h =
         if_short h.0 h.1 h.2 _ _ is h.6 (expr_nodes x) (stmt_nodes s) (stmt_nodes t)
         (expr_code_short ts rs line at x h.0 h.3) (stmt_code_room (at + length h.0 + 1) s h.1 h.4) (stmt_code_room (at + length h.0 + 1 + length h.1 + 1) t h.2 h.5)

@@ -2,6 +2,7 @@ pub mod Laws
 pub mod ProgramLaws
 pub mod StmtCode
 pub mod StmtGrowth
+pub mod TagCode
 pub mod TypeCode
 pub mod UnitCode
 pub mod UnitLaws

@@ -5,10 +5,11 @@ use Rattle.ep_typed.specs.declared.operations.Binary.TheVariants as binary
 use Rattle.ep_typed.specs.Controls.{has_more, in_order, next_value, others}
 use Rattle.ep_gen_expr.specs.ExprCode.{instr, bare, two_code, push, standard_code, tests_code, IsPlaceCode, IsExprCode}
 use Rattle.ep_gen_expr.specs.declared.code.TheConstants as code
+use Rattle.ep_gen_unit.specs.TagCode.{IsTriedCode, IsChangeCode, IsTakenCode, selected_code, selected_length}
 use Rattle.ep_gen_unit.specs.TypeCode.{type_code}
 use Rattle.ep_object.specs.declared.code.Instr.{Instr}
 use Rattle.ep_object.specs.declared.code.Reference.{Reference}
-use Rattle.ep_typed.specs.Trees.{Place, Expr, Read, Function, Item, Plain, Wide, Stmt, Stmts, Empty, Compound, Assign, If, While, Repeat, Control, For, MemberControl, ForIn, With, Procedure, Halt, Write, none, next, Case, Arms, no_arm, next_arm, Other, no_other, otherwise_do, Entire, OfUnit, OfRoutine, entire}
+use Rattle.ep_typed.specs.Trees.{Place, Expr, Read, Function, Item, Plain, Wide, Stmt, Stmts, Empty, Compound, Assign, AssignTag, If, While, Repeat, Control, For, MemberControl, ForIn, With, Procedure, Halt, Write, none, next, Case, Arms, no_arm, next_arm, Other, no_other, otherwise_do, Entire, OfUnit, OfRoutine, entire}
 use Rattle.ep_typed.specs.Denoters.{host_of}
 use Rattle.ep_typed.specs.Hosts.{Host}
 use Rattle.ep_typed.specs.Viewed.{denoter_of}
@@ -130,6 +131,14 @@ module _ (texts : List (List ℕ)) (references : List Reference) where
     IsStmtCode at Empty is = is ≡ []
     IsStmtCode at (Compound ss) is = AreStmtsCode at ss is
     IsStmtCode at (Assign line p x) is = IsAssignCode line at p x is
+    -- the record, whose place stays; the value; the trial of it; the number of the variant that was selected; the change of the
+    -- variant; and the tag
+    IsStmtCode at (AssignTag line c p s x) is =
+        (rs vs ts cs ls : List Instr) × IsPlaceCode texts references line at p rs × IsAssignCode line (at + length rs) (entire c.value) x vs
+        × IsTriedCode texts references line (at + length rs + length vs) c s ts
+        × IsChangeCode texts references line (at + length rs + length vs + length ts + selected_length s) c s cs
+        × IsTakenCode texts references line (at + length rs + length vs + length ts + selected_length s + length cs) c s ls
+        × (is ≡ rs ++ (vs ++ (ts ++ (selected_code line (at + length rs + length vs + length ts) s ++ (cs ++ ls)))))
     IsStmtCode at (If line x a b) is =
         (xs ys zs : List Instr) × IsExprCode texts references line at x xs × IsStmtCode (at + length xs + 1) a ys × IsStmtCode (at + length xs + 1 + length ys + 1) b zs
         × (is ≡ xs ++ instr op.JUMP_FALSE (pos (at + length xs + 1 + length ys + 1)) 0 line ∷ (ys ++ instr op.JUMP (pos (at + length xs + 1 + length ys + 1 + length zs)) 0 line ∷ zs))

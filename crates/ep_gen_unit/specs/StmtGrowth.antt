@@ -5,6 +5,7 @@ use Rattle.ep_gen_expr.specs.Growth.{TableGrows, Grows, IsTable, AreDistinct}
 use Rattle.ep_gen_expr.specs.Jumps.{landed}
 use Rattle.ep_gen_expr.specs.declared.code.Code.{Code}
 use Rattle.ep_gen_unit.specs.StmtCode.{IsItemCode, AreItemsCode, IsStmtCode, AreStmtsCode, AreBoundsCode, IsFirstCode, IsTestCode, IsUndefineCode, IsLeastCode, IsKeptCode, IsBindCode, make_all_code, return_code, end_code, AreArmsCode, IsOtherCode}
+use Rattle.ep_gen_unit.specs.TagCode.{IsTriedCode, IsChangeCode, IsTakenCode}
 use Rattle.ep_gen_unit.specs.UnitCode.{AreRoutinesCode, own_code, entry_of, its_end}
 use Rattle.ep_object.specs.declared.code.CodeRoutine.{CodeRoutine}
 use Rattle.ep_object.specs.declared.code.Instr.{Instr}
@@ -20,8 +21,9 @@ use Rattle.ep_typed.specs.declared.unit.UnitRoutine.{UnitRoutine}
 use Rattle.ep_typed.specs.declared.unit.UnitType.{UnitType}
 use Rattle.ep_typed.specs.declared.unit.UnitVariable.{UnitVariable}
 use Rattle.ep_object.specs.declared.code.Reference.{Reference}
-use Rattle.ep_typed.specs.Trees.{Control, MemberControl, Entire, Item, Place, Stmt, Stmts, Expr, Arms, Other}
+use Rattle.ep_typed.specs.Trees.{Control, MemberControl, Tagging, Entire, Item, Place, Stmt, Stmts, Expr, Arms, Other}
 use Rattle.ep_typed.specs.declared.tree.CaseRange.{CaseRange}
+use Rattle.ep_typed.specs.declared.tree.Selection.{Selection}
 
 -- these instructions are appended, the line is any, and all else is as before but for new items of the two tables
 pub record Follows (old new : Code) (is : List Instr) : Type 0 where
@@ -77,6 +79,21 @@ AppendsLeast line old new c = AppendsPart (λ texts references at is. IsLeastCod
 
 abbrev pub AppendsKept : ℕ → Code → Code → MemberControl → Type 0
 AppendsKept line old new c = AppendsPart (λ texts references at is. IsKeptCode texts references line at c is) old new
+
+-- a part of the code of an assignment to a tag is appended, at the line that is set
+pub record AppendsTagPart (Is : List (List ℕ) → List Reference → ℕ → ℕ → List Instr → Type 0) (old new : Code) : Type 0 where
+  pub code : List Instr
+  pub is_code : Is new.texts new.references old.line (length old.instructions) code
+  pub grows : Grows old new code
+
+abbrev pub AppendsTried : Code → Code → Tagging → Selection → Type 0
+AppendsTried old new c s = AppendsTagPart (λ texts references line at is. IsTriedCode texts references line at c s is) old new
+
+abbrev pub AppendsChange : Code → Code → Tagging → Selection → Type 0
+AppendsChange old new c s = AppendsTagPart (λ texts references line at is. IsChangeCode texts references line at c s is) old new
+
+abbrev pub AppendsTaken : Code → Code → Tagging → Selection → Type 0
+AppendsTaken old new c s = AppendsTagPart (λ texts references line at is. IsTakenCode texts references line at c s is) old new
 
 -- the beginning of a `with` on this line
 abbrev pub AppendsBind : ℕ → Code → Code → Entire → Place → Type 0

@@ -11,6 +11,7 @@ mod loops;
 mod program;
 mod ranges;
 mod statements;
+mod tags;
 mod types;
 
 pub use laws::{laws_of_programs, laws_of_statements, laws_of_units};

@@ -3,8 +3,8 @@
 //! A statement sets the line, so it is set again after a part that is a statement.
 
 ghost use Rattle.std.specs.Prelude.{◌≡◌, OnOk, map, IfOk, ◌<◌, length, [], ◌∷◌};
-ghost use Rattle.ep_typed.specs.Trees.{Compound, Assign, If, While, Repeat, For, ForIn, Procedure, Halt, Write, stmts};
-ghost use Rattle.ep_typed.specs.Viewed.{expr_of, actual_of, callee_of, control_of, entire_of, item_of, member_control_of, place_of, stmt_of, arm_of};
+ghost use Rattle.ep_typed.specs.Trees.{Compound, Assign, AssignTag, If, While, Repeat, For, ForIn, Procedure, Halt, Write, stmts};
+ghost use Rattle.ep_typed.specs.Viewed.{expr_of, actual_of, callee_of, control_of, entire_of, item_of, member_control_of, place_of, stmt_of, arm_of, tagging_of};
 ghost use Rattle.ep_gen_unit.specs.StmtCode.{slot_of};
 ghost use Rattle.ep_gen_unit.specs.StmtGrowth.{AppendsBind, AppendsStmt, AppendsStmts, AppendsArms, ClosesCase, OpensCase};
 ghost use Rattle.ep_typed.specs.Trees as tree;
@@ -15,6 +15,7 @@ use crate::loops::{
     undefine_code,
 };
 use crate::ranges::arm_tests_code;
+use crate::tags::assign_tag_code;
 use ep_base::{Line, NoMemory};
 use ep_gen_expr::{
     Code, call_code, emit, expression_code, land, leave_hole, next_place, place_code,
@@ -37,6 +38,9 @@ pub fn statement_code(alloc: Global, s: &TypedStmt, code: &mut Code) -> Result<(
         TypedStmt::Compound(statements) => compound_code(alloc, statements.items(), code),
         TypedStmt::Assign(line, place, value) => {
             assign_code(alloc, *line, place, value.get(), code)
+        }
+        TypedStmt::AssignTag(line, control, whole, selection, value) => {
+            assign_tag_code(alloc, *line, control, whole, selection, value.get(), code)
         }
         TypedStmt::If(line, condition, then_part, else_part) => {
             if_code(

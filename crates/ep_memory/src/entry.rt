@@ -1,9 +1,10 @@
 //! What stands for one segment.
 
-ghost use Rattle.std.specs.Prelude.{◌≡◌, length, Some, None, option_map, IfOk};
+ghost use Rattle.std.specs.Prelude.{◌≡◌, length, replicate, Some, None, option_map, IfOk};
 ghost use Rattle.ep_memory.specs.Entries.{HasWords, with_word, with_words};
 ghost use Rattle.ep_memory.specs.Stores.{cell_in};
 ghost use Rattle.ep_object.specs.Places.{fresh_segment};
+ghost use Rattle.ep_object.specs.State.{undefined};
 
 use crate::answers::Cell;
 use std::alloc::{AllocError, Global};
@@ -163,6 +164,24 @@ impl Entry {
             }
             Form::Words(body) => {
                 body.words[offset..offset + words.len()].copy_from_slice(words);
+            }
+        }
+    }
+
+    /// So many of its words, from an offset on, become undefined.
+    pub fn undefine(&mut self, offset: usize, count: usize)
+        requires { HasWords self.old offset count }
+        ensures { self.new ≡ with_words self.old offset (replicate count undefined) }
+    {
+        match &mut self.form {
+            Form::Ended => {}
+            Form::Word(_, word) => {
+                if count == 1 {
+                    *word = i64::MIN;
+                }
+            }
+            Form::Words(body) => {
+                body.words[offset..offset + count].fill(i64::MIN);
             }
         }
     }

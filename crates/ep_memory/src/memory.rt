@@ -1,10 +1,10 @@
 //! The memory itself.
 
-ghost use Rattle.std.specs.Prelude.{◌≡◌, ◌≤◌, ◌<◌, ◌+◌, ◌-◌, ◌^◌, min, length, Some, option_map, IfErr, OnOk};
+ghost use Rattle.std.specs.Prelude.{◌≡◌, ◌≤◌, ◌<◌, ◌+◌, ◌-◌, ◌^◌, min, length, replicate, Some, option_map, IfErr, OnOk};
 ghost use Rattle.ep_memory.specs.Stores.{Makes, cell_in, empty, end_of, given_back, held, live as live_words, next, put_into, segment_at, weight_in, with_charged, with_word_at, with_words_at, without, OnGone};
 ghost use Rattle.ep_object.specs.Places.{fresh_segment};
 ghost use Rattle.ep_object.specs.declared.state.Segment.{Segment};
-ghost use Rattle.ep_object.specs.State.{live_limit};
+ghost use Rattle.ep_object.specs.State.{live_limit, undefined};
 
 use crate::answers::{Cell, Full, MakeRefusal, Released, Stored};
 use crate::entry::Entry;
@@ -31,7 +31,7 @@ pub struct Memory {
 impl Model for Memory {
     ghost use Rattle.std.specs.Prelude.{◌≡◌, ◌≤◌, ◌+◌};
     ghost use Rattle.std.specs.List.{sum_by};
-    ghost use Rattle.ep_object.specs.State.{live_limit};
+    ghost use Rattle.ep_object.specs.State.{live_limit, undefined};
     ghost use Rattle.ep_memory.specs.Entries.{numbered};
     ghost use Rattle.ep_memory.specs.Stores.{Store, size_in, weight_in};
 
@@ -277,6 +277,27 @@ impl Memory {
             return Stored::Outside;
         }
         self.entries[at].put(offset as usize, words);
+        Stored::Done
+    }
+
+    /// So many words of a segment become undefined from an offset on. It takes no memory. (Until `words` lends the words of
+    /// all segments at once.)
+    pub fn undefine(&mut self, segment: u64, offset: u64, count: u64) -> Stored
+        ensures answer { result ≡ put_into (segment_at self.old segment) offset count }
+        ensures store { self.new ≡ with_words_at segment offset (replicate count undefined) self.old }
+        ensures live { live_words self.new ≡ live_words self.old }
+    {
+        let at = segment as usize;
+        if at >= self.entries.len() {
+            return Stored::Gone;
+        }
+        let Some(old) = self.entries[at].words() else {
+            return Stored::Gone;
+        };
+        if offset > old.len() as u64 || count > old.len() as u64 - offset {
+            return Stored::Outside;
+        }
+        self.entries[at].undefine(offset as usize, count as usize);
         Stored::Done
     }
 }

@@ -8,7 +8,7 @@ ghost use Rattle.ep_object.specs.Control.{dup_row};
 ghost use Rattle.ep_object.specs.Effects.{Continues, having};
 ghost use Rattle.ep_object.specs.Operands.{Operand, Place as PlaceOperand, Set};
 ghost use Rattle.ep_object.specs.Sets.{are_between};
-ghost use Rattle.ep_object.specs.Places.{load_set, store_set, set_defined, undefine_row, undefine_set};
+ghost use Rattle.ep_object.specs.Places.{load_set, store_set, set_defined};
 ghost use Rattle.ep_object.specs.SetRows.{card_row, in_row, next_row, set_add_row, set_cmp_row, set_none_row, set_op_row, set_span_row, span_added, is_ordinal as may_be_member, sets_compared};
 ghost use Rattle.ep_rows.specs.Steps.{IsDone, IsStep};
 ghost use Rattle.ep_rows.specs.Values.{set_stored_at};
@@ -257,17 +257,4 @@ pub(crate) fn store(
         return Step::Broken;
     };
     put(lo, hi, p, set, memory)
-}
-
-/// A variable of a set type becomes undefined, whose place is on top.
-pub(crate) fn undefine(p: Place, memory: &mut Memory) -> Step
-    ensures done { (st : List Operand) → IsStep (undefine_set memory.old.segments p st) result
-        (st, memory.new.segments) }
-    ensures live { live memory.new ≡ live memory.old }
-{
-    match memory.store_words(p.segment, u64::from(p.offset), &[i64::MIN; 8]) {
-        Stored::Done => Step::Next,
-        Stored::Outside => Step::Broken,
-        Stored::Gone => segments::gone(p.segment, memory),
-    }
 }

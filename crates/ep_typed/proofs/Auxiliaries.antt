@@ -8,7 +8,7 @@ use Rattle.ep_typed.specs.Denoters.{base_of, definition_of, host_of, required_ty
 use Rattle.ep_typed.specs.Hosts as host
 use Rattle.ep_typed.specs.Hosts.{Host}
 use Rattle.ep_typed.specs.Routines.{first_with, formal_variable, made_by_unit, made_variables, unit_variables, variables_of}
-use Rattle.ep_typed.specs.Trees.{Fixed, Denoter, Required, Named, Subrange, Set, Place, Entire, OfUnit, OfRoutine, entire, Stmt, Stmts, Empty, Compound, Assign, If, While, Repeat, For, ForIn, With, Procedure, Halt, Write, none, next, Case, Arms, no_arm, next_arm, Other, no_other, otherwise_do}
+use Rattle.ep_typed.specs.Trees.{Fixed, Denoter, Required, Named, Subrange, Set, Place, Entire, OfUnit, OfRoutine, entire, Stmt, Stmts, Empty, Compound, Assign, AssignTag, If, While, Repeat, For, ForIn, With, Procedure, Halt, Write, none, next, Case, Arms, no_arm, next_arm, Other, no_other, otherwise_do}
 use Rattle.ep_typed.specs.TypeValues.{TypeValue, Record}
 use Rattle.ep_typed.specs.TypeValues as type
 use Rattle.ep_typed.specs.Sets.{last_member}
@@ -133,6 +133,7 @@ module _ (declared : Declarations) (types : List UnitType) (own_types : declared
     withs_denoted Empty h k v e = cc
     withs_denoted (Compound ss) h k v e = withs_of_denoted ss h k v e
     withs_denoted (Assign line p x) h k v e = cc
+    withs_denoted (AssignTag line c p s x) h k v e = cc
     withs_denoted (If line x a b) h k v e = both_denoted (with_variables a) (with_variables b) (withs_denoted a h.1) (withs_denoted b h.2) k v e
     withs_denoted (While line x s) h k v e = withs_denoted s h.1 k v e
     withs_denoted (Repeat line ss x) h k v e = withs_of_denoted ss h.0 k v e

@@ -3,19 +3,19 @@ use Rattle.std.proofs.Common.{slice_get, ◌≡◌, ℕ, ℤ, pos, negsuc, zero,
 use Rattle.std.specs.Prelude.{if◌then◌else◌}
 use Rattle.ep_typed.specs.Controls.{in_order, next_value, has_more, others}
 use Rattle.ep_typed.specs.Denoters.{definition_of, required_type, subrange_type, enumeration_type, array_type, set_type}
-use Rattle.ep_typed.specs.Meaning.{argument, arguments, extended, collected, members_found, one_result, weights_of, results_given, initialized, takes_by, takes_all, elaborate, elaborate_each, answered, indexed, selected, selecting, selects, chosen, active, part, place, eval, write_piece, write_wide, write_item, write_items, assign, turns, turns_until, assigns, undefines, turns_to, counts, takes_least, member_turn, names, exec, exec_all, elaborated, elaborated_where, elaborated_found, elaborate_step, elaborate_within, make, make_all, make_own, make_all_own, start_of, starts_of, Found, routine_in, activation, runs_routine, routine_does, routine_of, read, assign_living, tried, exec_arms, exec_other}
+use Rattle.ep_typed.specs.Meaning.{clears, clears_all, tag_tested, selected_by, selected_now, is_another, changes_variant, sets_tag, assigns_tag, looks, argument, arguments, extended, collected, members_found, one_result, weights_of, results_given, initialized, takes_by, takes_all, elaborate, elaborate_each, answered, indexed, selected, selecting, selects, chosen, active, part, place, eval, write_piece, write_wide, write_item, write_items, assign, turns, turns_until, assigns, undefines, turns_to, counts, takes_least, member_turn, names, exec, exec_all, elaborated, elaborated_where, elaborated_found, elaborate_step, elaborate_within, make, make_all, make_own, make_all_own, start_of, starts_of, Found, routine_in, activation, runs_routine, routine_does, routine_of, read, assign_living, tried, exec_arms, exec_other}
 use Rattle.ep_typed.specs.Operations.{Answer, Number, Fault, is_same, is_true, decides, is_in}
 use Rattle.ep_typed.specs.Printing.{Result, number_of, members_of, plain_text, wide_text, piece_events}
 use Rattle.ep_typed.specs.Printing as result
 use Rattle.ep_typed.specs.Calls.{Argument, Value, Handler, entered, given_back, in_call}
 use Rattle.ep_typed.specs.Calls as argument_is
 use Rattle.ep_typed.specs.Steady.{Grows, Steady, IsSteadyHandler}
-use Rattle.ep_typed.specs.Steps.{Call, End, Normal, Halted, Error, Undefined, State, Outcome, Gives, Ends, Cut, state_of, Computation, give, cut, stop, go_on, bind, spend, change, found, fetch, fetch_or, assigned, type_at, Component, component, is_number, variant_number, whole, size_of, with_type, counted, made, made_own, allocate, allocate_own, newest_assigned, with_bound, with_own_bound, standard_file, first_state, using, has_ended, own_variable}
+use Rattle.ep_typed.specs.Steps.{Call, End, Normal, Halted, Error, Undefined, State, Outcome, Gives, Ends, Cut, state_of, Computation, give, cut, stop, go_on, bind, spend, change, found, fetch, fetch_or, assigned, type_at, Component, component, is_number, variant_number, whole, size_of, with_type, counted, made, made_own, allocate, allocate_own, newest_assigned, with_bound, with_own_bound, standard_file, first_state, using, has_ended, own_variable, is_within, variants_count}
 use Rattle.ep_typed.specs.Steps.{Value as ValueOf}
 use Rattle.ep_typed.specs.SetOperations.{set_answer}
 use Rattle.ep_typed.specs.Sets.{least_member, with_number, with_numbers}
 use Rattle.ep_typed.specs.Results.{misfit, result_of, suits, unresulting, value_of, weight_of}
-use Rattle.ep_typed.specs.Trees.{Array, Enumeration, Subrange, Named, Record, Set, Required, Denoter, Denoters, no_denoter, next_denoter, Callee, Place, Variable, Own, Standard, Indexed, Field, Variant, Expr, Constant, Text, Read, One, Two, Short, Step, Function, IndexedValue, FieldValue, SetOf, OnSets, Card, Designator, Single, Range, Designators, no_member, next_member, Actual, Evaluated, Accessed, Actuals, no_actual, next_actual, Item, Plain, Wide, Stmt, Stmts, Empty, Compound, Assign, If, While, Repeat, Control, For, MemberControl, ForIn, With, Procedure, Halt, Write, none, next, Case, Arms, no_arm, next_arm, Other, no_other, otherwise_do, Entire, OfUnit, OfRoutine, entire, SetConstant}
+use Rattle.ep_typed.specs.Trees.{Array, Enumeration, Subrange, Named, Record, Set, Required, Denoter, Denoters, no_denoter, next_denoter, Callee, Place, Variable, Own, Standard, Indexed, Field, Variant, Expr, Constant, Text, Read, One, Two, Short, Step, Function, IndexedValue, FieldValue, SetOf, OnSets, Card, Designator, Single, Range, Designators, no_member, next_member, Actual, Evaluated, Accessed, Actuals, no_actual, next_actual, Item, Plain, Wide, Stmt, Stmts, Empty, Compound, Assign, Tagging, AssignTag, If, While, Repeat, Control, For, MemberControl, ForIn, With, Procedure, Halt, Write, none, next, Case, Arms, no_arm, next_arm, Other, no_other, otherwise_do, Entire, OfUnit, OfRoutine, entire, SetConstant}
 use Rattle.ep_typed.specs.Routines.{made_variables, made_by_unit}
 use Rattle.ep_typed.specs.Viewed.{denoter_of, stmt_of}
 use Rattle.ep_typed.specs.declared.interface.Formal.{Formal}
@@ -31,7 +31,7 @@ use Rattle.ep_typed.specs.declared.tree.Selection.{Selection}
 use Rattle.ep_typed.specs.TypeValues as type
 use Rattle.ep_typed.specs.TypeValues.{TypeValue, set_size}
 use Rattle.ep_typed.specs.Laws.{IsLonger, MeaningsLast}
-use Rattle.ep_typed.proofs.Steady.{grows_refl, grows_trans, grows_quiet, grows_events, grows_type, grows_counted, grows_made, grows_made_own, steady_give, steady_cut, steady_stop, steady_bind, steady_spend, steady_change, steady_fetch, steady_fetch_or, steady_turns, steady_turns_until, steady_turns_to, steady_in_call, steady_routine_of, steady_using, steady_assign_living}
+use Rattle.ep_typed.proofs.Steady.{steady_looks, grows_refl, grows_trans, grows_quiet, grows_events, grows_type, grows_counted, grows_made, grows_made_own, steady_give, steady_cut, steady_stop, steady_bind, steady_spend, steady_change, steady_fetch, steady_fetch_or, steady_turns, steady_turns_until, steady_turns_to, steady_in_call, steady_routine_of, steady_using, steady_assign_living}
 use Rattle.ep_typed.specs.declared.run_error.TheConstants as run_error
 
 -- What one computation comes to, another one comes to with more steps.
@@ -318,6 +318,42 @@ module _ (call other : Handler) (lasts : IsLastingHandler call other) (g j : ℕ
   lasting_counts line c x =
       lasting_bind (lasting_eval line (Read (entire c.last))) (λ b. lasting_bind (lasting_assigns line (entire c.variable) (Read (entire c.last))) (λ _. lasting_bind (lasting_assigns line (entire c.variable) (Read (entire c.initial))) (λ _. lasting_turns_to g line c (number_of b) x)))
 
+  -- what a variable has, where it has anything
+  lasting_looks : (v : Component) → Lasting (looks v) (looks v)
+  lasting_looks v = record { steady = steady_looks v; by = λ m k t. refl }
+
+  -- an assignment to a tag
+  lasting_clears : (line : ℕ) (r : Component) (k : ℕ) → Lasting (clears call g unit line r k) (clears other (g + j) unit line r k)
+  lasting_clears line r k =
+      lasting_using _ r.allocation (lasting_spend 1 (lasting_bind (lasting_fetch (Error run_error.UNDEFINED_VALUE unit line) (type_at (component r k))) (λ t. lasting_spend (size_of t) (lasting_change (λ s. grows_quiet s (assigned (component r k) Undefined s) refl refl)))))
+
+  lasting_clears_all : (line : ℕ) (r : Component) (k n : ℕ) → Lasting (clears_all call g unit line r k n) (clears_all other (g + j) unit line r k n)
+  lasting_clears_all line r k zero = lasting_give tt
+  lasting_clears_all line r k (suc n) = lasting_bind (lasting_clears line r k) (λ _. lasting_clears_all line r (suc k) n)
+
+  lasting_tag_tested : (line : ℕ) (c : Tagging) (r : Component) (s : Selection) → Lasting (tag_tested call g unit line c r s) (tag_tested other (g + j) unit line c r s)
+  lasting_tag_tested line c r s =
+      lasting_bind (lasting_selected line r s.tag) (λ t. lasting_bind (lasting_selected line t 0) (λ v. lasting_bind (lasting_eval line (Read (entire c.value))) (λ z. lasting_if (is_within (type.Ordinal c.low c.high) (number_of z)) (lasting_give v) (lasting_stop (Error run_error.OUTSIDE_TYPE unit line)))))
+
+  lasting_selected_by : (s : Selection) (o : Option Result) → Lasting (selected_by call g unit s o) (selected_by other (g + j) unit s o)
+  lasting_selected_by s None = lasting_give None
+  lasting_selected_by s (Some r) = lasting_selects call other g (g + j) unit s (number_of r) (λ j. lasting_give (Some j)) (lasting_give None)
+
+  lasting_selected_now : (line : ℕ) (v : Component) (s : Selection) → Lasting (selected_now call g unit line v s) (selected_now other (g + j) unit line v s)
+  lasting_selected_now line v s = lasting_using _ v.allocation (lasting_bind (lasting_looks v) (lasting_selected_by s))
+
+  lasting_changes_variant : (line : ℕ) (c : Tagging) (r : Component) (s : Selection) (before : Option ℕ) → Lasting (changes_variant call g unit line c r s before) (changes_variant other (g + j) unit line c r s before)
+  lasting_changes_variant line c r s before =
+      lasting_bind (lasting_eval line (Read (entire c.value))) (λ z. lasting_bind (lasting_selected_by s (Some z)) (λ now. lasting_if (is_another before now) (lasting_clears_all line r (variant_number s 0) (variants_count s)) (lasting_give tt)))
+
+  lasting_sets_tag : (line : ℕ) (c : Tagging) (r : Component) (s : Selection) → Lasting (sets_tag call g unit line c r s) (sets_tag other (g + j) unit line c r s)
+  lasting_sets_tag line c r s =
+      lasting_bind (lasting_selected line r s.tag) (λ t. lasting_bind (lasting_selected line t 0) (λ v. lasting_bind (lasting_eval line (Read (entire c.value))) (λ z. lasting_assign line v z)))
+
+  lasting_assigns_tag : (line : ℕ) (c : Tagging) (p : Place) (s : Selection) (x : Expr) → Lasting (assigns_tag call g unit line c p s x) (assigns_tag other (g + j) unit line c p s x)
+  lasting_assigns_tag line c p s x =
+      lasting_bind (lasting_place line p) (λ r. lasting_bind (lasting_assigns line (entire c.value) x) (λ _. lasting_bind (lasting_tag_tested line c r s) (λ v. lasting_bind (lasting_selected_now line v s) (λ before. lasting_bind (lasting_changes_variant line c r s before) (λ _. lasting_sets_tag line c r s)))))
+
   -- the variable of a `with`
   lasting_names : (v : Entire) (c : Component) → Lasting (names call g unit v c) (names other (g + j) unit v c)
   lasting_names (OfUnit u k) c = lasting_spend 1 (lasting_change (λ s. grows_quiet s (with_bound u k c s) refl refl))
@@ -329,6 +365,7 @@ module _ (call other : Handler) (lasts : IsLastingHandler call other) (g j : ℕ
     lasting_exec Empty = lasting_give tt
     lasting_exec (Compound ss) = lasting_exec_all ss
     lasting_exec (Assign line p x) = lasting_assigns line p x
+    lasting_exec (AssignTag line c p s x) = lasting_assigns_tag line c p s x
     lasting_exec (If line x a b) =
         lasting_bind (lasting_eval line x) (λ r. lasting_if (is_true (number_of r)) (lasting_bind (lasting_exec a) (λ _. lasting_spend 1 (lasting_give tt))) (lasting_bind (lasting_exec b) (λ _. lasting_spend 1 (lasting_give tt))))
     lasting_exec (While line x s) = lasting_turns call other g (g + j) g j unit (lasting_eval line x) (lasting_exec s)

@@ -6,19 +6,19 @@ use Rattle.ep_outside.specs.Known.{IsPrefix}
 use Rattle.ep_typed.specs.Controls.{in_order, next_value, has_more, others}
 use Rattle.ep_typed.specs.Denoters.{definition_of, required_type, subrange_type, enumeration_type, array_type, set_type}
 use Rattle.ep_typed.specs.Events.{Trace}
-use Rattle.ep_typed.specs.Meaning.{argument, arguments, extended, collected, members_found, one_result, weights_of, result_at, results_given, initialized, takes_by, takes_all, elaborate, elaborate_each, answered, indexed, selected, selecting, selects, chosen, active, part, place, eval, write_piece, write_wide, write_item, write_items, assign, turns, turns_until, assigns, undefines, turns_to, counts, takes_least, member_turn, names, exec, exec_all, elaborated, elaborated_where, elaborated_found, elaborate_step, elaborate_within, make, make_all, make_own, make_all_own, start_of, starts_of, Found, routine_in, activation, runs_routine, routine_does, routine_of, read, assign_living, tried, exec_arms, exec_other}
+use Rattle.ep_typed.specs.Meaning.{clears, clears_all, tag_tested, selected_by, selected_now, is_another, changes_variant, sets_tag, assigns_tag, looks, argument, arguments, extended, collected, members_found, one_result, weights_of, result_at, results_given, initialized, takes_by, takes_all, elaborate, elaborate_each, answered, indexed, selected, selecting, selects, chosen, active, part, place, eval, write_piece, write_wide, write_item, write_items, assign, turns, turns_until, assigns, undefines, turns_to, counts, takes_least, member_turn, names, exec, exec_all, elaborated, elaborated_where, elaborated_found, elaborate_step, elaborate_within, make, make_all, make_own, make_all_own, start_of, starts_of, Found, routine_in, activation, runs_routine, routine_does, routine_of, read, assign_living, tried, exec_arms, exec_other}
 use Rattle.ep_typed.specs.Operations.{Answer, Number, Fault, is_same, is_true, decides, is_in}
 use Rattle.ep_typed.specs.Printing.{Result, number_of, members_of, plain_text, wide_text, piece_events}
 use Rattle.ep_typed.specs.Printing as result
 use Rattle.ep_typed.specs.Calls.{Argument, Value, Handler, entered, given_back, in_call}
 use Rattle.ep_typed.specs.Calls as argument_is
 use Rattle.ep_typed.specs.Steady.{Grows, Steady, IsSteadyHandler}
-use Rattle.ep_typed.specs.Steps.{Call, End, Normal, Halted, Error, Undefined, State, Outcome, Gives, Ends, Cut, state_of, Computation, give, cut, stop, go_on, bind, spend, change, found, fetch, fetch_or, with_events, assigned, type_at, Component, component, is_number, variant_number, whole, size_of, same_type, Resources, watched, words_of_type, sized, met, with_type, counted, made, made_own, allocate, allocate_own, newest_assigned, with_bound, with_own_bound, standard_file, using, has_ended, own_variable}
+use Rattle.ep_typed.specs.Steps.{Call, End, Normal, Halted, Error, Undefined, State, Outcome, Gives, Ends, Cut, state_of, Computation, give, cut, stop, go_on, bind, spend, change, found, fetch, fetch_or, with_events, assigned, type_at, Component, component, is_number, variant_number, whole, size_of, same_type, Resources, watched, words_of_type, sized, met, with_type, counted, made, made_own, allocate, allocate_own, newest_assigned, with_bound, with_own_bound, standard_file, using, has_ended, own_variable, is_within, variants_count}
 use Rattle.ep_typed.specs.Steps.{Value as ValueOf}
 use Rattle.ep_typed.specs.SetOperations.{set_answer}
 use Rattle.ep_typed.specs.Sets.{least_member, with_number, with_numbers}
 use Rattle.ep_typed.specs.Results.{misfit, result_of, suits, unresulting, value_of, weight_of}
-use Rattle.ep_typed.specs.Trees.{Array, Enumeration, Subrange, Named, Record, Set, Required, Denoter, Denoters, no_denoter, next_denoter, Callee, Place, Variable, Own, Standard, Indexed, Field, Variant, Expr, Constant, Text, Read, One, Two, Short, Step, Function, IndexedValue, FieldValue, SetOf, OnSets, Card, Designator, Single, Range, Designators, no_member, next_member, Actual, Evaluated, Accessed, Actuals, no_actual, next_actual, Item, Plain, Wide, Stmt, Stmts, Empty, Compound, Assign, If, While, Repeat, Control, For, MemberControl, ForIn, With, Procedure, Halt, Write, none, next, Case, Arms, no_arm, next_arm, Other, no_other, otherwise_do, Entire, OfUnit, OfRoutine, entire, SetConstant}
+use Rattle.ep_typed.specs.Trees.{Array, Enumeration, Subrange, Named, Record, Set, Required, Denoter, Denoters, no_denoter, next_denoter, Callee, Place, Variable, Own, Standard, Indexed, Field, Variant, Expr, Constant, Text, Read, One, Two, Short, Step, Function, IndexedValue, FieldValue, SetOf, OnSets, Card, Designator, Single, Range, Designators, no_member, next_member, Actual, Evaluated, Accessed, Actuals, no_actual, next_actual, Item, Plain, Wide, Stmt, Stmts, Empty, Compound, Assign, Tagging, AssignTag, If, While, Repeat, Control, For, MemberControl, ForIn, With, Procedure, Halt, Write, none, next, Case, Arms, no_arm, next_arm, Other, no_other, otherwise_do, Entire, OfUnit, OfRoutine, entire, SetConstant}
 use Rattle.ep_typed.specs.Routines.{made_variables, made_by_unit}
 use Rattle.ep_typed.specs.Viewed.{denoter_of, stmt_of}
 use Rattle.ep_typed.specs.declared.interface.Formal.{Formal}
@@ -188,6 +188,10 @@ steady_selecting call h unit z (ranges ∷ more) k x y = steady_tried call h uni
 pub steady_selects : {A : Type 0} (call : Handler) (h : ℕ) (unit : List ℕ) (s : Selection) (z : ℤ) {chosen : ℕ → Computation A} {none : Computation A} → ((j : ℕ) → Steady (chosen j)) → Steady none → Steady (selects call h unit s z chosen none)
 steady_selects call h unit s z x y = steady_selecting call h unit z s.labels 0 x (steady_if s.completed (x (length s.labels)) y)
 
+-- what a variable has, where it has anything
+pub steady_looks : (v : Component) → Steady (looks v)
+steady_looks v = record { by = λ m s. grows_refl s }
+
 -- ---- the forms
 
 module _ (call : Handler) (steady : IsSteadyHandler call) (g : ℕ) (unit : List ℕ) where
@@ -347,6 +351,41 @@ module _ (call : Handler) (steady : IsSteadyHandler call) (g : ℕ) (unit : List
   steady_counts line c x =
       steady_bind (steady_eval line (Read (entire c.last))) (λ b. steady_bind (steady_assigns line (entire c.variable) (Read (entire c.last))) (λ _. steady_bind (steady_assigns line (entire c.variable) (Read (entire c.initial))) (λ _. steady_turns_to g line c (number_of b) x)))
 
+  -- an assignment to a tag
+  pub steady_clears : (line : ℕ) (r : Component) (k : ℕ) → Steady (clears call g unit line r k)
+  steady_clears line r k =
+      steady_using _ r.allocation (steady_spend 1 (steady_bind (steady_fetch (Error run_error.UNDEFINED_VALUE unit line) (type_at (component r k))) (λ t. steady_spend (size_of t) (steady_change (λ s. grows_quiet s (assigned (component r k) Undefined s) refl refl)))))
+
+  pub steady_clears_all : (line : ℕ) (r : Component) (k n : ℕ) → Steady (clears_all call g unit line r k n)
+  steady_clears_all line r k zero = steady_give tt
+  steady_clears_all line r k (suc n) = steady_bind (steady_clears line r k) (λ _. steady_clears_all line r (suc k) n)
+
+  pub steady_tag_tested : (line : ℕ) (c : Tagging) (r : Component) (s : Selection) → Steady (tag_tested call g unit line c r s)
+  steady_tag_tested line c r s =
+      steady_bind (steady_selected line r s.tag) (λ t. steady_bind (steady_selected line t 0) (λ v. steady_bind (steady_eval line (Read (entire c.value))) (λ z. steady_if (is_within (type.Ordinal c.low c.high) (number_of z)) (steady_give v) (steady_stop (Error run_error.OUTSIDE_TYPE unit line)))))
+
+  pub steady_selected_by : (s : Selection) (o : Option Result) → Steady (selected_by call g unit s o)
+  steady_selected_by s None = steady_give None
+  steady_selected_by s (Some r) = steady_selects call g unit s (number_of r) (λ j. steady_give (Some j)) (steady_give None)
+
+  pub steady_selected_now : (line : ℕ) (v : Component) (s : Selection) → Steady (selected_now call g unit line v s)
+  steady_selected_now line v s = steady_using _ v.allocation (steady_bind (steady_looks v) (steady_selected_by s))
+
+  pub steady_clearing : (line : ℕ) (r : Component) (s : Selection) (b : Bool) → Steady {A = Unit {0}} (if b then clears_all call g unit line r (variant_number s 0) (variants_count s) else give tt)
+  steady_clearing line r s b = steady_if b (steady_clears_all line r (variant_number s 0) (variants_count s)) (steady_give tt)
+
+  pub steady_changes_variant : (line : ℕ) (c : Tagging) (r : Component) (s : Selection) (before : Option ℕ) → Steady (changes_variant call g unit line c r s before)
+  steady_changes_variant line c r s before =
+      steady_bind (steady_eval line (Read (entire c.value))) (λ z. steady_bind (steady_selected_by s (Some z)) (λ now. steady_clearing line r s (is_another before now)))
+
+  pub steady_sets_tag : (line : ℕ) (c : Tagging) (r : Component) (s : Selection) → Steady (sets_tag call g unit line c r s)
+  steady_sets_tag line c r s =
+      steady_bind (steady_selected line r s.tag) (λ t. steady_bind (steady_selected line t 0) (λ v. steady_bind (steady_eval line (Read (entire c.value))) (λ z. steady_assign line v z)))
+
+  pub steady_assigns_tag : (line : ℕ) (c : Tagging) (p : Place) (s : Selection) (x : Expr) → Steady (assigns_tag call g unit line c p s x)
+  steady_assigns_tag line c p s x =
+      steady_bind (steady_place line p) (λ r. steady_bind (steady_assigns line (entire c.value) x) (λ _. steady_bind (steady_tag_tested line c r s) (λ v. steady_bind (steady_selected_now line v s) (λ before. steady_bind (steady_changes_variant line c r s before) (λ _. steady_sets_tag line c r s)))))
+
   -- the variable of a `with`
   pub steady_names : (v : Entire) (c : Component) → Steady (names call g unit v c)
   steady_names (OfUnit u k) c = steady_spend 1 (steady_change (λ s. grows_quiet s (with_bound u k c s) refl refl))
@@ -358,6 +397,7 @@ module _ (call : Handler) (steady : IsSteadyHandler call) (g : ℕ) (unit : List
     steady_exec Empty = steady_give tt
     steady_exec (Compound ss) = steady_exec_all ss
     steady_exec (Assign line p x) = steady_assigns line p x
+    steady_exec (AssignTag line c p s x) = steady_assigns_tag line c p s x
     steady_exec (If line x a b) =
         steady_bind (steady_eval line x) (λ r. steady_if (is_true (number_of r)) (steady_bind (steady_exec a) (λ _. steady_spend 1 (steady_give tt))) (steady_bind (steady_exec b) (λ _. steady_spend 1 (steady_give tt))))
     steady_exec (While line x s) = steady_turns call g g unit (steady_eval line x) (steady_exec s)

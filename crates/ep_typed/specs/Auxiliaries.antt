@@ -1,10 +1,10 @@
--- The auxiliary variables of statements. A block with a `for` with bounds has two (ISO 10206, 6.9.3.9.2), and one with a `for`
--- over members has a set (ISO 10206, 6.9.3.9.3). All such statements of the block share them, and they are made behind the
--- variables that it declares. Each `with` has one (ISO 10206, 6.9.3.10), behind all of
+-- The auxiliary variables of statements. A block with a `for` with bounds has two (ISO 10206, 6.9.3.9.2), of which an assignment
+-- to a tag (6.5.3.3) needs the first one, and one with a `for` over members has a set (6.9.3.9.3). All such statements of the
+-- block share them, and they are made behind the variables that it declares. Each `with` has one (ISO 10206, 6.9.3.10), behind all of
 -- those, in the order of the text; it is never made, but is the variable that is accessed, once that is found.
 use Rattle.std.specs.Prelude.{codes, ℕ, pos, false, List, [], ◌∷◌, ◌++◌, Option, Some, None}
 use Rattle.std.specs.Option.{option_or}
-use Rattle.ep_typed.specs.Trees.{Stmt, Stmts, Empty, Compound, Assign, If, While, Repeat, For, ForIn, With, Procedure, Halt, Write, none, next, Case, Arms, no_arm, next_arm, Other, no_other, otherwise_do}
+use Rattle.ep_typed.specs.Trees.{Stmt, Stmts, Empty, Compound, Assign, AssignTag, If, While, Repeat, For, ForIn, With, Procedure, Halt, Write, none, next, Case, Arms, no_arm, next_arm, Other, no_other, otherwise_do}
 use Rattle.ep_typed.specs.Sets.{last_member}
 use Rattle.ep_typed.specs.declared.denoter.Bound.TheVariants as bound
 use Rattle.ep_typed.specs.declared.denoter.Denoter.TheVariants as denoter
@@ -12,11 +12,12 @@ use Rattle.ep_typed.specs.declared.denoter.RequiredType.TheVariants as simple
 use Rattle.ep_typed.specs.declared.unit.UnitVariable.{UnitVariable}
 
 abbrev mutual
-  -- the line of the first `for` with bounds in a statement, where it has one
+  -- the line of the first `for` with bounds or assignment to a tag in a statement, where it has one
   pub first_for : Stmt → Option ℕ
   first_for Empty = None
   first_for (Compound ss) = first_for_of ss
   first_for (Assign line p x) = None
+  first_for (AssignTag line c p s x) = Some line
   first_for (If line x a b) = option_or (first_for a) (first_for b)
   first_for (While line x s) = first_for s
   first_for (Repeat line ss x) = first_for_of ss
@@ -44,7 +45,7 @@ abbrev mutual
 abbrev pub auxiliary_variable : ℕ → UnitVariable
 auxiliary_variable line = record { name = codes "for"; line = line; declaration = 0; denoter = denoter.Required simple.Integer; tuple = []; parameter = false }
 
--- those of a block whose first `for` is on this line, or which has none: the one of the initial value, and that of the final one
+-- those of a block whose first `for` with bounds or assignment to a tag is on this line, or which has none: the one of the initial value, and that of the final one
 abbrev pub auxiliary_variables : Option ℕ → List UnitVariable
 auxiliary_variables None = []
 auxiliary_variables (Some line) = auxiliary_variable line ∷ auxiliary_variable line ∷ []
@@ -55,6 +56,7 @@ abbrev mutual
   first_for_in Empty = None
   first_for_in (Compound ss) = first_for_in_of ss
   first_for_in (Assign line p x) = None
+  first_for_in (AssignTag line c p s x) = None
   first_for_in (If line x a b) = option_or (first_for_in a) (first_for_in b)
   first_for_in (While line x s) = first_for_in s
   first_for_in (Repeat line ss x) = first_for_in_of ss
@@ -95,7 +97,7 @@ abbrev pub member_variables : Option ℕ → List UnitVariable
 member_variables None = []
 member_variables (Some line) = member_variable line ∷ []
 
--- those of a block that are made: those of `for` with bounds, and the one of `for` over members
+-- those of a block that are made: those of `for` with bounds and of assignments to tags, and the one of `for` over members
 abbrev pub block_auxiliaries : Stmt → List UnitVariable
 block_auxiliaries s = auxiliary_variables (first_for s) ++ member_variables (first_for_in s)
 
@@ -109,6 +111,7 @@ abbrev mutual
   with_variables Empty = []
   with_variables (Compound ss) = with_variables_of ss
   with_variables (Assign line p x) = []
+  with_variables (AssignTag line c p s x) = []
   with_variables (If line x a b) = with_variables a ++ with_variables b
   with_variables (While line x s) = with_variables s
   with_variables (Repeat line ss x) = with_variables_of ss

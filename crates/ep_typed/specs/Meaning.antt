@@ -1,14 +1,14 @@
 -- The meaning of typed trees, by recursion on them, in counted steps.
 use Rattle.std.specs.Str.{bytes_eq}
-use Rattle.std.specs.Prelude.{ℕ, ℤ, pos, negsuc, zero, suc, ◌+◌, Bool, true, false, List, [], ◌∷◌, length, slice_get, Option, Some, None, if◌then◌else◌}
+use Rattle.std.specs.Prelude.{ℕ, ℤ, pos, negsuc, zero, suc, ◌+◌, Bool, true, false, not, List, [], ◌∷◌, length, slice_get, Option, Some, None, if◌then◌else◌}
 use Rattle.ep_typed.specs.Calls.{Argument, Value, Handler, in_call}
 use Rattle.ep_typed.specs.Calls as argument_is
 use Rattle.ep_typed.specs.Controls.{in_order, next_value, has_more, others}
 use Rattle.ep_typed.specs.Denoters.{required_type, subrange_type, enumeration_type, array_type, set_type, definition_of}
-use Rattle.ep_typed.specs.Trees.{Denoter, Required, Named, Subrange, Enumeration, Array, Record, Denoters, no_denoter, next_denoter, Set, Callee, Place, Variable, Own, Standard, Indexed, Field, Variant, Expr, Constant, Text, Read, One, Two, Short, Step, Function, IndexedValue, FieldValue, SetOf, OnSets, Card, Designator, Single, Range, Designators, no_member, next_member, Actual, Evaluated, Accessed, Actuals, no_actual, next_actual, Item, Plain, Wide, Stmt, Stmts, Empty, Compound, Assign, If, While, Repeat, Control, For, MemberControl, ForIn, With, Procedure, Halt, Write, none, next, Case, Arms, no_arm, next_arm, Other, no_other, otherwise_do, Entire, OfUnit, OfRoutine, entire, SetConstant}
+use Rattle.ep_typed.specs.Trees.{Denoter, Required, Named, Subrange, Enumeration, Array, Record, Denoters, no_denoter, next_denoter, Set, Callee, Place, Variable, Own, Standard, Indexed, Field, Variant, Expr, Constant, Text, Read, One, Two, Short, Step, Function, IndexedValue, FieldValue, SetOf, OnSets, Card, Designator, Single, Range, Designators, no_member, next_member, Actual, Evaluated, Accessed, Actuals, no_actual, next_actual, Item, Plain, Wide, Stmt, Stmts, Empty, Compound, Assign, Tagging, AssignTag, If, While, Repeat, Control, For, MemberControl, ForIn, With, Procedure, Halt, Write, none, next, Case, Arms, no_arm, next_arm, Other, no_other, otherwise_do, Entire, OfUnit, OfRoutine, entire, SetConstant}
 use Rattle.ep_typed.specs.Routines.{made_variables, made_by_unit}
 use Rattle.ep_typed.specs.Viewed.{denoter_of, stmt_of}
-use Rattle.ep_typed.specs.Steps.{Call, Normal, Halted, Error, Undefined, Outcome, Computation, give, cut, stop, bind, spend, change, fetch, fetch_or, with_events, assigned, type_at, whole, Component, component, component_number, is_number, tag_of, variant_number, with_type, allocate, allocate_own, own_variable, newest_assigned, with_bound, with_own_bound, standard_file, first_state, using}
+use Rattle.ep_typed.specs.Steps.{Call, Normal, Halted, Error, Undefined, Outcome, Computation, give, cut, stop, bind, spend, change, fetch, fetch_or, with_events, assigned, type_at, whole, Component, component, component_number, is_number, tag_of, variant_number, with_type, allocate, allocate_own, own_variable, newest_assigned, with_bound, with_own_bound, standard_file, first_state, using, is_within, size_of, variants_count}
 use Rattle.ep_typed.specs.Operations.{Answer, Number, Fault, unary_answer, binary_answer, step_answer, is_same, is_true, decides, is_in}
 use Rattle.ep_typed.specs.Printing.{Result, Bytes, number_of, members_of, line_end, plain_text, wide_text, piece_events}
 use Rattle.ep_typed.specs.Printing as result
@@ -29,6 +29,16 @@ use Rattle.ep_typed.specs.declared.unit.UnitVariable.{UnitVariable}
 use Rattle.ep_typed.specs.TypeValues as type
 use Rattle.ep_typed.specs.TypeValues.{TypeValue, ComponentTypes, set_size}
 use Rattle.ep_typed.specs.declared.unit.Unit.{Unit as TypedUnit}
+
+-- what a variable gives that is a result, where it is defined
+abbrev pub looks : Component → Computation (Option Result)
+looks v m s = give (result_of v s) m s
+
+-- whether another variant is selected than before, or none was or is
+abbrev pub is_another : Option ℕ → Option ℕ → Bool
+is_another None now = true
+is_another (Some j) None = true
+is_another (Some j) (Some k) = not (is_number j k)
 
 -- The forms at a line of a unit, where `call` does calls, and `g` is the most turns that a loop makes.
 module _ (call : Handler) (g : ℕ) (unit : List ℕ) where
@@ -222,12 +232,57 @@ module _ (call : Handler) (g : ℕ) (unit : List ℕ) where
   names (OfRoutine zero k) c = spend 1 (change (with_own_bound k c))
   names (OfRoutine (suc up) k) c = cut
 
+  -- The component of a record with this number becomes undefined, which spends a step and its size: an error where the record
+  -- has ended. What has no type is no component of a valid record.
+  abbrev pub clears : ℕ → Component → ℕ → Computation (Unit {0})
+  clears line r k =
+      using (Error run_error.DISPOSED unit line) r.allocation (spend 1 (bind (fetch (Error run_error.UNDEFINED_VALUE unit line) (type_at (component r k))) (λ t. spend (size_of t) (change (assigned (component r k) Undefined)))))
+
+  -- so do as many from this number on
+  abbrev pub clears_all : ℕ → Component → ℕ → ℕ → Computation (Unit {0})
+  clears_all line r k zero = give tt
+  clears_all line r k (suc n) = bind (clears line r k) (λ _. clears_all line r (suc k) n)
+
+  -- The tag of a record that gets the value which is in the auxiliary variable: an error where the record has ended, and else
+  -- where the value is outside of the tag's type.
+  abbrev pub tag_tested : ℕ → Tagging → Component → Selection → Computation Component
+  tag_tested line c r s =
+      bind (selected line r s.tag) (λ t. bind (selected line t 0) (λ v. bind (eval line (Read (entire c.value))) (λ z.
+      if is_within (type.Ordinal c.low c.high) (number_of z) then give v else stop (Error run_error.OUTSIDE_TYPE unit line))))
+
+  -- the number of the variant that a tag selects with what it has, where it is defined and selects one
+  abbrev pub selected_by : Selection → Option Result → Computation (Option ℕ)
+  selected_by s None = give None
+  selected_by s (Some r) = selects s (number_of r) (λ j. give (Some j)) (give None)
+
+  -- so it does with the value that it has
+  abbrev pub selected_now : ℕ → Component → Selection → Computation (Option ℕ)
+  selected_now line v s = using (Error run_error.DISPOSED unit line) v.allocation (bind (looks v) (selected_by s))
+
+  -- where the value in the auxiliary variable selects another variant than this one, all variants become undefined
+  abbrev pub changes_variant : ℕ → Tagging → Component → Selection → Option ℕ → Computation (Unit {0})
+  changes_variant line c r s before =
+      bind (eval line (Read (entire c.value))) (λ z. bind (selected_by s (Some z)) (λ now.
+      if is_another before now then clears_all line r (variant_number s 0) (variants_count s) else give tt))
+
+  -- the tag of a record gets the value that is in the auxiliary variable
+  abbrev pub sets_tag : ℕ → Tagging → Component → Selection → Computation (Unit {0})
+  sets_tag line c r s = bind (selected line r s.tag) (λ t. bind (selected line t 0) (λ v. bind (eval line (Read (entire c.value))) (assign line v)))
+
+  -- An assignment to a tag (ISO 10206, 6.5.3.3): the record, and then the value, which is kept in the auxiliary variable. Once it
+  -- is tried, the variants become undefined where another one than before is selected; then the tag gets the value.
+  abbrev pub assigns_tag : ℕ → Tagging → Place → Selection → Expr → Computation (Unit {0})
+  assigns_tag line c p s x =
+      bind (place line p) (λ r. bind (assigns line (entire c.value) x) (λ _. bind (tag_tested line c r s) (λ v. bind (selected_now line v s) (λ before.
+      bind (changes_variant line c r s before) (λ _. sets_tag line c r s)))))
+
   abbrev mutual
     -- a statement spends a step when it is done; the empty and the compound one spend none
     pub exec : Stmt → Computation (Unit {0})
     exec Empty = give tt
     exec (Compound ss) = exec_all ss
     exec (Assign line p x) = assigns line p x
+    exec (AssignTag line c p s x) = assigns_tag line c p s x
     exec (If line x a b) = bind (eval line x) (λ r. if is_true (number_of r) then bind (exec a) (λ _. spend 1 (give tt)) else bind (exec b) (λ _. spend 1 (give tt)))
     exec (While line x s) = turns g (eval line x) (exec s)
     exec (Repeat line ss x) = turns_until g (exec_all ss) (eval line x)

@@ -1,6 +1,6 @@
--- How many typed nodes a unit has: its expressions, places, statements, ranges of `case` statements, of variants and of places in variants, imports, routines, formals, variables, denoters, bounds and values. An expression that is a constant or a text counts one, and its value one more; that of a set one more for each member.
+-- How many typed nodes a unit has: its expressions, places, statements, ranges of `case` statements, of variants, of places in variants and of assignments to tags, imports, routines, formals, variables, denoters, bounds and values. An expression that is a constant or a text counts one, and its value one more; that of a set one more for each member.
 use Rattle.std.specs.Prelude.{ℕ, ◌+◌, ◌*◌, List, [], ◌∷◌, length, map, sum, Option, Some, None}
-use Rattle.ep_typed.specs.Trees.{Place, Variable, Own, Standard, Indexed, Field, Variant, Expr, Constant, Text, Read, One, Two, Short, Step, Function, IndexedValue, FieldValue, SetOf, OnSets, Card, Designator, Single, Range, Designators, no_member, next_member, Actual, Evaluated, Accessed, Actuals, no_actual, next_actual, Item, Plain, Wide, Stmt, Stmts, Empty, Compound, Assign, If, While, Repeat, For, ForIn, With, Procedure, Case, Halt, Write, none, next, Arm, Arms, no_arm, next_arm, Other, no_other, otherwise_do, entire, SetConstant}
+use Rattle.ep_typed.specs.Trees.{Place, Variable, Own, Standard, Indexed, Field, Variant, Expr, Constant, Text, Read, One, Two, Short, Step, Function, IndexedValue, FieldValue, SetOf, OnSets, Card, Designator, Single, Range, Designators, no_member, next_member, Actual, Evaluated, Accessed, Actuals, no_actual, next_actual, Item, Plain, Wide, Stmt, Stmts, Empty, Compound, Assign, AssignTag, If, While, Repeat, For, ForIn, With, Procedure, Case, Halt, Write, none, next, Arm, Arms, no_arm, next_arm, Other, no_other, otherwise_do, entire, SetConstant}
 use Rattle.ep_typed.specs.Viewed.{expr_of, stmt_of}
 use Rattle.ep_typed.specs.declared.denoter.Denoter.{Denoter}
 use Rattle.ep_typed.specs.declared.denoter.Denoter.TheOpen as denoter
@@ -140,6 +140,8 @@ abbrev mutual
   stmt_nodes Empty = 1
   stmt_nodes (Compound ss) = 1 + stmts_nodes ss
   stmt_nodes (Assign line p x) = 1 + place_nodes p + expr_nodes x
+  -- the tag is a place, of the record
+  stmt_nodes (AssignTag line c p s x) = 2 + place_nodes p + labels_nodes s.labels + expr_nodes x
   stmt_nodes (If line x a b) = 1 + expr_nodes x + stmt_nodes a + stmt_nodes b
   stmt_nodes (While line x s) = 1 + expr_nodes x + stmt_nodes s
   stmt_nodes (Repeat line ss x) = 1 + stmts_nodes ss + expr_nodes x

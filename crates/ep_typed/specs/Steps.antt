@@ -45,6 +45,10 @@ tag_of c s = component (component c s.tag) 0
 abbrev pub variant_number : Selection → ℕ → ℕ
 variant_number s k = suc (s.tag + k)
 
+-- how many variants there are
+abbrev pub variants_count : Selection → ℕ
+variants_count s = length s.labels + (if s.completed then 1 else 0)
+
 -- whether two numbers are the same
 abbrev pub is_number : ℕ → ℕ → Bool
 is_number j k = nat_le j k && nat_le k j

@@ -140,6 +140,13 @@ pub record Control : Type 0 where
   pub low : ℤ
   pub high : ℤ
 
+-- What an assignment to a tag works with: the auxiliary variable that has the value, and the least and the greatest value of
+-- the tag's type.
+pub record Tagging : Type 0 where
+  pub value : Entire
+  pub low : ℤ
+  pub high : ℤ
+
 -- What a `for` statement over the members of a set goes by (ISO 10206, 6.9.3.9.3): the control variable, and the auxiliary
 -- variable that has the members that are still to come.
 pub record MemberControl : Type 0 where
@@ -152,6 +159,8 @@ mutual
     Empty : Stmt
     Compound : (statements : Stmts) → Stmt
     Assign : (line : ℕ) (place : Place) (value : Expr) → Stmt
+    -- an assignment to the tag of a record whose variants are selected so
+    AssignTag : (line : ℕ) (tagging : Tagging) (whole : Place) (selection : Selection) (value : Expr) → Stmt
     If : (line : ℕ) (condition : Expr) (then_part else_part : Stmt) → Stmt
     While : (line : ℕ) (condition : Expr) (body : Stmt) → Stmt
     -- the statements, and then the condition

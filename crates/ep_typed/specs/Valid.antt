@@ -6,9 +6,9 @@ use Rattle.ep_typed.specs.Hosts.{Host, least, greatest, is_of_host}
 use Rattle.ep_typed.specs.Hosts as host
 use Rattle.ep_typed.specs.Operations.{is_integer, is_apart}
 use Rattle.ep_typed.specs.Sets.{IsSet, are_between, is_ordinal}
-use Rattle.ep_typed.specs.Steps.{is_within, variant_number}
+use Rattle.ep_typed.specs.Steps.{is_within, variant_number, variants_count}
 use Rattle.ep_typed.specs.Trees as tree
-use Rattle.ep_typed.specs.Trees.{Fixed, Denoter, Required, Named, Subrange, Enumeration, Array, Record, Denoters, no_denoter, next_denoter, Callee, Place, Variable, Own, Standard, Indexed, Field, Variant, Expr, Constant, Text, Read, One, Two, Short, Step, Function, IndexedValue, FieldValue, SetOf, OnSets, Card, Designator, Single, Range, Designators, no_member, next_member, Actual, Evaluated, Accessed, Actuals, no_actual, next_actual, Item, Plain, Wide, Stmt, Stmts, Empty, Compound, Assign, If, While, Repeat, Control, For, MemberControl, ForIn, With, Procedure, Halt, Write, none, next, Case, Arms, no_arm, next_arm, Other, no_other, otherwise_do, Entire, OfUnit, OfRoutine, entire, SetConstant}
+use Rattle.ep_typed.specs.Trees.{Fixed, Denoter, Required, Named, Subrange, Enumeration, Array, Record, Denoters, no_denoter, next_denoter, Callee, Place, Variable, Own, Standard, Indexed, Field, Variant, Expr, Constant, Text, Read, One, Two, Short, Step, Function, IndexedValue, FieldValue, SetOf, OnSets, Card, Designator, Single, Range, Designators, no_member, next_member, Actual, Evaluated, Accessed, Actuals, no_actual, next_actual, Item, Plain, Wide, Stmt, Stmts, Empty, Compound, Assign, Tagging, AssignTag, If, While, Repeat, Control, For, MemberControl, ForIn, With, Procedure, Halt, Write, none, next, Case, Arms, no_arm, next_arm, Other, no_other, otherwise_do, Entire, OfUnit, OfRoutine, entire, SetConstant}
 pub use Rattle.ep_typed.specs.Routines.{heading_of, formal_variable, variables_of, unit_variables}
 use Rattle.ep_typed.specs.Routines.{first_with, made_by_unit}
 use Rattle.ep_typed.specs.Viewed.{denoter_of, stmt_of}
@@ -229,10 +229,6 @@ abbrev pub labels_joined : List (List CaseRange) → List CaseRange
 labels_joined [] = []
 labels_joined (ranges ∷ more) = ranges ++ labels_joined more
 
--- how many variants there are
-abbrev pub variants_count : Selection → ℕ
-variants_count s = length s.labels + (if s.completed then 1 else 0)
-
 module _ (declared : Declarations) where
   -- the first value of a range is not above the last one, and both are of the host
   abbrev pub IsRange : Host → CaseRange → Type 0
@@ -343,6 +339,17 @@ module _ (declared : Declarations) where
     pub low : c.low ≡ least h
     pub high : c.high ≡ greatest h
 
+  -- The denoter is that of a record with variants that are selected so, by a tag of this host and with these bounds.
+  abbrev pub IsTagged : Host → ℤ → ℤ → Selection → List UnitType → Denoter → Type 0
+  IsTagged h low high s types d =
+      (ds : Denoters) × (record_of types d ≡ Some ds) × ((selection : IsSelection types ds s) × (selection.host ≡ h) × (type_of types selection.tag ≡ Some (type.Ordinal low high)))
+
+  -- The auxiliary variable of an assignment to a tag is an integer, and the tag of the record is of this host and has those
+  -- bounds.
+  pub record IsTagging (h : Host) (c : Tagging) (p : Place) (s : Selection) : Type 0 where
+    pub value : IsPlace host.Integer (entire c.value)
+    pub record_is : IsPlaceWhere (IsTagged h c.low c.high s) p
+
   -- The control variable has this host, whose numbers are integers, and the auxiliary variable is of a set type over integers.
   pub record IsMemberControl (h : Host) (c : MemberControl) : Type 0 where
     pub variable : IsPlace h (entire c.variable)
@@ -362,6 +369,7 @@ module _ (declared : Declarations) where
     IsStmt Empty = ⊤
     IsStmt (Compound ss) = AreStmts ss
     IsStmt (Assign line p x) = (k : Kind) × IsPlaceWhere (IsOfKind k) p × IsExpr k x
+    IsStmt (AssignTag line c p s x) = (h : Host) × IsTagging h c p s × IsExpr (Ordinal h) x
     IsStmt (If line x a b) = IsExpr (Ordinal host.Boolean) x × IsStmt a × IsStmt b
     IsStmt (While line x s) = IsExpr (Ordinal host.Boolean) x × IsStmt s
     IsStmt (Repeat line ss x) = AreStmts ss × IsExpr (Ordinal host.Boolean) x

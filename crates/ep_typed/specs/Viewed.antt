@@ -26,6 +26,7 @@ use Rattle.ep_typed.specs.declared.tree.WriteItem.{WriteItem}
 use Rattle.ep_typed.specs.declared.tree.EntireVariable.{EntireVariable}
 use Rattle.ep_typed.specs.declared.tree.EntireVariable.TheVariants as entire
 use Rattle.ep_typed.specs.declared.tree.ForControl.{ForControl}
+use Rattle.ep_typed.specs.declared.tree.TagControl.{TagControl}
 use Rattle.ep_typed.specs.declared.tree.MemberControl.{MemberControl}
 use Rattle.ep_typed.specs.declared.tree.TypedStmt.{TypedStmt}
 use Rattle.ep_typed.specs.declared.tree.TypedStmt.TheOpen as stmt
@@ -160,10 +161,14 @@ control_of c =
 abbrev pub member_control_of : MemberControl → tree.MemberControl
 member_control_of c = record { variable = entire_of c.variable; rest = entire_of c.rest }
 
+abbrev pub tagging_of : TagControl → tree.Tagging
+tagging_of c = record { value = entire_of c.value; low = c.low; high = c.high }
+
 abbrev pub stmt_step : TypedStmt-F tree.Stmt tree.Arm → tree.Stmt
 stmt_step stmt.Empty = tree.Empty
 stmt_step (stmt.Compound statements) = tree.Compound (tree.stmts statements)
 stmt_step (stmt.Assign line place value) = tree.Assign line (place_of place) (expr_of value)
+stmt_step (stmt.AssignTag line control whole selection value) = tree.AssignTag line (tagging_of control) (place_of whole) selection (expr_of value)
 stmt_step (stmt.If line condition then_part else_part) = tree.If line (expr_of condition) then_part else_part
 stmt_step (stmt.While line condition body) = tree.While line (expr_of condition) body
 stmt_step (stmt.Repeat line body condition) = tree.Repeat line (tree.stmts body) (expr_of condition)

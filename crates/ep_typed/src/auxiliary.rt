@@ -15,7 +15,8 @@ use std::alloc::{AllocError, Global};
 /// The greatest ordinal that may be a member of a set.
 const LAST_MEMBER: i64 = 255;
 
-/// The auxiliary variables of a block that are made: those of `for` with bounds, and the one of `for` over members.
+/// The auxiliary variables of a block that are made: those of `for` with bounds and of assignments to tags, and the one of
+/// `for` over members.
 pub fn block_auxiliaries(alloc: Global, block: &TypedStmt) -> Result<UnitVariables, NoMemory>
     ensures { IfOk result (λ all. all ≡ spec.block_auxiliaries (stmt_of block.now)) }
 {
@@ -27,8 +28,8 @@ pub fn block_auxiliaries(alloc: Global, block: &TypedStmt) -> Result<UnitVariabl
     Ok(all)
 }
 
-/// The auxiliary variables of a block whose first `for` with bounds is on this line, or which has none: that of the initial value, and
-/// that of the final one (ISO 10206, 6.9.3.9.2).
+/// The auxiliary variables of a block whose first `for` with bounds or assignment to a tag is on this line, or which has
+/// none: that of the initial value, and that of the final one (ISO 10206, 6.9.3.9.2).
 pub fn auxiliary_variables(alloc: Global, line: Option<Line>) -> Result<UnitVariables, NoMemory>
     ensures { IfOk result (λ all. all ≡ spec.auxiliary_variables line) }
 {
@@ -99,7 +100,7 @@ fn auxiliary_name(alloc: Global) -> Result<Name, NoMemory>
     }
 }
 
-/// The line of the first `for` with bounds in a statement, where it has one.
+/// The line of the first `for` with bounds or assignment to a tag in a statement, where it has one.
 #[cycle(for_statements)]
 pub fn first_for(s: &TypedStmt) -> Option<Line>
     ensures { result ≡ spec.first_for (stmt_of s.now) }
@@ -111,7 +112,7 @@ pub fn first_for(s: &TypedStmt) -> Option<Line>
         }
         TypedStmt::While(_, _, body) => first_for(body.get()),
         TypedStmt::Repeat(_, all, _) => first_for_of(all.items()),
-        TypedStmt::For(line, _, _, _, _) => Some(*line),
+        TypedStmt::For(line, _, _, _, _) | TypedStmt::AssignTag(line, _, _, _, _) => Some(*line),
         TypedStmt::ForIn(_, _, _, body) => first_for(body.get()),
         TypedStmt::With(_, _, _, _, body) => first_for(body.get()),
         TypedStmt::Case(_, _, arms, other) => {
@@ -179,6 +180,7 @@ pub fn first_for_in(s: &TypedStmt) -> Option<Line>
         }
         TypedStmt::Empty
         | TypedStmt::Assign(_, _, _)
+        | TypedStmt::AssignTag(_, _, _, _, _)
         | TypedStmt::Procedure(_, _, _)
         | TypedStmt::Halt(_)
         | TypedStmt::Write(_, _, _) => None,
@@ -235,6 +237,7 @@ pub fn with_count(s: &TypedStmt) -> usize
         }
         TypedStmt::Empty
         | TypedStmt::Assign(_, _, _)
+        | TypedStmt::AssignTag(_, _, _, _, _)
         | TypedStmt::Procedure(_, _, _)
         | TypedStmt::Halt(_)
         | TypedStmt::Write(_, _, _) => 0,

@@ -33,8 +33,8 @@ pub use nodes::unit_nodes;
 pub use operations::{Binary, Print, SetOperation, ShortOperation, Unary};
 pub use tree::{
     Actual, Actuals, Callee, CaseArm, CaseArms, CaseRange, CaseRanges, EntireVariable, ForControl,
-    MemberControl, MemberDesignator, MemberDesignators, Selection, StandardFile, TypedExpr,
-    TypedExprs, TypedPlace, TypedStmt, TypedStmts, VariantLabels, WriteItem, WriteItems,
+    MemberControl, MemberDesignator, MemberDesignators, Selection, StandardFile, TagControl,
+    TypedExpr, TypedExprs, TypedPlace, TypedStmt, TypedStmts, VariantLabels, WriteItem, WriteItems,
 };
 pub use unit::{
     RoutineNumbers, Unit, UnitRoutine, UnitRoutines, UnitType, UnitTypes, UnitVariable,

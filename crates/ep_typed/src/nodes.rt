@@ -240,6 +240,12 @@ fn statement(s: &TypedStmt) -> u64
                 .saturating_add(expression(value.get()))
                 .saturating_add(1)
         }
+        TypedStmt::AssignTag(_, _, p, selection, value) => {
+            place(p)
+                .saturating_add(labels(selection.labels.items()))
+                .saturating_add(expression(value.get()))
+                .saturating_add(2)
+        }
         TypedStmt::If(_, condition, then_part, else_part) => {
             expression(condition.get())
                 .saturating_add(statement(then_part.get()))

@@ -239,6 +239,27 @@ impl Drop for MemberControl {
     }
 }
 
+/// What an assignment to a tag field works with (ISO 10206, 6.5.3.3). The auxiliary variable is one that `for` statements of
+/// the block have: an integer, which holds nothing between two statements.
+pub struct TagControl {
+    /// The auxiliary variable that has the value.
+    pub value: EntireVariable,
+    /// The least value of the tag's type.
+    pub low: i64,
+    /// The greatest one.
+    pub high: i64,
+}
+
+impl Drop for TagControl {
+    fn drop(self) {
+        let TagControl {
+            value: _,
+            low: _,
+            high: _,
+        } = self;
+    }
+}
+
 /// A statement, with the line of its first token (ISO 10206, 6.9.1).
 #[cycle(statement)]
 #[derive(Drop)]
@@ -249,6 +270,8 @@ pub enum TypedStmt {
     Compound(TypedStmts),
     /// An assignment.
     Assign(Line, TypedPlace, Boxed<TypedExpr>),
+    /// An assignment to the tag of a record: what it works with, the record, how its variants are selected, and the value.
+    AssignTag(Line, TagControl, TypedPlace, Selection, Boxed<TypedExpr>),
     /// `if`; a missing `else` is the empty statement.
     If(Line, Boxed<TypedExpr>, Boxed<TypedStmt>, Boxed<TypedStmt>),
     /// `while`

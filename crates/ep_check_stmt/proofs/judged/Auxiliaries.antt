@@ -96,6 +96,7 @@ simple_has form.Members (tree.Halt line) h = refl
 simple_has form.Members (tree.Write line items ends_line) h = refl
 simple_has asked tree.Empty h = absurd h
 simple_has asked (tree.Compound ss) h = absurd h
+simple_has asked (tree.AssignTag line c place s x) h = absurd h
 simple_has asked (tree.If line x a b) h = absurd h
 simple_has asked (tree.While line x s) h = absurd h
 simple_has asked (tree.Repeat line ss x) h = absurd h

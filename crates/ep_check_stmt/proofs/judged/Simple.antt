@@ -32,6 +32,7 @@ abbrev pub IsSimple : Stmt → Type 0
 IsSimple tree.Empty = ⊥
 IsSimple (tree.Compound ss) = ⊥
 IsSimple (tree.Assign line place x) = ⊤
+IsSimple (tree.AssignTag line c place s x) = ⊥
 IsSimple (tree.If line x a b) = ⊥
 IsSimple (tree.While line x s) = ⊥
 IsSimple (tree.Repeat line ss x) = ⊥

@@ -1,6 +1,7 @@
 -- What the rows lead to that change variables and that write, where the machine matches.
 use Rattle.std.proofs.Common.{◌≡◌, ℕ, ℤ, pos, ◌+◌, ◌==◌, ◌≤◌, arith, Bool, true, false, cond, List, ◌∷◌, ◌++◌, length, Some, None, slice_get, slice_set, refl, sym, ap, ◌∙◌, subst}
 use Rattle.std.proofs.lemmas.Bool.Decides.{nat_tests}
+use Rattle.std.proofs.lemmas.List.{length-replicate}
 use Rattle.std.proofs.lemmas.Option.{same_Some}
 use Rattle.ep_object.specs.Follows.{Facts, Lasts, Bare, Inside}
 use Rattle.ep_object.specs.Matching.{Memory, at, Injection, IsSpot, Describes, HasAt, part_along, all_of, Represents, Matches, Slots}
@@ -23,6 +24,7 @@ use Rattle.ep_object.proofs.rows.Rows.{instr, in_one, outcome_at}
 use Rattle.ep_object.proofs.matching.Standing.{Stands, place_stands, StandsOrdinal, ordinal_stands, allocated, place_ended, represents_living}
 use Rattle.ep_object.proofs.matching.Described.{describes_one, one_number}
 use Rattle.ep_object.proofs.SetWords.{words_many}
+use Rattle.ep_object.proofs.matching.NewSegments.{fresh_holds}
 use Rattle.ep_object.proofs.matching.SetValues.{words_hold}
 use Rattle.ep_object.proofs.matching.Values.{part_fits, replaced_holds, replaced_length, replaced_same, taken_there, type_is_same}
 use Rattle.ep_object.proofs.matching.Words.{file_word, has_with, set-same_but, type_is-along, ordinal_word, ordinal-stored, ordinal-undefined}
@@ -34,9 +36,9 @@ use Rattle.ep_typed.specs.Results.{has_base_for, misfit, suits, value_of, weight
 use Rattle.ep_typed.specs.Steps.{Component, Value, Undefined, Allocation, value_along, value_with, type_along, is_among, type_in, type_at, ended_in, has_ended, is_within, assigned, with_events}
 use Rattle.ep_typed.specs.Steps as meaning
 use Rattle.ep_typed.specs.Valid as kind
-use Rattle.ep_typed.specs.Valid.{Declarations, IsSetOf, IsStructured, IsTypeOf, IsTypeOfKind, Kind}
+use Rattle.ep_typed.specs.Valid.{Declarations, IsSetOf, IsStructured, IsTypeOf, IsTypeOfKind, IsTypeValue, Kind}
 use Rattle.ep_typed.specs.Hosts.{Host}
-use Rattle.std.specs.Prelude.{⊤}
+use Rattle.std.specs.Prelude.{⊤, replicate}
 use Rattle.ep_typed.specs.TypeValues.{TypeValue, size_of}
 use Rattle.ep_typed.specs.TypeValues as type
 use Rattle.ep_object.specs.declared.op.TheConstants as op
@@ -87,6 +89,14 @@ set_takes h i type.Text is = is
 set_takes h i (type.Array low high of) is = is
 set_takes h i (type.Record ts) is = is
 set_takes h i (type.Set low high) is = tt
+
+-- a variable of the type has any number of words
+abbrev HasManyWords : TypeValue → Type 0
+HasManyWords (type.Ordinal low high) = ⊥
+HasManyWords type.Text = ⊥
+HasManyWords (type.Array low high of) = ⊤
+HasManyWords (type.Record ts) = ⊤
+HasManyWords (type.Set low high) = ⊤
 
 module _ (declared : Declarations) (G : Image) (place line : ℕ) (below : List Operand) where
   -- `Put` of a text to `output`
@@ -217,6 +227,23 @@ module _ (declared : Declarations) (G : Image) (place line : ℕ) (below : List 
   structure_ended memory trace p (type.Record ts) n ws structured has (ps, entry, components) gone =
       outcome_at G (instr op.STORE (pos 0) 0 line) place (operand.Value n ws ∷ operand.Place p ∷ below) memory trace has ∙ rw (entry, gone) refl
 
+  -- ---- `Undefine` of many words
+
+  many_undefined : (memory : Memory) (trace : Trace) (p : Place) (t : TypeValue) (type_number : ℕ) (words : List ℤ) → HasManyWords t
+      → slice_get G.instructions place ≡ Some (instr op.UNDEFINE (pos 0) 0 line)
+      → Describes memory.types p.type_number t
+      → slice_get memory.segments p.segment ≡ Some (Some (record { type_number = type_number; words = words }))
+      → p.offset + size_of t ≤ length words
+      → outcome G (at place (operand.Place p ∷ below) memory trace) ≡ record { weight = size_of t; to = Running 0 (at (place + 1) below (storing memory p.segment type_number (words_replaced words p.offset (replicate (size_of t) undefined))) trace) }
+  many_undefined memory trace p (type.Ordinal low high) type_number words many has described stands fits = absurd many
+  many_undefined memory trace p type.Text type_number words many has described stands fits = absurd many
+  many_undefined memory trace p (type.Set low high) type_number words many has described stands fits =
+      outcome_at G (instr op.UNDEFINE (pos 0) 0 line) place (operand.Place p ∷ below) memory trace has ∙ rw (described, stands, taken_there words p.offset set_size fits) refl
+  many_undefined memory trace p (type.Array low high of) type_number words many has (c, entry, component) stands fits =
+      outcome_at G (instr op.UNDEFINE (pos 0) 0 line) place (operand.Place p ∷ below) memory trace has ∙ rw (entry, stands, taken_there words p.offset (size_of (type.Array low high of)) fits) refl
+  many_undefined memory trace p (type.Record ts) type_number words many has (ps, entry, components) stands fits =
+      outcome_at G (instr op.UNDEFINE (pos 0) 0 line) place (operand.Place p ∷ below) memory trace has ∙ rw (entry, stands, taken_there words p.offset (size_of (type.Record ts)) fits) refl
+
   -- ---- `Store` of a set
 
   set_outcome : (memory : Memory) (trace : Trace) (p : Place) (low high : ℤ) (ms : List ℕ) (type_number : ℕ) (words : List ℤ) (b : Bool)
@@ -230,9 +257,9 @@ module _ (declared : Declarations) (G : Image) (place line : ℕ) (below : List 
   set_outcome memory trace p low high ms type_number words false has typed stands fits within =
       outcome_at G (instr op.STORE (pos 0) 0 line) place (operand.Set ms ∷ operand.Place p ∷ below) memory trace has ∙ rw (typed, stands, taken_there words p.offset set_size fits, within) refl
 
-  -- ---- `Store` of a value of many words
+  -- ---- variables of many words
 
-  module _ (t : TypeValue) (v : Component) (p : Place) (has : slice_get G.instructions place ≡ Some (instr op.STORE (pos 0) 0 line)) (injection : Injection) (memory : Memory) (spot : IsSpot injection memory.types v p) (described : Describes memory.types p.type_number t) (s : meaning.State) (matches : Matches declared G injection s memory) (living : has_ended v.allocation s ≡ false) where
+  module _ (t : TypeValue) (v : Component) (p : Place) (injection : Injection) (memory : Memory) (spot : IsSpot injection memory.types v p) (described : Describes memory.types p.type_number t) (s : meaning.State) (matches : Matches declared G injection s memory) (living : has_ended v.allocation s ≡ false) where
     there : Stands injection s memory v p
     there = place_stands matches spot living
 
@@ -251,10 +278,10 @@ module _ (declared : Declarations) (G : Image) (place line : ℕ) (below : List 
 
     -- what an instruction does that puts words which hold a value
     puts_value : {untouched : Slots} {Here : Facts} → Lasts untouched Here → Here injection s memory
-        → (value : Value) (o : Operand) (weight : ℕ) (ws : List ℤ) → length ws ≡ size_of t → HasAt injection t value (slice_get ws) 0
-        → (let r = there.represents in outcome G (at place (o ∷ operand.Place p ∷ below) memory s.trace) ≡ record { weight = weight; to = Running 0 (at (place + 1) below (storing memory p.segment r.type_number (words_replaced r.words p.offset ws)) s.trace) })
-        → Does declared G Here (at place (o ∷ operand.Place p ∷ below) memory s.trace) weight (place + 1) (Inside untouched injection memory (Bare below tt)) (assigned v value s)
-    puts_value {untouched = untouched} lasts known value o weight ws sized holds puts =
+        → (value : Value) (operands : List Operand) (weight : ℕ) (ws : List ℤ) → length ws ≡ size_of t → HasAt injection t value (slice_get ws) 0
+        → (let r = there.represents in outcome G (at place operands memory s.trace) ≡ record { weight = weight; to = Running 0 (at (place + 1) below (storing memory p.segment r.type_number (words_replaced r.words p.offset ws)) s.trace) })
+        → Does declared G Here (at place operands memory s.trace) weight (place + 1) (Inside untouched injection memory (Bare below tt)) (assigned v value s)
+    puts_value {untouched = untouched} lasts known value operands weight ws sized holds puts =
         let a : Allocation = there.allocation in
         let r : Represents injection memory.segments memory.types p.segment a = there.represents in
         let fits : p.offset + length ws ≤ length r.words = (let within = part_fits a.type_value v.path (record { offset = p.offset; type_value = t }) leads in omega (arith, within, r.sized, sized)) in
@@ -272,31 +299,40 @@ module _ (declared : Declarations) (G : Image) (place line : ℕ) (below : List 
 
     -- a value of an array or a record
     structure_does : {untouched : Slots} {Here : Facts} → Lasts untouched Here → Here injection s memory → IsStructured t
+        → slice_get G.instructions place ≡ Some (instr op.STORE (pos 0) 0 line)
         → (value : Value) (n : ℕ) (ws : List ℤ) → Describes memory.types n t → length ws ≡ size_of t → HasAt injection t value (slice_get ws) 0
         → Does declared G Here (at place (operand.Value n ws ∷ operand.Place p ∷ below) memory s.trace) (length ws) (place + 1) (Inside untouched injection memory (Bare below tt)) (assigned v value s)
-    structure_does lasts known structured value n ws of_type sized holds =
+    structure_does lasts known structured has value n ws of_type sized holds =
         let r : Represents injection memory.segments memory.types p.segment there.allocation = there.represents in
         let same : n ≡ p.type_number = one_number memory.types t n p.type_number matches.types of_type described in
         let fits : p.offset + length ws ≤ length r.words = omega (arith, fits_there, sized) in
-        puts_value lasts known value (operand.Value n ws) (length ws) ws sized holds (structure_outcome memory s.trace p t n ws r.type_number r.words structured has described same r.stands fits)
+        puts_value lasts known value (operand.Value n ws ∷ operand.Place p ∷ below) (length ws) ws sized holds (structure_outcome memory s.trace p t n ws r.type_number r.words structured has described same r.stands fits)
+
+    -- it becomes undefined
+    many_does : {untouched : Slots} {Here : Facts} → Lasts untouched Here → Here injection s memory → HasManyWords t → IsTypeValue t
+        → slice_get G.instructions place ≡ Some (instr op.UNDEFINE (pos 0) 0 line)
+        → Does declared G Here (at place (operand.Place p ∷ below) memory s.trace) (size_of t) (place + 1) (Inside untouched injection memory (Bare below tt)) (assigned v Undefined s)
+    many_does lasts known many valid has =
+        let r : Represents injection memory.segments memory.types p.segment there.allocation = there.represents in
+        puts_value lasts known Undefined (operand.Place p ∷ below) (size_of t) (replicate (size_of t) undefined) (length-replicate (size_of t) undefined) (fresh_holds injection t valid) (many_undefined memory s.trace p t r.type_number r.words many has described r.stands fits_there)
 
   module _ (low high : ℤ) (ms : List ℕ) (v : Component) (p : Place) (has : slice_get G.instructions place ≡ Some (instr op.STORE (pos 0) 0 line)) (injection : Injection) (memory : Memory) (spot : IsSpot injection memory.types v p) (described : Describes memory.types p.type_number (type.Set low high)) (s : meaning.State) (matches : Matches declared G injection s memory) (living : has_ended v.allocation s ≡ false) where
     set_type : type_at v s ≡ Some (type.Set low high)
-    set_type = structure_type (type.Set low high) v p has injection memory spot described s matches living
+    set_type = structure_type (type.Set low high) v p injection memory spot described s matches living
 
     leads_to : (b : Bool) → are_between low high ms ≡ b
-        → (let stands = there (type.Set low high) v p has injection memory spot described s matches living in let r = stands.represents in
+        → (let stands = there (type.Set low high) v p injection memory spot described s matches living in let r = stands.represents in
         outcome G (at place (operand.Set ms ∷ operand.Place p ∷ below) memory s.trace) ≡ in_one (cond b (Running 0 (at (place + 1) below (storing memory p.segment r.type_number (words_replaced r.words p.offset (words_of_set ms))) s.trace)) (Stopped (Error run_error.SET_MEMBER (unit_in G memory.frames) line) s.trace)))
     leads_to b within =
-        let stands = there (type.Set low high) v p has injection memory spot described s matches living in
+        let stands = there (type.Set low high) v p injection memory spot described s matches living in
         let r = stands.represents in
-        set_outcome memory s.trace p low high ms r.type_number r.words b has described r.stands (fits_there (type.Set low high) v p has injection memory spot described s matches living) within
+        set_outcome memory s.trace p low high ms r.type_number r.words b has described r.stands (fits_there (type.Set low high) v p injection memory spot described s matches living) within
 
     -- a set whose members are of the base type
     set_does : {untouched : Slots} {Here : Facts} → Lasts untouched Here → Here injection s memory → IsSet ms → are_between low high ms ≡ true
         → Does declared G Here (at place (operand.Set ms ∷ operand.Place p ∷ below) memory s.trace) 0 (place + 1) (Inside untouched injection memory (Bare below tt)) (assigned v (meaning.Members ms) s)
     set_does lasts known is_set within =
-        puts_value (type.Set low high) v p has injection memory spot described s matches living lasts known (meaning.Members ms) (operand.Set ms) 0 (words_of_set ms) (words_many ms) (words_hold low high ms is_set within) (leads_to true within)
+        puts_value (type.Set low high) v p injection memory spot described s matches living lasts known (meaning.Members ms) (operand.Set ms ∷ operand.Place p ∷ below) 0 (words_of_set ms) (words_many ms) (words_hold low high ms is_set within) (leads_to true within)
 
     -- and one with another member
     set_fails : are_between low high ms ≡ false
@@ -358,7 +394,7 @@ module _ (declared : Declarations) (G : Image) (place line : ℕ) (below : List 
       let own : Describes memory.types p.type_number u = subst (Describes memory.types p.type_number) (sym same) described in
       rw (is.is, is.is_structure)
       (subst (λ w. Does declared G Here (at place (operand.Value is.type_number is.words ∷ operand.Place p ∷ below) memory s.trace) w (place + 1) (Inside untouched injection memory (Bare below tt)) (assigned v is.value s)) is.sized
-      (structure_does u v p has injection memory spot own s matches living lasts known structured is.value is.type_number is.words is.described is.sized is.holds))
+      (structure_does u v p injection memory spot own s matches living lasts known structured has is.value is.type_number is.words is.described is.sized is.holds))
 
   -- one that it may not have
   pub value_fails : (k : Kind) (t : TypeValue) (r : Result) (o : Operand) (v : Component) (p : Place) → MayTake k t
@@ -384,7 +420,7 @@ module _ (declared : Declarations) (G : Image) (place line : ℕ) (below : List 
   value_fails kind.Bytes t r o v p of_kind has injection memory is spot described s matches living fits = absurd of_kind
   value_fails (kind.Structured u) t r o v p (same, structured) has injection memory is spot described s matches living fits =
       let own : Describes memory.types p.type_number u = subst (Describes memory.types p.type_number) (sym same) described in
-      let is_type : type_at v s ≡ Some u = structure_type u v p has injection memory spot own s matches living in
+      let is_type : type_at v s ≡ Some u = structure_type u v p injection memory spot own s matches living in
       let yes : suits (type_at v s) r ≡ true = ap (suits (type_at v s)) is.is_structure ∙ (ap (λ o. suits o (Structure u is.value)) is_type ∙ type_is_same u) in
       absurd (let e : true ≡ false = sym yes ∙ fits in cc)
 
@@ -432,3 +468,17 @@ module _ (declared : Declarations) (G : Image) (place line : ℕ) (below : List 
         here = lasts.by injection injection s (assigned v Undefined s) memory (storing memory p.segment r.type_number words) (record { grown = grown_storing matches v.allocation p.segment a spot.is_in x.is x.lives r words; routine = same_routine-refl memory.frames; own = λ k. refl; calls = refl }) known;
         post = record { grown = grown_storing matches v.allocation p.segment a spot.is_in x.is x.lives r words; routine = same_routine-refl memory.frames; operands_are = refl };
       }
+
+  -- so is one of any type that is none of a file
+  pub undefine_does_any : {untouched : Slots} {Here : Facts} (t : TypeValue) (v : Component) (p : Place) → IsTypeValue t
+      → slice_get G.instructions place ≡ Some (instr op.UNDEFINE (pos 0) 0 line)
+      → (injection : Injection) (memory : Memory) → IsSpot injection memory.types v p
+      → Describes memory.types p.type_number t → (s : meaning.State)
+      → Matches declared G injection s memory → has_ended v.allocation s ≡ false
+      → Lasts untouched Here → Here injection s memory
+      → Does declared G Here (at place (operand.Place p ∷ below) memory s.trace) (size_of t) (place + 1) (Inside untouched injection memory (Bare below tt)) (assigned v Undefined s)
+  undefine_does_any (type.Ordinal low high) v p valid has injection memory spot described s matches living lasts known = undefine_does low high v p has injection memory spot described s matches living lasts known
+  undefine_does_any type.Text v p valid has injection memory spot described s matches living lasts known = absurd valid
+  undefine_does_any (type.Array low high of) v p valid has injection memory spot described s matches living lasts known = many_does (type.Array low high of) v p injection memory spot described s matches living lasts known tt valid has
+  undefine_does_any (type.Record ts) v p valid has injection memory spot described s matches living lasts known = many_does (type.Record ts) v p injection memory spot described s matches living lasts known tt valid has
+  undefine_does_any (type.Set low high) v p valid has injection memory spot described s matches living lasts known = many_does (type.Set low high) v p injection memory spot described s matches living lasts known tt valid has

@@ -92,11 +92,11 @@ module _ (G : Image) (place line : ℕ) (below : List Operand) where
       let e : rows.is_boolean x ≡ true = is_boolean-same x boolean in
       outcome_at G (instr op.NOT (pos 0) 0 line) place (Word x ∷ below) memory trace has ∙ rw e refl
 
-  -- `Check` over the bounds of `succ` and `pred`
-  pub check_answers : (x low high : ℤ) → slice_get G.instructions place ≡ Some (instr op.CHECK (pos run_error.SUCCESSOR) 0 line) → RowAnswers G place line (Word high ∷ Word low ∷ Word x ∷ below) below (within run_error.SUCCESSOR low high x)
-  check_answers x low high has memory trace =
-      let i : Instr = instr op.CHECK (pos run_error.SUCCESSOR) 0 line in
-      outcome_at G i place (Word high ∷ Word low ∷ Word x ∷ below) memory trace has ∙ ap in_one (checked G i place (Word high ∷ Word low ∷ Word x ∷ below) below memory trace (int_le low x && int_le x high) x run_error.SUCCESSOR)
+  -- `Check` with an error that there is
+  pub check_answers : (error : ℕ) (x low high : ℤ) → rows.is_error (pos error) ≡ true → slice_get G.instructions place ≡ Some (instr op.CHECK (pos error) 0 line) → RowAnswers G place line (Word high ∷ Word low ∷ Word x ∷ below) below (within error low high x)
+  check_answers error x low high known has memory trace =
+      let i : Instr = instr op.CHECK (pos error) 0 line in
+      outcome_at G i place (Word high ∷ Word low ∷ Word x ∷ below) memory trace has ∙ (rw known (ap in_one (checked G i place (Word high ∷ Word low ∷ Word x ∷ below) below memory trace (int_le low x && int_le x high) x error)))
 
   -- ---- two operands
 

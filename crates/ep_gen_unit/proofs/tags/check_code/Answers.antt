@@ -1,0 +1,11 @@
+use Rattle.std.proofs.Common.{w64}
+use Rattle.std.proofs.lemmas.Int.{to_z-of_z}
+use Rattle.ep_gen_expr.proofs.Forms.{on_ok}
+use Rattle.ep_gen_unit.proofs.TagForms.{grows_within}
+use Rattle.ep_gen_unit.proofs.tags.check_code.Goals as goal
+
+pub returns : goal.returns
+returns c =
+    let low = to_z-of_z w64 c.args.low c.ranges.low in
+    let high = to_z-of_z w64 c.args.high c.ranges.high in
+    on_ok c.emit-2.result (grows_within c.args.low c.args.high (rw low at c.in_ok-push_code.ensures) (rw high at c.in_ok-push_code-2.ensures) c.in_ok-emit.ensures) c.emit-2.ensures
