@@ -1,12 +1,15 @@
--- What is known of a valid form as a constant is a value of its host.
-use Rattle.std.proofs.Common.{◌≡◌, ℕ, ℤ, pos, negsuc, zero, suc, ◌%◌, Bool, true, false, List, Option, Some, None, IsTrue, refl, sym, ap, ◌∙◌, subst, arith}
+-- What is known of a valid form as a constant is of its kind: a value of its host, or a set over it.
+use Rattle.std.proofs.Common.{◌≡◌, ℕ, ℤ, pos, negsuc, zero, suc, ◌≤◌, ◌%◌, Bool, true, false, List, [], Option, Some, None, IsTrue, length, refl, sym, ap, ◌∙◌, subst, arith}
 use Rattle.std.proofs.lemmas.Bool.Decides.{nat_tests}
 use Rattle.std.specs.Prelude.{⊤, if◌then◌else◌, ◌-ℤ◌, unsigned_abs}
 use Rattle.ep_typed.specs.Hosts.{Host, least, greatest, is_of_host}
 use Rattle.ep_typed.specs.Hosts as host
 use Rattle.ep_typed.specs.Operations.{Answer, Number, Fault, is_integer, decides, within, ordinal_of, unary_answer, binary_answer, step_answer}
-use Rattle.ep_typed.specs.Trees.{Expr, Constant, Text, Read, One, Two, Short, Step, Function, IndexedValue, FieldValue, SetConstant, SetOf, OnSets, Card}
-use Rattle.ep_typed.specs.Valid.{Declarations, IsExpr, IsUnary, IsBinary, IsOnSets}
+use Rattle.ep_typed.specs.Sets.{member_limit}
+use Rattle.ep_typed.specs.SetOperations.{set_answer}
+use Rattle.ep_typed.specs.TypeValues.{TypeValue}
+use Rattle.ep_typed.specs.Trees.{Expr, Constant, Text, Read, One, Two, Short, Step, Function, IndexedValue, FieldValue, SetConstant, SetOf, OnSets, Card, Designator, Single, Range, Designators, no_member, next_member}
+use Rattle.ep_typed.specs.Valid.{AreDesignators, Declarations, IsDesignator, IsExpr, IsUnary, IsBinary, IsOnSets}
 use Rattle.ep_typed.specs.Valid as valid
 use Rattle.ep_typed.specs.declared.operations.Unary.{Unary}
 use Rattle.ep_typed.specs.declared.operations.Unary.TheVariants as unary
@@ -16,44 +19,31 @@ use Rattle.ep_typed.specs.declared.operations.SetOperation.{SetOperation}
 use Rattle.ep_typed.specs.declared.operations.SetOperation.TheVariants as on_sets
 use Rattle.ep_typed.specs.declared.operations.ShortOperation.{ShortOperation}
 use Rattle.ep_typed.specs.declared.run_error.TheConstants as run_error
+use Rattle.ep_typed.specs.declared.value.Value.TheVariants as value
+use Rattle.ep_typed.proofs.Sets.{few_members}
 use Rattle.ep_scope.specs.declared.structure.StructuredType.{StructuredType}
 use Rattle.ep_scope.specs.declared.kind.Host as scope
 use Rattle.ep_scope.specs.declared.kind.Kind.TheVariants as kind
 use Rattle.ep_scope.specs.declared.kind.Kind.{Kind}
-use Rattle.ep_check_expr.specs.Agreement.{IsHost, IsConstantOf, IsFormOf, TypeValues}
-use Rattle.ep_check_expr.specs.Constants.{constant_of, constant_folded}
+use Rattle.ep_check_expr.specs.Agreement.{IsHost, IsConstantOf, IsFormOf, IsSetOver, TypeValues}
+use Rattle.ep_check_expr.specs.Constants.{constant_of, constant_folded, known, value_of}
 use Rattle.ep_check_expr.specs.Hosts.{typed_host}
 use Rattle.ep_check_expr.specs.Judgements.{Judged, Accepts, Breaks}
 use Rattle.ep_check_expr.specs.declared.constants.ConstantForm.{ConstantForm}
-use Rattle.ep_check_expr.specs.Folding.{answered, beside, folded_members, one_folded, two_folded, short_folded, folded, together}
+use Rattle.ep_check_expr.specs.Folding.{answered, as_known, folded, folded_member, folded_members, joined, members_in, number_in, one_folded, result_of, set_found, short_folded, two_folded}
 use Rattle.ep_check_expr.specs.declared.folding.Folded.{Folded}
-use Rattle.ep_check_expr.specs.declared.folding.Folded.TheVariants.{Known, Varies, Errs, Unbuilt}
+use Rattle.ep_check_expr.specs.declared.folding.Folded.TheVariants.{Known, Varies, Errs}
+use Rattle.ep_check_expr.specs.declared.folding.KnownValue.{KnownValue}
+use Rattle.ep_check_expr.specs.declared.folding.KnownValue.TheVariants as known_value
+use Rattle.ep_check_expr.proofs.Passing.{structured-expr}
+use Rattle.ep_check_expr.proofs.SetsOver.{IsFound, combined-over, empty-over, range-over, single-over}
+
+-- ---- numbers
 
 -- a number that is known is an integer, and the one that was answered
 record IsAnswer (a : Answer) (z : ℤ) : Type 0 where
   number : a ≡ Number z
   whole : IsTrue (is_integer z)
-
-answered-number : (b : Bool) (w z : ℤ) → is_integer w ≡ b → (if b then Known w else Errs) ≡ Known z → IsAnswer (Number w) z
-answered-number true w z whole e =
-    let is : w ≡ z = cc in
-    record { number = ap Number is; whole = subst (λ x. IsTrue (is_integer x)) is whole }
-answered-number false w z whole e = cc
-
-answered-known : (a : Answer) (z : ℤ) → answered a ≡ Known z → IsAnswer a z
-answered-known (Number w) z e = answered-number (is_integer w) w z refl e
-answered-known (Fault error) z e = cc
-
--- the host of an ordinal kind
-host_in : valid.Kind → Host
-host_in (valid.Ordinal h) = h
-host_in valid.Bytes = host.Integer
-host_in (valid.Structured t) = host.Integer
-host_in (valid.Set h) = host.Integer
-
-as_host : (h k : Host) (z : ℤ) → valid.Ordinal h ≡ valid.Ordinal k → IsTrue (is_of_host k z) → IsTrue (is_of_host h z)
-unfolding host_in
-as_host h k z e s = subst (λ x. IsTrue (is_of_host x z)) (sym (ap host_in e)) s
 
 not_boolean : (x : ℤ) → IsTrue (is_of_host host.Boolean x) → IsTrue (is_of_host host.Boolean (pos 1 -ℤ x))
 not_boolean (pos zero) h = refl
@@ -82,141 +72,199 @@ bounded-number : (h : Host) (low high w z : ℤ) → low ≡ least h → high �
 bounded-number h low high w z l g e =
     within-number (is_of_host h w) h w z refl (sym (ap (λ b. within run_error.SUCCESSOR b high w) l ∙ ap (λ b. within run_error.SUCCESSOR (least h) b w) g) ∙ e)
 
--- what a known number of this kind is
-abbrev pub OfKind : valid.Kind → ℤ → Type 0
-OfKind (valid.Ordinal h) z = IsTrue (is_of_host h z)
-OfKind valid.Bytes z = ⊤
-OfKind (valid.Structured t) z = ⊤
-OfKind (valid.Set h) z = ⊤
+-- ---- what is known of the parts of a form
 
--- an operation of a known number
-one-of_host : (operation : Unary) (k : valid.Kind) (h : Host) (y z : ℤ) → IsUnary operation k (valid.Ordinal h) → OfKind k y → IsAnswer (unary_answer operation y) z → IsTrue (is_of_host h z)
-one-of_host unary.Same k h y z u s a = as_host h host.Integer z u.1 a.whole
-one-of_host unary.Negate k h y z u s a = as_host h host.Integer z u.1 a.whole
-one-of_host unary.Not k h y z u s a = as_host h host.Boolean z u.1 (same_number host.Boolean (pos 1 -ℤ y) z (not_boolean y (subst (λ o. OfKind o y) u.0 s)) a.number)
-one-of_host unary.Absolute k h y z u s a = as_host h host.Integer z u.1 a.whole
-one-of_host unary.Square k h y z u s a = as_host h host.Integer z u.1 a.whole
-one-of_host unary.Odd k h y z u s a = as_host h host.Boolean z u.1 (same_number host.Boolean _ z (odd_boolean (unsigned_abs y)) a.number)
-one-of_host unary.Character k h y z u s a = as_host h host.Char z u.1 (bounded-number host.Char _ _ y z refl refl a.number)
+-- a value that is known, of which a form is made
+record OneKnown (f : KnownValue → Folded) (r : Folded) (x : KnownValue) : Type 0 where
+  part : KnownValue
+  is : r ≡ Known part
+  gives : f part ≡ Known x
 
--- an operation of two
-two-of_host : (operation : Binary) (k l : valid.Kind) (h : Host) (x y z : ℤ) → IsBinary operation k l (valid.Ordinal h) → IsAnswer (binary_answer operation x y) z → IsTrue (is_of_host h z)
-two-of_host binary.Add k l h x y z u a = as_host h host.Integer z u.2 a.whole
-two-of_host binary.Subtract k l h x y z u a = as_host h host.Integer z u.2 a.whole
-two-of_host binary.Multiply k l h x y z u a = as_host h host.Integer z u.2 a.whole
-two-of_host binary.Divide k l h x y z u a = as_host h host.Integer z u.2 a.whole
-two-of_host binary.Modulo k l h x y z u a = as_host h host.Integer z u.2 a.whole
-two-of_host binary.And k l h x y z u a = as_host h host.Boolean z u.2 (same_number host.Boolean _ z (ordinal_boolean _) a.number)
-two-of_host binary.Or k l h x y z u a = as_host h host.Boolean z u.2 (same_number host.Boolean _ z (ordinal_boolean _) a.number)
-two-of_host binary.Equal k l h x y z u a = as_host h host.Boolean z u.1 (same_number host.Boolean _ z (ordinal_boolean _) a.number)
-two-of_host binary.Unequal k l h x y z u a = as_host h host.Boolean z u.1 (same_number host.Boolean _ z (ordinal_boolean _) a.number)
-two-of_host binary.Less k l h x y z u a = as_host h host.Boolean z u.1 (same_number host.Boolean _ z (ordinal_boolean _) a.number)
-two-of_host binary.Greater k l h x y z u a = as_host h host.Boolean z u.1 (same_number host.Boolean _ z (ordinal_boolean _) a.number)
-two-of_host binary.AtMost k l h x y z u a = as_host h host.Boolean z u.1 (same_number host.Boolean _ z (ordinal_boolean _) a.number)
-two-of_host binary.AtLeast k l h x y z u a = as_host h host.Boolean z u.1 (same_number host.Boolean _ z (ordinal_boolean _) a.number)
+one_folded-known : (f : KnownValue → Folded) (r : Folded) (x : KnownValue) → one_folded f r ≡ Known x → OneKnown f r x
+one_folded-known f (Known y) x e = record { part = y; is = refl; gives = e }
+one_folded-known f Varies x e = cc
+one_folded-known f Errs x e = cc
 
-step-of_host : (down : Bool) (low high : ℤ) (h k : Host) (x n z : ℤ) → valid.Ordinal h ≡ valid.Ordinal k → low ≡ least k → high ≡ greatest k → IsAnswer (step_answer down low high x n) z → IsTrue (is_of_host h z)
-step-of_host true low high h k x n z e l g a = as_host h k z e (bounded-number k low high _ z l g a.number)
-step-of_host false low high h k x n z e l g a = as_host h k z e (bounded-number k low high _ z l g a.number)
+-- two of them
+record BothKnown (f : KnownValue → KnownValue → Folded) (r s : Folded) (x : KnownValue) : Type 0 where
+  left : KnownValue
+  right : KnownValue
+  left_is : r ≡ Known left
+  right_is : s ≡ Known right
+  gives : f left right ≡ Known x
 
--- what is known of the operands of a form that is known
-record BothKnown (f : ℤ → ℤ → Answer) (r s : Folded) (z : ℤ) : Type 0 where
-  left : ℤ
-  right : ℤ
-  is_answer : IsAnswer (f left right) z
-
-two_folded-known : (f : ℤ → ℤ → Answer) (r s : Folded) (z : ℤ) → two_folded f r s ≡ Known z → BothKnown f r s z
-two_folded-known f (Known x) (Known y) z e = record { left = x; right = y; is_answer = answered-known (f x y) z e }
-two_folded-known f (Known x) Varies z e = cc
-two_folded-known f (Known x) Errs z e = cc
-two_folded-known f Varies s z e = cc
-two_folded-known f Errs (Known y) z e = cc
-two_folded-known f Errs Varies z e = cc
-two_folded-known f Errs Errs z e = cc
-two_folded-known f (Known x) Unbuilt z e = cc
-two_folded-known f Errs Unbuilt z e = cc
-two_folded-known f Unbuilt (Known y) z e = cc
-two_folded-known f Unbuilt Varies z e = cc
-two_folded-known f Unbuilt Errs z e = cc
-two_folded-known f Unbuilt Unbuilt z e = cc
+two_folded-known : (f : KnownValue → KnownValue → Folded) (r s : Folded) (x : KnownValue) → two_folded f r s ≡ Known x → BothKnown f r s x
+two_folded-known f (Known y) (Known z) x e = record { left = y; right = z; left_is = refl; right_is = refl; gives = e }
+two_folded-known f (Known y) Varies x e = cc
+two_folded-known f (Known y) Errs x e = cc
+two_folded-known f Varies s x e = cc
+two_folded-known f Errs (Known z) x e = cc
+two_folded-known f Errs Varies x e = cc
+two_folded-known f Errs Errs x e = cc
 
 -- what is known of an operation whose right operand may not be evaluated is what is known of one of both
-short_folded-known : (P : ℤ → Type 0) (operation : ShortOperation) (r s : Folded) (z : ℤ) → ((y : ℤ) → r ≡ Known y → P y) → ((y : ℤ) → s ≡ Known y → P y) → short_folded operation r s ≡ Known z → P z
-short_folded-known P operation (Known x) (Known y) z f g e = chosen (decides operation x) e
+short_folded-known : (P : KnownValue → Type 0) (operation : ShortOperation) (r s : Folded) (x : KnownValue) → ((y : KnownValue) → r ≡ Known y → P y) → ((y : KnownValue) → s ≡ Known y → P y) → short_folded operation r s ≡ Known x → P x
+short_folded-known P operation (Known y) (Known z) x f g e = chosen (decides operation (number_in y)) e
   where
-    chosen : (b : Bool) → Known (if b then x else y) ≡ Known z → P z
-    chosen true e = f z e
-    chosen false e = g z e
-short_folded-known P operation (Known x) Errs z f g e = chosen (decides operation x) e
+    chosen : (b : Bool) → Known (if b then y else z) ≡ Known x → P x
+    chosen true e = f x e
+    chosen false e = g x e
+short_folded-known P operation (Known y) Errs x f g e = chosen (decides operation (number_in y)) e
   where
-    chosen : (b : Bool) → (if b then Known x else Errs) ≡ Known z → P z
-    chosen true e = f z e
+    chosen : (b : Bool) → (if b then Known y else Errs) ≡ Known x → P x
+    chosen true e = f x e
     chosen false e = cc
-short_folded-known P operation (Known x) Varies z f g e = cc
-short_folded-known P operation Varies s z f g e = cc
-short_folded-known P operation Errs (Known y) z f g e = cc
-short_folded-known P operation Errs Varies z f g e = cc
-short_folded-known P operation Errs Errs z f g e = cc
-short_folded-known P operation (Known x) Unbuilt z f g e = chosen (decides operation x) e
+short_folded-known P operation (Known y) Varies x f g e = cc
+short_folded-known P operation Varies s x f g e = cc
+short_folded-known P operation Errs (Known z) x f g e = cc
+short_folded-known P operation Errs Varies x f g e = cc
+short_folded-known P operation Errs Errs x f g e = cc
+
+-- ---- kinds of what is known
+
+-- what is known is of this kind; no text and no structured value is known
+abbrev pub OfKind : valid.Kind → KnownValue → Type 0
+OfKind (valid.Ordinal h) (known_value.Number z) = IsTrue (is_of_host h z)
+OfKind (valid.Set h) (known_value.Members ms) = IsSetOver h ms
+OfKind _ _ = ⊥
+
+number-of_kind : (h : Host) (k : valid.Kind) (z : ℤ) (x : KnownValue) → k ≡ valid.Ordinal h → IsTrue (is_of_host h z) → Known (known_value.Number z) ≡ Known x → OfKind k x
+number-of_kind h k z x is p e =
+    let same : known_value.Number z ≡ x = cc in
+    subst (λ t. OfKind t x) (sym is) (subst (OfKind (valid.Ordinal h)) same p)
+
+set-of_kind : (h : Host) (k : valid.Kind) (ms : List ℕ) (x : KnownValue) → k ≡ valid.Set h → IsSetOver h ms → Known (known_value.Members ms) ≡ Known x → OfKind k x
+set-of_kind h k ms x is p e =
+    let same : known_value.Members ms ≡ x = cc in
+    subst (λ t. OfKind t x) (sym is) (subst (OfKind (valid.Set h)) same p)
+
+-- the number of what is of an ordinal kind, and the set of what is of a set kind
+number-of_host : (h : Host) (k : valid.Kind) (x : KnownValue) → k ≡ valid.Ordinal h → OfKind k x → IsTrue (is_of_host h (number_in x))
+number-of_host h k x is p = within x (subst (λ t. OfKind t x) is p)
   where
-    chosen : (b : Bool) → (if b then Known x else Unbuilt) ≡ Known z → P z
-    chosen true e = f z e
-    chosen false e = cc
-short_folded-known P operation Errs Unbuilt z f g e = cc
-short_folded-known P operation Unbuilt (Known y) z f g e = cc
-short_folded-known P operation Unbuilt Varies z f g e = cc
-short_folded-known P operation Unbuilt Errs z f g e = cc
-short_folded-known P operation Unbuilt Unbuilt z f g e = cc
+    within : (y : KnownValue) → OfKind (valid.Ordinal h) y → IsTrue (is_of_host h (number_in y))
+    within (known_value.Number z) q = q
+    within (known_value.Members ms) q = absurd q
 
--- nothing is known of what is made of sets
-beside-known : (r : Folded) (z : ℤ) → beside r ≡ Known z → ⊥
-beside-known (Known y) z e = cc
-beside-known Varies z e = cc
-beside-known Errs z e = cc
-beside-known Unbuilt z e = cc
+members-over : (h : Host) (k : valid.Kind) (x : KnownValue) → k ≡ valid.Set h → OfKind k x → IsSetOver h (members_in x)
+members-over h k x is p = within x (subst (λ t. OfKind t x) is p)
+  where
+    within : (y : KnownValue) → OfKind (valid.Set h) y → IsSetOver h (members_in y)
+    within (known_value.Number z) q = absurd q
+    within (known_value.Members ms) q = q
 
-together-known : (r s : Folded) (z : ℤ) → together r s ≡ Known z → ⊥
-together-known (Known y) s z e = beside-known s z e
-together-known Varies s z e = cc
-together-known Errs (Known y) z e = cc
-together-known Errs Varies z e = cc
-together-known Errs Errs z e = cc
-together-known Errs Unbuilt z e = cc
-together-known Unbuilt s z e = beside-known s z e
+-- an answer is of the kind where its number is
+answer-of_kind : (h : Host) (k : valid.Kind) (a : Answer) (x : KnownValue) → k ≡ valid.Ordinal h → ((z : ℤ) → IsAnswer a z → IsTrue (is_of_host h z)) → answered a ≡ Known x → OfKind k x
+answer-of_kind h k (Number w) x is f e = by_test (is_integer w) refl e
+  where
+    by_test : (b : Bool) → is_integer w ≡ b → (if b then Known (known_value.Number w) else Errs) ≡ Known x → OfKind k x
+    by_test true whole e = number-of_kind h k w x is (f w (record { number = refl; whole = whole })) e
+    by_test false whole e = cc
+answer-of_kind h k (Fault error) x is f e = cc
 
-one_folded-known : (operation : Unary) (k : valid.Kind) (h : Host) (r : Folded) (z : ℤ) → IsUnary operation k (valid.Ordinal h) → ((y : ℤ) → r ≡ Known y → OfKind k y) → one_folded (unary_answer operation) r ≡ Known z → IsTrue (is_of_host h z)
-one_folded-known operation k h (Known y) z u s e = one-of_host operation k h y z u (s y refl) (answered-known (unary_answer operation y) z e)
-one_folded-known operation k h Varies z u s e = cc
-one_folded-known operation k h Errs z u s e = cc
-one_folded-known operation k h Unbuilt z u s e = cc
+-- an operation of a known number
+one-of_kind : (operation : Unary) (k m : valid.Kind) (y x : KnownValue) → IsUnary operation k m → OfKind k y → answered (unary_answer operation (number_in y)) ≡ Known x → OfKind m x
+one-of_kind unary.Same k m y x u p e = answer-of_kind host.Integer m (unary_answer unary.Same (number_in y)) x u.1 (λ z a. a.whole) e
+one-of_kind unary.Negate k m y x u p e = answer-of_kind host.Integer m (unary_answer unary.Negate (number_in y)) x u.1 (λ z a. a.whole) e
+one-of_kind unary.Not k m y x u p e = answer-of_kind host.Boolean m (unary_answer unary.Not (number_in y)) x u.1 (λ z a. same_number host.Boolean (pos 1 -ℤ number_in y) z (not_boolean (number_in y) (number-of_host host.Boolean k y u.0 p)) a.number) e
+one-of_kind unary.Absolute k m y x u p e = answer-of_kind host.Integer m (unary_answer unary.Absolute (number_in y)) x u.1 (λ z a. a.whole) e
+one-of_kind unary.Square k m y x u p e = answer-of_kind host.Integer m (unary_answer unary.Square (number_in y)) x u.1 (λ z a. a.whole) e
+one-of_kind unary.Odd k m y x u p e = answer-of_kind host.Boolean m (unary_answer unary.Odd (number_in y)) x u.1 (λ z a. same_number host.Boolean (pos (unsigned_abs (number_in y) % 2)) z (odd_boolean (unsigned_abs (number_in y))) a.number) e
+one-of_kind unary.Character k m y x u p e = answer-of_kind host.Char m (unary_answer unary.Character (number_in y)) x u.1 (λ z a. bounded-number host.Char _ _ (number_in y) z refl refl a.number) e
+
+-- an operation of two
+two-of_kind : (operation : Binary) (k l m : valid.Kind) (v w : ℤ) (x : KnownValue) → IsBinary operation k l m → answered (binary_answer operation v w) ≡ Known x → OfKind m x
+two-of_kind binary.Add k l m v w x u e = answer-of_kind host.Integer m (binary_answer binary.Add v w) x u.2 (λ z a. a.whole) e
+two-of_kind binary.Subtract k l m v w x u e = answer-of_kind host.Integer m (binary_answer binary.Subtract v w) x u.2 (λ z a. a.whole) e
+two-of_kind binary.Multiply k l m v w x u e = answer-of_kind host.Integer m (binary_answer binary.Multiply v w) x u.2 (λ z a. a.whole) e
+two-of_kind binary.Divide k l m v w x u e = answer-of_kind host.Integer m (binary_answer binary.Divide v w) x u.2 (λ z a. a.whole) e
+two-of_kind binary.Modulo k l m v w x u e = answer-of_kind host.Integer m (binary_answer binary.Modulo v w) x u.2 (λ z a. a.whole) e
+two-of_kind binary.And k l m v w x u e = answer-of_kind host.Boolean m (binary_answer binary.And v w) x u.2 (λ z a. same_number host.Boolean _ z (ordinal_boolean _) a.number) e
+two-of_kind binary.Or k l m v w x u e = answer-of_kind host.Boolean m (binary_answer binary.Or v w) x u.2 (λ z a. same_number host.Boolean _ z (ordinal_boolean _) a.number) e
+two-of_kind binary.Equal k l m v w x u e = answer-of_kind host.Boolean m (binary_answer binary.Equal v w) x u.1 (λ z a. same_number host.Boolean _ z (ordinal_boolean _) a.number) e
+two-of_kind binary.Unequal k l m v w x u e = answer-of_kind host.Boolean m (binary_answer binary.Unequal v w) x u.1 (λ z a. same_number host.Boolean _ z (ordinal_boolean _) a.number) e
+two-of_kind binary.Less k l m v w x u e = answer-of_kind host.Boolean m (binary_answer binary.Less v w) x u.1 (λ z a. same_number host.Boolean _ z (ordinal_boolean _) a.number) e
+two-of_kind binary.Greater k l m v w x u e = answer-of_kind host.Boolean m (binary_answer binary.Greater v w) x u.1 (λ z a. same_number host.Boolean _ z (ordinal_boolean _) a.number) e
+two-of_kind binary.AtMost k l m v w x u e = answer-of_kind host.Boolean m (binary_answer binary.AtMost v w) x u.1 (λ z a. same_number host.Boolean _ z (ordinal_boolean _) a.number) e
+two-of_kind binary.AtLeast k l m v w x u e = answer-of_kind host.Boolean m (binary_answer binary.AtLeast v w) x u.1 (λ z a. same_number host.Boolean _ z (ordinal_boolean _) a.number) e
+
+step-of_kind : (down : Bool) (low high : ℤ) (h : Host) (k : valid.Kind) (v n : ℤ) (x : KnownValue) → k ≡ valid.Ordinal h → low ≡ least h → high ≡ greatest h → answered (step_answer down low high v n) ≡ Known x → OfKind k x
+step-of_kind true low high h k v n x is l g e = answer-of_kind h k (step_answer true low high v n) x is (λ z a. bounded-number h low high _ z l g a.number) e
+step-of_kind false low high h k v n x is l g e = answer-of_kind h k (step_answer false low high v n) x is (λ z a. bounded-number h low high _ z l g a.number) e
+
+-- ---- operations on sets
+
+on_sets-of_kind : (operation : SetOperation) (k l m : valid.Kind) (y z x : KnownValue) → IsOnSets operation k l m → OfKind k y → OfKind l z → as_known (set_answer operation (result_of y) (result_of z)) ≡ Known x → OfKind m x
+on_sets-of_kind on_sets.Union k l m y z x u p q e = set-of_kind u.0 m _ x u.3 (combined-over u.0 on_sets.Union _ _ (members-over u.0 k y u.1 p) (members-over u.0 l z u.2 q)) e
+on_sets-of_kind on_sets.Difference k l m y z x u p q e = set-of_kind u.0 m _ x u.3 (combined-over u.0 on_sets.Difference _ _ (members-over u.0 k y u.1 p) (members-over u.0 l z u.2 q)) e
+on_sets-of_kind on_sets.Intersection k l m y z x u p q e = set-of_kind u.0 m _ x u.3 (combined-over u.0 on_sets.Intersection _ _ (members-over u.0 k y u.1 p) (members-over u.0 l z u.2 q)) e
+on_sets-of_kind on_sets.SymmetricDifference k l m y z x u p q e = set-of_kind u.0 m _ x u.3 (combined-over u.0 on_sets.SymmetricDifference _ _ (members-over u.0 k y u.1 p) (members-over u.0 l z u.2 q)) e
+on_sets-of_kind on_sets.Equal k l m y z x u p q e = number-of_kind host.Boolean m _ x u.1 (ordinal_boolean _) e
+on_sets-of_kind on_sets.Unequal k l m y z x u p q e = number-of_kind host.Boolean m _ x u.1 (ordinal_boolean _) e
+on_sets-of_kind on_sets.Subset k l m y z x u p q e = number-of_kind host.Boolean m _ x u.1 (ordinal_boolean _) e
+on_sets-of_kind on_sets.Superset k l m y z x u p q e = number-of_kind host.Boolean m _ x u.1 (ordinal_boolean _) e
+on_sets-of_kind on_sets.In k l m y z x u p q e = number-of_kind host.Boolean m _ x u.1 (ordinal_boolean _) e
+
+-- a set that is found
+found-of_kind : (h : Host) (o : Option (List ℕ)) (x : KnownValue) → IsFound h o → set_found o ≡ Known x → OfKind (valid.Set h) x
+found-of_kind h (Some ms) x p e = set-of_kind h (valid.Set h) ms x refl p e
+found-of_kind h None x p e = cc
+
+-- how many members there are is an integer
+count_integer : (n : ℕ) → n ≤ member_limit → IsTrue (is_of_host host.Integer (pos n))
+count_integer n le = grind (arith, nat_tests)
+
+-- what one set and another one are joined to
+joined-known : (h : Host) (found d : Folded) → ((y : KnownValue) → found ≡ Known y → OfKind (valid.Set h) y) → ((y : KnownValue) → d ≡ Known y → OfKind (valid.Set h) y) → (x : KnownValue) → joined found d ≡ Known x → OfKind (valid.Set h) x
+joined-known h found d f g x e =
+    let p = two_folded-known _ found d x e in
+    set-of_kind h (valid.Set h) _ x refl (combined-over h on_sets.Union _ _ (members-over h (valid.Set h) p.left refl (f p.left p.left_is)) (members-over h (valid.Set h) p.right refl (g p.right p.right_is))) p.gives
+
+-- ---- forms
 
 module _ (declared : Declarations) where
-  -- a known number of a valid form is of the form's kind
-  pub known-of_kind : (e : Expr) (k : valid.Kind) (z : ℤ) → IsExpr declared k e → folded e ≡ Known z → OfKind k z
-  known-of_kind e valid.Bytes z v f = tt
-  known-of_kind e (valid.Structured t) z v f = tt
-  known-of_kind e (valid.Set h) z v f = tt
-  known-of_kind (Constant w) (valid.Ordinal h) z v f =
-      let is : w ≡ z = cc in
-      as_host h v.0 z v.1 (subst (λ x. IsTrue (is_of_host v.0 x)) is v.2)
-  known-of_kind (Text bytes) (valid.Ordinal h) z v f = cc
-  known-of_kind (Read place) (valid.Ordinal h) z v f = cc
-  known-of_kind (One operation x) (valid.Ordinal h) z v f = one_folded-known operation v.0 h (folded x) z v.1 (λ y e. known-of_kind x v.0 y v.2 e) f
-  known-of_kind (Two operation x y) (valid.Ordinal h) z v f = let p = two_folded-known (binary_answer operation) (folded x) (folded y) z f in two-of_host operation v.0 v.1 h p.left p.right z v.2 p.is_answer
-  known-of_kind (Short operation x y) (valid.Ordinal h) z v f =
-      as_host h host.Boolean z v.0 (short_folded-known (λ z. IsTrue (is_of_host host.Boolean z)) operation (folded x) (folded y) z (λ w e. known-of_kind x (valid.Ordinal host.Boolean) w v.1 e) (λ w e. known-of_kind y (valid.Ordinal host.Boolean) w v.2 e) f)
-  known-of_kind (Step down low high x y) (valid.Ordinal h) z v f = let p = two_folded-known (step_answer down low high) (folded x) (folded y) z f in step-of_host down low high h v.0 p.left p.right z v.1 v.2 v.3 p.is_answer
-  known-of_kind (Function callee given) (valid.Ordinal h) z v f = cc
-  known-of_kind (IndexedValue array index) (valid.Ordinal h) z v f = cc
-  known-of_kind (FieldValue whole number) (valid.Ordinal h) z v f = cc
-  known-of_kind (SetConstant members) (valid.Ordinal h) z v f = let e = v.1 in cc
-  known-of_kind (SetOf members) (valid.Ordinal h) z v f = let e = v.1 in cc
-  known-of_kind (OnSets operation x y) (valid.Ordinal h) z v f = absurd (together-known (folded x) (folded y) z f)
-  known-of_kind (Card x) (valid.Ordinal h) z v f = absurd (beside-known (folded x) z f)
+  mutual
+    -- what is known of a valid form is of the form's kind
+    pub known-of_kind : (e : Expr) (k : valid.Kind) (x : KnownValue) → IsExpr declared k e → folded e ≡ Known x → OfKind k x
+    known-of_kind (Constant z) k x v f = number-of_kind v.0 k z x v.1 v.2 f
+    known-of_kind (Text bytes) k x v f = cc
+    known-of_kind (Read place) k x v f = cc
+    known-of_kind (One operation a) k x v f = let p = one_folded-known _ (folded a) x f in one-of_kind operation v.0 k p.part x v.1 (known-of_kind a v.0 p.part v.2 p.is) p.gives
+    known-of_kind (Two operation a b) k x v f = let p = two_folded-known _ (folded a) (folded b) x f in two-of_kind operation v.0 v.1 k _ _ x v.2 p.gives
+    known-of_kind (Short operation a b) k x v f =
+        subst (λ t. OfKind t x) (sym v.0)
+        (short_folded-known (OfKind (valid.Ordinal host.Boolean)) operation (folded a) (folded b) x (λ y e. known-of_kind a (valid.Ordinal host.Boolean) y v.1 e) (λ y e. known-of_kind b (valid.Ordinal host.Boolean) y v.2 e) f)
+    known-of_kind (Step down low high a b) k x v f = let p = two_folded-known _ (folded a) (folded b) x f in step-of_kind down low high v.0 k _ _ x v.1 v.2 v.3 p.gives
+    known-of_kind (Function callee given) k x v f = cc
+    known-of_kind (IndexedValue array index) k x v f = cc
+    known-of_kind (FieldValue whole number) k x v f = cc
+    known-of_kind (SetConstant ms) k x v f = set-of_kind v.0 k ms x v.1 (v.2, v.3) f
+    known-of_kind (SetOf ds) k x v f =
+        subst (λ t. OfKind t x) (sym v.1)
+        (members-of_kind v.0 ds (Known (known_value.Members [])) x (λ y e. set-of_kind v.0 (valid.Set v.0) [] y refl (empty-over v.0) e) v.2 f)
+    known-of_kind (OnSets operation a b) k x v f =
+        let p = two_folded-known _ (folded a) (folded b) x f in
+        on_sets-of_kind operation v.0 v.1 k p.left p.right x v.2 (known-of_kind a v.0 p.left v.3 p.left_is) (known-of_kind b v.1 p.right v.4 p.right_is) p.gives
+    known-of_kind (Card a) k x v f =
+        let p = one_folded-known _ (folded a) x f in
+        let set = members-over v.0 (valid.Set v.0) p.part refl (known-of_kind a (valid.Set v.0) p.part v.2 p.is) in
+        number-of_kind host.Integer k _ x v.1 (count_integer (length (members_in p.part)) (few_members (members_in p.part) set.0)) p.gives
 
-  -- of a valid form of a host it is a value of the host
-  pub known-of_host : (e : Expr) (h : Host) (z : ℤ) → IsExpr declared (valid.Ordinal h) e → folded e ≡ Known z → IsTrue (is_of_host h z)
-  known-of_host e h z v f = known-of_kind e (valid.Ordinal h) z v f
+    member-of_kind : (h : Host) (d : Designator) (x : KnownValue) → IsDesignator declared h d → folded_member d ≡ Known x → OfKind (valid.Set h) x
+    member-of_kind h (Single a) x v f =
+        let p = one_folded-known _ (folded a) x f in
+        found-of_kind h _ x (single-over h (number_in p.part) (number-of_host h (valid.Ordinal h) p.part refl (known-of_kind a (valid.Ordinal h) p.part v p.is))) p.gives
+    member-of_kind h (Range a b) x v f =
+        let p = two_folded-known _ (folded a) (folded b) x f in
+        found-of_kind h _ x
+        (range-over h (number_in p.left) (number_in p.right) (number-of_host h (valid.Ordinal h) p.left refl (known-of_kind a (valid.Ordinal h) p.left v.0 p.left_is))
+        (number-of_host h (valid.Ordinal h) p.right refl (known-of_kind b (valid.Ordinal h) p.right v.1 p.right_is))) p.gives
+
+    -- what designators give besides what was found is a set over the host
+    members-of_kind : (h : Host) (ds : Designators) (found : Folded) (x : KnownValue) → ((y : KnownValue) → found ≡ Known y → OfKind (valid.Set h) y) → AreDesignators declared h ds → folded_members found ds ≡ Known x → OfKind (valid.Set h) x
+    members-of_kind h no_member found x before v f = before x f
+    members-of_kind h (next_member d more) found x before v f =
+        members-of_kind h more (joined found (folded_member d)) x (joined-known h found (folded_member d) before (λ y e. member-of_kind h d y v.0 e)) v.1 f
 
 -- ---- constants
 
@@ -226,143 +274,82 @@ zero_of_host host.Char = refl
 zero_of_host host.Boolean = refl
 zero_of_host (host.Enumeration last) = grind (arith, nat_tests)
 
--- an operation gives an ordinal kind, and no bytes
-unary-bytes : (operation : Unary) (k : valid.Kind) → IsUnary operation k valid.Bytes → ⊥
-unary-bytes unary.Same k u = let e = u.1 in cc
-unary-bytes unary.Negate k u = let e = u.1 in cc
-unary-bytes unary.Not k u = let e = u.1 in cc
-unary-bytes unary.Absolute k u = let e = u.1 in cc
-unary-bytes unary.Square k u = let e = u.1 in cc
-unary-bytes unary.Odd k u = let e = u.1 in cc
-unary-bytes unary.Character k u = let e = u.1 in cc
-
-binary-bytes : (operation : Binary) (k l : valid.Kind) → IsBinary operation k l valid.Bytes → ⊥
-binary-bytes binary.Add k l u = let e = u.2 in cc
-binary-bytes binary.Subtract k l u = let e = u.2 in cc
-binary-bytes binary.Multiply k l u = let e = u.2 in cc
-binary-bytes binary.Divide k l u = let e = u.2 in cc
-binary-bytes binary.Modulo k l u = let e = u.2 in cc
-binary-bytes binary.And k l u = let e = u.2 in cc
-binary-bytes binary.Or k l u = let e = u.2 in cc
-binary-bytes binary.Equal k l u = let e = u.1 in cc
-binary-bytes binary.Unequal k l u = let e = u.1 in cc
-binary-bytes binary.Less k l u = let e = u.1 in cc
-binary-bytes binary.Greater k l u = let e = u.1 in cc
-binary-bytes binary.AtMost k l u = let e = u.1 in cc
-binary-bytes binary.AtLeast k l u = let e = u.1 in cc
-
-sets-bytes : (operation : SetOperation) (k l : valid.Kind) → IsOnSets operation k l valid.Bytes → ⊥
-sets-bytes on_sets.Union k l u = let e = u.3 in cc
-sets-bytes on_sets.Difference k l u = let e = u.3 in cc
-sets-bytes on_sets.Intersection k l u = let e = u.3 in cc
-sets-bytes on_sets.SymmetricDifference k l u = let e = u.3 in cc
-sets-bytes on_sets.Equal k l u = let e = u.1 in cc
-sets-bytes on_sets.Unequal k l u = let e = u.1 in cc
-sets-bytes on_sets.Subset k l u = let e = u.1 in cc
-sets-bytes on_sets.Superset k l u = let e = u.1 in cc
-sets-bytes on_sets.In k l u = let e = u.1 in cc
-
 -- what is accepted is of its kind
 abbrev pub IsJudgedConstant : Judged ConstantForm → Type 0
 IsJudgedConstant (Accepts c) = IsConstantOf c.kind c.value
 IsJudgedConstant (Breaks rules) = ⊤
 
+-- a form is a text, or else what is known of it counts
+pub text_or_known : (P : Judged ConstantForm → Type 0) (k : Kind) (x : Expr) → ((bytes : List ℕ) → x ≡ Text bytes → P (known k (value.Text bytes))) → P (constant_folded k (folded x)) → P (constant_of k (Some x))
+text_or_known P k (Text bytes) f g = f bytes refl
+text_or_known P k (Constant z) f g = g
+text_or_known P k (Read place) f g = g
+text_or_known P k (One operation x) f g = g
+text_or_known P k (Two operation x y) f g = g
+text_or_known P k (Short operation x y) f g = g
+text_or_known P k (Step down low high x y) f g = g
+text_or_known P k (Function callee given) f g = g
+text_or_known P k (IndexedValue array index) f g = g
+text_or_known P k (FieldValue whole number) f g = g
+text_or_known P k (SetConstant members) f g = g
+text_or_known P k (SetOf members) f g = g
+text_or_known P k (OnSets operation x y) f g = g
+text_or_known P k (Card x) f g = g
+
 module _ (declared : Declarations) (types : TypeValues) (structures : List StructuredType) where
-  folded-constant : (h : scope.Host) (x : Expr) (r : Folded) → folded x ≡ r → IsHost h → IsExpr declared (valid.Ordinal (typed_host h)) x → IsJudgedConstant (constant_folded (kind.Ordinal h) r)
-  folded-constant h x (Known z) e s v = (s, known-of_host declared x (typed_host h) z v e)
-  folded-constant h x Varies e s v = tt
-  folded-constant h x Errs e s v = tt
-  folded-constant h x Unbuilt e s v = (s, zero_of_host (typed_host h))
+  -- what is known is a constant of the kind where it is a value of that
+  known-judged : (k : Kind) (r : Folded) → ((y : KnownValue) → r ≡ Known y → IsConstantOf k (value_of y)) → IsJudgedConstant (constant_folded k r)
+  known-judged k (Known y) f = f y refl
+  known-judged k Varies f = tt
+  known-judged k Errs f = tt
 
-  set-constant : (h : scope.Host) (r : Folded) → IsHost h → IsJudgedConstant (constant_folded (kind.Set h) r)
-  set-constant h (Known z) s = s
-  set-constant h Varies s = tt
-  set-constant h Errs s = tt
-  set-constant h Unbuilt s = s
+  -- a text is of the kind of texts alone
+  no_text : (k : valid.Kind) (x : Expr) (bytes : List ℕ) → (k ≡ valid.Bytes → ⊥) → IsExpr declared k x → x ≡ Text bytes → ⊥
+  no_text k x bytes other v e = other (subst (IsExpr declared k) e v)
 
-  empty-constant : (r : Folded) → IsJudgedConstant (constant_folded kind.EmptySet r)
-  empty-constant (Known z) = tt
-  empty-constant Varies = tt
-  empty-constant Errs = tt
-  empty-constant Unbuilt = tt
+  ordinal-constant : (h : scope.Host) (y : KnownValue) → IsHost h → OfKind (valid.Ordinal (typed_host h)) y → IsConstantOf (kind.Ordinal h) (value_of y)
+  ordinal-constant h (known_value.Number z) s p = (s, p)
+  ordinal-constant h (known_value.Members ms) s p = absurd p
+
+  set-constant : (h : scope.Host) (y : KnownValue) → IsHost h → OfKind (valid.Set (typed_host h)) y → IsConstantOf (kind.Set h) (value_of y)
+  set-constant h (known_value.Number z) s p = absurd p
+  set-constant h (known_value.Members ms) s p = (s, p)
+
+  empty-constant : (y : KnownValue) → ((h : Host) → OfKind (valid.Set h) y) → IsConstantOf kind.EmptySet (value_of y)
+  empty-constant (known_value.Number z) p = absurd (p host.Boolean)
+  empty-constant (known_value.Members ms) p = p
+
+  -- no value is known of a structured kind, and none of a text that is not written
+  none_structured : (k : Kind) (t : TypeValue) (y : KnownValue) → OfKind (valid.Structured t) y → IsConstantOf k (value_of y)
+  none_structured k t (known_value.Number z) p = absurd p
+  none_structured k t (known_value.Members ms) p = absurd p
+
+  none_text : (k : Kind) (y : KnownValue) → OfKind valid.Bytes y → IsConstantOf k (value_of y)
+  none_text k (known_value.Number z) p = absurd p
+  none_text k (known_value.Members ms) p = absurd p
 
   -- a valid form is a constant of its kind, if it is one
   pub constant-fits : (k : Kind) (form : Option Expr) → IsFormOf declared types structures k form → IsJudgedConstant (constant_of k form)
   constant-fits (kind.Ordinal h) None s = (s, zero_of_host (typed_host h))
-  constant-fits (kind.Ordinal h) (Some (Text bytes)) s = let e = s.1 in cc
-  constant-fits (kind.Ordinal h) (Some (Constant z)) s = folded-constant h (Constant z) (Known z) refl s.0 s.1
-  constant-fits (kind.Ordinal h) (Some (Read place)) s = tt
-  constant-fits (kind.Ordinal h) (Some (One operation x)) s = folded-constant h (One operation x) (folded (One operation x)) refl s.0 s.1
-  constant-fits (kind.Ordinal h) (Some (Two operation x y)) s = folded-constant h (Two operation x y) (folded (Two operation x y)) refl s.0 s.1
-  constant-fits (kind.Ordinal h) (Some (Short operation x y)) s = folded-constant h (Short operation x y) (folded (Short operation x y)) refl s.0 s.1
-  constant-fits (kind.Ordinal h) (Some (Step down low high x y)) s = folded-constant h (Step down low high x y) (folded (Step down low high x y)) refl s.0 s.1
-  constant-fits (kind.Ordinal h) (Some (Function callee given)) s = tt
-  constant-fits (kind.Ordinal h) (Some (IndexedValue array index)) s = tt
-  constant-fits (kind.Ordinal h) (Some (FieldValue whole number)) s = tt
-  constant-fits (kind.Ordinal h) (Some (SetConstant members)) s = folded-constant h (SetConstant members) (folded (SetConstant members)) refl s.0 s.1
-  constant-fits (kind.Ordinal h) (Some (SetOf members)) s = folded-constant h (SetOf members) (folded (SetOf members)) refl s.0 s.1
-  constant-fits (kind.Ordinal h) (Some (OnSets operation x y)) s = folded-constant h (OnSets operation x y) (folded (OnSets operation x y)) refl s.0 s.1
-  constant-fits (kind.Ordinal h) (Some (Card x)) s = folded-constant h (Card x) (folded (Card x)) refl s.0 s.1
+  constant-fits (kind.Ordinal h) (Some x) s =
+      text_or_known IsJudgedConstant (kind.Ordinal h) x (λ bytes e. absurd (no_text (valid.Ordinal (typed_host h)) x bytes (λ o. cc) s.1 e))
+      (known-judged (kind.Ordinal h) (folded x) (λ y e. ordinal-constant h y s.0 (known-of_kind declared x (valid.Ordinal (typed_host h)) y s.1 e)))
   constant-fits (kind.Structured n) None s = tt
-  constant-fits (kind.Structured n) (Some (Text bytes)) s = absurd s
-  constant-fits (kind.Structured n) (Some (Constant z)) s = absurd s
-  constant-fits (kind.Structured n) (Some (Read place)) s = tt
-  constant-fits (kind.Structured n) (Some (One operation x)) s = absurd s
-  constant-fits (kind.Structured n) (Some (Two operation x y)) s = absurd s
-  constant-fits (kind.Structured n) (Some (Short operation x y)) s = absurd s
-  constant-fits (kind.Structured n) (Some (Step down low high x y)) s = absurd s
-  constant-fits (kind.Structured n) (Some (Function callee given)) s = tt
-  constant-fits (kind.Structured n) (Some (IndexedValue array index)) s = tt
-  constant-fits (kind.Structured n) (Some (FieldValue whole number)) s = tt
-  constant-fits (kind.Structured n) (Some (SetConstant members)) s = absurd s
-  constant-fits (kind.Structured n) (Some (SetOf members)) s = absurd s
-  constant-fits (kind.Structured n) (Some (OnSets operation x y)) s = absurd s
-  constant-fits (kind.Structured n) (Some (Card x)) s = absurd s
-  constant-fits (kind.Set h) None s = s
-  constant-fits (kind.Set h) (Some (Text bytes)) s = s.0
-  constant-fits (kind.Set h) (Some (Constant z)) s = set-constant h (folded (Constant z)) s.0
-  constant-fits (kind.Set h) (Some (Read place)) s = set-constant h (folded (Read place)) s.0
-  constant-fits (kind.Set h) (Some (One operation x)) s = set-constant h (folded (One operation x)) s.0
-  constant-fits (kind.Set h) (Some (Two operation x y)) s = set-constant h (folded (Two operation x y)) s.0
-  constant-fits (kind.Set h) (Some (Short operation x y)) s = set-constant h (folded (Short operation x y)) s.0
-  constant-fits (kind.Set h) (Some (Step down low high x y)) s = set-constant h (folded (Step down low high x y)) s.0
-  constant-fits (kind.Set h) (Some (Function callee given)) s = set-constant h (folded (Function callee given)) s.0
-  constant-fits (kind.Set h) (Some (IndexedValue array index)) s = set-constant h (folded (IndexedValue array index)) s.0
-  constant-fits (kind.Set h) (Some (FieldValue whole number)) s = set-constant h (folded (FieldValue whole number)) s.0
-  constant-fits (kind.Set h) (Some (SetConstant members)) s = set-constant h (folded (SetConstant members)) s.0
-  constant-fits (kind.Set h) (Some (SetOf members)) s = set-constant h (folded (SetOf members)) s.0
-  constant-fits (kind.Set h) (Some (OnSets operation x y)) s = set-constant h (folded (OnSets operation x y)) s.0
-  constant-fits (kind.Set h) (Some (Card x)) s = set-constant h (folded (Card x)) s.0
-  constant-fits kind.EmptySet None s = tt
-  constant-fits kind.EmptySet (Some (Text bytes)) s = tt
-  constant-fits kind.EmptySet (Some (Constant z)) s = empty-constant (folded (Constant z))
-  constant-fits kind.EmptySet (Some (Read place)) s = empty-constant (folded (Read place))
-  constant-fits kind.EmptySet (Some (One operation x)) s = empty-constant (folded (One operation x))
-  constant-fits kind.EmptySet (Some (Two operation x y)) s = empty-constant (folded (Two operation x y))
-  constant-fits kind.EmptySet (Some (Short operation x y)) s = empty-constant (folded (Short operation x y))
-  constant-fits kind.EmptySet (Some (Step down low high x y)) s = empty-constant (folded (Step down low high x y))
-  constant-fits kind.EmptySet (Some (Function callee given)) s = empty-constant (folded (Function callee given))
-  constant-fits kind.EmptySet (Some (IndexedValue array index)) s = empty-constant (folded (IndexedValue array index))
-  constant-fits kind.EmptySet (Some (FieldValue whole number)) s = empty-constant (folded (FieldValue whole number))
-  constant-fits kind.EmptySet (Some (SetConstant members)) s = empty-constant (folded (SetConstant members))
-  constant-fits kind.EmptySet (Some (SetOf members)) s = empty-constant (folded (SetOf members))
-  constant-fits kind.EmptySet (Some (OnSets operation x y)) s = empty-constant (folded (OnSets operation x y))
-  constant-fits kind.EmptySet (Some (Card x)) s = empty-constant (folded (Card x))
+  constant-fits (kind.Structured n) (Some x) s =
+      let v = structured-expr declared types structures n x s in
+      text_or_known IsJudgedConstant (kind.Structured n) x (λ bytes e. absurd (no_text (valid.Structured v.0) x bytes (λ o. cc) v.2 e))
+      (known-judged (kind.Structured n) (folded x) (λ y e. none_structured (kind.Structured n) v.0 y (known-of_kind declared x (valid.Structured v.0) y v.2 e)))
+  constant-fits (kind.Set h) None s = (s, empty-over (typed_host h))
+  constant-fits (kind.Set h) (Some x) s =
+      text_or_known IsJudgedConstant (kind.Set h) x (λ bytes e. absurd (no_text (valid.Set (typed_host h)) x bytes (λ o. cc) s.1 e))
+      (known-judged (kind.Set h) (folded x) (λ y e. set-constant h y s.0 (known-of_kind declared x (valid.Set (typed_host h)) y s.1 e)))
+  constant-fits kind.EmptySet None s = empty-over
+  constant-fits kind.EmptySet (Some x) s =
+      text_or_known IsJudgedConstant kind.EmptySet x (λ bytes e. absurd (no_text (valid.Set host.Boolean) x bytes (λ o. cc) (s host.Boolean) e))
+      (known-judged kind.EmptySet (folded x) (λ y e. empty-constant y (λ h. known-of_kind declared x (valid.Set h) y (s h) e)))
   constant-fits kind.Text None s = tt
-  constant-fits kind.Text (Some (Text bytes)) s = tt
-  constant-fits kind.Text (Some (Constant z)) s = let e = s.1 in cc
-  constant-fits kind.Text (Some (Read place)) s = tt
-  constant-fits kind.Text (Some (One operation x)) s = absurd (unary-bytes operation s.0 s.1)
-  constant-fits kind.Text (Some (Two operation x y)) s = absurd (binary-bytes operation s.0 s.1 s.2)
-  constant-fits kind.Text (Some (Short operation x y)) s = let e = s.0 in cc
-  constant-fits kind.Text (Some (Step down low high x y)) s = let e = s.1 in cc
-  constant-fits kind.Text (Some (Function callee given)) s = tt
-  constant-fits kind.Text (Some (IndexedValue array index)) s = tt
-  constant-fits kind.Text (Some (FieldValue whole number)) s = tt
-  constant-fits kind.Text (Some (SetConstant members)) s = let e = s.1 in cc
-  constant-fits kind.Text (Some (SetOf members)) s = let e = s.1 in cc
-  constant-fits kind.Text (Some (OnSets operation x y)) s = absurd (sets-bytes operation s.0 s.1 s.2)
-  constant-fits kind.Text (Some (Card x)) s = let e = s.1 in cc
+  constant-fits kind.Text (Some x) s =
+      text_or_known IsJudgedConstant kind.Text x (λ bytes e. tt) (known-judged kind.Text (folded x) (λ y e. none_text kind.Text y (known-of_kind declared x valid.Bytes y s e)))
   constant-fits kind.File None s = absurd s
   constant-fits kind.File (Some (Text bytes)) s = absurd s
   constant-fits kind.File (Some (Constant z)) s = absurd s

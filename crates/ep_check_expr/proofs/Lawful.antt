@@ -2,7 +2,7 @@
 use Rattle.std.proofs.Common.{◌≡◌, ℕ, ℤ, Bool, true, false, List, ◌∷◌, [], Option, Some, None, map, refl, ap, sym, subst}
 use Rattle.std.specs.Prelude.{if◌then◌else◌}
 use Rattle.ep_typed.specs.Hosts.{is_of_host}
-use Rattle.ep_typed.specs.Trees.{Expr, Constant, Text, Read, One, Two, Short, Step, Function, IndexedValue, FieldValue, SetConstant, SetOf, OnSets, Card}
+use Rattle.ep_typed.specs.Trees.{Expr, Constant, Text}
 use Rattle.ep_typed.specs.Valid.{Declarations}
 use Rattle.ep_typed.specs.declared.value.Value.TheVariants as value
 use Rattle.ep_tree.specs.declared.expression.Access.{Access}
@@ -17,7 +17,7 @@ use Rattle.ep_scope.specs.declared.kind.Kind.{Kind}
 use Rattle.ep_scope.specs.declared.kind.Kind.TheVariants as kind
 use Rattle.ep_scope.specs.declared.rule.TheConstants as rule
 use Rattle.ep_check_expr.specs.Agreement.{AgreesBy, AreActuals, IsAccessOf, IsFormOf, IsHost, TypeValues, structures_of}
-use Rattle.ep_check_expr.specs.Constants.{IsSoundConstant, as_constant, as_bound, as_label, constant_expression, constant_folded, constant_of, stand_in, unbuilt_constant, varies}
+use Rattle.ep_check_expr.specs.Constants.{IsSoundConstant, as_constant, as_bound, as_label, constant_expression, constant_folded, constant_of, known, stand_in, unbuilt_constant, value_of, varies}
 use Rattle.ep_check_expr.specs.Expressions.{given, judged, judged_value, name_judged, spelled}
 use Rattle.ep_check_expr.specs.Hosts.{typed_host}
 use Rattle.ep_check_expr.specs.Judgements.{Judged, Accepts, Breaks, Typed, unbuilt, when_accepted}
@@ -25,7 +25,7 @@ use Rattle.ep_check_expr.specs.Laws.{ExpressionsAreSound, AccessesAreSound, Vari
 use Rattle.ep_check_expr.specs.Origins.{IsKnownKind}
 use Rattle.ep_check_expr.specs.Folding.{folded}
 use Rattle.ep_check_expr.specs.declared.folding.Folded.{Folded}
-use Rattle.ep_check_expr.specs.declared.folding.Folded.TheVariants.{Known, Varies, Errs, Unbuilt}
+use Rattle.ep_check_expr.specs.declared.folding.Folded.TheVariants.{Known, Varies, Errs}
 use Rattle.ep_check_expr.specs.declared.access.Access.TheVariants as access
 use Rattle.ep_check_expr.specs.Constructors.{set_judged}
 use Rattle.ep_check_expr.specs.Functions.{applied_one, applied_two}
@@ -40,7 +40,7 @@ use Rattle.ep_check_expr.proofs.Hosted.{IsKnown, knowledge_is_kept}
 use Rattle.ep_check_expr.proofs.Designated.{designated-fits}
 use Rattle.ep_check_expr.proofs.Indexed.{indexed-fits}
 use Rattle.ep_check_expr.proofs.Keeping.{AreGiven, IsKept, Satisfies, if-satisfies, pair-satisfies, weaker-satisfies}
-use Rattle.ep_check_expr.proofs.Known.{IsJudgedConstant, constant-fits}
+use Rattle.ep_check_expr.proofs.Known.{IsJudgedConstant, constant-fits, text_or_known}
 use Rattle.ep_check_expr.proofs.Meant.{called-fits, meant-declared, meant_in-declared, value_named-fits}
 use Rattle.ep_check_expr.proofs.Labels.{constructed-plain, labels-weaker}
 use Rattle.ep_check_expr.proofs.Constructed.{constructed-fits}
@@ -184,10 +184,9 @@ labels_are_sound scopes e c accepted declared agrees =
 -- ---- hosts
 
 folded_kind : (k : Kind) (f : Folded) (c : ConstantForm) → constant_folded k f ≡ Accepts c → k ≡ c.kind
-folded_kind k (Known z) c e = let is : record { value = value.Word z; kind = k; built = true } ≡ c = cc in ap (λ x. x.kind) is
+folded_kind k (Known x) c e = let is : record { value = value_of x; kind = k; built = true } ≡ c = cc in ap (λ y. y.kind) is
 folded_kind k Varies c e = cc
 folded_kind k Errs c e = cc
-folded_kind k Unbuilt c e = let is : record { value = stand_in k; kind = k; built = false } ≡ c = cc in ap (λ x. x.kind) is
 
 unbuilt_kind : (k : Kind) (c : ConstantForm) → unbuilt_constant k ≡ Accepts c → k ≡ c.kind
 unbuilt_kind (kind.Ordinal h) c e = let is : record { value = stand_in (kind.Ordinal h); kind = kind.Ordinal h; built = false } ≡ c = cc in ap (λ x. x.kind) is
@@ -197,22 +196,12 @@ unbuilt_kind kind.EmptySet c e = let is : record { value = stand_in kind.EmptySe
 unbuilt_kind kind.Text c e = let is : record { value = stand_in kind.Text; kind = kind.Text; built = false } ≡ c = cc in ap (λ x. x.kind) is
 unbuilt_kind kind.File c e = let is : record { value = stand_in kind.File; kind = kind.File; built = false } ≡ c = cc in ap (λ x. x.kind) is
 
+text_kind : (k : Kind) (bytes : List ℕ) (c : ConstantForm) → known k (value.Text bytes) ≡ Accepts c → k ≡ c.kind
+text_kind k bytes c e = let is : record { value = value.Text bytes; kind = k; built = true } ≡ c = cc in ap (λ x. x.kind) is
+
 same_kind : (k : Kind) (form : Option Expr) (c : ConstantForm) → constant_of k form ≡ Accepts c → k ≡ c.kind
 same_kind k None c e = unbuilt_kind k c e
-same_kind k (Some (Text bytes)) c e = let is : record { value = value.Text bytes; kind = k; built = true } ≡ c = cc in ap (λ x. x.kind) is
-same_kind k (Some (Constant z)) c e = folded_kind k (folded (Constant z)) c e
-same_kind k (Some (Read place)) c e = folded_kind k (folded (Read place)) c e
-same_kind k (Some (One operation x)) c e = folded_kind k (folded (One operation x)) c e
-same_kind k (Some (Two operation x y)) c e = folded_kind k (folded (Two operation x y)) c e
-same_kind k (Some (Short operation x y)) c e = folded_kind k (folded (Short operation x y)) c e
-same_kind k (Some (Step down low high x y)) c e = folded_kind k (folded (Step down low high x y)) c e
-same_kind k (Some (Function callee given)) c e = folded_kind k (folded (Function callee given)) c e
-same_kind k (Some (IndexedValue array index)) c e = folded_kind k (folded (IndexedValue array index)) c e
-same_kind k (Some (FieldValue whole number)) c e = folded_kind k (folded (FieldValue whole number)) c e
-same_kind k (Some (SetConstant members)) c e = folded_kind k (folded (SetConstant members)) c e
-same_kind k (Some (SetOf members)) c e = folded_kind k (folded (SetOf members)) c e
-same_kind k (Some (OnSets operation x y)) c e = folded_kind k (folded (OnSets operation x y)) c e
-same_kind k (Some (Card x)) c e = folded_kind k (folded (Card x)) c e
+same_kind k (Some x) c e = text_or_known (λ J. J ≡ Accepts c → k ≡ c.kind) k x (λ bytes is. text_kind k bytes c) (folded_kind k (folded x) c) e
 
 -- a constant has the kind of its expression
 known_constant : (scopes : List Region) (kind : Kind) (form : Option Expr) → IsKnownKind scopes kind → (c : ConstantForm) → constant_of kind form ≡ Accepts c → IsKnownKind scopes c.kind

@@ -5,6 +5,7 @@ pub mod Breaking
 pub mod Calls
 pub mod Constructed
 pub mod Labels
+pub mod SetExamples
 pub mod SetForms
 pub mod Examples
 pub mod Folds
@@ -21,9 +22,11 @@ pub mod Reading
 pub mod Rows
 pub mod SameHost
 pub mod Selectors
+pub mod SetsOver
 pub mod SameType
 pub mod Sound
 pub mod Gathering
+pub mod Taking
 pub mod Written
 pub mod Keeping
 pub mod Lawful

@@ -1,9 +1,10 @@
 -- Declarations that hold what scopes declare, under which typed forms are valid.
 use Rattle.std.specs.Prelude.{◌≡◌, ℕ, ℤ, pos, All, List, [], ◌∷◌, ◌++◌, slice_get, Option, Some, None, IsTrue, int_le, ⊤}
 use Rattle.ep_typed.specs.Denoters.{ArrayParts, array_of, base_of, host_of, record_of, type_of}
-use Rattle.ep_typed.specs.Hosts.{greatest, is_of_host}
+use Rattle.ep_typed.specs.Hosts.{greatest, is_of_host, least}
 use Rattle.ep_typed.specs.Hosts as typed
 use Rattle.ep_typed.specs.Operations.{maxint}
+use Rattle.ep_typed.specs.Sets.{IsSet, are_between}
 use Rattle.ep_typed.specs.Trees.{Denoter, Denoters, Named, no_denoter, next_denoter, Callee, Place, Variable, Field, entire, Expr, Constant, Text, Read, One, Two, Short, Step, Function, IndexedValue, FieldValue, SetConstant, SetOf, OnSets, Card, Actual, actuals}
 use Rattle.ep_typed.specs.Valid.{Declarations, AreGiven, IsCallee, IsFunction, IsOfKind, IsPlace, IsPlaceWhere, IsExpr, IsProcedure, IsSetOf, IsStructured, IsTypeOf, IsVariableOf}
 use Rattle.ep_typed.specs.Valid as valid
@@ -52,16 +53,17 @@ IsKind kind.EmptySet = ⊤
 IsKind kind.Text = ⊤
 IsKind kind.File = ⊤
 
--- the constant is of its kind; none is of a structured type so far, and none of a set type is built
+-- these are the members of a set over the host
+abbrev pub IsSetOver : typed.Host → List ℕ → Type 0
+IsSetOver h ms = IsSet ms × IsTrue (are_between (least h) (greatest h) ms)
+
+-- the constant is of its kind, and that of the empty set is one over each host; none is of a structured type so far
 abbrev pub IsConstantOf : Kind → Value → Type 0
 IsConstantOf (kind.Ordinal h) (value.Word z) = IsHost h × IsTrue (is_of_host (typed_host h) z)
-IsConstantOf (kind.Ordinal h) (value.Text bytes) = ⊥
-IsConstantOf (kind.Structured n) v = ⊥
-IsConstantOf (kind.Set h) v = IsHost h
-IsConstantOf kind.EmptySet v = ⊤
-IsConstantOf kind.Text (value.Word z) = ⊥
+IsConstantOf (kind.Set h) (value.Set ms) = IsHost h × IsSetOver (typed_host h) ms
+IsConstantOf kind.EmptySet (value.Set ms) = (h : typed.Host) → IsSetOver h ms
 IsConstantOf kind.Text (value.Text bytes) = ⊤
-IsConstantOf kind.File v = ⊥
+IsConstantOf _ _ = ⊥
 
 -- a read file is its place, and of no ordinal type
 abbrev pub IsFile : Expr → Type 0

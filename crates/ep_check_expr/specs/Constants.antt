@@ -17,14 +17,16 @@ use Rattle.ep_check_expr.specs.Folding.{folded}
 use Rattle.ep_check_expr.specs.Judgements.{Judged, Accepts, Breaks, Typed, when_accepted}
 use Rattle.ep_check_expr.specs.declared.constants.ConstantForm.{ConstantForm}
 use Rattle.ep_check_expr.specs.declared.folding.Folded.{Folded}
-use Rattle.ep_check_expr.specs.declared.folding.Folded.TheVariants.{Known, Varies, Errs, Unbuilt}
+use Rattle.ep_check_expr.specs.declared.folding.Folded.TheVariants.{Known, Varies, Errs}
+use Rattle.ep_check_expr.specs.declared.folding.KnownValue.{KnownValue}
+use Rattle.ep_check_expr.specs.declared.folding.KnownValue.TheVariants as known_value
 
--- the value of a form that is not built stands for none: the number 0, or the empty text (own)
+-- the value of a form that is not built stands for none: the number 0, the empty set, or the empty text (own)
 abbrev pub stand_in : Kind → Value
 stand_in (kind.Ordinal h) = value.Word (pos 0)
 stand_in (kind.Structured n) = value.Text []
-stand_in (kind.Set h) = value.Text []
-stand_in kind.EmptySet = value.Text []
+stand_in (kind.Set h) = value.Set []
+stand_in kind.EmptySet = value.Set []
 stand_in kind.Text = value.Text []
 stand_in kind.File = value.Text []
 
@@ -36,12 +38,16 @@ known kind v = Accepts (record { value = v; kind = kind; built = true })
 abbrev pub unbuilt_of : Kind → Judged ConstantForm
 unbuilt_of k = Accepts (record { value = stand_in k; kind = k; built = false })
 
--- a constant expression is constant, and no error; what is made of sets is not built
+-- the value of a constant that is known
+abbrev pub value_of : KnownValue → Value
+value_of (known_value.Number z) = value.Word z
+value_of (known_value.Members ms) = value.Set ms
+
+-- a constant expression is constant, and no error
 abbrev pub constant_folded : Kind → Folded → Judged ConstantForm
-constant_folded kind (Known z) = known kind (value.Word z)
+constant_folded kind (Known x) = known kind (value_of x)
 constant_folded kind Varies = Breaks (rule.CONSTANT ∷ [])
 constant_folded kind Errs = Breaks (rule.CONSTANT ∷ [])
-constant_folded kind Unbuilt = unbuilt_of kind
 
 -- A constant that is not built. A structured value is that of a variable or of a function so far, which is not constant.
 abbrev pub unbuilt_constant : Kind → Judged ConstantForm
@@ -59,10 +65,9 @@ as_constant t = constant_of t.kind t.form
 
 -- whether a variable is read
 abbrev pub is_varying : Folded → Bool
-is_varying (Known z) = false
+is_varying (Known x) = false
 is_varying Varies = true
 is_varying Errs = false
-is_varying Unbuilt = false
 
 abbrev pub varies : Typed → Bool
 varies t = option_map_or (λ x. is_varying (folded x)) t.form false

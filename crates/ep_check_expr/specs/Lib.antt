@@ -14,5 +14,6 @@ pub mod Laws
 pub mod Names
 pub mod Operators
 pub mod Origins
+pub mod SetFolding
 pub mod Shapes
 pub mod Public

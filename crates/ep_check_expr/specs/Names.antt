@@ -1,9 +1,9 @@
 -- What names stand for as values and as functions (ISO 10206, 6.7.1 and 6.8.1).
-use Rattle.std.specs.Prelude.{ℕ, pos, nat_eq, Bool, true, false, ◌||◌, List, [], ◌∷◌, ◌++◌, codes, Option, Some, None, if◌then◌else◌}
+use Rattle.std.specs.Prelude.{ℕ, pos, nat_eq, Bool, true, false, ◌||◌, List, [], ◌∷◌, ◌++◌, codes, Some, if◌then◌else◌}
 use Rattle.std.specs.List.{list_any}
 use Rattle.std.specs.Str.{bytes_eq}
 use Rattle.ep_typed.specs.Operations.{maxint, last_char}
-use Rattle.ep_typed.specs.Trees.{Expr, Constant, Text, Read, Place, Variable, Standard, Field, entire}
+use Rattle.ep_typed.specs.Trees.{Expr, Constant, Text, SetConstant, Read, Place, Variable, Standard, Field, entire}
 use Rattle.ep_typed.specs.declared.value.Value.{Value}
 use Rattle.ep_typed.specs.declared.value.Value.TheVariants as value
 use Rattle.ep_scope.specs.Scopes.{Region, Meant, OpenField, Declares, Requires, FieldOf, Nothing, depth_in, meant, meant_in}
@@ -39,15 +39,10 @@ parenthesized x = record { form = x.form; kind = x.kind; depth = x.depth; access
 abbrev pub value_form : Value → Expr
 value_form (value.Word z) = Constant z
 value_form (value.Text bytes) = Text bytes
-
--- a constant; none of a set type is built
-abbrev pub constant_form : Kind → Value → Option Expr
-constant_form (kind.Set h) v = None
-constant_form kind.EmptySet v = None
-constant_form k v = Some (value_form v)
+value_form (value.Set members) = SetConstant members
 
 abbrev pub constant_typed : Kind → Value → Judged Typed
-constant_typed k v = Accepts (record { form = constant_form k v; kind = k; depth = 1; access = access.Constant })
+constant_typed k v = leaf (value_form v) k access.Constant
 
 -- the value of a variable stands above its place
 abbrev pub reading : Expr → Kind → Access → Judged Typed

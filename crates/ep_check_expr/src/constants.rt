@@ -1,15 +1,15 @@
 //! Constant expressions.
 
-ghost use Rattle.std.specs.Prelude.{◌≡◌, None, false};
+ghost use Rattle.std.specs.Prelude.{◌≡◌, IfOk, None, false};
 ghost use Rattle.ep_built.specs.Built.{component_value_unbuilt, expression_unbuilt};
 ghost use Rattle.ep_check_expr.specs.Answers.{typed_of, AnswersJudged};
-ghost use Rattle.ep_check_expr.specs.Constants.{as_constant, constant_judged, constant_expression, bound_judged, label_judged, known, unbuilt_constant, unbuilt_of, varies};
+ghost use Rattle.ep_check_expr.specs.Constants.{as_constant, constant_folded, constant_judged, constant_expression, bound_judged, is_varying, label_judged, known, unbuilt_constant, unbuilt_of, varies};
 ghost use Rattle.ep_check_expr.specs.Judgements.{Accepts};
 
 use crate::expressions::typed_expression;
-use crate::folding::{Folded, folded_form};
+use crate::folding::{Folded, KnownValue, folded_form};
 use crate::forms::{Refusal, Typed};
-use ep_base::Bytes;
+use ep_base::{Bytes, NoMemory};
 use ep_scope::{Kind, View, rule};
 use ep_tree::{ComponentValue, Expression};
 use ep_typed::{TypedExpr, Value};
@@ -88,7 +88,7 @@ pub fn bound_value(
     ensures form { AnswersJudged (λ c. c) result (bound_judged scopes.now tree.now) }
 {
     let typed = typed_expression(alloc, tree, scopes)?;
-    if varies(&typed) {
+    if varies(alloc, &typed)? {
         return Err(Refusal::Rule(rule::BOUND_CONSTANT));
     }
     as_constant(alloc, &typed)
@@ -104,22 +104,29 @@ pub fn label_value(
     ensures form { AnswersJudged (λ c. c) result (label_judged scopes.now tree.now) }
 {
     let typed = typed_expression(alloc, tree, scopes)?;
-    if varies(&typed) {
+    if varies(alloc, &typed)? {
         return Err(Refusal::Rule(rule::CASE_LABELS));
     }
     as_constant(alloc, &typed)
 }
 
 /// Whether a variable is read.
-fn varies(t: &Typed) -> bool
-    ensures { result ≡ varies (typed_of t.now) }
+fn varies(alloc: Global, t: &Typed) -> Result<bool, NoMemory>
+    ensures { IfOk result (λ b. b ≡ varies (typed_of t.now)) }
 {
-    match &t.form {
-        None => false,
-        Some(form) => match folded_form(form.get()) {
-            Folded::Varies => true,
-            _ => false,
-        },
+    let Some(form) = &t.form else {
+        return Ok(false);
+    };
+    Ok(is_varying(&folded_form(alloc, form.get())?))
+}
+
+/// Whether what is known is that a variable is read.
+fn is_varying(known: &Folded) -> bool
+    ensures { result ≡ is_varying known.now }
+{
+    match known {
+        Folded::Varies => true,
+        _ => false,
     }
 }
 
@@ -135,11 +142,18 @@ pub(crate) fn as_constant(alloc: Global, t: &Typed) -> Result<ConstantForm, Refu
             let copy = Bytes::from_slice(alloc, bytes.items())?;
             Ok(known(t.kind, Value::Text(copy)))
         }
-        other => match folded_form(other) {
-            Folded::Known(z) => Ok(known(t.kind, Value::Word(z))),
-            Folded::Unbuilt => Ok(unbuilt_of(alloc, t.kind)),
-            _ => Err(Refusal::Rule(rule::CONSTANT)),
-        },
+        other => constant_folded(t.kind, folded_form(alloc, other)?),
+    }
+}
+
+/// A constant expression by what is known of it.
+fn constant_folded(kind: Kind, folded: Folded) -> Result<ConstantForm, Refusal>
+    ensures { AnswersJudged (λ c. c) result (constant_folded kind folded) }
+{
+    match folded {
+        Folded::Known(KnownValue::Number(z)) => Ok(known(kind, Value::Word(z))),
+        Folded::Known(KnownValue::Members(members)) => Ok(known(kind, Value::Set(members))),
+        _ => Err(Refusal::Rule(rule::CONSTANT)),
     }
 }
 
@@ -171,8 +185,8 @@ fn unbuilt_of(alloc: Global, kind: Kind) -> ConstantForm
     let value = match kind {
         Kind::Ordinal(_) => Value::Word(0),
         Kind::Structured(_) => Value::Text(Bytes::new(alloc)),
-        Kind::Set(_) => Value::Text(Bytes::new(alloc)),
-        Kind::EmptySet => Value::Text(Bytes::new(alloc)),
+        Kind::Set(_) => Value::Set(Bytes::new(alloc)),
+        Kind::EmptySet => Value::Set(Bytes::new(alloc)),
         Kind::Text => Value::Text(Bytes::new(alloc)),
         Kind::File => Value::Text(Bytes::new(alloc)),
     };

@@ -1,133 +1,254 @@
 //! What is known of typed forms as constants, by the operations that a run has.
 
-ghost use Rattle.std.specs.Prelude.{◌≡◌, MatchOption, map};
+ghost use Rattle.std.specs.Prelude.{◌≡◌, IfOk, MatchOption, [], map, pos};
 ghost use Rattle.ep_typed.specs.Operations.{Number, ordinal_of, within, modulo, decides, unary_answer, binary_answer, step_answer};
+ghost use Rattle.ep_typed.specs.SetOperations.{set_answer};
 ghost use Rattle.ep_typed.specs.declared.run_error.TheConstants as run_error;
 ghost use Rattle.ep_typed.specs.Trees.{designators};
 ghost use Rattle.ep_typed.specs.Viewed.{designator_of, expr_of};
-ghost use Rattle.ep_check_expr.specs.Folding.{AnswersPair, answered, beside, folded, folded_member, folded_members, short_folded, together};
-ghost use Rattle.ep_check_expr.specs.declared.folding.Folded.TheVariants.{Errs, Unbuilt};
+ghost use Rattle.ep_check_expr.specs.Folding as spec;
+ghost use Rattle.ep_check_expr.specs.Folding.{AnswersPair, answered, as_known, folded, folded_member, folded_members, one_number, result_of, set_found, short_folded, two_folded, two_numbers};
+ghost use Rattle.ep_check_expr.specs.SetFolding.{combination};
+ghost use Rattle.ep_check_expr.specs.declared.folding.Folded.TheVariants.{Errs, Known};
+ghost use Rattle.ep_check_expr.specs.declared.folding.KnownValue.TheVariants as known;
 
-use ep_typed::{Binary, MemberDesignator, ShortOperation, TypedExpr, Unary};
+use crate::sets;
+use ep_base::{Bytes, List, NoMemory};
+use ep_typed::{Binary, MemberDesignator, SetOperation, ShortOperation, TypedExpr, Unary};
+use std::alloc::Global;
+
+/// A value that is known.
+#[derive(Drop)]
+pub enum KnownValue {
+    /// The number of a value of an ordinal type.
+    Number(i64),
+    /// A set, by the ordinal numbers of its members in rising order.
+    Members(Bytes),
+}
 
 /// What a typed form is as a constant.
-#[derive(Clone, Copy, Drop)]
+#[derive(Drop)]
 pub enum Folded {
-    /// The number of this value.
-    Known(i64),
+    /// This value.
+    Known(KnownValue),
     /// No constant, since a variable is read or a function is called.
     Varies,
     /// No constant, since there would be an error.
     Errs,
-    /// A constant that is made of sets, which are not computed.
-    Unbuilt,
 }
 
-/// What is known of a typed form. It takes no memory.
+/// What is known of a typed form.
 #[cycle(folded)]
-pub fn folded_form(e: &TypedExpr) -> Folded
-    ensures { result ≡ folded (expr_of e.now) }
+pub fn folded_form(alloc: Global, e: &TypedExpr) -> Result<Folded, NoMemory>
+    ensures { IfOk result (λ f. f ≡ folded (expr_of e.now)) }
 {
     match e {
-        TypedExpr::Constant(value) => Folded::Known(*value),
-        TypedExpr::Text(_) => Folded::Errs,
-        TypedExpr::Read(_) => Folded::Varies,
-        TypedExpr::Function(_, _) => Folded::Varies,
-        TypedExpr::IndexedValue(_, _) => Folded::Varies,
-        TypedExpr::FieldValue(_, _) => Folded::Varies,
+        TypedExpr::Constant(value) => Ok(number(*value)),
+        TypedExpr::Text(_) => Ok(Folded::Errs),
+        TypedExpr::Read(_) => Ok(Folded::Varies),
+        TypedExpr::Function(_, _) => Ok(Folded::Varies),
+        TypedExpr::IndexedValue(_, _) => Ok(Folded::Varies),
+        TypedExpr::FieldValue(_, _) => Ok(Folded::Varies),
         TypedExpr::Unary(operation, operand) => {
-            match folded_form(operand.get()) {
-                Folded::Known(x) => unary(*operation, x),
-                other => other,
-            }
+            let operand = folded_form(alloc, operand.get())?;
+            Ok(unary_folded(*operation, operand))
         }
         TypedExpr::Binary(operation, left, right) => {
-            match pair(folded_form(left.get()), folded_form(right.get())) {
-                Ok((x, y)) => binary(*operation, x, y),
-                Err(other) => other,
-            }
+            let left = folded_form(alloc, left.get())?;
+            let right = folded_form(alloc, right.get())?;
+            Ok(binary_folded(*operation, left, right))
         }
         TypedExpr::Short(operation, left, right) => {
-            short(
-                *operation,
-                folded_form(left.get()),
-                folded_form(right.get()),
-            )
+            let left = folded_form(alloc, left.get())?;
+            let right = folded_form(alloc, right.get())?;
+            Ok(short(*operation, left, right))
         }
         TypedExpr::Step(down, low, high, value, count) => {
-            match pair(folded_form(value.get()), folded_form(count.get())) {
-                Ok((x, n)) => step(*down, *low, *high, x, n),
-                Err(other) => other,
-            }
+            let value = folded_form(alloc, value.get())?;
+            let count = folded_form(alloc, count.get())?;
+            Ok(step_folded(*down, low, high, value, count))
         }
-        TypedExpr::SetConstant(_) => Folded::Unbuilt,
-        TypedExpr::Set(designators) => members(designators.items()),
-        TypedExpr::OnSets(_, left, right) => {
-            together(folded_form(left.get()), folded_form(right.get()))
+        TypedExpr::SetConstant(members) => Ok(set(Bytes::from_slice(alloc, members.items())?)),
+        TypedExpr::Set(designators) => members(alloc, designators.items()),
+        TypedExpr::OnSets(operation, left, right) => {
+            let left = folded_form(alloc, left.get())?;
+            let right = folded_form(alloc, right.get())?;
+            on_sets_folded(alloc, *operation, left, right)
         }
-        TypedExpr::Card(operand) => beside(folded_form(operand.get())),
+        TypedExpr::Card(operand) => Ok(counted(folded_form(alloc, operand.get())?)),
     }
 }
 
 /// What is known of a member designator.
 #[cycle(folded)]
-fn member(designator: &MemberDesignator) -> Folded
-    ensures { result ≡ folded_member (designator_of designator.now) }
+fn member(alloc: Global, designator: &MemberDesignator) -> Result<Folded, NoMemory>
+    ensures { IfOk result (λ f. f ≡ folded_member (designator_of designator.now)) }
 {
     match designator {
-        MemberDesignator::Single(value) => beside(folded_form(value.get())),
+        MemberDesignator::Single(value) => {
+            let value = folded_form(alloc, value.get())?;
+            single_folded(alloc, value)
+        }
         MemberDesignator::Range(first, last) => {
-            together(folded_form(first.get()), folded_form(last.get()))
+            let first = folded_form(alloc, first.get())?;
+            let last = folded_form(alloc, last.get())?;
+            range_folded(alloc, first, last)
         }
     }
 }
 
 /// What is known of member designators.
 #[cycle(folded)]
-fn members(all: &[MemberDesignator]) -> Folded
-    ensures { result ≡ folded_members Unbuilt (designators (map designator_of all.now)) }
+fn members(alloc: Global, all: &[MemberDesignator]) -> Result<Folded, NoMemory>
+    ensures { IfOk result (λ f. f ≡ folded_members (Known (known.Members [])) (designators (map designator_of all.now))) }
 {
-    let mut found = Folded::Unbuilt;
+    let mut found = set(List::new(alloc));
     for designator in all {
-        found = together(found, member(designator));
+        let more = member(alloc, designator)?;
+        found = joined(alloc, found, more)?;
     }
-    found
+    Ok(found)
 }
 
-/// What is known of a set that has such a part.
-fn beside(part: Folded) -> Folded
-    ensures { result ≡ beside part }
+/// A number that is known.
+fn number(value: i64) -> Folded
+    ensures { result ≡ Known (known.Number value) }
 {
-    match part {
-        Folded::Known(_) => Folded::Unbuilt,
-        other => other,
-    }
+    Folded::Known(KnownValue::Number(value))
 }
 
-/// What is known of a form of two such parts.
-fn together(left: Folded, right: Folded) -> Folded
-    ensures { result ≡ together left right }
+/// A set that is known.
+fn set(members: Bytes) -> Folded
+    ensures { result ≡ Known (known.Members members) }
 {
-    match (left, right) {
-        (Folded::Varies, _) => Folded::Varies,
-        (_, Folded::Varies) => Folded::Varies,
-        (Folded::Errs, _) => Folded::Errs,
-        (_, Folded::Errs) => Folded::Errs,
-        _ => Folded::Unbuilt,
+    Folded::Known(KnownValue::Members(members))
+}
+
+/// The number that is known.
+fn number_in(known: &KnownValue) -> i64
+    ensures { result ≡ spec.number_in known.now }
+{
+    match known {
+        KnownValue::Number(value) => *value,
+        KnownValue::Members(_) => 0,
     }
 }
 
-/// Two numbers, or what is known of a form of the two where they are not both known.
-fn pair(left: Folded, right: Folded) -> Result<(i64, i64), Folded>
+/// The members of the set that is known.
+fn members_in(known: &KnownValue) -> &[u8]
+    ensures { result.now ≡ spec.members_in known.now }
+{
+    match known {
+        KnownValue::Number(_) => &[],
+        KnownValue::Members(members) => members.items(),
+    }
+}
+
+/// The set of members, where each may be one.
+fn found(members: Option<Bytes>) -> Folded
+    ensures { result ≡ set_found members }
+{
+    match members {
+        Some(members) => set(members),
+        None => Folded::Errs,
+    }
+}
+
+/// Two values, or what is known of a form of the two where they are not both known.
+fn pair(left: Folded, right: Folded) -> Result<(KnownValue, KnownValue), Folded>
     ensures { AnswersPair left right result }
 {
     match (left, right) {
         (Folded::Known(x), Folded::Known(y)) => Ok((x, y)),
         (Folded::Varies, _) => Err(Folded::Varies),
         (_, Folded::Varies) => Err(Folded::Varies),
-        (Folded::Errs, _) => Err(Folded::Errs),
-        (_, Folded::Errs) => Err(Folded::Errs),
-        _ => Err(Folded::Unbuilt),
+        _ => Err(Folded::Errs),
+    }
+}
+
+/// What is known of an operation of one number.
+fn unary_folded(operation: Unary, operand: Folded) -> Folded
+    ensures { result ≡ one_number (unary_answer operation) operand }
+{
+    match operand {
+        Folded::Known(x) => unary(operation, number_in(&x)),
+        other => other,
+    }
+}
+
+/// What is known of an operation of two numbers.
+fn binary_folded(operation: Binary, left: Folded, right: Folded) -> Folded
+    ensures { result ≡ two_numbers (binary_answer operation) left right }
+{
+    match pair(left, right) {
+        Ok((x, y)) => binary(operation, number_in(&x), number_in(&y)),
+        Err(other) => other,
+    }
+}
+
+/// What is known of `succ` and `pred`.
+fn step_folded(down: bool, low: &i64, high: &i64, value: Folded, count: Folded) -> Folded
+    ensures { result ≡ two_numbers (step_answer down low.now high.now) value count }
+{
+    match pair(value, count) {
+        Ok((x, n)) => step(down, *low, *high, number_in(&x), number_in(&n)),
+        Err(other) => other,
+    }
+}
+
+/// What is known of an operation whose right operand at least is a set.
+fn on_sets_folded(
+    alloc: Global,
+    operation: SetOperation,
+    left: Folded,
+    right: Folded,
+) -> Result<Folded, NoMemory>
+    ensures { IfOk result (λ f. f ≡ two_folded
+        (λ a b. as_known (set_answer operation (result_of a) (result_of b))) left right) }
+{
+    match pair(left, right) {
+        Ok((x, y)) => on_sets(alloc, operation, &x, &y),
+        Err(other) => Ok(other),
+    }
+}
+
+/// What is known of the set of what is in one of two.
+fn joined(alloc: Global, left: Folded, right: Folded) -> Result<Folded, NoMemory>
+    ensures { IfOk result (λ f. f ≡ spec.joined left right) }
+{
+    match pair(left, right) {
+        Ok((x, y)) => combined(alloc, SetOperation::Union, members_in(&x), members_in(&y)),
+        Err(other) => Ok(other),
+    }
+}
+
+/// What is known of how many members there are.
+fn counted(operand: Folded) -> Folded
+    ensures { result ≡ spec.counted operand }
+{
+    match operand {
+        Folded::Known(x) => number(members_in(&x).len() as i64),
+        other => other,
+    }
+}
+
+/// What is known of one value as a member.
+fn single_folded(alloc: Global, value: Folded) -> Result<Folded, NoMemory>
+    ensures { IfOk result (λ f. f ≡ spec.single_folded value) }
+{
+    match value {
+        Folded::Known(x) => Ok(found(sets::single(alloc, number_in(&x))?)),
+        other => Ok(other),
+    }
+}
+
+/// What is known of the values from one to another as members.
+fn range_folded(alloc: Global, first: Folded, last: Folded) -> Result<Folded, NoMemory>
+    ensures { IfOk result (λ f. f ≡ spec.range_folded first last) }
+{
+    match pair(first, last) {
+        Ok((x, y)) => Ok(found(sets::range(alloc, number_in(&x), number_in(&y))?)),
+        Err(other) => Ok(other),
     }
 }
 
@@ -137,16 +258,59 @@ fn short(operation: ShortOperation, left: Folded, right: Folded) -> Folded
 {
     match (left, right) {
         (Folded::Known(x), Folded::Known(y)) => {
-            Folded::Known(if decides(operation, x) { x } else { y })
+            Folded::Known(if decides(operation, number_in(&x)) {
+                x
+            } else {
+                y
+            })
         }
-        (Folded::Known(x), Folded::Errs | Folded::Unbuilt) => {
-            if decides(operation, x) { left } else { right }
+        (Folded::Known(x), Folded::Errs) => {
+            if decides(operation, number_in(&x)) {
+                Folded::Known(x)
+            } else {
+                Folded::Errs
+            }
         }
         (Folded::Varies, _) => Folded::Varies,
         (_, Folded::Varies) => Folded::Varies,
-        (Folded::Errs, _) => Folded::Errs,
-        _ => Folded::Unbuilt,
+        _ => Folded::Errs,
     }
+}
+
+/// What an operation gives whose right operand at least is a set.
+fn on_sets(
+    alloc: Global,
+    operation: SetOperation,
+    x: &KnownValue,
+    y: &KnownValue,
+) -> Result<Folded, NoMemory>
+    ensures { IfOk result (λ f. f ≡ as_known (set_answer operation (result_of x.now) (result_of y.now))) }
+{
+    let first = members_in(x);
+    let second = members_in(y);
+    match operation {
+        SetOperation::Equal => Ok(bit(sets::is_same_set(first, second))),
+        SetOperation::Unequal => Ok(bit(!sets::is_same_set(first, second))),
+        SetOperation::Subset => Ok(bit(sets::is_subset(first, second))),
+        SetOperation::Superset => Ok(bit(sets::is_subset(second, first))),
+        SetOperation::In => Ok(bit(sets::is_member(number_in(x), second))),
+        SetOperation::Union => combined(alloc, operation, first, second),
+        SetOperation::Difference => combined(alloc, operation, first, second),
+        SetOperation::Intersection => combined(alloc, operation, first, second),
+        SetOperation::SymmetricDifference => combined(alloc, operation, first, second),
+    }
+}
+
+/// The set that an operation makes of two, which is known.
+fn combined(
+    alloc: Global,
+    operation: SetOperation,
+    first: &[u8],
+    second: &[u8],
+) -> Result<Folded, NoMemory>
+    ensures { IfOk result (λ f. f ≡ Known (known.Members (combination operation first.now second.now))) }
+{
+    Ok(set(sets::combined(alloc, operation, first, second)?))
 }
 
 /// Whether the left operand decides.
@@ -164,7 +328,7 @@ fn known(z: i64) -> Folded
     ensures { result ≡ answered (Number z) }
 {
     if z > i64::MIN {
-        Folded::Known(z)
+        number(z)
     } else {
         Folded::Errs
     }
@@ -182,9 +346,10 @@ fn integer(z: Option<i64>) -> Folded
 
 /// The number of a Boolean.
 fn bit(b: bool) -> Folded
-    ensures { result ≡ answered (Number (ordinal_of b)) }
+    ensures known { result ≡ Known (known.Number (ordinal_of b)) }
+    ensures answered { result ≡ answered (Number (ordinal_of b)) }
 {
-    Folded::Known(if b { 1 } else { 0 })
+    number(if b { 1 } else { 0 })
 }
 
 /// A number from the least to the greatest one, or an error.
@@ -254,10 +419,9 @@ fn modulo(x: i64, y: i64) -> Folded
 fn step(down: bool, low: i64, high: i64, x: i64, n: i64) -> Folded
     ensures { result ≡ answered (step_answer down low high x n) }
 {
-    let z = if down {
-        x.checked_sub(n)
+    if down {
+        within(low, high, x.checked_sub(n))
     } else {
-        x.checked_add(n)
-    };
-    within(low, high, z)
+        within(low, high, x.checked_add(n))
+    }
 }

@@ -161,30 +161,19 @@ impl Typed {
         Typed::leaf(alloc, TypedExpr::Text(copy), Kind::Text, Access::Value)
     }
 
-    /// A constant of a set type, which is not built.
-    fn set_constant(kind: Kind) -> Typed
-        ensures { typed_of result ≡ record { form = None; kind = kind; depth = 1; access = access.Constant } }
-    {
-        Typed {
-            form: None,
-            kind,
-            depth: 1,
-            access: Access::Constant,
-        }
-    }
-
     /// The value of a constant.
     pub(crate) fn value(alloc: Global, value: &Value, kind: Kind) -> Result<Typed, Refusal>
         ensures { AnswersTyped result (constant_typed kind value.now) }
     {
-        if matches!(kind, Kind::Set(_) | Kind::EmptySet) {
-            return Ok(Typed::set_constant(kind));
-        }
         match value {
             Value::Word(word) => Typed::constant(alloc, *word, kind, Access::Constant),
             Value::Text(bytes) => {
                 let copy = Bytes::from_slice(alloc, bytes.items())?;
                 Typed::leaf(alloc, TypedExpr::Text(copy), kind, Access::Constant)
+            }
+            Value::Set(members) => {
+                let copy = Bytes::from_slice(alloc, members.items())?;
+                Typed::leaf(alloc, TypedExpr::SetConstant(copy), kind, Access::Constant)
             }
         }
     }

@@ -23,6 +23,7 @@ mod laws;
 mod levels;
 mod names;
 mod operators;
+mod sets;
 mod shapes;
 
 pub use access::Access;
@@ -32,7 +33,7 @@ pub use constants::{ConstantForm, bound_value, constant_value, label_value};
 pub use expressions::{
     typed_access, typed_arguments, typed_expression, typed_value, written_expression,
 };
-pub use folding::{Folded, folded_form};
+pub use folding::{Folded, KnownValue, folded_form};
 pub use forms::{DEPTH, Refusal, Typed, greatest, least};
 pub use laws::laws_of_expressions;
 pub use levels::{callee_at, field_place, own_place};

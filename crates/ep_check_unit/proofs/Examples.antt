@@ -7,10 +7,14 @@ use Rattle.ep_tree.specs.declared.routine.RoutineStart.TheVariants as start
 use Rattle.ep_tree.specs.declared.statement.Compound.{Compound, roll-Compound}
 use Rattle.ep_tree.specs.declared.statement.Statement.TheFolds.{fold-roll-Compound}
 use Rattle.ep_typed.specs.Trees as tree
+use Rattle.ep_typed.specs.declared.denoter.Bound.TheVariants.{Constant as Fixed}
 use Rattle.ep_typed.specs.declared.denoter.Denoter.TheVariants as denoter
 use Rattle.ep_typed.specs.declared.denoter.RequiredType.{RequiredType}
 use Rattle.ep_typed.specs.declared.denoter.RequiredType.TheVariants as simple
+use Rattle.ep_typed.specs.declared.interface.ConstantEntry.{ConstantEntry}
 use Rattle.ep_typed.specs.declared.interface.FormalMode.TheVariants as mode
+use Rattle.ep_typed.specs.declared.value.Value.{Value}
+use Rattle.ep_typed.specs.declared.value.Value.TheVariants as value
 use Rattle.ep_scope.specs.Required.{look_up}
 use Rattle.ep_scope.specs.declared.kind.Host.TheVariants as host
 use Rattle.ep_scope.specs.declared.kind.Kind.{Kind}
@@ -26,7 +30,7 @@ use Rattle.ep_check_expr.specs.Judgements.{Judged, Accepts, Breaks}
 use Rattle.ep_check_stmt.specs.Statements.{OfRoutine}
 use Rattle.ep_check_stmt.specs.Threats.{assigns, in_arm, in_compound, in_otherwise, in_statement}
 use Rattle.ep_check_unit.specs.Blocks.{Block, own_count}
-use Rattle.ep_check_unit.specs.Declarations.{own_thing, set_on, with_own_variable}
+use Rattle.ep_check_unit.specs.Declarations.{own_thing, set_on, with_constant, with_own_variable}
 use Rattle.ep_check_unit.specs.Functions.{is_assigned, is_in_view, is_threatened}
 use Rattle.ep_check_unit.specs.Routines.{Headed, PartJudged, assigns_among, context_of, function_identified, headed_first, headed_over, heading_entered, locals_of, of_body, of_part, of_routine, result_judged, scope_opened, with_body}
 use Rattle.ep_check_unit.specs.Units.{first_block}
@@ -250,6 +254,38 @@ threatened_inside = refl
 -- it assigns to a variable of its own
 threatened_nowhere : threatened 0 ≡ false
 threatened_nowhere = refl
+
+-- ---- constants in the list of constants
+
+-- const s = [..], with values of this kind
+abbrev entries : Kind → Value → List ConstantEntry
+entries k v = (with_constant (codes "s") k v (first_block (codes "u") true)).constants
+
+-- ['a']
+letters_entered : entries (kind.Set host.Char) (value.Set (97 ∷ [])) ≡ record { name = codes "s"; denoter = denoter.Set (denoter.Required simple.Char); value = value.Set (97 ∷ []) } ∷ []
+letters_entered = refl
+
+-- [1, 5]
+numbers_entered : entries (kind.Set host.Integer) (value.Set (1 ∷ 5 ∷ []))
+    ≡ record {
+      name = codes "s";
+      denoter = denoter.Set (denoter.Subrange (denoter.Required simple.Integer) (Fixed (pos 0)) (Fixed (pos 255)));
+      value = value.Set (1 ∷ 5 ∷ []);
+    } ∷ []
+numbers_entered = refl
+
+-- of an enumeration with 300 constants, whose entry is the first one of the list of types
+many_entered : entries (kind.Set (host.Enumeration (record { number = 0; last = 299 }))) (value.Set (7 ∷ []))
+    ≡ record {
+      name = codes "s";
+      denoter = denoter.Set (denoter.Subrange (denoter.Named 0 []) (Fixed (pos 0)) (Fixed (pos 255)));
+      value = value.Set (7 ∷ []);
+    } ∷ []
+many_entered = refl
+
+-- 'ab'
+text_entered : entries kind.Text (value.Text (97 ∷ 98 ∷ [])) ≡ []
+text_entered = refl
 
 -- ---- base types of sets
 

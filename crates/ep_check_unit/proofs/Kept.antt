@@ -66,16 +66,8 @@ module _ (n : List ℕ) where
   noted-kept true line b h = h
   noted-kept false line b h = h
 
-  with_constant-kept : (name : List ℕ) (k : Kind) (v : Value) (b : Block) → IsOf b → IsOf (with_constant name k v b)
-  with_constant-kept name (kind.Ordinal h) v b i = i
-  with_constant-kept name (kind.Structured m) v b i = i
-  with_constant-kept name (kind.Set h) v b i = i
-  with_constant-kept name kind.EmptySet v b i = i
-  with_constant-kept name kind.Text v b i = i
-  with_constant-kept name kind.File v b i = i
-
   constant_entered-kept : (name : List ℕ) (k : Kind) (v : Value) (b : Block) → IsOf b → Fits IsOf (constant_entered name k v b)
-  constant_entered-kept name k v b h = fits_then Any IsOf (λ _. Accepts (with_constant name k v b)) (unused name b) (fits_any (unused name b)) (λ a i. with_constant-kept name k v b h)
+  constant_entered-kept name k v b h = fits_then Any IsOf (λ _. Accepts (with_constant name k v b)) (unused name b) (fits_any (unused name b)) (λ a i. h)
 
   -- ---- types
 
@@ -191,7 +183,7 @@ module _ (n : List ℕ) where
   constant_definition-kept : (d : ConstantDefinition) (b : Block) → IsOf b → Fits IsOf (constant_definition d b)
   constant_definition-kept d b i =
       fits_both Any Any IsOf _ (constant_judged (scopes_of b) d.value) (unused d.name b) (fits_any (constant_judged (scopes_of b) d.value)) (fits_any (unused d.name b))
-      (λ form new j k. noted-kept form.built d.line (with_constant d.name form.kind form.value b) (with_constant-kept d.name form.kind form.value b i))
+      (λ form new j k. noted-kept form.built d.line (with_constant d.name form.kind form.value b) i)
 
   type_definition-kept : (line : ℕ) (d : TypeDefinition) (b : Block) → IsOf b → Fits IsOf (type_definition line d b)
   type_definition-kept line d b i =

@@ -3,6 +3,7 @@ use Rattle.std.specs.Prelude.{◌≡◌, ℕ, Bool, true, List, [], ◌∷◌, �
 use Rattle.ep_typed.specs.declared.denoter.Denoter.{Denoter}
 use Rattle.ep_typed.specs.declared.value.Value.{Value}
 use Rattle.ep_scope.specs.declared.kind.Host.{Host}
+use Rattle.ep_scope.specs.declared.kind.Kind.{Kind}
 use Rattle.ep_check_expr.specs.Judgements.{Judged, Accepts, when_accepted}
 use Rattle.ep_check_expr.specs.declared.forms.Refusal.{Refusal}
 use Rattle.ep_check_expr.specs.declared.forms.Refusal.TheVariants.{Rule, NoMemory}
@@ -94,9 +95,9 @@ fields_in b fields = record { fields = map field_in fields; block = b }
 abbrev pub headed_in : Block → Heading → Headed
 headed_in b h = record { number = h.number; parameters = h.parameters; result = h.result; block = b }
 
--- a constant's entry more
-abbrev pub with_constant_entry : List ℕ → Host → Value → Block → Block
-with_constant_entry name h v b = record b { constants = b.constants ++ record { name = name; denoter = spec.host_denoter h; value = v } ∷ [] }
+-- a constant's entry more, where it has one
+abbrev pub with_constant_entry : List ℕ → Kind → Value → Block → Block
+with_constant_entry name k v b = record b { constants = spec.with_entry name (spec.entry_denoter k) v b.constants }
 
 -- a type more, by its number
 abbrev pub AnswersType : Option (List ℕ) → ℕ → Denoter → Block → Result ℕ Refusal → Block → Type 0

@@ -16,7 +16,7 @@ use Rattle.ep_tree.specs.declared.declaration.ConstantDefinition.{ConstantDefini
 use Rattle.ep_tree.specs.declared.declaration.TypeDefinition.{TypeDefinition}
 use Rattle.ep_tree.specs.declared.declaration.VariableDeclaration.{VariableDeclaration}
 use Rattle.ep_typed.specs.Denoters.{enumeration_type, found_of, required_type, subrange_type}
-use Rattle.ep_typed.specs.Sets.{is_ordinal}
+use Rattle.ep_typed.specs.Sets.{is_ordinal, last_member}
 use Rattle.ep_typed.specs.Trees as tree
 use Rattle.ep_typed.specs.TypeValues as type
 use Rattle.ep_typed.specs.TypeValues.{TypeValue}
@@ -27,6 +27,7 @@ use Rattle.ep_typed.specs.declared.denoter.FieldPart.{FieldPart, roll-FieldPart}
 use Rattle.ep_typed.specs.declared.denoter.RecordField.{RecordField, roll-RecordField}
 use Rattle.ep_typed.specs.declared.denoter.RequiredType.{RequiredType}
 use Rattle.ep_typed.specs.declared.denoter.RequiredType.TheVariants as simple
+use Rattle.ep_typed.specs.declared.interface.ConstantEntry.{ConstantEntry}
 use Rattle.ep_typed.specs.declared.unit.UnitType.{UnitType}
 use Rattle.ep_typed.specs.declared.unit.UnitVariable.{UnitVariable}
 use Rattle.ep_typed.specs.declared.value.Value.{Value}
@@ -110,12 +111,39 @@ required_host simple.Integer = host.Integer
 required_host simple.Char = host.Char
 required_host simple.Boolean = host.Boolean
 
--- A constant is entered, with an entry in the list of constants where its type is ordinal. No other constant is built.
+-- whether all values of a host may be members of sets
+abbrev pub are_all_members : Host → Bool
+are_all_members host.Integer = false
+are_all_members host.Char = true
+are_all_members host.Boolean = true
+are_all_members (host.Enumeration e) = nat_le e.last last_member
+
+-- the denoter of the values of a host that may be members
+abbrev pub members_denoter : Host → Denoter
+members_denoter h = if are_all_members h then host_denoter h else denoter.Subrange (host_denoter h) (Fixed (pos 0)) (Fixed (pos last_member))
+
+-- the denoter of sets of them
+abbrev pub set_denoter : Host → Denoter
+set_denoter h = denoter.Set (members_denoter h)
+
+-- the denoter of a constant in the list of constants: its host, or a set of all values of its host that may be members. The empty set is one of integers there, and no other constant stands in the list so far (own).
+abbrev pub entry_denoter : Kind → Option Denoter
+entry_denoter (kind.Ordinal h) = Some (host_denoter h)
+entry_denoter (kind.Set h) = Some (set_denoter h)
+entry_denoter kind.EmptySet = Some (set_denoter host.Integer)
+entry_denoter (kind.Structured n) = None
+entry_denoter kind.Text = None
+entry_denoter kind.File = None
+
+-- constants with one more, where it has a denoter
+abbrev pub with_entry : List ℕ → Option Denoter → Value → List ConstantEntry → List ConstantEntry
+with_entry name None v all = all
+with_entry name (Some d) v all = all ++ record { name = name; denoter = d; value = v } ∷ []
+
+-- a constant is entered, with its entry in the list of constants
 abbrev pub with_constant : List ℕ → Kind → Value → Block → Block
-with_constant name (kind.Ordinal h) v b =
-    with_name name (own_thing b (length b.constants) (declaration.Constant (kind.Ordinal h) v))
-    (record b { constants = b.constants ++ record { name = name; denoter = host_denoter h; value = v } ∷ [] })
-with_constant name k v b = with_name name (own_thing b (length b.constants) (declaration.Constant k v)) b
+with_constant name k v b =
+    with_name name (own_thing b (length b.constants) (declaration.Constant k v)) (record b { constants = with_entry name (entry_denoter k) v b.constants })
 
 -- a constant whose name is not there yet
 abbrev pub constant_entered : List ℕ → Kind → Value → Block → Judged Block
@@ -168,6 +196,7 @@ type_named interface (Some name) b = type_meant (rule.UNDECLARED ∷ []) (meant_
 abbrev pub number_in : Value → ℤ
 number_in (value.Word z) = z
 number_in (value.Text bytes) = pos 0
+number_in (value.Set members) = pos 0
 
 -- the denoter of a subrange of a host
 abbrev pub subrange_denoter : Host → ConstantForm → ConstantForm → Denoter

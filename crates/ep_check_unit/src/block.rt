@@ -4,10 +4,11 @@ ghost use Rattle.std.specs.Prelude.{◌≡◌, [], length, IfOk, OnOk};
 ghost use Rattle.std.specs.Option.{option_map};
 ghost use Rattle.ep_check_unit.specs.Answers.{AnswersBlock, AnswersNumber, AnswersType, with_constant_entry};
 ghost use Rattle.ep_check_unit.specs.Blocks.{block_of, first_own, has_number, own_count, result_count};
-ghost use Rattle.ep_check_unit.specs.Declarations.{constant_entered, entered, noted, own_thing, with_type};
+ghost use Rattle.ep_check_unit.specs.Declarations.{constant_entered, entered, entry_denoter, noted, own_thing, with_type};
 ghost use Rattle.ep_check_unit.specs.Checks.{IsUnitWith};
 ghost use Rattle.ep_check_unit.specs.Units.{first_block};
 
+use crate::sets::set_denoter;
 use crate::types::{Written, host_type, type_denoter};
 use ep_base::{Line, List, Name, NoMemory};
 use ep_check_expr::Refusal;
@@ -16,7 +17,7 @@ use ep_scope::{
     rule,
 };
 use ep_typed::{
-    ConstantEntries, ConstantEntry, ImportSpecs, TypeEntry, TypedStmt, TypedStmts, Unit,
+    ConstantEntries, ConstantEntry, Denoter, ImportSpecs, TypeEntry, TypedStmt, TypedStmts, Unit,
     UnitRoutine, UnitType, UnitTypes, UnitVariables, Value,
 };
 use std::alloc::{AllocError, Global};
@@ -318,7 +319,7 @@ impl Block {
         }
     }
 
-    /// A constant is entered, with its entry where its type is ordinal.
+    /// A constant is entered, with its entry.
     pub(crate) fn add_constant(
         &mut self,
         alloc: Global,
@@ -330,28 +331,29 @@ impl Block {
             (constant_entered name.now kind value.now (block_of self.old)) }
     {
         let number = number(self.constants.items().len())?;
-        if let Kind::Ordinal(host) = kind {
-            self.add_entry(alloc, name, host, value)?;
-        }
+        self.add_entry(alloc, name, kind, value)?;
         let copy = copied(alloc, value)?;
         let thing = self.own_thing(alloc, number, Declaration::Constant(kind, copy))?;
         self.enter(alloc, name, thing)
     }
 
-    /// The entry of a constant of an ordinal type.
+    /// The entry of a constant, where it has one.
     fn add_entry(
         &mut self,
         alloc: Global,
         name: &Name,
-        host: Host,
+        kind: Kind,
         value: &Value,
     ) -> Result<(), NoMemory>
-        ensures { OnOk result (block_of self.new ≡ with_constant_entry name.now host value.now
+        ensures { OnOk result (block_of self.new ≡ with_constant_entry name.now kind value.now
             (block_of self.old)) }
     {
+        let Some(denoter) = entry_denoter(alloc, kind)? else {
+            return Ok(());
+        };
         let entry = ConstantEntry {
             name: name.copy(alloc)?,
-            denoter: type_denoter(alloc, host_type(host)),
+            denoter,
             value: copied(alloc, value)?,
         };
         self.constants.push(entry)
@@ -393,5 +395,18 @@ fn copied(alloc: Global, value: &Value) -> Result<Value, NoMemory>
     match value {
         Value::Word(word) => Ok(Value::Word(*word)),
         Value::Text(bytes) => Ok(Value::Text(List::from_slice(alloc, bytes.items())?)),
+        Value::Set(members) => Ok(Value::Set(List::from_slice(alloc, members.items())?)),
+    }
+}
+
+/// The denoter of a constant of this kind in the list of constants, where it has one.
+fn entry_denoter(alloc: Global, kind: Kind) -> Result<Option<Denoter>, NoMemory>
+    ensures { IfOk result (λ d. d ≡ entry_denoter kind) }
+{
+    match kind {
+        Kind::Ordinal(host) => Ok(Some(type_denoter(alloc, host_type(host)))),
+        Kind::Set(host) => Ok(Some(set_denoter(alloc, host)?)),
+        Kind::EmptySet => Ok(Some(set_denoter(alloc, Host::Integer)?)),
+        Kind::Structured(_) | Kind::Text | Kind::File => Ok(None),
     }
 }

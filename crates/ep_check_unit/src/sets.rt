@@ -1,24 +1,27 @@
 //! Set types as an item writes them.
 
-ghost use Rattle.std.specs.Prelude.{◌≡◌, Some};
+ghost use Rattle.std.specs.Prelude.{◌≡◌, Some, IfOk};
 ghost use Rattle.ep_typed.specs.Denoters.{required_type};
 ghost use Rattle.ep_typed.specs.Sets.{is_ordinal};
 ghost use Rattle.ep_typed.specs.Viewed.{denoter_of};
 ghost use Rattle.ep_check_stmt.specs.Answers.{AnswersForm};
 ghost use Rattle.ep_check_unit.specs.Answers.{named_in, written_in};
 ghost use Rattle.ep_check_unit.specs.Blocks.{block_of};
-ghost use Rattle.ep_check_unit.specs.Declarations.{are_members, ordinal_value, set_on, value_of};
+ghost use Rattle.ep_check_unit.specs.Declarations.{are_all_members, are_members, members_denoter, ordinal_value, set_denoter, set_on, value_of};
 
 use crate::block::Block;
-use crate::types::{NamedType, Written, counted, index_host, type_denoter};
-use ep_base::Boxed;
+use crate::types::{NamedType, Written, counted, host_type, index_host, type_denoter};
+use ep_base::{Boxed, NoMemory};
 use ep_check_expr::Refusal;
-use ep_scope::{Kind, TypeName, rule};
+use ep_scope::{Host, Kind, TypeName, rule};
 use ep_typed::{Bound, Denoter, RequiredType, UnitType};
 use std::alloc::Global;
 
 /// How many ordinal numbers members of sets may have, from 0 on.
 const MEMBER_LIMIT: i64 = 256;
+
+/// The greatest of them.
+const LAST_MEMBER: u32 = 255;
 
 /// Whether a member of a set may have this ordinal number.
 fn is_ordinal(number: i64) -> bool
@@ -64,6 +67,38 @@ fn are_members(types: &[UnitType], of: TypeName) -> bool
             Some(t) => denotes_members(&t.entry.denoter),
         },
     }
+}
+
+/// Whether all values of a host may be members of sets.
+fn are_all_members(host: Host) -> bool
+    ensures { result ≡ are_all_members host }
+{
+    match host {
+        Host::Integer => false,
+        Host::Char | Host::Boolean => true,
+        Host::Enumeration(e) => e.last <= LAST_MEMBER,
+    }
+}
+
+/// The denoter of the values of a host that may be members.
+fn members_denoter(alloc: Global, host: Host) -> Result<Denoter, NoMemory>
+    ensures { IfOk result (λ d. d ≡ members_denoter host) }
+{
+    let all = type_denoter(alloc, host_type(host));
+    if are_all_members(host) {
+        return Ok(all);
+    }
+    let least = Bound::Constant(0);
+    let greatest = Bound::Constant(i64::from(LAST_MEMBER));
+    Ok(Denoter::Subrange(Boxed::new(alloc, all)?, least, greatest))
+}
+
+/// The denoter of sets of them.
+pub(crate) fn set_denoter(alloc: Global, host: Host) -> Result<Denoter, NoMemory>
+    ensures { IfOk result (λ d. d ≡ set_denoter host) }
+{
+    let base = members_denoter(alloc, host)?;
+    Ok(Denoter::Set(Boxed::new(alloc, base)?))
 }
 
 impl Block {

@@ -8,6 +8,7 @@ use Rattle.ep_object.specs.Operands.{Operand, Set}
 use Rattle.ep_object.specs.Places.{set_loaded}
 use Rattle.ep_object.specs.Sets.{IsSet, bits_from, digit, has, member_limit, members, passing, put_where, set_in, set_size, tells, word_members, with_member, words_from, words_of_set}
 use Rattle.ep_object.proofs.Sets.{has_members, members_same}
+pub use Rattle.ep_typed.proofs.Sets.{few_members, members_set, none_set}
 
 -- the lowest bit of a number that is made so, and the others
 lowest : (b : Bool) (n : ℕ) → bit_at (digit b + 2 * n) 0 ≡ digit b
@@ -64,28 +65,6 @@ words_many ms = refl
 pub words_loaded : (ms : List ℕ) (st : List Operand) → IsSet ms → set_loaded (words_of_set ms) st ≡ Continues (Set ms ∷ st)
 unfolding words_of_set
 words_loaded ms st is = ap (λ ns. Continues (Set ns ∷ st)) (set_in_words ms is)
-
--- what is made of ordinals that pass is a set
-pub members_set : (f : ℕ → Bool) → IsSet (members f)
-members_set f = members_same f (λ n. has n (members f)) (λ n less. sym (has_members f n less))
-
--- there are no more members than may be
-few : (f : ℕ → Bool) (n count : ℕ) → length (passing f n count) ≤ count
-few f n zero = omega arith
-few f n (suc count) = at_most (f n) (few f (suc n) count)
-  where
-    at_most : (b : Bool) → length (passing f (suc n) count) ≤ count → length (put_where b n (passing f (suc n) count)) ≤ suc count
-    at_most true h = omega (arith, h)
-    at_most false h = omega (arith, h)
-
-pub few_members : (ms : List ℕ) → IsSet ms → length ms ≤ member_limit
-unfolding members
-few_members ms is = let many : length ms ≡ length (passing (λ n. has n ms) 0 member_limit) = ap length is in omega (arith, many, few (λ n. has n ms) 0 member_limit)
-
--- and so is the empty set
-pub none_set : IsSet []
-unfolding members
-none_set = refl
 
 -- ---- members one after another
 

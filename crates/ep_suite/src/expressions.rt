@@ -22,7 +22,8 @@ const EXPRESSIONS: &[(&str, &str)] = &[
     ("i.d", "rule 2 at 2, rule 2 at 2"),
     ("1 +\n'a'", "rule 32 at 2, rule 32 at 2"),
     ("'a' +\n'b'", "not built at 2, not built at 2"),
-    ("[1]", "form, not built at 2"),
+    ("[1]", "form, set of 1"),
+    ("[3..5] + [4, 9]", "form, set of 4"),
     ("x^", "not built at 2, not built at 2"),
     ("x[1]", "rule 35 at 2, rule 35 at 2"),
     ("y + 1 +\nx^", "not built at 3, not built at 3"),
@@ -107,6 +108,7 @@ fn tell_constant(
     match &constant(alloc, e, scopes) {
         Ok(Value::Word(value)) => write!(out, "{value}"),
         Ok(Value::Text(_)) => write!(out, "text"),
+        Ok(Value::Set(members)) => write!(out, "set of {}", members.items().len()),
         Err(refusal) => tell_refusal(out, *refusal),
     }
 }

@@ -5,6 +5,7 @@ pub mod Examples
 pub mod Forms
 pub mod Lasting
 pub mod Levels
+pub mod Sets
 pub mod Steady
 pub mod Typed
 pub mod ValueKinds

@@ -1,4 +1,4 @@
--- How many typed nodes a unit has: its expressions, places, statements, ranges of `case` statements, of variants, of places in variants and of assignments to tags, imports, routines, formals, variables, denoters, bounds and values. An expression that is a constant or a text counts one, and its value one more; that of a set one more for each member.
+-- How many typed nodes a unit has: its expressions, places, statements, ranges of `case` statements, of variants, of places in variants and of assignments to tags, imports, routines, formals, variables, denoters, bounds and values. An expression that is a constant or a text counts one, and its value one more; that of a set one more for each member. So do the values of constants.
 use Rattle.std.specs.Prelude.{ℕ, ◌+◌, ◌*◌, List, [], ◌∷◌, length, map, sum, Option, Some, None}
 use Rattle.ep_typed.specs.Trees.{Place, Variable, Own, Standard, Indexed, Field, Variant, Expr, Constant, Text, Read, One, Two, Short, Step, Function, IndexedValue, FieldValue, SetOf, OnSets, Card, Designator, Single, Range, Designators, no_member, next_member, Actual, Evaluated, Accessed, Actuals, no_actual, next_actual, Item, Plain, Wide, Stmt, Stmts, Empty, Compound, Assign, AssignTag, If, While, Repeat, For, ForIn, With, Procedure, Case, Halt, Write, none, next, Arm, Arms, no_arm, next_arm, Other, no_other, otherwise_do, entire, SetConstant}
 use Rattle.ep_typed.specs.Viewed.{expr_of, stmt_of}
@@ -21,6 +21,8 @@ use Rattle.ep_typed.specs.declared.unit.Unit.{Unit as TypedUnit}
 use Rattle.ep_typed.specs.declared.unit.UnitRoutine.{UnitRoutine}
 use Rattle.ep_typed.specs.declared.unit.UnitType.{UnitType}
 use Rattle.ep_typed.specs.declared.unit.UnitVariable.{UnitVariable}
+use Rattle.ep_typed.specs.declared.value.Value.{Value}
+use Rattle.ep_typed.specs.declared.value.Value.TheVariants as value
 
 -- ---- types
 
@@ -181,9 +183,15 @@ schema_formal_nodes f = 1 + denoter_nodes f.denoter
 abbrev pub type_nodes : UnitType → ℕ
 type_nodes t = sum (map schema_formal_nodes t.entry.formals) + denoter_nodes t.entry.denoter
 
+-- a value counts one, and that of a set one more for each member
+abbrev pub value_nodes : Value → ℕ
+value_nodes (value.Word z) = 1
+value_nodes (value.Text bytes) = 1
+value_nodes (value.Set ms) = 1 + length ms
+
 -- the denoter of a constant, and its value
 abbrev pub constant_nodes : ConstantEntry → ℕ
-constant_nodes c = denoter_nodes c.denoter + 1
+constant_nodes c = denoter_nodes c.denoter + value_nodes c.value
 
 -- an expression of the code
 abbrev pub typed_expr_nodes : TypedExpr → ℕ

@@ -5,6 +5,7 @@ use Rattle.ep_typed.specs.Denoters.{ArrayParts, array_of, base_of, definition_of
 use Rattle.ep_typed.specs.Hosts.{Host, least, greatest, is_of_host}
 use Rattle.ep_typed.specs.Hosts as host
 use Rattle.ep_typed.specs.Operations.{is_integer, is_apart}
+use Rattle.ep_typed.specs.Results.{has_base_for}
 use Rattle.ep_typed.specs.Sets.{IsSet, are_between, is_ordinal}
 use Rattle.ep_typed.specs.Steps.{is_within, variant_number, variants_count}
 use Rattle.ep_typed.specs.Trees as tree
@@ -452,16 +453,17 @@ pub record HasKind (types : List UnitType) (d : Denoter) : Type 0 where
 abbrev pub IsValue : TypeValue → Value → Type 0
 IsValue t (value.Word w) = IsTrue (is_within t w)
 IsValue t (value.Text bytes) = ⊥
+IsValue t (value.Set ms) = IsSet ms × IsTrue (has_base_for (Some t) ms)
 
 -- a type that is no schema, of a valid denoter
 pub record IsType (types : List UnitType) (t : UnitType) : Type 0 where
   pub formals : t.entry.formals ≡ []
   pub denoter : IsDenoter types (definition_of t)
 
--- a constant of an ordinal type that is a value of it
+-- a constant of an ordinal type or a set type that is a value of it
 pub record IsConstant (types : List UnitType) (c : ConstantEntry) : Type 0 where
-  pub ordinal : IsOrdinal types (denoter_of c.denoter)
-  pub value : IsValue ordinal.denoter.type_value c.value
+  pub kind : HasKind types (denoter_of c.denoter)
+  pub value : IsValue kind.denoter.type_value c.value
 
 -- a variable of a valid denoter without discriminants
 pub record IsVariable (types : List UnitType) (v : UnitVariable) : Type 0 where

@@ -13,6 +13,7 @@ use crate::tree::{
     TypedStmt, WriteItem,
 };
 use crate::unit::{Unit, UnitRoutine, UnitType, UnitVariable};
+use crate::value::Value;
 
 /// The typed nodes of a unit, at most the greatest `u64`. It takes no memory.
 pub fn unit_nodes(u: &Unit) -> u64
@@ -67,11 +68,25 @@ fn constants(all: &[ConstantEntry]) -> u64
 {
     let mut total = 0;
     for constant in all {
-        total = denoter(&constant.denoter)
-            .saturating_add(1)
-            .saturating_add(total);
+        total = constant_of_unit(constant).saturating_add(total);
     }
     total
+}
+
+fn constant_of_unit(c: &ConstantEntry) -> u64
+    ensures { result ≡ min (nodes.constant_nodes c.now) u64.MAX }
+{
+    denoter(&c.denoter).saturating_add(value(&c.value))
+}
+
+fn value(v: &Value) -> u64
+    ensures { result ≡ min (nodes.value_nodes v.now) u64.MAX }
+{
+    match v {
+        Value::Word(_) => 1,
+        Value::Text(_) => 1,
+        Value::Set(members) => (members.items().len() as u64).saturating_add(1),
+    }
 }
 
 fn variables(all: &[UnitVariable]) -> u64

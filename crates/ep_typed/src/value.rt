@@ -8,6 +8,8 @@ pub enum Value {
     Word(i64),
     /// A text.
     Text(Bytes),
+    /// A set, by the ordinal numbers of its members in rising order.
+    Set(Bytes),
 }
 
 impl Drop for Value {
@@ -15,6 +17,7 @@ impl Drop for Value {
         match self {
             Value::Word(_) => {}
             Value::Text(_) => {}
+            Value::Set(_) => {}
         }
     }
 }

@@ -1,30 +1,45 @@
 -- Constants of a block are held by the unit that has its lists.
-use Rattle.std.proofs.Common.{◌≡◌, ℕ, pos, suc, ◌≤◌, ◌+◌, List, [], ◌∷◌, map, length, IsTrue, refl, sym, subst, arith}
+use Rattle.std.proofs.Common.{◌≡◌, ◌∙◌, ℕ, ℤ, pos, suc, ◌≤◌, ◌+◌, nat_le, Bool, true, false, List, [], ◌∷◌, map, length, Option, Some, None, IsTrue, inl, inr, refl, sym, ap, subst, arith}
+use Rattle.std.proofs.lemmas.Bool.{cases_lt}
 use Rattle.std.proofs.lemmas.Bool.Decides.{nat_tests}
 use Rattle.std.proofs.lemmas.List.Elements.{All-push}
+use Rattle.std.specs.Prelude.{All, if◌then◌else◌}
 use Rattle.ep_outside.specs.Known.{IsPrefix}
 use Rattle.ep_tree.specs.declared.declaration.ConstantDefinition.{ConstantDefinition}
 use Rattle.ep_typed.specs.Hosts as typed
-use Rattle.ep_typed.specs.Hosts.{is_of_host}
+use Rattle.ep_typed.specs.Hosts.{greatest, is_of_host, least}
+use Rattle.ep_typed.specs.Sets.{IsSet, are_between, has, is_ordinal, last_member, member_limit}
+use Rattle.ep_typed.specs.TypeValues as type
+use Rattle.ep_typed.specs.TypeValues.{Ordinal}
 use Rattle.ep_typed.specs.Valid.{IsConstant}
+use Rattle.ep_typed.specs.Viewed.{denoter_of}
+use Rattle.ep_typed.specs.declared.denoter.Bound.TheVariants.{Constant as Fixed}
+use Rattle.ep_typed.specs.declared.denoter.Denoter.{Denoter}
+use Rattle.ep_typed.specs.declared.denoter.Denoter.TheVariants as denoter
+use Rattle.ep_typed.specs.declared.interface.ConstantEntry.{ConstantEntry}
 use Rattle.ep_typed.specs.declared.unit.Unit.{Unit as TypedUnit}
 use Rattle.ep_typed.specs.declared.value.Value.{Value}
 use Rattle.ep_typed.specs.declared.value.Value.TheVariants as value
+use Rattle.ep_typed.proofs.Forms.{set_is, subrange_is}
+use Rattle.ep_typed.proofs.Sets.{between_yes, has_no_more}
 use Rattle.ep_scope.specs.declared.kind.Enumeration.{Enumeration}
+use Rattle.ep_scope.specs.declared.kind.Host.{Host}
 use Rattle.ep_scope.specs.declared.kind.Host.TheVariants as host
 use Rattle.ep_scope.specs.declared.kind.Kind.{Kind}
 use Rattle.ep_scope.specs.declared.kind.Kind.TheVariants as kind
 use Rattle.ep_scope.specs.declared.thing.Declaration.TheVariants as declaration
-use Rattle.ep_check_expr.specs.Agreement.{IsConstantOf}
+use Rattle.ep_check_expr.specs.Agreement.{IsConstantOf, IsSetOver}
 use Rattle.ep_check_expr.specs.Constants.{constant_judged}
+use Rattle.ep_check_expr.specs.Hosts.{typed_host}
 use Rattle.ep_check_expr.specs.Judgements.{Judged, Accepts, Breaks}
 use Rattle.ep_check_expr.specs.Laws.{ConstantsAreSound, ConstantsAreKnown}
 use Rattle.ep_check_expr.specs.declared.constants.ConstantForm.{ConstantForm}
 use Rattle.ep_check_stmt.proofs.judged.Fits.{Any, Fits, fits_any, fits_both, fits_is, fits_then}
-use Rattle.ep_check_unit.specs.Declarations.{constant_definition, constant_entered, enumerated, host_denoter, own_thing, scopes_of, unused, with_constant, with_name}
+use Rattle.ep_check_unit.specs.Declarations.{are_all_members, constant_definition, constant_entered, entry_denoter, enumerated, host_denoter, members_denoter, own_thing, scopes_of, set_denoter, unused, with_constant, with_entry, with_name}
 use Rattle.ep_check_unit.specs.Blocks.{Block}
 use Rattle.ep_unit_laws.proofs.Agreeing.{holds_agrees, within}
-use Rattle.ep_unit_laws.proofs.Holds.{Holds, Lists, ListsKind, constant_valid, known_listed, lists_small, things_push}
+use Rattle.ep_unit_laws.proofs.Denoting.{Denotes, DenotesSet, denotes_set, denotes_subrange, full_type, kind_has_values}
+use Rattle.ep_unit_laws.proofs.Holds.{Holds, Lists, ListsKind, constant_valid, host_denotes, known_listed, lists_small, things_push}
 use Rattle.ep_unit_laws.proofs.Open.{IsOpen, open_push}
 use Rattle.ep_unit_laws.proofs.Leading.{Grows, Leads, Enters, bodies_refl, enters_refl, enters_then, head_in, length_push, noted_leads, prefix_length, prefix_more, prefix_refl}
 
@@ -32,34 +47,137 @@ use Rattle.ep_unit_laws.proofs.Leading.{Grows, Leads, Enters, bodies_refl, enter
 constant_opens : (b : Block) (name : List ℕ) (k : Kind) (v : Value) → IsOpen b → IsOpen (with_name name (own_thing b (length b.constants) (declaration.Constant k v)) b)
 constant_opens b name k v x = open_push b.scopes.inner.entries b.scopes.outer b.own.enclosing (length b.routines) b.bodies name (own_thing b (length b.constants) (declaration.Constant k v)) tt x
 
-constant_grows : (name : List ℕ) (k : Kind) (v : Value) (b : Block) → Grows b (with_constant name k v b)
-constant_grows name (kind.Ordinal h) v b = record { types = prefix_refl b.types; constants = prefix_more b.constants _; variables = prefix_refl b.variables; own = prefix_refl b.own.variables; parameters = refl; result = refl; enclosing = refl; outer = refl; alone = λ e. refl; headings = prefix_refl (map head_in b.routines); waits = λ w. w; opens = λ x. constant_opens b name (kind.Ordinal h) v x; bodies = λ x. bodies_refl b }
-constant_grows name (kind.Structured n) v b = record { types = prefix_refl b.types; constants = prefix_refl b.constants; variables = prefix_refl b.variables; own = prefix_refl b.own.variables; parameters = refl; result = refl; enclosing = refl; outer = refl; alone = λ e. refl; headings = prefix_refl (map head_in b.routines); waits = λ w. w; opens = λ x. constant_opens b name (kind.Structured n) v x; bodies = λ x. bodies_refl b }
-constant_grows name (kind.Set base) v b = record { types = prefix_refl b.types; constants = prefix_refl b.constants; variables = prefix_refl b.variables; own = prefix_refl b.own.variables; parameters = refl; result = refl; enclosing = refl; outer = refl; alone = λ e. refl; headings = prefix_refl (map head_in b.routines); waits = λ w. w; opens = λ x. constant_opens b name (kind.Set base) v x; bodies = λ x. bodies_refl b }
-constant_grows name kind.EmptySet v b = record { types = prefix_refl b.types; constants = prefix_refl b.constants; variables = prefix_refl b.variables; own = prefix_refl b.own.variables; parameters = refl; result = refl; enclosing = refl; outer = refl; alone = λ e. refl; headings = prefix_refl (map head_in b.routines); waits = λ w. w; opens = λ x. constant_opens b name kind.EmptySet v x; bodies = λ x. bodies_refl b }
-constant_grows name kind.Text v b = record { types = prefix_refl b.types; constants = prefix_refl b.constants; variables = prefix_refl b.variables; own = prefix_refl b.own.variables; parameters = refl; result = refl; enclosing = refl; outer = refl; alone = λ e. refl; headings = prefix_refl (map head_in b.routines); waits = λ w. w; opens = λ x. constant_opens b name kind.Text v x; bodies = λ x. bodies_refl b }
-constant_grows name kind.File v b = record { types = prefix_refl b.types; constants = prefix_refl b.constants; variables = prefix_refl b.variables; own = prefix_refl b.own.variables; parameters = refl; result = refl; enclosing = refl; outer = refl; alone = λ e. refl; headings = prefix_refl (map head_in b.routines); waits = λ w. w; opens = λ x. constant_opens b name kind.File v x; bodies = λ x. bodies_refl b }
+-- the list of constants grows
+entry_prefix : (name : List ℕ) (d : Option Denoter) (v : Value) (all : List ConstantEntry) → IsPrefix all (with_entry name d v all)
+entry_prefix name None v all = prefix_refl all
+entry_prefix name (Some d) v all = prefix_more all (record { name = name; denoter = d; value = v } ∷ [])
 
-constant_types : (name : List ℕ) (k : Kind) (v : Value) (b : Block) → (with_constant name k v b).types ≡ b.types
-constant_types name (kind.Ordinal h) v b = refl
-constant_types name (kind.Structured n) v b = refl
-constant_types name (kind.Set base) v b = refl
-constant_types name kind.EmptySet v b = refl
-constant_types name kind.Text v b = refl
-constant_types name kind.File v b = refl
+constant_grows : (name : List ℕ) (k : Kind) (v : Value) (b : Block) → Grows b (with_constant name k v b)
+constant_grows name k v b = record {
+  types = prefix_refl b.types;
+  constants = entry_prefix name (entry_denoter k) v b.constants;
+  variables = prefix_refl b.variables;
+  own = prefix_refl b.own.variables;
+  parameters = refl;
+  result = refl;
+  enclosing = refl;
+  outer = refl;
+  alone = λ e. refl;
+  headings = prefix_refl (map head_in b.routines);
+  waits = λ w. w;
+  opens = λ x. constant_opens b name k v x;
+  bodies = λ x. bodies_refl b;
+}
+
+-- ---- the values of a host that may be members
+
+-- the bounds of the type that has them
+abbrev members_least : Host → ℤ
+members_least h = if are_all_members h then least (typed_host h) else pos 0
+
+abbrev members_greatest : Host → ℤ
+members_greatest h = if are_all_members h then greatest (typed_host h) else pos last_member
+
+-- where not all are, those from 0 to 255 are values of the host
+first_of_host : (h : Host) → are_all_members h ≡ false → IsTrue (is_of_host (typed_host h) (pos 0))
+first_of_host host.Integer e = refl
+first_of_host host.Char e = cc
+first_of_host host.Boolean e = cc
+first_of_host (host.Enumeration f) e = grind (arith, nat_tests)
+
+last_of_host : (h : Host) → are_all_members h ≡ false → IsTrue (is_of_host (typed_host h) (pos last_member))
+last_of_host host.Integer e = refl
+last_of_host host.Char e = cc
+last_of_host host.Boolean e = cc
+last_of_host (host.Enumeration f) e = grind (arith, nat_tests)
+
+least_ordinal : (h : Host) → IsTrue (is_ordinal (members_least h))
+least_ordinal host.Integer = refl
+least_ordinal host.Char = refl
+least_ordinal host.Boolean = refl
+least_ordinal (host.Enumeration e) = chosen (nat_le e.last last_member)
+  where
+    chosen : (c : Bool) → IsTrue (is_ordinal (if c then pos 0 else pos 0))
+    chosen true = refl
+    chosen false = refl
+
+greatest_ordinal : (h : Host) → IsTrue (is_ordinal (members_greatest h))
+greatest_ordinal host.Integer = refl
+greatest_ordinal host.Char = refl
+greatest_ordinal host.Boolean = refl
+greatest_ordinal (host.Enumeration e) = chosen (nat_le e.last last_member) refl
+  where
+    chosen : (c : Bool) → nat_le e.last last_member ≡ c → IsTrue (is_ordinal (if c then pos e.last else pos last_member))
+    chosen true is = grind (arith, nat_tests)
+    chosen false is = refl
+
+-- the members of a set may be members
+few_between : (ms : List ℕ) → IsSet ms → are_between (pos 0) (pos last_member) ms ≡ true
+few_between ms set =
+    between_yes (pos 0) (pos last_member) ms (λ n is. elim (cases_lt n member_limit) [
+      | inl less ↦ grind (arith, nat_tests, less)
+      | inr past ↦ let missing : has n ms ≡ false = ap (has n) set ∙ has_no_more (λ k. has k ms) n past in cc
+    ])
+
+-- those of a set over the host are of that type
+members_between : (h : Host) (ms : List ℕ) → IsSetOver (typed_host h) ms → IsTrue (are_between (members_least h) (members_greatest h) ms)
+members_between h ms s = chosen (are_all_members h)
+  where
+    chosen : (c : Bool) → IsTrue (are_between (if c then least (typed_host h) else pos 0) (if c then greatest (typed_host h) else pos last_member) ms)
+    chosen true = s.1
+    chosen false = few_between ms s.0
 
 module _ (u : TypedUnit) where
-  -- a constant of its kind, whose host is listed
+  -- the denoter of them has that type
+  members_denote : (i : ℕ) (h : Host) → i ≤ length u.types → Lists u i h → Denotes u.types i (denoter_of (members_denoter h)) (typed_host h) (Ordinal (members_least h) (members_greatest h))
+  members_denote i h le l = chosen (are_all_members h) refl
+    where
+      chosen : (c : Bool) → are_all_members h ≡ c
+          → Denotes u.types i (denoter_of (if c then host_denoter h else denoter.Subrange (host_denoter h) (Fixed (pos 0)) (Fixed (pos last_member)))) (typed_host h)
+          (Ordinal (if c then least (typed_host h) else pos 0) (if c then greatest (typed_host h) else pos last_member))
+      chosen true is = host_denotes u i h l
+      chosen false is =
+          subst (λ d. Denotes u.types i d (typed_host h) (Ordinal (pos 0) (pos last_member))) (sym (subrange_is (host_denoter h) (Fixed (pos 0)) (Fixed (pos last_member))))
+          (denotes_subrange u.types i (denoter_of (host_denoter h)) (typed_host h) (full_type (typed_host h)) (pos 0) (pos last_member) le (host_denotes u i h l) (lists_small u i h l) refl (first_of_host h is) (last_of_host h is))
+
+  -- so a constant of sets over the host is valid
+  set_denotes : (i : ℕ) (h : Host) → i ≤ length u.types → Lists u i h → DenotesSet u.types i (denoter_of (set_denoter h)) (typed_host h) (type.Set (members_least h) (members_greatest h))
+  set_denotes i h le l =
+      subst (λ d. DenotesSet u.types i d (typed_host h) (type.Set (members_least h) (members_greatest h))) (sym (set_is (members_denoter h)))
+      (denotes_set u.types i (denoter_of (members_denoter h)) (typed_host h) (members_least h) (members_greatest h) le (members_denote i h le l) (least_ordinal h) (greatest_ordinal h))
+
+  set_valid : (i : ℕ) (name : List ℕ) (h : Host) (ms : List ℕ) → i ≤ length u.types → Lists u i h → IsSetOver (typed_host h) ms → IsConstant u.types (record { name = name; denoter = set_denoter h; value = value.Set ms })
+  set_valid i name h ms le l s = record {
+    kind = kind_has_values u.types i (denoter_of (set_denoter h)) (kind.Set h) (type.Set (members_least h) (members_greatest h)) le (set_denotes i h le l);
+    value = (s.0, members_between h ms s);
+  }
+
+  -- the list of constants with one of its kind, whose host is listed
+  entry_holds : (i : ℕ) (name : List ℕ) (k : Kind) (v : Value) (all : List ConstantEntry) → i ≤ length u.types → IsConstantOf k v → ListsKind u i k → All (IsConstant u.types) all → All (IsConstant u.types) (with_entry name (entry_denoter k) v all)
+  entry_holds i name (kind.Ordinal h) (value.Word z) all le s l x = All-push (IsConstant u.types) all (record { name = name; denoter = host_denoter h; value = value.Word z }) x (constant_valid u i name h z le l s.1)
+  entry_holds i name (kind.Ordinal h) (value.Text bytes) all le s l x = absurd s
+  entry_holds i name (kind.Ordinal h) (value.Set ms) all le s l x = absurd s
+  entry_holds i name (kind.Set h) (value.Word z) all le s l x = absurd s
+  entry_holds i name (kind.Set h) (value.Text bytes) all le s l x = absurd s
+  entry_holds i name (kind.Set h) (value.Set ms) all le s l x = All-push (IsConstant u.types) all (record { name = name; denoter = set_denoter h; value = value.Set ms }) x (set_valid i name h ms le l s.1)
+  entry_holds i name kind.EmptySet (value.Word z) all le s l x = absurd s
+  entry_holds i name kind.EmptySet (value.Text bytes) all le s l x = absurd s
+  entry_holds i name kind.EmptySet (value.Set ms) all le s l x = All-push (IsConstant u.types) all (record { name = name; denoter = set_denoter host.Integer; value = value.Set ms }) x (set_valid i name host.Integer ms le tt (s typed.Integer))
+  entry_holds i name (kind.Structured n) v all le s l x = x
+  entry_holds i name kind.Text v all le s l x = x
+  entry_holds i name kind.File v all le s l x = x
+
+  -- so the block with it is held
   constant_holds : (i : ℕ) (name : List ℕ) (k : Kind) (v : Value) (b : Block) → i ≤ length u.types → IsConstantOf k v → ListsKind u i k → Holds u i b → Holds u i (with_constant name k v b)
-  constant_holds i name (kind.Ordinal h) (value.Word z) b le s l x = record {
+  constant_holds i name k v b le s l x = record {
     unit = x.unit;
-    things = things_push u b.own.enclosing i b.scopes.inner.entries name (own_thing b (length b.constants) (declaration.Constant (kind.Ordinal h) (value.Word z))) x.things (x.unit, (s, l));
+    things = things_push u b.own.enclosing i b.scopes.inner.entries name (own_thing b (length b.constants) (declaration.Constant k v)) x.things (x.unit, (s, l));
     plain = x.plain;
     structures = x.structures;
     outer = x.outer;
     routines = x.routines;
     types = x.types;
-    constants = All-push (IsConstant u.types) b.constants (record { name = name; denoter = host_denoter h; value = value.Word z }) x.constants (constant_valid u i name h z le l s.1);
+    constants = entry_holds i name k v b.constants le s l x.constants;
     variables = x.variables;
     parameters = x.parameters;
     result = x.result;
@@ -67,58 +185,6 @@ module _ (u : TypedUnit) where
     headed = x.headed;
     results = x.results;
   }
-  constant_holds i name (kind.Ordinal h) (value.Text bytes) b le s l x = absurd s
-  constant_holds i name (kind.Structured n) v b le s l x = absurd s
-  constant_holds i name kind.Text (value.Word z) b le s l x = absurd s
-  constant_holds i name kind.Text (value.Text bytes) b le s l x = record {
-    unit = x.unit;
-    things = things_push u b.own.enclosing i b.scopes.inner.entries name (own_thing b (length b.constants) (declaration.Constant kind.Text (value.Text bytes))) x.things (x.unit, (s, l));
-    plain = x.plain;
-    structures = x.structures;
-    outer = x.outer;
-    routines = x.routines;
-    types = x.types;
-    constants = x.constants;
-    variables = x.variables;
-    parameters = x.parameters;
-    result = x.result;
-    owned = x.owned;
-    headed = x.headed;
-    results = x.results;
-  }
-  constant_holds i name (kind.Set h) v b le s l x = record {
-    unit = x.unit;
-    things = things_push u b.own.enclosing i b.scopes.inner.entries name (own_thing b (length b.constants) (declaration.Constant (kind.Set h) v)) x.things (x.unit, (s, l));
-    plain = x.plain;
-    structures = x.structures;
-    outer = x.outer;
-    routines = x.routines;
-    types = x.types;
-    constants = x.constants;
-    variables = x.variables;
-    parameters = x.parameters;
-    result = x.result;
-    owned = x.owned;
-    headed = x.headed;
-    results = x.results;
-  }
-  constant_holds i name kind.EmptySet v b le s l x = record {
-    unit = x.unit;
-    things = things_push u b.own.enclosing i b.scopes.inner.entries name (own_thing b (length b.constants) (declaration.Constant kind.EmptySet v)) x.things (x.unit, (s, l));
-    plain = x.plain;
-    structures = x.structures;
-    outer = x.outer;
-    routines = x.routines;
-    types = x.types;
-    constants = x.constants;
-    variables = x.variables;
-    parameters = x.parameters;
-    result = x.result;
-    owned = x.owned;
-    headed = x.headed;
-    results = x.results;
-  }
-  constant_holds i name kind.File v b le s l x = absurd s
 
   -- ---- constant definitions
 
@@ -126,11 +192,10 @@ module _ (u : TypedUnit) where
   definition_leads d form b sound known e = record {
     grows = constant_grows d.name form.kind form.value b;
     holds = λ under ext w x.
-        let le : length b.types ≤ length u.types = prefix_length b.types u.types (subst (λ ts. IsPrefix ts u.types) (constant_types d.name form.kind form.value b) ext.types) in
-        subst (λ ts. Holds u (length ts) (with_constant d.name form.kind form.value b)) (sym (constant_types d.name form.kind form.value b))
-        (constant_holds (length b.types) d.name form.kind form.value b le
+        let le : length b.types ≤ length u.types = prefix_length b.types u.types ext.types in
+        constant_holds (length b.types) d.name form.kind form.value b le
         (sound (scopes_of b) d.value form e (within u b.own.enclosing) (holds_agrees u (length b.types) b under le x))
-        (known_listed u (length b.types) b form.kind x (known (scopes_of b) d.value form e)) x);
+        (known_listed u (length b.types) b form.kind x (known (scopes_of b) d.value form e)) x;
   }
 
   pub constant_definition-leads : ConstantsAreSound → ConstantsAreKnown → (d : ConstantDefinition) (b : Block) → Fits (Leads u b) (constant_definition d b)

@@ -8,7 +8,7 @@ use Rattle.ep_typed.specs.Hosts.{Host, least, greatest, is_of_host}
 use Rattle.ep_typed.specs.Operations.{is_integer, last_char, maxint}
 use Rattle.ep_typed.specs.Trees.{Array, Denoter, Denoters, Fixed, Required, Named, Subrange, Enumeration, Record, Set, next_denoter, no_denoter}
 use Rattle.ep_typed.specs.Valid as valid
-use Rattle.ep_typed.specs.Valid.{AreTyped, HasKind as HasValues, IsDenoter, IsOrdinal, IsOfKind, IsStructured, IsTyped, array, components, enumeration, named, next_typed, none_typed, required, set, subrange}
+use Rattle.ep_typed.specs.Valid.{AreTyped, HasKind as HasValues, IsDenoter, IsOfKind, IsStructured, IsTyped, array, components, enumeration, named, next_typed, none_typed, required, set, subrange}
 use Rattle.ep_typed.proofs.Typed.{typed_of_host, typed_set}
 use Rattle.ep_typed.specs.Sets.{is_ordinal}
 use Rattle.ep_typed.specs.declared.denoter.RequiredType.{RequiredType}
@@ -148,14 +148,6 @@ module _ (types : List UnitType) where
     has_type = λ n lt. subrange_found of low high k n lt;
     typed = subrange of low high h (x.has_host (suc (length types)) (omega (arith, le))) (ordered, l, g, host_integer h low s l, host_integer h high s g);
   }
-
-  -- it is valid where the list has as many types as there may be names
-  abbrev pub denotes_valid : (k : ℕ) (d : Denoter) (h : Host) (v : TypeValue) → k ≤ length types → Denotes types k d h v → IsDenoter types d
-  denotes_valid k d h v le x = record { type_value = v; has_type = x.has_type (suc (length types)) (omega (arith, le)); typed = x.typed }
-
-  -- and is that of an ordinal type
-  abbrev pub denotes_ordinal : (k : ℕ) (d : Denoter) (h : Host) (v : TypeValue) → k ≤ length types → Denotes types k d h v → IsOrdinal types d
-  denotes_ordinal k d h v le x = record { host = h; has_host = x.has_host (suc (length types)) (omega (arith, le)); denoter = denotes_valid k d h v le x }
 
   -- ---- structures
 
@@ -335,7 +327,7 @@ module _ (types : List UnitType) where
   kind_typed k d kind.Text v x = absurd x
   kind_typed k d kind.File v x = absurd x
 
-  pub kind_valid : (k : ℕ) (d : Denoter) (of : Kind) (v : TypeValue) → k ≤ length types → DenotesKind types k d of v → IsDenoter types d
+  abbrev pub kind_valid : (k : ℕ) (d : Denoter) (of : Kind) (v : TypeValue) → k ≤ length types → DenotesKind types k d of v → IsDenoter types d
   kind_valid k d of v le x = record { type_value = v; has_type = kind_type k d of v x (suc (length types)) (omega (arith, le)); typed = kind_typed k d of v x }
 
   -- so it has the kind, where types by their numbers have their type values
@@ -360,7 +352,7 @@ module _ (types : List UnitType) where
   kind_valued values numbered k d kind.File v le s x = absurd x
 
   -- what has a kind has values
-  pub kind_has_values : (k : ℕ) (d : Denoter) (of : Kind) (v : TypeValue) → k ≤ length types → DenotesKind types k d of v → HasValues types d
+  abbrev pub kind_has_values : (k : ℕ) (d : Denoter) (of : Kind) (v : TypeValue) → k ≤ length types → DenotesKind types k d of v → HasValues types d
   kind_has_values k d (kind.Ordinal h) v le x = record { kind = valid.Ordinal (typed_host h); of_kind = x.has_host (suc (length types)) (omega (arith, le)); denoter = kind_valid k d (kind.Ordinal h) v le x }
   kind_has_values k d (kind.Structured number) v le x = record { kind = valid.Structured v; of_kind = (x.has_type (suc (length types)) (omega (arith, le)), x.of_structure); denoter = kind_valid k d (kind.Structured number) v le x }
   kind_has_values k d (kind.Set h) v le x = record { kind = valid.Set (typed_host h); of_kind = set_of_kind k d (typed_host h) v le x; denoter = kind_valid k d (kind.Set h) v le x }

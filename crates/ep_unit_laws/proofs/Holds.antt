@@ -49,7 +49,7 @@ use Rattle.ep_check_unit.specs.Blocks.{Block, RoutineForm, around_of}
 use Rattle.ep_check_unit.specs.declared.block.Enclosing.{Enclosing}
 use Rattle.ep_check_unit.specs.declared.block.OwnResult.{OwnResult}
 use Rattle.ep_unit_laws.proofs.Open.{AreUnderWay}
-use Rattle.ep_unit_laws.proofs.Denoting.{Denotes, DenotesKind, IsSmall, full_type, denotes_more, denotes_required, denotes_named, denotes_enumeration, denotes_ordinal, kind_has_values, kind_more, kind_valid}
+use Rattle.ep_unit_laws.proofs.Denoting.{Denotes, DenotesKind, IsSmall, full_type, denotes_more, denotes_required, denotes_named, denotes_enumeration, kind_has_values, kind_more, kind_valid}
 
 -- ---- denoters as plain data
 
@@ -191,7 +191,7 @@ module _ (u : TypedUnit) where
   pub constant_valid : (i : ℕ) (name : List ℕ) (h : Host) (z : ℤ) → i ≤ length u.types → Lists i h → IsTrue (is_of_host (typed_host h) z)
       → IsConstant u.types (record { name = name; denoter = host_denoter h; value = value.Word z })
   constant_valid i name h z le l s = record {
-    ordinal = denotes_ordinal u.types i (denoter_of (host_denoter h)) (typed_host h) (full_type (typed_host h)) le (host_denotes i h l);
+    kind = kind_has_values u.types i (denoter_of (host_denoter h)) (kind.Ordinal h) (full_type (typed_host h)) le (host_denotes i h l);
     value = s;
   }
 

@@ -261,6 +261,7 @@ module _ (u : TypedUnit) where
   bound_of_host : (h : Host) (v : Value) → IsConstantOf (kind.Ordinal h) v → IsTrue (is_of_host (typed_host h) (number_in v))
   bound_of_host h (value.Word z) s = s.1
   bound_of_host h (value.Text bytes) s = absurd s
+  bound_of_host h (value.Set members) s = absurd s
 
   ordered_if : (b : Bool) (a : Unit {0}) → (if b then Accepts tt else Breaks (rule.EMPTY_RANGE ∷ [])) ≡ Accepts a → b ≡ true
   ordered_if true a e = refl

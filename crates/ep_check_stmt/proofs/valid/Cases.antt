@@ -128,15 +128,20 @@ module _ (declared : Declarations) (context : Context) (labels : LabelsAreSound)
   fitting_fits : (k : Kind) (v : Value) (built : Bool) → IsConstantOf k v → Fits (IfForm IsEnd) (fitting h k v built)
   fitting_fits (kind.Ordinal g) (value.Word z) built p = end_by g z built (same_host h g) refl p.1
   fitting_fits (kind.Ordinal g) (value.Text bytes) built p = absurd p
+  fitting_fits (kind.Ordinal g) (value.Set members) built p = absurd p
   fitting_fits (kind.Structured n) v built p = absurd p
   fitting_fits (kind.Set base) (value.Word z) built p = tt
   fitting_fits (kind.Set base) (value.Text bytes) built p = tt
+  fitting_fits (kind.Set base) (value.Set members) built p = tt
   fitting_fits kind.EmptySet (value.Word z) built p = tt
   fitting_fits kind.EmptySet (value.Text bytes) built p = tt
+  fitting_fits kind.EmptySet (value.Set members) built p = tt
   fitting_fits kind.Text (value.Word z) built p = tt
   fitting_fits kind.Text (value.Text bytes) built p = tt
+  fitting_fits kind.Text (value.Set members) built p = tt
   fitting_fits kind.File (value.Word z) built p = tt
   fitting_fits kind.File (value.Text bytes) built p = tt
+  fitting_fits kind.File (value.Set members) built p = tt
 
   end_fits : (e : Expression) → Fits (IfForm IsEnd) (end_judged scopes h e)
   end_fits e = go (label_judged scopes e) refl
