@@ -12,7 +12,7 @@
 -- - the type denoter without its initial state, for `bindable`
 -- - the type itself, for `packed`, for what is no name, no subrange, no enumeration and no structure, for a name with a tuple, and for a name that is not built
 -- - the variant part of a record
--- - the statement, for an assignment to something else than a name that is built, alone or with indexes and fields, or with these behind one pair of parentheses, for a call of something else, for a `for` whose control variable has a name that is not built, and for a `with` statement
+-- - the statement, for an assignment to something else than a name that is built, alone or with indexes and fields, or with these behind one pair of parentheses, for a call of something else, and for a `for` whose control variable has a name that is not built
 -- - the structured value, with the name of its type or without
 -- - the factor, for `nil`, and for a character string of another length than one that is not the whole value of an argument of a `write` or `writeln` statement
 -- - the access, for a name that is not built, and for other selectors than indexes and fields, alone or behind one pair of parentheses.
@@ -223,7 +223,7 @@ built_control name = not (is_later name)
 abbrev pub built_call : Access → Bool
 built_call a = are_components (map selector_form (out-Access a).selectors) && not (is_later (out-Access a).name)
 
--- a statement is empty, an assignment, a call, compound, an `if`, a `case`, a `while`, a `repeat` or a `for`
+-- a statement of any form, which is one of its own form for an assignment, a call and a `for`
 abbrev pub built_statement : {A B C D : Type 0} → Statement-F A B C D → Bool
 built_statement (Statement-F.Empty line) = true
 built_statement (Statement-F.Assignment line access value) = built_target access
@@ -235,7 +235,7 @@ built_statement (Statement-F.While line condition body) = true
 built_statement (Statement-F.Repeat line statements condition) = true
 built_statement (Statement-F.For line variable start direction end body) = built_control variable
 built_statement (Statement-F.ForIn line variable members body) = built_control variable
-built_statement (Statement-F.With line accesses body) = false
+built_statement (Statement-F.With line accesses body) = true
 
 -- all relational operators
 abbrev pub built_relation : RelationalOperator → Bool

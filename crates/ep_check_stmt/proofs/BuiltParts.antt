@@ -1,7 +1,7 @@
--- The parts of an assignment, a call, a `while` and a `for` statement of either form that is built.
-use Rattle.std.proofs.Common.{◌≡◌, ℕ, Bool, true, false, List, None, ap, refl, sym, ◌∙◌}
+-- The parts of an assignment, a call, a `while`, a `for` statement of either form and a `with` statement that is built.
+use Rattle.std.proofs.Common.{◌≡◌, ℕ, Bool, true, false, List, None, map, ap, refl, sym, ◌∙◌}
 use Rattle.std.specs.Option.{option_or}
-use Rattle.ep_built.specs.Built.{Found, Placed, access_unbuilt, at_node, built_call, built_statement, call_unbuilt, component_value_unbuilt, expression_unbuilt, statement_unbuilt}
+use Rattle.ep_built.specs.Built.{Found, Placed, access_unbuilt, at_node, built_call, built_statement, call_unbuilt, component_value_unbuilt, expression_unbuilt, first_in, statement_unbuilt}
 use Rattle.ep_built.specs.Built as built
 use Rattle.ep_tree.specs.declared.expression.Access.{Access}
 use Rattle.ep_tree.specs.declared.expression.ComponentValue.{ComponentValue}
@@ -102,3 +102,19 @@ module _ (line : ℕ) (name : List ℕ) (set : Expression) (body : Statement) (h
 
   pub turn_built : statement_unbuilt body ≡ None
   turn_built = rest_of (expression_unbuilt set) (statement_unbuilt body) members_built
+
+-- a `with` statement
+module _ (line : ℕ) (accesses : List Access) (body : Statement) (h : statement_unbuilt (statement.With line accesses body) ≡ None) where
+  abbrev with_layer : Statement-F Found Found Placed Found
+  with_layer = Statement-F.With line accesses (statement_unbuilt body)
+
+  with_built : option_or (first_in (map access_unbuilt accesses)) (statement_unbuilt body) ≡ None
+  with_built =
+      inside_built (built_statement with_layer) line (option_or (first_in (map access_unbuilt accesses)) (statement_unbuilt body))
+      (sym (ap statement_unbuilt (sym (statement.rolls-With line accesses body)) ∙ fold-roll-Statement Found Found Placed Found built.at_statement built.at_arm built.at_compound built.at_otherwise (Statement-F.With line accesses body)) ∙ h)
+
+  pub records_built : first_in (map access_unbuilt accesses) ≡ None
+  records_built = first_built (first_in (map access_unbuilt accesses)) (statement_unbuilt body) with_built
+
+  pub opened_built : statement_unbuilt body ≡ None
+  opened_built = rest_of (first_in (map access_unbuilt accesses)) (statement_unbuilt body) with_built

@@ -12,6 +12,7 @@ use Rattle.ep_tree.specs.declared.statement.Statement.{fold-roll-Statement}
 use Rattle.ep_tree.specs.declared.statement.Statement.TheFolds.{fold_out-Arm, fold_out-Otherwise}
 use Rattle.ep_tree.specs.declared.statement.Statement.TheOpen.{Statement-F}
 use Rattle.ep_tree.specs.declared.statement.Statement.TheVariants as statement
+use Rattle.ep_typed.specs.Auxiliaries.{with_variables}
 use Rattle.ep_typed.specs.Trees as tree
 use Rattle.ep_typed.specs.Trees.{Entire, Expr, Stmt, Stmts, Arms, Other, next_arm, no_arm, arms}
 use Rattle.ep_typed.specs.Viewed.{arm_of}
@@ -24,19 +25,18 @@ use Rattle.ep_scope.specs.Scopes.{Region}
 use Rattle.ep_scope.specs.declared.kind.Host.{Host}
 use Rattle.ep_check_stmt.specs.Cases.{CaseSelector, end_judged, range_judged, ranging, selector_judged}
 use Rattle.ep_check_stmt.specs.Outcomes.{refused_at}
-use Rattle.ep_check_stmt.specs.Statements.{ArmJudged, Context, Under, Judgement, expr_item, Passes, Waits, Fails, after, arm_judged, arm_row, arms_in_order, at_arm, at_compound, at_otherwise, at_statement, case_judged, in_order, other_judged, otherwise_judged, statement_judged}
-use Rattle.ep_check_stmt.specs.declared.cases.Labels.{Labels}
+use Rattle.ep_check_stmt.specs.Statements.{ArmJudged, Context, Under, Judgement, expr_item, Passes, Waits, Fails, after, arm_judged, arm_row, arms_in_order, at_arm, at_compound, behind, at_otherwise, at_statement, case_judged, in_order, other_judged, otherwise_judged, statement_judged}
 use Rattle.ep_check_stmt.specs.declared.outcome.CheckRefusal.{CheckRefusal}
 use Rattle.ep_check_stmt.specs.declared.outcome.CheckRefusal.TheVariants as refusal
 use Rattle.ep_check_stmt.proofs.judged.Refusing.{first_refused, part_refused, second_refused}
 use Rattle.ep_check_stmt.proofs.judged.Rounds.{first_built, next_item, rest_of}
 use Rattle.ep_check_stmt.proofs.Rows.{first_falls, own_line}
 
--- ---- labels that are taken one after another
+-- ---- labels, or records of a `with`, that are taken one after another
 
 -- the refusal of the one that comes next is that of all
-pub taken_refused : {X : Type 0} (all_of : List X → Labels → Judged Labels) (one_of : X → Labels → Judged Labels) → ((x : X) (xs : List X) (found : Labels) → all_of (x ∷ xs) found ≡ when_accepted (all_of xs) (one_of x found))
-    → (all : List X) (i : ℕ) (x : X) (first now : Labels) (e : Refusal) → i < length all → x ≡ get_or all i x → all_of (drop i all) now ≡ all_of all first
+pub taken_refused : {X S : Type 0} (all_of : List X → S → Judged S) (one_of : X → S → Judged S) → ((x : X) (xs : List X) (found : S) → all_of (x ∷ xs) found ≡ when_accepted (all_of xs) (one_of x found))
+    → (all : List X) (i : ℕ) (x : X) (first now : S) (e : Refusal) → i < length all → x ≡ get_or all i x → all_of (drop i all) now ≡ all_of all first
     → Refuses e (one_of x now) → Refuses e (all_of all first)
 taken_refused all_of one_of takes all i x first now e h is same r =
     subst (Refuses e) (sym (takes x (drop (i + 1) all) now) ∙ (sym (ap (λ xs. all_of xs now) (next_item all i x h is)) ∙ same)) (part_refused (all_of (drop (i + 1) all)) e (one_of x now) r)
@@ -101,29 +101,35 @@ refused_through (refusal.Broken b) found waits (Passes more) h = cc
 refused_through (refusal.Broken b) found waits (Waits line) h = cc
 refused_through (refusal.Broken b) found waits (Fails line rules) h = h
 
-module _ {X Y : Type 0} (view : X → Y) (judge : Y → Judgement tree.Arm) (all : List X) (n : ℕ) (x : X) (h : n < length all) (is : x ≡ get_or all n x) where
-  abbrev rest : Judgement Arms
-  rest = arms_in_order (map judge (map view (drop (n + 1) all)))
+module _ {X : Type 0} (view : X → ArmJudged) (line : ℕ) (host : Host) (controls : List Entire) (all : List X) (n : ℕ) (x : X) (h : n < length all) (is : x ≡ get_or all n x) where
+  abbrev rest : Context → Judgement Arms
+  rest c = arms_in_order line host (map view (drop (n + 1) all)) c controls
 
-  at_next : arms_in_order (map judge (map view (drop n all))) ≡ after before (judge (view x)) rest
-  at_next = ap (λ xs. arms_in_order (map judge (map view xs))) (next_item all n x h is)
+  abbrev one : Context → Judgement tree.Arm
+  one c = arm_row line host (view x) c controls
+
+  at_next : (c : Context) → arms_in_order line host (map view (drop n all)) c controls ≡ after before (one c) (rest (behind (λ (a : tree.Arm). with_variables a.1) c (one c)))
+  at_next c = ap (λ xs. arms_in_order line host (map view xs) c controls) (next_item all n x h is)
 
   -- the turn of a loop, with an arm that is built
-  pub more_arms : (found : List tree.Arm) (waits : Option ℕ) (a : tree.Arm) → judge (view x) ≡ Passes a → arms_together found waits (arms_in_order (map judge (map view (drop n all)))) ≡ arms_in_order (map judge (map view all))
-      → arms_together (found ++ a ∷ []) waits rest ≡ arms_in_order (map judge (map view all))
-  more_arms found waits a e same = sym (one_passes found waits a rest) ∙ (sym (ap (arms_together found waits) (at_next ∙ ap (λ j. after before j rest) e)) ∙ same)
+  pub more_arms : (c : Context) (found : List tree.Arm) (waits : Option ℕ) (a : tree.Arm) (j : Judgement Arms) → one c ≡ Passes a → arms_together found waits (arms_in_order line host (map view (drop n all)) c controls) ≡ j
+      → arms_together (found ++ a ∷ []) waits (rest (record c { withs = c.withs + length (with_variables a.1) })) ≡ j
+  more_arms c found waits a j e same =
+      sym (one_passes found waits a (rest (record c { withs = c.withs + length (with_variables a.1) })))
+      ∙ (sym (ap (arms_together found waits) (at_next c ∙ ap (λ k. after before k (rest (behind (λ (b : tree.Arm). with_variables b.1) c k))) e)) ∙ same)
 
   -- with one that is not
-  pub less_arms : (found : List tree.Arm) (waits : Option ℕ) (line : ℕ) → judge (view x) ≡ Waits line → arms_together found waits (arms_in_order (map judge (map view (drop n all)))) ≡ arms_in_order (map judge (map view all))
-      → arms_together found (option_or waits (Some line)) rest ≡ arms_in_order (map judge (map view all))
-  less_arms found waits line e same = sym (one_waits found waits line rest) ∙ (sym (ap (arms_together found waits) (at_next ∙ ap (λ j. after before j rest) e)) ∙ same)
+  pub less_arms : (c : Context) (found : List tree.Arm) (waits : Option ℕ) (at : ℕ) (j : Judgement Arms) → one c ≡ Waits at → arms_together found waits (arms_in_order line host (map view (drop n all)) c controls) ≡ j
+      → arms_together found (option_or waits (Some at)) (rest c) ≡ j
+  less_arms c found waits at j e same =
+      sym (one_waits found waits at (rest c)) ∙ (sym (ap (arms_together found waits) (at_next c ∙ ap (λ k. after before k (rest (behind (λ (b : tree.Arm). with_variables b.1) c k))) e)) ∙ same)
 
   -- the arm is refused
-  pub arm_falls : (r : CheckRefusal) (found : List tree.Arm) (waits : Option ℕ) → arms_together found waits (arms_in_order (map judge (map view (drop n all)))) ≡ arms_in_order (map judge (map view all)) → RefusesRow r (judge (view x)) → RefusesRow r (arms_in_order (map judge (map view all)))
-  arm_falls r found waits same f =
+  pub arm_falls : (c : Context) (r : CheckRefusal) (found : List tree.Arm) (waits : Option ℕ) (j : Judgement Arms) → arms_together found waits (arms_in_order line host (map view (drop n all)) c controls) ≡ j → RefusesRow r (one c) → RefusesRow r j
+  arm_falls c r found waits j same f =
       subst (RefusesRow r) same
-      (refused_through r found waits (arms_in_order (map judge (map view (drop n all))))
-      (subst (RefusesRow r) (sym at_next) (first_falls before r (judge (view x)) rest f)))
+      (refused_through r found waits (arms_in_order line host (map view (drop n all)) c controls)
+      (subst (RefusesRow r) (sym (at_next c)) (first_falls before r (one c) (rest (behind (λ (a : tree.Arm). with_variables a.1) c (one c))) f)))
 
 -- one arm more at the end
 pub arms_more : (found : List CaseArm) (a : CaseArm) → map arm_of (found ++ a ∷ []) ≡ map arm_of found ++ arm_of a ∷ []
@@ -131,50 +137,50 @@ arms_more [] a = refl
 arms_more (b ∷ found) a = ap (λ xs. arm_of b ∷ xs) (arms_more found a)
 
 -- the end of a loop in which all were built
-pub all_arms : {X Y : Type 0} (view : X → Y) (judge : Y → Judgement tree.Arm) (all : List X) (n : ℕ) (found : List tree.Arm) (waits : Option ℕ) → length all ≤ n → waits ≡ None
-    → arms_together found waits (arms_in_order (map judge (map view (drop n all)))) ≡ arms_in_order (map judge (map view all)) → arms_in_order (map judge (map view all)) ≡ Passes (arms found)
-all_arms view judge all n found waits h none_waits same =
-    sym same ∙ (ap (λ xs. arms_together found waits (arms_in_order (map judge (map view xs)))) (drop_all n all h) ∙ (ap (λ w. arms_together found w (Passes no_arm)) none_waits ∙ ap Passes (joined_all found)))
+pub all_arms : {X : Type 0} (view : X → ArmJudged) (line : ℕ) (host : Host) (c : Context) (controls : List Entire) (all : List X) (n : ℕ) (found : List tree.Arm) (waits : Option ℕ) (j : Judgement Arms) → length all ≤ n → waits ≡ None
+    → arms_together found waits (arms_in_order line host (map view (drop n all)) c controls) ≡ j → j ≡ Passes (arms found)
+all_arms view line host c controls all n found waits j h none_waits same =
+    sym same ∙ (ap (λ xs. arms_together found waits (arms_in_order line host (map view xs) c controls)) (drop_all n all h) ∙ (ap (λ w. arms_together found w (Passes no_arm)) none_waits ∙ ap Passes (joined_all found)))
 
 -- ---- the equations of the nodes
 
 -- an arm is judged by its parts
-pub arm_is : (context : Context) (a : Arm) → arm_judged context a ≡ (labels_of a, statement_judged context (out-Arm a).body)
-arm_is context a = fold_out-Arm (Under Stmt) ArmJudged (Under Stmts) (Under Stmts) (at_statement context) (at_arm context) (at_compound context) (at_otherwise context) a
+pub arm_is : (a : Arm) → arm_judged a ≡ (labels_of a, statement_judged (out-Arm a).body)
+arm_is a = fold_out-Arm (Under Stmt) ArmJudged (Under Stmts) (Under Stmts) at_statement at_arm at_compound at_otherwise a
 
-arms_labels : (context : Context) (all : List Arm) → map (λ (a : ArmJudged). a.0) (map (arm_judged context) all) ≡ map labels_of all
-arms_labels context [] = refl
-arms_labels context (a ∷ all) = ap (λ (p : ArmJudged). p.0 ∷ map (λ (b : ArmJudged). b.0) (map (arm_judged context) all)) (arm_is context a) ∙ ap (λ ls. labels_of a ∷ ls) (arms_labels context all)
+arms_labels : (all : List Arm) → map (λ (a : ArmJudged). a.0) (map arm_judged all) ≡ map labels_of all
+arms_labels [] = refl
+arms_labels (a ∷ all) = ap (λ (p : ArmJudged). p.0 ∷ map (λ (b : ArmJudged). b.0) (map arm_judged all)) (arm_is a) ∙ ap (λ ls. labels_of a ∷ ls) (arms_labels all)
 
 -- the statements behind `otherwise` are judged one after another
-otherwise_is : (context : Context) (o : Otherwise) (controls : List Entire) → otherwise_judged context o controls ≡ in_order (map (λ s. s controls) (map (statement_judged context) (out-Otherwise o).statements))
-otherwise_is context o controls = ap (λ (judge : Under Stmts). judge controls) (fold_out-Otherwise (Under Stmt) ArmJudged (Under Stmts) (Under Stmts) (at_statement context) (at_arm context) (at_compound context) (at_otherwise context) o)
+otherwise_is : (o : Otherwise) → otherwise_judged o ≡ in_order (map statement_judged (out-Otherwise o).statements)
+otherwise_is o = fold_out-Otherwise (Under Stmt) ArmJudged (Under Stmts) (Under Stmts) at_statement at_arm at_compound at_otherwise o
 
 -- what the `otherwise` part is judged to be
-abbrev pub rest_judged : Context → List Entire → Option Otherwise → Option (Judgement Stmts)
-rest_judged context controls None = None
-rest_judged context controls (Some o) = Some (in_order (map (λ s. s controls) (map (statement_judged context) (out-Otherwise o).statements)))
+abbrev pub rest_judged : Option Otherwise → Option (Under Stmts)
+rest_judged None = None
+rest_judged (Some o) = Some (in_order (map statement_judged (out-Otherwise o).statements))
 
 module _ (context : Context) (line : ℕ) (e : Expression) (all : List Arm) (controls : List Entire) where
   -- by the labels of the arms, and the `otherwise` part
-  abbrev by_labels : List (List Label) → Option (Judgement Stmts) → Judgement Stmt
+  abbrev by_labels : List (List Label) → Option (Under Stmts) → Judgement Stmt
   by_labels labels other =
-      case_judged line (λ x. expr_item context controls (Accepts x)) (selector_judged context.scopes e labels) (λ h. arms_in_order (map (arm_row context.scopes line h controls) (map (arm_judged context) all))) (other_judged other)
+      case_judged line (λ x. expr_item context controls (Accepts x)) (selector_judged context.scopes e labels) (λ h. arms_in_order line h (map arm_judged all) context controls) (other_judged other context controls)
 
   -- a `case` statement is judged by its parts
-  pub case_is : (other : Option Otherwise) → statement_judged context (statement.Case line e all other) controls ≡ by_labels (map labels_of all) (rest_judged context controls other)
+  pub case_is : (other : Option Otherwise) → statement_judged (statement.Case line e all other) context controls ≡ by_labels (map labels_of all) (rest_judged other)
   case_is None =
-      ap (λ s. statement_judged context s controls) (sym (statement.rolls-Case line e all None))
-      ∙ ap (λ (judge : Under Stmt). judge controls) (fold-roll-Statement (Under Stmt) ArmJudged (Under Stmts) (Under Stmts) (at_statement context) (at_arm context) (at_compound context) (at_otherwise context) (Statement-F.Case line e all None))
-      ∙ ap (λ labels. by_labels labels None) (arms_labels context all)
+      ap (λ s. statement_judged s context controls) (sym (statement.rolls-Case line e all None))
+      ∙ ap (λ (judge : Under Stmt). judge context controls) (fold-roll-Statement (Under Stmt) ArmJudged (Under Stmts) (Under Stmts) at_statement at_arm at_compound at_otherwise (Statement-F.Case line e all None))
+      ∙ ap (λ labels. by_labels labels None) (arms_labels all)
   case_is (Some o) =
-      ap (λ s. statement_judged context s controls) (sym (statement.rolls-Case line e all (Some o)))
-      ∙ ap (λ (judge : Under Stmt). judge controls) (fold-roll-Statement (Under Stmt) ArmJudged (Under Stmts) (Under Stmts) (at_statement context) (at_arm context) (at_compound context) (at_otherwise context) (Statement-F.Case line e all (Some o)))
-      ∙ ap (λ labels. by_labels labels (Some (otherwise_judged context o controls))) (arms_labels context all)
-      ∙ ap (λ j. by_labels (map labels_of all) (Some j)) (otherwise_is context o controls)
+      ap (λ s. statement_judged s context controls) (sym (statement.rolls-Case line e all (Some o)))
+      ∙ ap (λ (judge : Under Stmt). judge context controls) (fold-roll-Statement (Under Stmt) ArmJudged (Under Stmts) (Under Stmts) at_statement at_arm at_compound at_otherwise (Statement-F.Case line e all (Some o)))
+      ∙ ap (λ labels. by_labels labels (Some (otherwise_judged o))) (arms_labels all)
+      ∙ ap (λ j. by_labels (map labels_of all) (Some j)) (otherwise_is o)
 
 -- the refusal of the selector is that of the statement
-pub selector_falls : (line : ℕ) (form : Option Expr → Judged (Option Expr)) (j : Judged CaseSelector) (rows : Host → Judgement Arms) (other : Judgement Other) (e : Refusal) → Refuses e j → RefusesRow (refused_at line e) (case_judged line form j rows other)
+pub selector_falls : (line : ℕ) (form : Option Expr → Judged (Option Expr)) (j : Judged CaseSelector) (rows : Host → Judgement Arms) (other : Judgement Arms → Judgement Other) (e : Refusal) → Refuses e j → RefusesRow (refused_at line e) (case_judged line form j rows other)
 selector_falls line form j rows other NoMemory r = tt
 selector_falls line form (Accepts s) rows other (Rule rule) r = cc
 selector_falls line form (Breaks rules) rows other (Rule rule) r = own_line line rules rule r

@@ -86,6 +86,7 @@ context =
       locals = OfUnit (codes "u") 2;
       members = 2;
       routines = [];
+      withs = 3;
     }
 
 -- a call of p

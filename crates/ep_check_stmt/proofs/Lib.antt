@@ -5,6 +5,8 @@ pub mod Examples
 pub mod BuiltParts
 pub mod Gathered
 pub mod judged
+pub mod Nested
+pub mod Behind
 pub mod Printing
 pub mod Rows
 pub mod Threatening

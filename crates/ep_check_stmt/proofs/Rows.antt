@@ -8,6 +8,7 @@ use Rattle.ep_tree.specs.declared.expression.ComponentValue.{ComponentValue}
 use Rattle.ep_tree.specs.declared.statement.Statement.TheOpen.{Statement-F}
 use Rattle.ep_tree.specs.declared.statement.Statement.TheVariants as statement
 use Rattle.ep_tree.specs.declared.statement.Statement.{fold-roll-Statement}
+use Rattle.ep_typed.specs.Auxiliaries.{with_variables}
 use Rattle.ep_typed.specs.Trees.{Entire, Stmt, Stmts, none, next, stmts}
 use Rattle.ep_typed.specs.Viewed.{stmt_of}
 use Rattle.ep_typed.specs.declared.tree.TypedStmt.{TypedStmt}
@@ -16,7 +17,7 @@ use Rattle.ep_check_expr.specs.declared.forms.Refusal.{Refusal}
 use Rattle.ep_check_expr.specs.declared.forms.Refusal.TheVariants.{Rule, NoMemory}
 use Rattle.ep_check_stmt.specs.Answers.{AnswersForm, AnswersRow, RefusesRow, passed}
 use Rattle.ep_check_stmt.specs.Outcomes.{item_at}
-use Rattle.ep_check_stmt.specs.Statements.{ArmJudged, Context, Under, Judgement, Passes, Waits, Fails, after, at_arm, at_compound, at_item, at_otherwise, at_statement, in_order, statement_judged}
+use Rattle.ep_check_stmt.specs.Statements.{ArmJudged, Context, Under, Judgement, behind, Passes, Waits, Fails, after, at_arm, at_compound, at_item, at_otherwise, at_statement, in_order, statement_judged}
 use Rattle.ep_check_stmt.specs.declared.outcome.CheckRefusal.{CheckRefusal}
 use Rattle.ep_check_stmt.specs.declared.outcome.CheckRefusal.TheVariants as refusal
 use Rattle.ep_check_stmt.specs.declared.outcome.Outcome.{Outcome}
@@ -107,29 +108,31 @@ refused_through (refusal.Broken b) found waits (Passes ss) h = cc
 refused_through (refusal.Broken b) found waits (Waits line) h = cc
 refused_through (refusal.Broken b) found waits (Fails line rules) h = h
 
-module _ {X Y : Type 0} (view : X → Y) (judge : Y → Judgement Stmt) (all : List X) (n : ℕ) (x : X) (h : n < length all) (is : x ≡ get_or all n x) where
-  abbrev rest : Judgement Stmts
-  rest = in_order (map judge (map view (drop (n + 1) all)))
+module _ {X : Type 0} (view : X → Under Stmt) (controls : List Entire) (all : List X) (n : ℕ) (x : X) (h : n < length all) (is : x ≡ get_or all n x) where
+  abbrev rest : Context → Judgement Stmts
+  rest c = in_order (map view (drop (n + 1) all)) c controls
 
-  at_next : in_order (map judge (map view (drop n all))) ≡ after next (judge (view x)) rest
-  at_next = ap (λ xs. in_order (map judge (map view xs))) (next_item all n x h is)
+  at_next : (c : Context) → in_order (map view (drop n all)) c controls ≡ after next (view x c controls) (rest (behind with_variables c (view x c controls)))
+  at_next c = ap (λ xs. in_order (map view xs) c controls) (next_item all n x h is)
 
   -- the turn of a loop, with a statement that is built
-  pub more_together : (found : List Stmt) (waits : Option ℕ) (s : Stmt) → judge (view x) ≡ Passes s → together found waits (in_order (map judge (map view (drop n all)))) ≡ in_order (map judge (map view all))
-      → together (found ++ s ∷ []) waits rest ≡ in_order (map judge (map view all))
-  more_together found waits s e same = sym (one_passes found waits s rest) ∙ (sym (ap (together found waits) (at_next ∙ ap (λ j. after next j rest) e)) ∙ same)
+  pub more_together : (c : Context) (found : List Stmt) (waits : Option ℕ) (s : Stmt) (j : Judgement Stmts) → view x c controls ≡ Passes s → together found waits (in_order (map view (drop n all)) c controls) ≡ j
+      → together (found ++ s ∷ []) waits (rest (record c { withs = c.withs + length (with_variables s) })) ≡ j
+  more_together c found waits s j e same =
+      sym (one_passes found waits s (rest (record c { withs = c.withs + length (with_variables s) })))
+      ∙ (sym (ap (together found waits) (at_next c ∙ ap (λ k. after next k (rest (behind with_variables c k))) e)) ∙ same)
 
   -- with one that is not
-  pub less_together : (found : List Stmt) (waits : Option ℕ) (line : ℕ) → judge (view x) ≡ Waits line → together found waits (in_order (map judge (map view (drop n all)))) ≡ in_order (map judge (map view all))
-      → together found (option_or waits (Some line)) rest ≡ in_order (map judge (map view all))
-  less_together found waits line e same = sym (one_waits found waits line rest) ∙ (sym (ap (together found waits) (at_next ∙ ap (λ j. after next j rest) e)) ∙ same)
+  pub less_together : (c : Context) (found : List Stmt) (waits : Option ℕ) (line : ℕ) (j : Judgement Stmts) → view x c controls ≡ Waits line → together found waits (in_order (map view (drop n all)) c controls) ≡ j
+      → together found (option_or waits (Some line)) (rest c) ≡ j
+  less_together c found waits line j e same = sym (one_waits found waits line (rest c)) ∙ (sym (ap (together found waits) (at_next c ∙ ap (λ k. after next k (rest (behind with_variables c k))) e)) ∙ same)
 
   -- the statement is refused
-  pub statement_falls : (r : CheckRefusal) (found : List Stmt) (waits : Option ℕ) → together found waits (in_order (map judge (map view (drop n all)))) ≡ in_order (map judge (map view all)) → RefusesRow r (judge (view x)) → RefusesRow r (in_order (map judge (map view all)))
-  statement_falls r found waits same f =
+  pub statement_falls : (c : Context) (r : CheckRefusal) (found : List Stmt) (waits : Option ℕ) (j : Judgement Stmts) → together found waits (in_order (map view (drop n all)) c controls) ≡ j → RefusesRow r (view x c controls) → RefusesRow r j
+  statement_falls c r found waits j same f =
       subst (RefusesRow r) same
-      (refused_through r found waits (in_order (map judge (map view (drop n all))))
-      (subst (RefusesRow r) (sym at_next) (first_falls next r (judge (view x)) rest f)))
+      (refused_through r found waits (in_order (map view (drop n all)) c controls)
+      (subst (RefusesRow r) (sym (at_next c)) (first_falls next r (view x c controls) (rest (behind with_variables c (view x c controls))) f)))
 
 -- one statement more at the end
 pub statements_more : (found : List TypedStmt) (s : TypedStmt) → map stmt_of (found ++ s ∷ []) ≡ map stmt_of found ++ stmt_of s ∷ []
@@ -137,13 +140,13 @@ statements_more [] s = refl
 statements_more (t ∷ found) s = ap (λ ss. stmt_of t ∷ ss) (statements_more found s)
 
 -- the end of a loop in which all were built
-pub all_together : {X Y : Type 0} (view : X → Y) (judge : Y → Judgement Stmt) (all : List X) (n : ℕ) (found : List Stmt) (waits : Option ℕ) → length all ≤ n → waits ≡ None
-    → together found waits (in_order (map judge (map view (drop n all)))) ≡ in_order (map judge (map view all)) → in_order (map judge (map view all)) ≡ Passes (stmts found)
-all_together view judge all n found waits h none_waits same =
-    sym same ∙ (ap (λ xs. together found waits (in_order (map judge (map view xs)))) (drop_all n all h) ∙ (ap (λ w. together found w (Passes none)) none_waits ∙ ap Passes (joined_all found)))
+pub all_together : {X : Type 0} (view : X → Under Stmt) (c : Context) (controls : List Entire) (all : List X) (n : ℕ) (found : List Stmt) (waits : Option ℕ) (j : Judgement Stmts) → length all ≤ n → waits ≡ None
+    → together found waits (in_order (map view (drop n all)) c controls) ≡ j → j ≡ Passes (stmts found)
+all_together view c controls all n found waits j h none_waits same =
+    sym same ∙ (ap (λ xs. together found waits (in_order (map view xs) c controls)) (drop_all n all h) ∙ (ap (λ w. together found w (Passes none)) none_waits ∙ ap Passes (joined_all found)))
 
 -- what an assignment statement is judged to be
-pub assignment_is : (context : Context) (line : ℕ) (access : Access) (v : ComponentValue) (controls : List Entire) → statement_judged context (statement.Assignment line access v) controls ≡ at_statement context (Statement-F.Assignment line access v) controls
+pub assignment_is : (context : Context) (line : ℕ) (access : Access) (v : ComponentValue) (controls : List Entire) → statement_judged (statement.Assignment line access v) context controls ≡ at_statement (Statement-F.Assignment line access v) context controls
 assignment_is context line access v controls =
-    ap (λ s. statement_judged context s controls) (sym (statement.rolls-Assignment line access v))
-    ∙ ap (λ (judge : Under Stmt). judge controls) (fold-roll-Statement (Under Stmt) ArmJudged (Under Stmts) (Under Stmts) (at_statement context) (at_arm context) (at_compound context) (at_otherwise context) (Statement-F.Assignment line access v))
+    ap (λ s. statement_judged s context controls) (sym (statement.rolls-Assignment line access v))
+    ∙ ap (λ (judge : Under Stmt). judge context controls) (fold-roll-Statement (Under Stmt) ArmJudged (Under Stmts) (Under Stmts) at_statement at_arm at_compound at_otherwise (Statement-F.Assignment line access v))

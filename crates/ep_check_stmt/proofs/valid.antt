@@ -3,3 +3,4 @@ pub mod Loops
 pub mod Passing
 pub mod Sound
 pub mod Statements
+pub mod Withs

@@ -3,6 +3,7 @@ use Rattle.std.specs.Prelude.{◌≡◌, ℕ, nat_eq, Bool, List, map, Option, R
 use Rattle.std.specs.List.{list_any}
 use Rattle.std.specs.Option.{option_map}
 use Rattle.ep_typed.specs.Trees.{Item, Stmts, stmts}
+use Rattle.ep_typed.specs.Viewed as viewed
 use Rattle.ep_typed.specs.Viewed.{control_of, expr_of, item_of, member_control_of, place_of, stmt_of, arm_of}
 use Rattle.ep_tree.specs.declared.expression.Label.{Label}
 use Rattle.ep_tree.specs.declared.statement.Arm.{Arm, out-Arm}
@@ -33,6 +34,9 @@ use Rattle.ep_check_stmt.specs.RoutineForms.{routine_form}
 use Rattle.ep_check_stmt.specs.declared.statements.FunctionResult.{FunctionResult}
 use Rattle.ep_check_stmt.specs.declared.statements.Locals.{Locals}
 use Rattle.ep_check_stmt.specs.declared.statements.Locals.TheVariants as locals
+use Rattle.ep_check_stmt.specs.declared.records.Opened.{Opened}
+use Rattle.ep_check_stmt.specs.declared.records.RecordNamed.{RecordNamed}
+use Rattle.ep_check_stmt.specs.declared.records.WithHead.{WithHead}
 use Rattle.ep_check_stmt.specs.declared.targets.Target.{Target}
 use Rattle.ep_check_stmt.specs.declared.threats.Entire.{Entire}
 use Rattle.ep_check_stmt.specs.declared.threats.Entire.TheVariants as entire
@@ -83,7 +87,11 @@ locals_of (locals.Routine routine first auxiliary) = rows.OfRoutine routine firs
 
 -- what the statements of a block know
 abbrev pub context_of : Context → rows.Context
-context_of c = record { unit = c.unit.now; scopes = c.scopes.now; output = c.output; results = map result_of c.results.now; locals = locals_of c.locals; members = c.members; routines = map routine_form c.routines.now }
+context_of c = record { unit = c.unit.now; scopes = c.scopes.now; output = c.output; results = map result_of c.results.now; locals = locals_of c.locals; members = c.members; routines = map routine_form c.routines.now; withs = c.withs }
+
+-- the same, where the variable of the next `with` has this number
+abbrev pub numbered : rows.Context → ℕ → rows.Context
+numbered c withs = record c { withs = withs }
 
 -- what is assigned to
 abbrev pub target_of : Target → rows.Target
@@ -107,6 +115,19 @@ head_of h = record { control = control_of h.control; initial = expr_of h.initial
 -- a `for` over members without its body
 abbrev pub member_head_of : MemberHead → rows.MemberHead
 member_head_of h = record { control = member_control_of h.control; set = expr_of h.set }
+
+-- the records of a `with`
+abbrev pub record_named_of : RecordNamed → rows.RecordNamed
+record_named_of r = record { of = r.of; guarded = r.protection; fields = r.fields.now; place = option_map place_of r.place }
+
+abbrev pub with_head_of : WithHead → rows.WithHead
+with_head_of h = record { variable = viewed.entire_of h.variable; of = h.of; place = place_of h.place }
+
+abbrev pub heads_of : List WithHead → List rows.WithHead
+heads_of hs = map with_head_of hs
+
+abbrev pub opened_of : Opened → rows.Opened
+opened_of o = record { scopes = o.inner; withs = o.withs; heads = option_map heads_of o.heads }
 
 -- statements and written items, as plain data
 abbrev pub stmts_of : List TypedStmt → Stmts

@@ -1,7 +1,7 @@
 -- What the static rules say of statements: their typed forms, or the first item that breaks a rule.
 --
 -- Items are taken in the order of the text: a statement without its inner statements is one, on the line of its first token. A form that is no form of a program that is built fails by no rule here.
-use Rattle.std.specs.Prelude.{ℕ, nat_eq, nat_le, ◌+◌, ◌-◌, ◌||◌, ◌==◌, ◌&&◌, Bool, true, false, List, [], ◌∷◌, ◌++◌, map, Option, Some, None, if◌then◌else◌}
+use Rattle.std.specs.Prelude.{ℕ, length, nat_eq, nat_le, ◌+◌, ◌-◌, ◌||◌, ◌==◌, ◌&&◌, Bool, true, false, List, [], ◌∷◌, ◌++◌, map, Option, Some, None, if◌then◌else◌}
 use Rattle.std.specs.List.{list_any}
 use Rattle.std.specs.Option.{option_map}
 use Rattle.std.specs.Str.{bytes_eq}
@@ -20,6 +20,7 @@ use Rattle.ep_tree.specs.declared.statement.Arm as syntax
 use Rattle.ep_tree.specs.declared.statement.Otherwise.{Otherwise, fold-Otherwise}
 use Rattle.ep_tree.specs.declared.expression.Label.{Label}
 use Rattle.ep_tree.specs.declared.statement.Compound.{Compound, fold-Compound}
+use Rattle.ep_typed.specs.Auxiliaries.{with_variables, with_variables_in}
 use Rattle.ep_typed.specs.Hosts.{greatest, least}
 use Rattle.ep_typed.specs.Trees as tree
 use Rattle.ep_typed.specs.Trees.{Control, Entire, MemberControl, Place, Expr, Item, Stmt, Stmts, Arm, Arms, Other}
@@ -27,17 +28,22 @@ use Rattle.ep_typed.specs.declared.operations.Print.{Print}
 use Rattle.ep_typed.specs.declared.operations.Print.TheVariants as print
 use Rattle.ep_typed.specs.declared.tree.StandardFile.{StandardFile}
 use Rattle.ep_typed.specs.declared.tree.StandardFile.TheVariants as file
-use Rattle.ep_scope.specs.Scopes.{OpenField, Region, Meant, Declares, Standard, Requires, FieldOf, Nothing, depth_in, meant}
+use Rattle.ep_typed.specs.declared.unit.UnitVariable.{UnitVariable}
+use Rattle.ep_scope.specs.Scopes.{OpenField, Region, Meant, Declares, Standard, Requires, FieldOf, Nothing, depth_in, meant, structure_in, within}
 use Rattle.ep_scope.specs.declared.kind.Host.{Host}
 use Rattle.ep_scope.specs.declared.kind.Host.TheVariants as host
 use Rattle.ep_scope.specs.declared.kind.Kind.{Kind}
 use Rattle.ep_scope.specs.declared.kind.Kind.TheVariants as kind
 use Rattle.ep_scope.specs.declared.parameter.FormalParameter.{FormalParameter}
+use Rattle.ep_scope.specs.declared.parameter.Protection.{Protection}
 use Rattle.ep_scope.specs.declared.required.Procedure.{Procedure}
 use Rattle.ep_scope.specs.declared.required.Procedure.TheVariants as procedure
 use Rattle.ep_scope.specs.declared.required.Required.{Required}
 use Rattle.ep_scope.specs.declared.required.Required.TheVariants as required
 use Rattle.ep_scope.specs.declared.rule.TheConstants as rule
+use Rattle.ep_scope.specs.declared.structure.Composition.{Composition}
+use Rattle.ep_scope.specs.declared.structure.Composition.TheVariants as composition
+use Rattle.ep_scope.specs.declared.structure.FieldType.{FieldType}
 use Rattle.ep_scope.specs.declared.thing.Declaration.{Declaration}
 use Rattle.ep_scope.specs.declared.thing.Declaration.TheVariants as declaration
 use Rattle.ep_scope.specs.declared.thing.Declared.{Declared}
@@ -52,7 +58,7 @@ use Rattle.ep_check_expr.specs.Operators.{map_both}
 use Rattle.ep_check_expr.specs.Expressions.{given, judged, judged_value, name_judged}
 use Rattle.ep_check_stmt.specs.Cases.{CaseSelector, own_ranges, selector_judged}
 use Rattle.ep_check_stmt.specs.RoutineForms.{RoutineForm, formals_at}
-use Rattle.ep_check_stmt.specs.Threats.{expr_threatens, inner_threatens, is_variable, threatens}
+use Rattle.ep_check_stmt.specs.Threats.{expr_threatens, inner_threatens, is_variable, place_threatens, threatens}
 
 -- ---- rows of items
 
@@ -256,47 +262,15 @@ if_judged line test then_part else_part =
 abbrev pub repeat_judged : ℕ → Judgement Expr → Judgement Stmts → Judgement Stmt
 repeat_judged line test body = after (λ form statements. tree.Repeat line statements form) test body
 
--- a missing `else` is the empty statement
-abbrev pub else_judged : Option (Judgement Stmt) → Judgement Stmt
-else_judged None = Passes tree.Empty
-else_judged (Some s) = s
-
--- statements in order
-abbrev pub in_order : List (Judgement Stmt) → Judgement Stmts
-in_order [] = Passes tree.none
-in_order (s ∷ ss) = after tree.next s (in_order ss)
-
--- the arms of a `case` in order
-abbrev pub arms_in_order : List (Judgement Arm) → Judgement Arms
-arms_in_order [] = Passes tree.no_arm
-arms_in_order (a ∷ arms) = after (λ x more. tree.next_arm x.0 x.1 more) a (arms_in_order arms)
-
--- What a row comes to inside of the `for` statements that have these control variables, the innermost first.
-abbrev pub Under : Type 0 → Type 0
-Under A = List Entire → Judgement A
-
--- an arm of a `case`: its labels, which belong to the statement itself, and its statement
-abbrev pub ArmJudged : Type 0
-ArmJudged = List Label × Under Stmt
-
--- an arm of a `case` on a line, whose selector has a host
-abbrev pub arm_row : List Region → ℕ → Host → List Entire → ArmJudged → Judgement Arm
-arm_row scopes line h controls a = after (λ ranges s. (ranges, s)) (at_item line (own_ranges scopes h a.0)) (a.1 controls)
-
--- a missing `otherwise`
-abbrev pub other_judged : Option (Judgement Stmts) → Judgement Other
-other_judged None = Passes tree.no_other
-other_judged (Some ss) = formed tree.otherwise_do ss
-
 -- a `case` statement, by the form of its selector, its arms and its `otherwise` part (ISO 10206, 6.9.3.5)
 abbrev pub case_row : ℕ → Judged (Option Expr) → Judgement Arms → Judgement Other → Judgement Stmt
 case_row line selector arms other =
     after (λ x. λ (parts : Arms × Other). tree.Case line x parts.0 parts.1) (at_item line selector) (after (λ a b. (a, b)) arms other)
 
 -- by its selector with the labels, what its form is then, its arms for a host of the selector, and its `otherwise` part
-abbrev pub case_judged : ℕ → (Option Expr → Judged (Option Expr)) → Judged CaseSelector → (Host → Judgement Arms) → Judgement Other → Judgement Stmt
+abbrev pub case_judged : ℕ → (Option Expr → Judged (Option Expr)) → Judged CaseSelector → (Host → Judgement Arms) → (Judgement Arms → Judgement Other) → Judgement Stmt
 case_judged line form (Breaks rules) arms other = Fails line rules
-case_judged line form (Accepts s) arms other = case_row line (form s.form) (arms s.host) other
+case_judged line form (Accepts s) arms other = case_row line (form s.form) (arms s.host) (other (arms s.host))
 
 -- ---- `for` (ISO 10206, 6.9.3.9)
 
@@ -459,7 +433,7 @@ abbrev pub halt_judged : ℕ → List Argument → Judged (Option Stmt)
 halt_judged line [] = Accepts (Some (tree.Halt line))
 halt_judged line (first ∷ more) = Breaks (rule.ARGUMENTS ∷ [])
 
--- What a block knows: its unit, its scopes, the innermost first, whether `output` is a parameter or imported, the functions in whose blocks it is and whose results have no names, the innermost first, its own variables, the number of the auxiliary variable of `for` over members among these, and the routines of the unit.
+-- What a block knows: its unit, its scopes, the innermost first, whether `output` is a parameter or imported, the functions in whose blocks it is and whose results have no names, the innermost first, its own variables, the number of the auxiliary variable of `for` over members among these, the routines of the unit, and the number of the variable of the next `with`.
 pub record Context : Type 0 where
   pub unit : List ℕ
   pub scopes : List Region
@@ -468,6 +442,48 @@ pub record Context : Type 0 where
   pub locals : Locals
   pub members : ℕ
   pub routines : List RoutineForm
+  pub withs : ℕ
+
+-- ---- statements in statements
+
+-- What a row comes to in a block, inside of the `for` statements that have these control variables, the innermost first.
+abbrev pub Under : Type 0 → Type 0
+Under A = Context → List Entire → Judgement A
+
+-- Behind a row, where each of its `with` statements has had a variable.
+abbrev pub behind : {A : Type 0} → (A → List UnitVariable) → Context → Judgement A → Context
+behind withs c (Passes a) = record c { withs = c.withs + length (withs a) }
+behind withs c (Waits line) = c
+behind withs c (Fails line rules) = c
+
+-- statements in order
+abbrev pub in_order : List (Under Stmt) → Under Stmts
+in_order [] c controls = Passes tree.none
+in_order (s ∷ ss) c controls = after tree.next (s c controls) (in_order ss (behind with_variables c (s c controls)) controls)
+
+-- an arm of a `case`: its labels, which belong to the statement itself, and its statement
+abbrev pub ArmJudged : Type 0
+ArmJudged = List Label × Under Stmt
+
+-- an arm of a `case` on a line, whose selector has a host
+abbrev pub arm_row : ℕ → Host → ArmJudged → Under Arm
+arm_row line h a c controls = after (λ ranges s. (ranges, s)) (at_item line (own_ranges c.scopes h a.0)) (a.1 c controls)
+
+-- the arms of a `case` in order
+abbrev pub arms_in_order : ℕ → Host → List ArmJudged → Under Arms
+arms_in_order line h [] c controls = Passes tree.no_arm
+arms_in_order line h (a ∷ arms) c controls =
+    after (λ x more. tree.next_arm x.0 x.1 more) (arm_row line h a c controls) (arms_in_order line h arms (behind (λ (x : Arm). with_variables x.1) c (arm_row line h a c controls)) controls)
+
+-- the `else` part of an `if` behind its `then` part; a missing one is the empty statement
+abbrev pub else_judged : Option (Under Stmt) → Context → List Entire → Judgement Stmt → Judgement Stmt
+else_judged None c controls then_part = Passes tree.Empty
+else_judged (Some s) c controls then_part = s (behind with_variables c then_part) controls
+
+-- the `otherwise` part of a `case` behind its arms
+abbrev pub other_judged : Option (Under Stmts) → Context → List Entire → Judgement Arms → Judgement Other
+other_judged None c controls arms = Passes tree.no_other
+other_judged (Some ss) c controls arms = formed tree.otherwise_do (ss (behind with_variables_in c arms) controls)
 
 -- the text file that a name means
 abbrev pub file_meant : Meant → Option StandardFile
@@ -589,54 +605,136 @@ module _ (context : Context) where
   control_judged name =
       when_accepted (unless_threatened_in context.locals context.routines) (when_accepted (λ v. counted_by v.variable v.kind) (control_named context.locals (depth_in context.scopes) name (meant context.scopes name)))
 
-  -- a `for` statement, by its control variable
-  abbrev pub for_judged : List Entire → ℕ → Judged Counted → Bool → Expression → Expression → Under Stmt → Judgement Stmt
-  for_judged controls line (Breaks rules) falls start end body = Fails line rules
-  for_judged controls line (Accepts c) falls start end body =
-      for_row line (at_item line (unless_threatening (head_threat context.routines) controls (bounds_judged context.locals falls c (judged context.scopes start) (judged context.scopes end)))) (body (c.variable ∷ controls))
+-- a `for` statement, by its control variable
+abbrev pub for_judged : Context → List Entire → ℕ → Judged Counted → Bool → Expression → Expression → Under Stmt → Judgement Stmt
+for_judged context controls line (Breaks rules) falls start end body = Fails line rules
+for_judged context controls line (Accepts c) falls start end body =
+    for_row line (at_item line (unless_threatening (head_threat context.routines) controls (bounds_judged context.locals falls c (judged context.scopes start) (judged context.scopes end)))) (body context (c.variable ∷ controls))
 
-  -- a `for` statement over members, by its control variable
-  abbrev pub for_in_judged : List Entire → ℕ → Judged Counted → Expression → Under Stmt → Judgement Stmt
-  for_in_judged controls line (Breaks rules) set body = Fails line rules
-  for_in_judged controls line (Accepts c) set body =
-      for_in_row line (at_item line (unless_threatening (member_threat context.routines) controls (members_judged context.locals context.members c (judged context.scopes set)))) (body (c.variable ∷ controls))
+-- a `for` statement over members, by its control variable
+abbrev pub for_in_judged : Context → List Entire → ℕ → Judged Counted → Expression → Under Stmt → Judgement Stmt
+for_in_judged context controls line (Breaks rules) set body = Fails line rules
+for_in_judged context controls line (Accepts c) set body =
+    for_in_row line (at_item line (unless_threatening (member_threat context.routines) controls (members_judged context.locals context.members c (judged context.scopes set)))) (body context (c.variable ∷ controls))
 
-  abbrev pub at_statement : Statement-F (Under Stmt) ArmJudged (Under Stmts) (Under Stmts) → Under Stmt
-  at_statement (Statement-F.Empty line) controls = Passes tree.Empty
-  at_statement (Statement-F.Assignment line access v) controls =
-      stmt_item controls line (both (assigned line) (target_judged access) (judged_value context.scopes v))
-  at_statement (Statement-F.Call line access) controls = stmt_item controls line (name_called line (out-Access access).name (call_arguments (out-Access access).selectors))
-  at_statement (Statement-F.Compound statements) controls = formed tree.Compound (statements controls)
-  at_statement (Statement-F.If line e then_part other) controls = if_judged line (condition_judged controls line e) (then_part controls) (else_judged (option_map (λ s. s controls) other))
-  at_statement (Statement-F.While line e body) controls = after (tree.While line) (condition_judged controls line e) (body controls)
-  at_statement (Statement-F.Case line e arms other) controls =
-      case_judged line (λ x. expr_item controls (Accepts x)) (selector_judged context.scopes e (map (λ a. a.0) arms)) (λ h. arms_in_order (map (arm_row context.scopes line h controls) arms)) (other_judged (option_map (λ ss. ss controls) other))
-  at_statement (Statement-F.Repeat line statements e) controls = repeat_judged line (condition_judged controls line e) (in_order (map (λ s. s controls) statements))
-  at_statement (Statement-F.For line variable start toward end body) controls = for_judged controls line (control_judged variable) (falls_by toward) start end body
-  at_statement (Statement-F.ForIn line variable set body) controls = for_in_judged controls line (control_judged variable) set body
-  at_statement (Statement-F.With line accesses body) controls = Fails line []
+-- ---- `with` (ISO 10206, 6.9.3.10)
 
-  abbrev pub at_compound : Compound-F (Under Stmt) ArmJudged (Under Stmts) (Under Stmts) → Under Stmts
-  at_compound c controls = in_order (map (λ s. s controls) c.statements)
+-- A record variable that a `with` names: the number of its type, whether it is protected, its fields, and its place, where it is built.
+pub record RecordNamed : Type 0 where
+  pub of : ℕ
+  pub guarded : Protection
+  pub fields : List FieldType
+  pub place : Option Place
 
-  abbrev pub at_arm : Arm-F (Under Stmt) ArmJudged (Under Stmts) (Under Stmts) → ArmJudged
-  at_arm a = (a.labels, a.body)
+-- what is named is a variable of a record type, by the structured types in view
+abbrev pub record_made : ℕ → Protection → Option Expr → Option Composition → Judged RecordNamed
+record_made n guarded form (Some (composition.Record fs)) = Accepts (record { of = n; guarded = guarded; fields = fs; place = place_read form })
+record_made n guarded form _ = Breaks (rule.WITH_RECORD ∷ [])
 
-  abbrev pub at_otherwise : Otherwise-F (Under Stmt) ArmJudged (Under Stmts) (Under Stmts) → Under Stmts
-  at_otherwise o controls = in_order (map (λ s. s controls) o.statements)
+abbrev pub record_of_kind : List Region → Protection → Option Expr → Kind → Judged RecordNamed
+record_of_kind scopes guarded form (kind.Structured n) = record_made n guarded form (structure_in scopes n)
+record_of_kind scopes guarded form _ = Breaks (rule.WITH_RECORD ∷ [])
 
-  abbrev pub statement_judged : Statement → Under Stmt
-  statement_judged = fold-Statement (Under Stmt) ArmJudged (Under Stmts) (Under Stmts) at_statement at_arm at_compound at_otherwise
+abbrev pub record_accessed : List Region → Access → Option Expr → Kind → Judged RecordNamed
+record_accessed scopes (access.Variable of guarded) form k = record_of_kind scopes guarded form k
+record_accessed scopes _ form k = Breaks (rule.WITH_RECORD ∷ [])
 
-  abbrev pub arm_judged : syntax.Arm → ArmJudged
-  arm_judged = fold-Arm (Under Stmt) ArmJudged (Under Stmts) (Under Stmts) at_statement at_arm at_compound at_otherwise
+-- one of the records of a `with`: the variable that stands for it, the number of its type, and its place
+pub record WithHead : Type 0 where
+  pub variable : Entire
+  pub of : ℕ
+  pub place : Place
 
-  abbrev pub otherwise_judged : Otherwise → Under Stmts
-  otherwise_judged = fold-Otherwise (Under Stmt) ArmJudged (Under Stmts) (Under Stmts) at_statement at_arm at_compound at_otherwise
+-- where the place is built
+abbrev pub with_head : Entire → ℕ → Option Place → Option WithHead
+with_head v of place = option_map (λ p. record { variable = v; of = of; place = p }) place
 
-  abbrev pub compound_under : Compound → Under Stmts
-  compound_under = fold-Compound (Under Stmt) ArmJudged (Under Stmts) (Under Stmts) at_statement at_arm at_compound at_otherwise
+-- the scopes in the statement of a `with`, the number of the variable of the next one, and the records, where they are built
+pub record Opened : Type 0 where
+  pub scopes : List Region
+  pub withs : ℕ
+  pub heads : Option (List WithHead)
 
-  -- the statements of a block, which stand in no `for`
-  abbrev pub compound_judged : Compound → Judgement Stmts
-  compound_judged c = compound_under c []
+abbrev pub none_opened : Context → Opened
+none_opened c = record { scopes = c.scopes; withs = c.withs; heads = Some [] }
+
+-- one record more, which is open inside of those before it
+abbrev pub one_opened : Locals → Opened → RecordNamed → Opened
+one_opened locals o r =
+    record {
+      scopes = within (record { variable = block_variable locals o.withs; guarded = r.guarded; fields = r.fields }) o.scopes;
+      withs = o.withs + 1;
+      heads = one_after o.heads (with_head (block_variable locals o.withs) r.of r.place);
+    }
+
+-- a record that is named where others are open
+abbrev pub record_opened : Context → syntax_access.Access → Opened → Judged Opened
+record_opened c a o = when_accepted (λ r. Accepts (one_opened c.locals o r)) (when_accepted (λ t. record_accessed c.scopes t.access t.form t.kind) (name_judged o.scopes a))
+
+-- what stands in a list sees the fields of what stands before it: `with a, b do s` is `with a do with b do s`
+abbrev pub records_opened : Context → List syntax_access.Access → Opened → Judged Opened
+records_opened c [] o = Accepts o
+records_opened c (a ∷ more) o = when_accepted (records_opened c more) (record_opened c a o)
+
+-- a place of them threatens a variable, where an index does
+abbrev pub place_threat : List RoutineForm → Entire → WithHead → Bool
+place_threat routines v h = place_threatens (formals_at routines) v h.place
+
+abbrev pub heads_threat : List RoutineForm → Entire → List WithHead → Bool
+heads_threat routines v heads = list_any (place_threat routines v) heads
+
+-- one `with` in another
+abbrev pub with_form : ℕ → List WithHead → Stmt → Stmt
+with_form line [] s = s
+with_form line (h ∷ heads) s = tree.With line h.variable h.of h.place (with_form line heads s)
+
+-- what is known in its statement
+abbrev pub inside : Context → Opened → Context
+inside c o = record c { scopes = o.scopes; withs = o.withs }
+
+-- a `with` statement, of which all that stands before `do` is one item
+abbrev pub with_judged : Context → List Entire → ℕ → Judged Opened → Under Stmt → Judgement Stmt
+with_judged c controls line (Breaks rules) body = Fails line rules
+with_judged c controls line (Accepts o) body =
+    after (with_form line) (at_item line (unless_threatening (heads_threat c.routines) controls (Accepts o.heads))) (body (inside c o) controls)
+
+-- ---- all statements
+
+abbrev pub at_statement : Statement-F (Under Stmt) ArmJudged (Under Stmts) (Under Stmts) → Under Stmt
+at_statement (Statement-F.Empty line) c controls = Passes tree.Empty
+at_statement (Statement-F.Assignment line access v) c controls = stmt_item c controls line (both (assigned line) (target_judged c access) (judged_value c.scopes v))
+at_statement (Statement-F.Call line access) c controls = stmt_item c controls line (name_called c line (out-Access access).name (call_arguments (out-Access access).selectors))
+at_statement (Statement-F.Compound statements) c controls = formed tree.Compound (statements c controls)
+at_statement (Statement-F.If line e then_part other) c controls = if_judged line (condition_judged c controls line e) (then_part c controls) (else_judged other c controls (then_part c controls))
+at_statement (Statement-F.While line e body) c controls = after (tree.While line) (condition_judged c controls line e) (body c controls)
+at_statement (Statement-F.Case line e arms other) c controls =
+    case_judged line (λ x. expr_item c controls (Accepts x)) (selector_judged c.scopes e (map (λ a. a.0) arms)) (λ h. arms_in_order line h arms c controls) (other_judged other c controls)
+at_statement (Statement-F.Repeat line statements e) c controls = repeat_judged line (condition_judged c controls line e) (in_order statements c controls)
+at_statement (Statement-F.For line variable start toward end body) c controls = for_judged c controls line (control_judged c variable) (falls_by toward) start end body
+at_statement (Statement-F.ForIn line variable set body) c controls = for_in_judged c controls line (control_judged c variable) set body
+at_statement (Statement-F.With line accesses body) c controls = with_judged c controls line (records_opened c accesses (none_opened c)) body
+
+abbrev pub at_compound : Compound-F (Under Stmt) ArmJudged (Under Stmts) (Under Stmts) → Under Stmts
+at_compound k = in_order k.statements
+
+abbrev pub at_arm : Arm-F (Under Stmt) ArmJudged (Under Stmts) (Under Stmts) → ArmJudged
+at_arm a = (a.labels, a.body)
+
+abbrev pub at_otherwise : Otherwise-F (Under Stmt) ArmJudged (Under Stmts) (Under Stmts) → Under Stmts
+at_otherwise o = in_order o.statements
+
+abbrev pub statement_judged : Statement → Under Stmt
+statement_judged = fold-Statement (Under Stmt) ArmJudged (Under Stmts) (Under Stmts) at_statement at_arm at_compound at_otherwise
+
+abbrev pub arm_judged : syntax.Arm → ArmJudged
+arm_judged = fold-Arm (Under Stmt) ArmJudged (Under Stmts) (Under Stmts) at_statement at_arm at_compound at_otherwise
+
+abbrev pub otherwise_judged : Otherwise → Under Stmts
+otherwise_judged = fold-Otherwise (Under Stmt) ArmJudged (Under Stmts) (Under Stmts) at_statement at_arm at_compound at_otherwise
+
+abbrev pub compound_under : Compound → Under Stmts
+compound_under = fold-Compound (Under Stmt) ArmJudged (Under Stmts) (Under Stmts) at_statement at_arm at_compound at_otherwise
+
+-- the statements of a block, which stand in no `for`
+abbrev pub compound_judged : Context → Compound → Judgement Stmts
+compound_judged c k = compound_under k c []

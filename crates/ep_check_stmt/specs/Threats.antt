@@ -197,6 +197,6 @@ module _ (name : List ℕ) where
   abbrev pub arm_assigns : Arm → Bool
   arm_assigns = fold-Arm Bool Bool Bool Bool in_statement in_arm in_compound in_otherwise
 
-  -- whether a statement part has an assignment to the name (ISO 10206, 6.7.2)
+  -- whether a statement part has an assignment to the name, also where a field of an open record hides what the name means around (ISO 10206, 6.7.2)
   abbrev pub assigns : Compound → Bool
   assigns = fold-Compound Bool Bool Bool Bool in_statement in_arm in_compound in_otherwise

@@ -2,17 +2,17 @@
 
 ghost use Rattle.std.specs.Prelude.{◌≡◌, None, Some, List, Option, map};
 ghost use Rattle.std.specs.List.{list_all};
-ghost use Rattle.std.specs.Option.{option_map};
 ghost use Rattle.ep_built.specs.Built.{arm_unbuilt, expression_unbuilt, first_in, label_unbuilt};
 ghost use Rattle.ep_tree.specs.declared.expression.Label.{out-Label};
 ghost use Rattle.ep_typed.specs.Operations.{is_apart};
+ghost use Rattle.ep_typed.specs.Trees as tree;
 ghost use Rattle.ep_typed.specs.Trees.{Arms, Expr, Other, Stmt, Stmts};
 ghost use Rattle.ep_typed.specs.Viewed.{arm_of, expr_of, other_of, stmt_of};
 ghost use Rattle.ep_check_expr.specs.Judgements.{Judged};
 ghost use Rattle.ep_check_stmt.specs.Answers.{AnswersForm, AnswersLabels, AnswersRow, arms_of, labels_of, selector_of, stmts_of};
 ghost use Rattle.ep_check_stmt.specs.Cases as spec;
 ghost use Rattle.ep_check_stmt.specs.Cases.{added, arms_taken, end_judged, fitting, label_taken, labels_taken, own_ranges, range_judged, ranges_formed, ranging, selector_judged};
-ghost use Rattle.ep_check_stmt.specs.Statements.{Judgement, after, at_item, case_row, other_judged};
+ghost use Rattle.ep_check_stmt.specs.Statements.{Judgement, Passes, after, at_item, case_row, formed};
 
 use crate::outcome::Outcome;
 use crate::statements::{Context, Row};
@@ -252,7 +252,7 @@ pub(crate) fn arm_form(
 
 /// A `case` without `otherwise`.
 pub(crate) fn no_otherwise() -> Row<Option<TypedStmts>>
-    ensures { AnswersRow other_of result (other_judged None) }
+    ensures { AnswersRow other_of result (Passes tree.no_other) }
 {
     Ok(Outcome::Passes(None))
 }
@@ -260,7 +260,7 @@ pub(crate) fn no_otherwise() -> Row<Option<TypedStmts>>
 /// The statements of `otherwise`.
 pub(crate) fn otherwise_form(statements: Row<TypedStmts>) -> Row<Option<TypedStmts>>
     ensures { (x : Judgement Stmts) → AnswersRow stmts_of statements x
-        → AnswersRow other_of result (other_judged (Some x)) }
+        → AnswersRow other_of result (formed tree.otherwise_do x) }
 {
     match statements? {
         Outcome::Passes(all) => Ok(Outcome::Passes(Some(all))),

@@ -1,25 +1,28 @@
 //! Statements, item by item.
 
-ghost use Rattle.std.specs.Prelude.{◌≡◌, ℕ, List, ◌∷◌, None, true, IsTrue, map};
+ghost use Rattle.std.specs.Prelude.{◌≡◌, List, ◌∷◌, None, true, IsTrue, map};
 ghost use Rattle.std.specs.Option.{option_copied, option_map};
-ghost use Rattle.ep_built.specs.Built.{access_unbuilt, arm_unbuilt, call_unbuilt, component_value_unbuilt, compound_unbuilt, expression_unbuilt, first_if, first_in, statement_unbuilt, written_unbuilt};
+ghost use Rattle.ep_built.specs.Built.{access_unbuilt, arm_unbuilt, call_unbuilt, component_value_unbuilt, compound_unbuilt, expression_unbuilt, first_in, statement_unbuilt, written_unbuilt};
 ghost use Rattle.ep_scope.specs.Meanings.{meant_by};
-ghost use Rattle.ep_scope.specs.Scopes.{meant};
 ghost use Rattle.ep_tree.specs.declared.expression.Access.{out-Access};
+ghost use Rattle.ep_tree.specs.declared.statement.Otherwise.{out-Otherwise};
+ghost use Rattle.ep_typed.specs.Auxiliaries.{with_variables, with_variables_in};
 ghost use Rattle.ep_typed.specs.Trees as tree;
-ghost use Rattle.ep_typed.specs.Trees.{Expr, Stmt, Stmts};
-ghost use Rattle.ep_typed.specs.Viewed.{arm_of, expr_of, stmt_of};
+ghost use Rattle.ep_typed.specs.Trees.{Arms, Expr, Stmt, Stmts};
+ghost use Rattle.ep_typed.specs.Viewed.{arm_of, expr_of, other_of, stmt_of};
 ghost use Rattle.ep_check_expr.specs.Answers.{typed_of};
 ghost use Rattle.ep_check_expr.specs.Expressions.{judged, judged_value};
 ghost use Rattle.ep_check_expr.specs.Judgements.{both};
-ghost use Rattle.ep_check_stmt.specs.Answers.{AnswersForm, AnswersRow, arms_of, context_of, entire_of, fails_among, stmts_of, target_of};
+ghost use Rattle.ep_check_stmt.specs.Answers.{AnswersForm, AnswersRow, arms_of, context_of, entire_of, fails_among, numbered, opened_of, stmts_of, target_of};
 ghost use Rattle.ep_check_stmt.specs.Statements as spec;
-ghost use Rattle.ep_check_stmt.specs.Statements.{Judgement, after, arm_judged, arm_row, arms_in_order, assigned, component_rules, compound_judged, compound_under, condition_judged, control_judged, declared_called, for_in_judged, for_judged, formed, if_judged, in_order, name_called, own_called, repeat_judged, required_called, statement_judged, target_judged, tested};
+ghost use Rattle.ep_check_stmt.specs.Statements.{Judgement, after, arm_judged, arm_row, arms_in_order, assigned, component_rules, compound_judged, compound_under, condition_judged, control_judged, declared_called, for_in_judged, for_judged, formed, if_judged, in_order, name_called, none_opened, own_called, records_opened, repeat_judged, required_called, statement_judged, target_judged, tested, with_judged};
 
 use crate::cases::{arm_form, case_form, no_otherwise, otherwise_form};
 use crate::loops::{falls_by, for_form, one_more};
 use crate::members::for_in_form;
+use crate::numbering::{behind_arm, behind_arms, behind_statement, behind_then};
 use crate::outcome::{CheckRefusal, Outcome, item_at, refused_at};
+use crate::records::{Opened, with_form};
 use crate::targets::Target;
 use crate::threats::Entire;
 use ep_base::{Boxed, Line, List, Name};
@@ -32,10 +35,11 @@ use ep_scope::{
     depth_in, meaning_of, rule,
 };
 use ep_tree::{
-    Access, Argument, Arm, ComponentValue, Compound, Direction, Expression, Selector, Statement,
+    Access, Argument, Arm, ComponentValue, Compound, Direction, Expression, Otherwise, Selector,
+    Statement,
 };
 use ep_typed::{CaseArm, CaseArms, TypedExpr, TypedStmt, TypedStmts, UnitRoutine};
-use std::alloc::{AllocError, Global};
+use std::alloc::Global;
 
 /// A function in whose block the statements are, maybe deeper, where its name is assigned to for the result (ISO 10206,
 /// 6.7.2).
@@ -80,6 +84,8 @@ pub struct Context<'a> {
     pub members: u32,
     /// The routines of the unit.
     pub routines: &'a [UnitRoutine],
+    /// The number of the variable that stands for the next record which a `with` opens (ISO 10206, 6.9.3.10).
+    pub withs: u32,
 }
 
 /// An assignment of a value.
@@ -232,7 +238,7 @@ impl<'a> Context<'a> {
     fn compound_within(&self, c: &Compound, controls: &[Entire<'a>]) -> Row<TypedStmts>
         requires { compound_unbuilt c.now ≡ None }
         ensures { AnswersRow stmts_of result
-            (compound_under (context_of self.now) c.now (map entire_of controls.now)) }
+            (compound_under c.now (context_of self.now) (map entire_of controls.now)) }
     {
         self.statements(c.statements.items(), controls)
     }
@@ -241,13 +247,16 @@ impl<'a> Context<'a> {
     #[cycle(statements)]
     fn statements(&self, all: &[Statement], controls: &[Entire<'a>]) -> Row<TypedStmts>
         requires { first_in (map statement_unbuilt all.now) ≡ None }
-        ensures { AnswersRow stmts_of result (in_order (map (λ s. s (map entire_of controls.now))
-            (map (statement_judged (context_of self.now)) all.now))) }
+        ensures { AnswersRow stmts_of result
+            (in_order (map statement_judged all.now) (context_of self.now) (map entire_of controls.now)) }
     {
         let mut found = List::new(self.alloc);
         let mut waits = None;
+        let mut withs = self.withs;
         for s in all {
-            match self.statement(s, controls)? {
+            let one = self.numbered(withs).statement(s, controls)?;
+            withs = behind_statement(withs, &one)?;
+            match one {
                 Outcome::Passes(form) => found.push(form.into_inner())?,
                 Outcome::Waits(line) => waits = waits.or(Some(line)),
             }
@@ -263,7 +272,7 @@ impl<'a> Context<'a> {
     fn statement(&self, s: &Statement, controls: &[Entire<'a>]) -> Row<Boxed<TypedStmt>>
         requires { statement_unbuilt s.now ≡ None }
         ensures { AnswersRow stmt_of result
-            (statement_judged (context_of self.now) s.now (map entire_of controls.now)) }
+            (statement_judged s.now (context_of self.now) (map entire_of controls.now)) }
     {
         match s {
             Statement::Empty(_) => self.empty(),
@@ -282,7 +291,7 @@ impl<'a> Context<'a> {
                 let first = self.statement(then.get(), controls);
                 let second = match other {
                     None => self.empty(),
-                    Some(other) => self.statement(other.get(), controls),
+                    Some(other) => self.alternative(other.get(), &first, controls),
                 };
                 if_form(
                     self.alloc,
@@ -300,9 +309,7 @@ impl<'a> Context<'a> {
                 let inner = self.arms(*line, selector.host, arms.items(), controls);
                 let rest = match other {
                     None => no_otherwise(),
-                    Some(other) => {
-                        otherwise_form(self.statements(other.statements.items(), controls))
-                    }
+                    Some(other) => self.otherwise(other, &inner, controls),
                 };
                 let form = self.unless_value_threatens(controls, Ok(selector.into_form()));
                 case_form(self.alloc, *line, item_at(*line, form), inner, rest)
@@ -337,8 +344,113 @@ impl<'a> Context<'a> {
             Statement::ForIn(line, name, set, body) => {
                 self.over_members(body.get(), *line, name, set.get(), controls)
             }
-            Statement::With(_, _, _) => unreachable!(),
+            Statement::With(line, accesses, body) => {
+                self.with_records(body.get(), *line, accesses.items(), controls)
+            }
         }
+    }
+
+    /// The same, where the variable of the next `with` has this number.
+    fn numbered(&self, withs: u32) -> Context<'a>
+        ensures { context_of result ≡ numbered (context_of self.now) withs }
+    {
+        Context {
+            alloc: self.alloc,
+            unit: self.unit,
+            scopes: self.scopes,
+            output: self.output,
+            results: self.results,
+            locals: self.locals,
+            members: self.members,
+            routines: self.routines,
+            withs,
+        }
+    }
+
+    /// A `with` statement with this body, of which all that stands before `do` is one item.
+    #[cycle(statements)]
+    fn with_records(
+        &self,
+        body: &Statement,
+        line: Line,
+        accesses: &[Access],
+        controls: &[Entire<'a>],
+    ) -> Row<Boxed<TypedStmt>>
+        requires body { statement_unbuilt body.now ≡ None }
+        requires accesses { first_in (map access_unbuilt accesses.now) ≡ None }
+        ensures { AnswersRow stmt_of result (with_judged (context_of self.now) (map entire_of controls.now) line
+            (records_opened (context_of self.now) accesses.now (none_opened (context_of self.now)))
+            (statement_judged body.now)) }
+    {
+        let opened = match self.opened(accesses) {
+            Ok(opened) => opened,
+            Err(refusal) => return Err(refused_at(line, refusal)),
+        };
+        let inner = self.statement_inside(body, &opened, controls);
+        let heads = self.unless_places_threaten(controls, opened.into_heads());
+        with_form(self.alloc, line, item_at(line, heads), inner)
+    }
+
+    /// The body of a `with` that has opened these records.
+    #[cycle(statements)]
+    fn statement_inside(
+        &self,
+        body: &Statement,
+        opened: &Opened<'a>,
+        controls: &[Entire<'a>],
+    ) -> Row<Boxed<TypedStmt>>
+        requires { statement_unbuilt body.now ≡ None }
+        ensures { AnswersRow stmt_of result (statement_judged body.now
+            (spec.inside (context_of self.now) (opened_of opened.now)) (map entire_of controls.now)) }
+    {
+        let scopes = opened.inner.view();
+        let context = Context {
+            alloc: self.alloc,
+            unit: self.unit,
+            scopes: &scopes,
+            output: self.output,
+            results: self.results,
+            locals: self.locals,
+            members: self.members,
+            routines: self.routines,
+            withs: opened.withs,
+        };
+        context.statement(body, &*controls)
+    }
+
+    /// The `else` part of an `if`, behind its `then` part.
+    #[cycle(statements)]
+    fn alternative(
+        &self,
+        other: &Statement,
+        then: &Row<Boxed<TypedStmt>>,
+        controls: &[Entire<'a>],
+    ) -> Row<Boxed<TypedStmt>>
+        requires { statement_unbuilt other.now ≡ None }
+        ensures { (x : Judgement Stmt) → AnswersRow stmt_of then.now x → AnswersRow stmt_of result
+            (statement_judged other.now (spec.behind with_variables (context_of self.now) x)
+            (map entire_of controls.now)) }
+    {
+        let withs = behind_then(self.withs, then)?;
+        self.numbered(withs).statement(other, controls)
+    }
+
+    /// The `otherwise` part of a `case`, behind its arms.
+    #[cycle(statements)]
+    fn otherwise(
+        &self,
+        other: &Otherwise,
+        arms: &Row<CaseArms>,
+        controls: &[Entire<'a>],
+    ) -> Row<Option<TypedStmts>>
+        requires { first_in (map statement_unbuilt (out-Otherwise other.now).statements) ≡ None }
+        ensures { (x : Judgement Arms) → AnswersRow arms_of arms.now x → AnswersRow other_of result
+            (formed tree.otherwise_do (in_order (map statement_judged (out-Otherwise other.now).statements)
+            (spec.behind with_variables_in (context_of self.now) x) (map entire_of controls.now))) }
+    {
+        let withs = behind_arms(self.withs, arms)?;
+        let context = self.numbered(withs);
+        otherwise_form(context.statements(other.statements.items(), controls))
     }
 
     /// A `for` statement with this body, control variable and bounds.
@@ -358,7 +470,7 @@ impl<'a> Context<'a> {
         requires end { expression_unbuilt end.now ≡ None }
         ensures { AnswersRow stmt_of result (for_judged (context_of self.now) (map entire_of controls.now) line
             (control_judged (context_of self.now) name.now) (spec.falls_by direction) start.now end.now
-            (statement_judged (context_of self.now) body.now)) }
+            (statement_judged body.now)) }
     {
         let control = match self.control(name) {
             Ok(control) => control,
@@ -383,7 +495,7 @@ impl<'a> Context<'a> {
         requires body { statement_unbuilt body.now ≡ None }
         requires set { expression_unbuilt set.now ≡ None }
         ensures { AnswersRow stmt_of result (for_in_judged (context_of self.now) (map entire_of controls.now) line
-            (control_judged (context_of self.now) name.now) set.now (statement_judged (context_of self.now) body.now)) }
+            (control_judged (context_of self.now) name.now) set.now (statement_judged body.now)) }
     {
         let control = match self.control(name) {
             Ok(control) => control,
@@ -404,7 +516,7 @@ impl<'a> Context<'a> {
         controls: &[Entire<'a>],
     ) -> Row<Boxed<TypedStmt>>
         requires { statement_unbuilt body.now ≡ None }
-        ensures { AnswersRow stmt_of result (statement_judged (context_of self.now) body.now
+        ensures { AnswersRow stmt_of result (statement_judged body.now (context_of self.now)
             (entire_of control.entry ∷ map entire_of controls.now)) }
     {
         let all = one_more(self.alloc, control, controls)?;
@@ -415,14 +527,16 @@ impl<'a> Context<'a> {
     #[cycle(statements)]
     fn arms(&self, line: Line, host: Host, all: &[Arm], controls: &[Entire<'a>]) -> Row<CaseArms>
         requires { first_in (map arm_unbuilt all.now) ≡ None }
-        ensures { AnswersRow arms_of result (arms_in_order (map
-            (arm_row self.now.scopes.now line host (map entire_of controls.now))
-            (map (arm_judged (context_of self.now)) all.now))) }
+        ensures { AnswersRow arms_of result (arms_in_order line host (map arm_judged all.now)
+            (context_of self.now) (map entire_of controls.now)) }
     {
         let mut found = List::new(self.alloc);
         let mut waits = None;
+        let mut withs = self.withs;
         for a in all {
-            match self.arm(line, host, a, controls)? {
+            let one = self.numbered(withs).arm(line, host, a, controls)?;
+            withs = behind_arm(withs, &one)?;
+            match one {
                 Outcome::Passes(form) => found.push(form.into_inner())?,
                 Outcome::Waits(line) => waits = waits.or(Some(line)),
             }
@@ -436,8 +550,8 @@ impl<'a> Context<'a> {
     #[cycle(statements)]
     fn arm(&self, line: Line, host: Host, a: &Arm, controls: &[Entire<'a>]) -> Row<Boxed<CaseArm>>
         requires { arm_unbuilt a.now ≡ None }
-        ensures { AnswersRow arm_of result (arm_row self.now.scopes.now line host
-            (map entire_of controls.now) (arm_judged (context_of self.now) a.now)) }
+        ensures { AnswersRow arm_of result (arm_row line host (arm_judged a.now) (context_of self.now)
+            (map entire_of controls.now)) }
     {
         let body = self.statement(a.body.get(), controls);
         let ranges = item_at(line, self.own_ranges(host, a.labels.items()));

@@ -320,7 +320,11 @@ fn members_threaten(
 
 /// Whether an index in a place does.
 #[cycle(threats_in_expressions)]
-fn place_threatens(place: &TypedPlace, routines: &[UnitRoutine], variable: Entire<'_>) -> bool
+pub(crate) fn place_threatens(
+    place: &TypedPlace,
+    routines: &[UnitRoutine],
+    variable: Entire<'_>,
+) -> bool
     ensures { result ≡ spec.place_threatens (formals_at (map routine_form routines.now)) (entire_of variable.entry)
         (place_of place.now) }
 {

@@ -32,7 +32,7 @@ use Rattle.ep_scope.specs.declared.thing.Declaration.TheVariants as declaration
 use Rattle.ep_scope.specs.declared.thing.Thing.{Thing}
 use Rattle.ep_scope.specs.declared.thing.Thing.TheVariants as thing
 use Rattle.ep_check_expr.specs.Judgements.{Judged, Accepts, Breaks, unbuilt, when_accepted}
-use Rattle.ep_check_stmt.specs.Auxiliaries.{has_for}
+use Rattle.ep_check_stmt.specs.Auxiliaries.{has_for, has_for_in}
 use Rattle.ep_check_stmt.specs.Statements.{Context, Locals, OfUnit, OfRoutine, Judgement, Passes, Waits, Fails, compound_judged}
 use Rattle.ep_check_stmt.specs.Threats.{assigns}
 use Rattle.ep_check_unit.specs.Blocks.{Block, RoutineForm, around_of, first_own, own_count}
@@ -244,6 +244,13 @@ first_auxiliary (OfRoutine routine first auxiliary) = auxiliary
 abbrev pub members_of : Locals → Compound → ℕ
 members_of locals c = first_auxiliary locals + (if has_for c then 2 else 0)
 
+-- that of the first one of `with`, which stands behind that one, where the statements have such a `for`
+abbrev pub withs_behind : ℕ → Compound → ℕ
+withs_behind members c = members + (if has_for_in c then 1 else 0)
+
+abbrev pub withs_of : Locals → Compound → ℕ
+withs_of locals c = withs_behind (members_of locals c) c
+
 -- what the statements of the block know
 abbrev pub context_of : Block → Compound → Context
 context_of b c =
@@ -255,6 +262,7 @@ context_of b c =
       locals = locals_of b;
       members = members_of (locals_of b) c;
       routines = b.routines;
+      withs = withs_of (locals_of b) c;
     }
 
 abbrev pub statements_judged : Block → Compound → Judgement Stmts

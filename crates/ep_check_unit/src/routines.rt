@@ -7,14 +7,14 @@ ghost use Rattle.ep_check_stmt.specs.Answers.{AnswersRow, locals_of as locals_vi
 ghost use Rattle.ep_check_unit.specs.Answers.{AnswersLocals, AnswersNumber, AnswersStanding, headed_in};
 ghost use Rattle.ep_check_unit.specs.Blocks.{block_of, routine_form};
 ghost use Rattle.ep_check_unit.specs.Declarations.{Stands};
-ghost use Rattle.ep_check_unit.specs.Routines.{all_declared, block_declared, body_closed, body_declared, forwarded, headed_then, inside_declared, locals_of, members_of, part_judged, routine_judged, start_headed, start_name, statements_judged, with_block, with_its_block};
+ghost use Rattle.ep_check_unit.specs.Routines.{all_declared, block_declared, body_closed, body_declared, forwarded, headed_then, inside_declared, locals_of, members_of, part_judged, routine_judged, start_headed, start_name, statements_judged, with_block, with_its_block, withs_behind};
 
 use crate::block::{Block, Forward, OwnVariables, number};
 use crate::functions::if_given;
 use crate::headings::{Heading, start_name};
 use ep_base::{Line, Name};
 use ep_check_expr::Refusal;
-use ep_check_stmt::{CheckRefusal, Context, Locals, Outcome, has_for, refused_at};
+use ep_check_stmt::{CheckRefusal, Context, Locals, Outcome, has_for, has_for_in, refused_at};
 use ep_tree::{Compound, Part, Routine, RoutineBody, RoutineStart};
 use ep_typed::{TypedStmt, TypedStmts, UnitRoutine, UnitVariables};
 use std::alloc::Global;
@@ -52,6 +52,20 @@ fn members_of(locals: Locals<'_>, statements: &Compound) -> Result<u32, Refusal>
         return Ok(first);
     }
     match first.checked_add(BOUNDS) {
+        None => Err(Refusal::NoMemory),
+        Some(number) => Ok(number),
+    }
+}
+
+/// The number of the first variable of `with` statements among them, where that of `for` statements over members has this
+/// number: behind that one, where the statements have such a `for`.
+fn withs_behind(members: u32, statements: &Compound) -> Result<u32, Refusal>
+    ensures { AnswersNumber (withs_behind members statements.now) result }
+{
+    if !has_for_in(statements) {
+        return Ok(members);
+    }
+    match members.checked_add(1) {
         None => Err(Refusal::NoMemory),
         Some(number) => Ok(number),
     }
@@ -237,6 +251,10 @@ impl Block {
             Ok(members) => members,
             Err(refusal) => return Err(refused_at(body.line, refusal)),
         };
+        let withs = match withs_behind(members, body) {
+            Ok(withs) => withs,
+            Err(refusal) => return Err(refused_at(body.line, refusal)),
+        };
         let results = self.assigned_functions(alloc)?;
         let scopes = self.scopes.in_view();
         let context = Context {
@@ -248,6 +266,7 @@ impl Block {
             locals,
             members,
             routines: self.routines.as_slice(),
+            withs,
         };
         context.compound(body)
     }

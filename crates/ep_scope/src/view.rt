@@ -42,18 +42,18 @@ impl<'a> View<'a> {
         }
     }
 
-    /// The same, where this record is open inside of all that are.
-    pub fn within(&self, alloc: Global, opened: OpenRecord<'a>) -> Result<Inner<'a>, NoMemory>
-        ensures { IfOk result (λ inner. inner ≡ within (open_of opened.entry) self.now) }
+    /// What is in view before a `with` opens its records.
+    pub fn inner(&self, alloc: Global) -> Result<Inner<'a>, NoMemory>
+        ensures { IfOk result (λ inner. inner ≡ self.now) }
     {
         Ok(Inner {
-            records: one_more(alloc, opened, self.records)?,
+            records: List::from_slice(alloc, self.records)?,
             scopes: self.scopes,
         })
     }
 }
 
-/// The scopes in view in the statement of a `with`, whose record is open inside of them.
+/// The scopes in view in the statement of a `with`, whose records are open inside of them.
 pub struct Inner<'a> {
     records: List<OpenRecord<'a>>,
     scopes: &'a [Scope],
@@ -79,6 +79,16 @@ impl<'a> Drop for Inner<'a> {
 }
 
 impl<'a> Inner<'a> {
+    /// The same, where this record is open inside of all that are.
+    pub fn within(self, alloc: Global, opened: OpenRecord<'a>) -> Result<Inner<'a>, NoMemory>
+        ensures { IfOk result (λ inner. inner ≡ within (open_of opened.entry) self.entry) }
+    {
+        Ok(Inner {
+            records: one_more(alloc, opened, self.records.items())?,
+            scopes: self.scopes,
+        })
+    }
+
     /// What code there sees.
     pub fn view(&self) -> View<'_>
         ensures { result ≡ self.now }

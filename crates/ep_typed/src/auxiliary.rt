@@ -255,8 +255,9 @@ fn with_count_of(all: &[TypedStmt]) -> usize
     total
 }
 
+/// Alike, how many are in these arms.
 #[cycle(with_statements)]
-fn with_count_in(all: &[CaseArm]) -> usize
+pub fn with_count_in(all: &[CaseArm]) -> usize
     ensures { result ≡ min (length (spec.with_variables_in (tree.arms (map arm_of all.now)))) usize.MAX }
 {
     let mut total = 0;

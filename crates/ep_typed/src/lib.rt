@@ -17,7 +17,9 @@ mod tree;
 mod unit;
 mod value;
 
-pub use auxiliary::{auxiliary_variables, block_auxiliaries, first_for, first_for_in, with_count};
+pub use auxiliary::{
+    auxiliary_variables, block_auxiliaries, first_for, first_for_in, with_count, with_count_in,
+};
 pub use denoter::{
     Bound, Bounds, Denoter, FieldPart, RecordField, RecordFields, RequiredType, Selector, Variant,
     VariantPart, Variants,

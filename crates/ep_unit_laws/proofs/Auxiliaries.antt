@@ -1,25 +1,30 @@
 -- The auxiliary variables of a block are there, behind those that it declares: two integers where it has a `for` with bounds, a set where it has a `for` over members, and those of its `with` statements.
 use Rattle.std.proofs.Common.{◌≡◌, ℕ, suc, ◌+◌, Bool, true, false, List, [], ◌∷◌, ◌++◌, length, Option, Some, None, slice_get, refl, sym, ap, ◌∙◌, subst, arith, append_assoc}
-use Rattle.std.specs.Prelude.{is_some, if◌then◌else◌}
+use Rattle.std.proofs.lemmas.List.{length-append}
+use Rattle.std.specs.Prelude.{◌≤◌, All, is_some, if◌then◌else◌}
 use Rattle.ep_tree.specs.declared.statement.Compound.{Compound}
 use Rattle.ep_typed.proofs.Auxiliaries.{auxiliary_host, member_base}
-use Rattle.ep_typed.specs.Auxiliaries.{auxiliary_variable, auxiliary_variables, block_auxiliaries, first_for_in_of, first_for_of, member_variable, member_variables, with_variables, with_variables_of}
-use Rattle.ep_typed.specs.Denoters.{host_of}
+use Rattle.ep_typed.proofs.Forms.{named_is}
+use Rattle.ep_typed.specs.Auxiliaries.{auxiliary_variable, auxiliary_variables, block_auxiliaries, first_for_in_of, first_for_of, member_variable, member_variables, with_variable, with_variables, with_variables_of}
+use Rattle.ep_typed.specs.Denoters.{host_of, type_of}
 use Rattle.ep_typed.specs.Hosts as host
-use Rattle.ep_typed.specs.Routines.{unit_variables}
+use Rattle.ep_typed.specs.Routines.{made_by_unit, unit_variables}
 use Rattle.ep_typed.specs.Trees as tree
 use Rattle.ep_typed.specs.Trees.{Denoter, Stmts, entire}
-use Rattle.ep_typed.specs.Valid as valid
-use Rattle.ep_typed.specs.Valid.{Declarations, IsOfKind, IsPlaceWhere, own, variables_up}
+use Rattle.ep_typed.specs.Valid as given
+use Rattle.ep_typed.specs.Valid.{Declarations, IsOfKind, IsPlaceWhere, IsUnmade, first_with_in, own, variables_up}
 use Rattle.ep_typed.specs.Viewed.{denoter_of, stmt_of}
 use Rattle.ep_typed.specs.declared.unit.Unit.{Unit as TypedUnit}
 use Rattle.ep_typed.specs.declared.unit.UnitType.{UnitType}
 use Rattle.ep_typed.specs.declared.unit.UnitVariable.{UnitVariable}
-use Rattle.ep_check_stmt.specs.Auxiliaries.{has_for}
-use Rattle.ep_check_stmt.specs.Laws.{AuxiliariesAreThere, MembersAreThere}
+use Rattle.ep_scope.specs.declared.parameter.TypeName.TheVariants as type_name
+use Rattle.ep_scope.specs.declared.structure.StructuredType.{StructuredType}
+use Rattle.ep_check_expr.specs.Agreement.{HoldsStructure, TypeValues}
+use Rattle.ep_check_stmt.specs.Auxiliaries.{has_for, has_for_in}
+use Rattle.ep_check_stmt.specs.Laws.{AuxiliariesAreThere, MembersAreThere, WithsAreThere}
 use Rattle.ep_check_stmt.specs.Statements.{Locals, OfRoutine, OfUnit, block_variable}
 use Rattle.ep_check_unit.specs.Blocks.{Block, own_count}
-use Rattle.ep_check_unit.specs.Routines.{first_auxiliary, locals_in, locals_of, members_of}
+use Rattle.ep_check_unit.specs.Routines.{first_auxiliary, locals_in, locals_of, members_of, withs_of}
 use Rattle.ep_check_unit.specs.declared.block.Enclosing.{Enclosing}
 use Rattle.ep_unit_laws.proofs.Agreeing.{types_own, variables_own, within}
 use Rattle.ep_unit_laws.proofs.Holds.{innermost, levels_at}
@@ -44,6 +49,13 @@ integers_counted None false e = refl
 integers_counted (Some line) true e = refl
 integers_counted (Some line) false e = cc
 
+-- that of `for` over members is one, where there is such a `for`
+set_counted : (o : Option ℕ) (has : Bool) → is_some o ≡ has → length (member_variables o) ≡ (if has then 1 else 0)
+set_counted None true e = cc
+set_counted None false e = refl
+set_counted (Some line) true e = refl
+set_counted (Some line) false e = cc
+
 module _ (declared : Declarations) (types : List UnitType) where
   -- under these types the variable of this number is that one
   abbrev pub IsLocal : Locals → ℕ → UnitVariable → Type 0
@@ -58,6 +70,10 @@ module _ (declared : Declarations) (types : List UnitType) where
   -- these variables stand behind those that the block declares
   abbrev pub AreBehind : Locals → List UnitVariable → Type 0
   AreBehind locals vs = (k : ℕ) (v : UnitVariable) → slice_get vs k ≡ Some v → IsLocal locals (first_auxiliary locals + k) v
+
+  -- no code makes a variable from this number on
+  abbrev pub IsUnmadeFrom : Locals → ℕ → Type 0
+  IsUnmadeFrom locals first = (n : ℕ) → first ≤ n → IsUnmade declared (block_variable locals n)
 
   -- the integers, where there is a `for` with bounds
   integers_there : (locals : Locals) (o : Option ℕ) (more : List UnitVariable) (at : ℕ) → o ≡ Some at → AreBehind locals (auxiliary_variables o ++ more) → AuxiliariesAreThere declared locals
@@ -84,7 +100,7 @@ module _ (declared : Declarations) (types : List UnitType) where
       let there : slice_get ((integers ++ v ∷ []) ++ more) (length integers) ≡ Some v =
       ap (λ l. slice_get l (length integers)) (append_assoc integers (v ∷ []) more)
       ∙ (ap (slice_get (integers ++ v ∷ more)) {x = length integers} {y = length integers + 0} (omega arith) ∙ behind integers (v ∷ more) 0) in
-      local_placed (IsOfKind (valid.Set host.Integer)) locals (first_auxiliary locals + length integers) v (x (length integers) v there) (member_base types line)
+      local_placed (IsOfKind (given.Set host.Integer)) locals (first_auxiliary locals + length integers) v (x (length integers) v there) (member_base types line)
 
   -- those of a block with these statements
   module _ (locals : Locals) (ss : Stmts) (all : AreBehind locals (auxiliaries_of ss)) where
@@ -97,6 +113,31 @@ module _ (declared : Declarations) (types : List UnitType) where
     for_in_auxiliaries c same at has =
         subst (λ n. MembersAreThere declared locals (first_auxiliary locals + n)) (integers_counted (first_for_of ss) (has_for c) same)
         (set_there locals (auxiliary_variables (first_for_of ss)) (first_for_in_of ss) (with_variables_of ss) at has all)
+
+    -- the first one of `with` stands behind all that are made
+    withs_first : (c : Compound) → is_some (first_for_of ss) ≡ has_for c → is_some (first_for_in_of ss) ≡ has_for_in c → withs_of locals c ≡ first_auxiliary locals + length (block_auxiliaries (tree.Compound ss))
+    withs_first c same same_in =
+        let many = length-append (auxiliary_variables (first_for_of ss)) (member_variables (first_for_in_of ss)) in
+        omega (arith, many, integers_counted (first_for_of ss) (has_for c) same, set_counted (first_for_in_of ss) (has_for_in c) same_in)
+
+    -- each stands for a record of its type, where the types hold the structured types and no code makes a variable behind those that are made
+    with_placed : (values : TypeValues) (structures : List StructuredType) → ((of : ℕ) → values (type_name.Entry of) ≡ type_of types (tree.Named of [])) → All (HoldsStructure values types) structures
+        → (first : ℕ) → first ≡ first_auxiliary locals + length (block_auxiliaries (tree.Compound ss)) → IsUnmadeFrom locals first → WithsAreThere declared values structures locals first (with_variables_of ss)
+    with_placed values structures numbered held first is unmade k line of at =
+        let v : UnitVariable = with_variable line of in
+        let made : List UnitVariable = block_auxiliaries (tree.Compound ss) in
+        let there : IsLocal locals (first + k) v =
+        subst (λ n. IsLocal locals n v) {x = first_auxiliary locals + (length made + k)} {y = first + k} (omega (arith, is)) (all (length made + k) v (behind made (with_variables_of ss) k ∙ at)) in (
+          unmade (first + k) (omega arith),
+          local_placed (λ list d. (d ≡ tree.Named of []) × (type_of list d ≡ values (type_name.Entry of)) × All (HoldsStructure values list) structures) locals (first + k) v there
+              (named_is of [], ap (type_of types) (named_is of []) ∙ sym (numbered of), held),
+        )
+
+    pub with_auxiliaries : (values : TypeValues) (structures : List StructuredType) → ((of : ℕ) → values (type_name.Entry of) ≡ type_of types (tree.Named of [])) → All (HoldsStructure values types) structures
+        → IsUnmadeFrom locals (first_auxiliary locals + length (block_auxiliaries (tree.Compound ss))) → (c : Compound) → is_some (first_for_of ss) ≡ has_for c → is_some (first_for_in_of ss) ≡ has_for_in c
+        → WithsAreThere declared values structures locals (withs_of locals c) (with_variables_of ss)
+    with_auxiliaries values structures numbered held unmade c same same_in =
+        with_placed values structures numbered held (withs_of locals c) (withs_first c same same_in) (subst (IsUnmadeFrom locals) (sym (withs_first c same same_in)) unmade)
 
 -- ---- in a routine, to which the unit gives these variables
 
@@ -111,7 +152,19 @@ module _ (u : TypedUnit) (e : Enclosing) (es : List Enclosing) (c : Block) (line
     refl,
   )
 
+  -- where the first one that no code makes is known
+  pub own_unmade : (made : ℕ) → first_with_in (slice_get u.routines e.number) ≡ own_count c.own + made → IsUnmadeFrom (within u (e ∷ es)) u.types (locals_in c (e ∷ es)) (own_count c.own + made)
+  own_unmade made first n le = (record { number = e.number; variables = given.variables_in (slice_get u.routines e.number); first_with = first_with_in (slice_get u.routines e.number) }, refl, omega (arith, le, first))
+
 -- ---- in the block of a unit
+
+pub unit_unmade : (u : TypedUnit) (b : Block) (ss : Stmts) → b.unit ≡ u.name → u.variables ≡ b.variables → stmt_of u.start ≡ tree.Compound ss → b.own.enclosing ≡ []
+    → IsUnmadeFrom (own u) u.types (locals_of b) (first_auxiliary (locals_of b) + length (block_auxiliaries (tree.Compound ss)))
+unit_unmade u b ss named variables start outermost =
+    let many : length (made_by_unit u) ≡ length b.variables + length (block_auxiliaries (tree.Compound ss)) =
+    length-append u.variables (block_auxiliaries (stmt_of u.start)) ∙ (ap (λ vs. length vs + length (block_auxiliaries (stmt_of u.start))) variables ∙ ap (λ s. length b.variables + length (block_auxiliaries s)) start) in
+    subst (λ es. IsUnmadeFrom (own u) u.types (locals_in b es) (first_auxiliary (locals_in b es) + length (block_auxiliaries (tree.Compound ss)))) (sym outermost)
+    (λ n le. (refl, named, omega (arith, le, many)))
 
 pub unit_behind : (u : TypedUnit) (b : Block) (ss : Stmts) → b.unit ≡ u.name → u.variables ≡ b.variables → stmt_of u.start ≡ tree.Compound ss → b.own.enclosing ≡ [] → AreBehind (own u) u.types (locals_of b) (auxiliaries_of ss)
 unit_behind u b ss named variables start outermost =

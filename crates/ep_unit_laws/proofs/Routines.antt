@@ -1,5 +1,6 @@
 -- Blocks of routines lead from one block to the next, and so do all parts of a block.
-use Rattle.std.proofs.Common.{◌≡◌, ℕ, zero, suc, ◌<◌, ◌≤◌, Bool, true, false, List, [], ◌∷◌, ◌++◌, map, length, Option, Some, None, slice_get, refl, sym, ap, ◌∙◌, subst, append_assoc, arith}
+use Rattle.std.proofs.Common.{◌≡◌, ℕ, ◌+◌, zero, suc, ◌<◌, ◌≤◌, Bool, true, false, List, [], ◌∷◌, ◌++◌, map, length, Option, Some, None, slice_get, refl, sym, ap, ◌∙◌, subst, append_assoc, arith}
+use Rattle.std.proofs.lemmas.List.{length-append, length-map}
 use Rattle.std.proofs.lemmas.List.Elements.{All-head, All-nil, All-tail}
 use Rattle.std.specs.Option.{option_or}
 use Rattle.std.specs.Prelude.{All, slice_set}
@@ -28,24 +29,25 @@ use Rattle.ep_scope.specs.declared.parameter.FormalParameter.{FormalParameter}
 use Rattle.ep_scope.specs.declared.parameter.Protection.TheVariants as protection
 use Rattle.ep_scope.specs.declared.thing.Declaration.TheVariants as declaration
 use Rattle.ep_check_expr.specs.Judgements.{Judged, Accepts, Breaks}
+use Rattle.ep_check_expr.specs.Agreement.{structures_of}
 use Rattle.ep_check_expr.specs.Laws.{BoundsAreKnown, BoundsAreSound, ConstantsAreKnown, ConstantsAreSound}
 use Rattle.ep_check_stmt.specs.Laws.{StatementsAreSound}
 use Rattle.ep_check_stmt.specs.Statements.{Judgement, Passes, Waits, Fails}
-use Rattle.ep_check_stmt.proofs.judged.Auxiliaries.{bounded_there}
+use Rattle.ep_check_stmt.proofs.judged.Auxiliaries.{bounded_there, members_there}
 use Rattle.ep_check_stmt.proofs.judged.Fits.{Fits, fits_then}
-use Rattle.ep_check_unit.specs.Blocks.{Block, RoutineForm, around_of, routine_form}
+use Rattle.ep_check_unit.specs.Blocks.{Block, RoutineForm, around_of, own_count, result_count, routine_form}
 use Rattle.ep_check_unit.specs.Declarations.{Standing, Stands, Falls, and_then, at_line, entered, own_thing, scopes_of, type_definitions, type_denoter}
 use Rattle.ep_check_unit.specs.Functions.{if_given, in_block, is_assigned, is_in_view, own_name_entered, own_result, result_entered, row_gives}
-use Rattle.ep_check_unit.specs.Routines.{BodyJudged, Headed, PartJudged, all_declared, assigns_among, block_declared, body_closed, body_declared, body_ended, context_of, formal_of, formals_entered, forwarded, has_number, heading_entered, inside_declared, locals_in, locals_of, of_body, of_part, of_routine, part_judged, parts_declared, routine_body_judged, routine_judged, scope_opened, set_to, start_headed, start_name, statements_judged, with_its_block}
+use Rattle.ep_check_unit.specs.Routines.{BodyJudged, Headed, PartJudged, all_declared, assigns_among, block_declared, body_closed, body_declared, body_ended, context_of, first_auxiliary, formal_of, formals_entered, forwarded, has_number, heading_entered, inside_declared, locals_in, locals_of, of_body, of_part, of_routine, part_judged, parts_declared, routine_body_judged, routine_judged, scope_opened, set_to, start_headed, start_name, statements_judged, with_its_block}
 use Rattle.ep_check_unit.specs.declared.block.Enclosing.{Enclosing}
 use Rattle.ep_check_unit.specs.declared.block.OwnResult.{OwnResult}
 use Rattle.ep_check_unit.specs.declared.functions.HeadingResult.{HeadingResult}
 use Rattle.ep_check_unit.proofs.Forms.{each_set}
-use Rattle.ep_unit_laws.proofs.Auxiliaries.{AreBehind, auxiliaries_of, for_auxiliaries, for_in_auxiliaries, own_behind}
+use Rattle.ep_unit_laws.proofs.Auxiliaries.{AreBehind, IsUnmadeFrom, auxiliaries_of, for_auxiliaries, for_in_auxiliaries, own_behind, own_unmade, with_auxiliaries}
 use Rattle.ep_unit_laws.proofs.Denoting.{DenotesKind}
 use Rattle.ep_unit_laws.proofs.Headings.{HeadsOn, HoldsHeaded, IsResultOf, after_heading, forward_leads, front_get, headed_leads}
-use Rattle.ep_unit_laws.proofs.Agreeing.{holds_agrees, holds_results, within}
-use Rattle.ep_unit_laws.proofs.Holds.{Head, Holds, HoldsStructuredType, HoldsOwn, HoldsOwnResult, HoldsParameter, HoldsResult, HoldsResultOf, HoldsRoutine, HoldsRoutines, HoldsScopes, HoldsThings, IsPlain, head_of, holds_more, innermost, levels_at, name_denotes, own_innermost, results_deeper, scopes_deeper}
+use Rattle.ep_unit_laws.proofs.Agreeing.{holds_agrees, holds_results, structures_in_view, within}
+use Rattle.ep_unit_laws.proofs.Holds.{Head, Holds, HoldsStructuredType, HoldsOwn, HoldsOwnResult, HoldsParameter, HoldsResult, HoldsResultOf, HoldsRoutine, HoldsRoutines, HoldsScopes, HoldsThings, IsPlain, head_of, holds_more, holds_scopes, innermost, levels_at, name_denotes, own_innermost, results_deeper, scopes_deeper, type_values}
 use Rattle.ep_unit_laws.proofs.Items.{LeadsOn, constants_lead, further, line_leads, then_leads, type_definitions-leads, variables_lead}
 use Rattle.ep_unit_laws.proofs.Leading.{Extends, Grows, Leads, entered_leads, extends_before, head_in, leads_on, leads_refl, length_push, prefix_length, prefix_trans, result_in, variables_in, waits_some}
 use Rattle.ep_unit_laws.proofs.Open as around
@@ -160,6 +162,21 @@ given_variables : (rs : List UnitRoutine) (n : ℕ) (f : RoutineForm) → slice_
 given_variables [] n f e = cc
 given_variables (r ∷ rs) zero f e = let same : routine_form r ≡ f = cc in ap form_variables same
 given_variables (r ∷ rs) (suc n) f e = given_variables rs n f e
+
+-- the number of the first one that no code makes
+abbrev form_first : RoutineForm → ℕ
+form_first f = length f.formals + length (result_variable f.name f.line f.result ++ (f.variables ++ block_auxiliaries f.block))
+
+given_first : (rs : List UnitRoutine) (n : ℕ) (f : RoutineForm) → slice_get (map routine_form rs) n ≡ Some f → given.first_with_in (slice_get rs n) ≡ form_first f
+given_first [] n f e = cc
+given_first (r ∷ rs) zero f e = let same : routine_form r ≡ f = cc in ap form_first same
+given_first (r ∷ rs) (suc n) f e = given_first rs n f e
+
+-- how many there are before it
+made_length : (line : ℕ) (name : List ℕ) (ps : List FormalParameter) (r : Option OwnResult) (vs made : List UnitVariable)
+    → length (map formal_of ps) + length (result_in line name r ++ (vs ++ made)) ≡ length ps + result_count r + length vs + length made
+made_length line name ps None vs made = omega (arith, length-map ps formal_of, length-append vs made)
+made_length line name ps (Some r) vs made = omega (arith, length-map ps formal_of, length-append vs made)
 
 module _ (u : TypedUnit) (few : length u.constants ≤ maxint) (statements : StatementsAreSound) (constants : ConstantsAreSound) (bounds : BoundsAreSound) (constant_hosts : ConstantsAreKnown) (bound_hosts : BoundsAreKnown) where
   -- ---- the block of a routine begins with its formal parameters and its result
@@ -406,13 +423,29 @@ module _ (u : TypedUnit) (few : length u.constants ≤ maxint) (statements : Sta
               subst (λ es. AreBehind (within u es) u.types (locals_in c es) (auxiliaries_of ss)) (sym inside.grows.enclosing)
               (own_behind u Inner Around c line Called (auxiliaries_of ss) its_variables)
 
+          first_unmade : given.first_with_in (slice_get u.routines h.number) ≡ own_count c.own + length (block_auxiliaries (tree.Compound ss))
+          first_unmade =
+              let r = found.0 in
+              given_first u.routines h.number (Given r) (e.bodies h.number (Given r) (pushed_there h.number c.bodies) (to_same c.routines h.number Given r found.1))
+              ∙ (ap (λ fs. length fs + length (result_variable r.name line r.result ++ (c.own.variables ++ block_auxiliaries (tree.Compound ss)))) (formals_same r found.1)
+              ∙ (ap (λ rs. length (map formal_of c.own.parameters) + length (rs ++ (c.own.variables ++ block_auxiliaries (tree.Compound ss)))) (result_there r found.1)
+              ∙ made_length line Called c.own.parameters c.own.result c.own.variables (block_auxiliaries (tree.Compound ss))))
+
+          unmade : IsUnmadeFrom (within u c.own.enclosing) u.types (locals_of c) (first_auxiliary (locals_of c) + length (block_auxiliaries (tree.Compound ss)))
+          unmade =
+              subst (λ es. IsUnmadeFrom (within u es) u.types (locals_in c es) (first_auxiliary (locals_in c es) + length (block_auxiliaries (tree.Compound ss)))) (sym inside.grows.enclosing)
+              (own_unmade u Inner Around c line Called (auxiliaries_of ss) its_variables (length (block_auxiliaries (tree.Compound ss))) first_unmade)
+
           -- what the routine does is valid
           block_valid : AreStmts (within u (Inner ∷ Around)) ss
           block_valid =
               subst (λ es. AreStmts (within u es) ss) inside.grows.enclosing
               (statements (context_of c compound) compound ss pass (within u c.own.enclosing) (holds_agrees u (length c.types) c c_open few_types c_held) (holds_results u (length c.types) c c_open few_types c_held)
               (for_auxiliaries (within u c.own.enclosing) u.types (locals_of c) ss auxiliaries)
-              (for_in_auxiliaries (within u c.own.enclosing) u.types (locals_of c) ss auxiliaries compound (bounded_there (context_of c compound) compound ss pass)))
+              (for_in_auxiliaries (within u c.own.enclosing) u.types (locals_of c) ss auxiliaries compound (bounded_there (context_of c compound) compound ss pass))
+              (with_auxiliaries (within u c.own.enclosing) u.types (locals_of c) ss auxiliaries (type_values u) (structures_of (scopes_of c)) (λ of. refl)
+              (structures_in_view u c.own.enclosing (length c.types) (scopes_of c) few_types (holds_scopes u (length c.types) c c_held)) unmade compound
+              (bounded_there (context_of c compound) compound ss pass) (members_there (context_of c compound) compound ss pass)))
 
           routine_valid : (o : Option RoutineForm) → slice_get c.routines h.number ≡ o → HoldsRoutines u (set_to c.routines h.number Given o)
           routine_valid None at = c_held.routines

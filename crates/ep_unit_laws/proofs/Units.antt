@@ -13,12 +13,12 @@ use Rattle.ep_typed.specs.declared.unit.Unit.{Unit as TypedUnit}
 use Rattle.ep_typed.specs.declared.unit.UnitRoutine.{UnitRoutine}
 use Rattle.ep_check_expr.specs.Judgements.{Judged, Accepts, Breaks}
 use Rattle.ep_check_expr.specs.Laws.{BoundsAreKnown, BoundsAreSound, ConstantsAreKnown, ConstantsAreSound}
-use Rattle.ep_unit_laws.proofs.Auxiliaries.{AreBehind, auxiliaries_of, for_auxiliaries, for_in_auxiliaries, unit_behind}
+use Rattle.ep_unit_laws.proofs.Auxiliaries.{AreBehind, auxiliaries_of, for_auxiliaries, for_in_auxiliaries, unit_behind, unit_unmade, with_auxiliaries}
 use Rattle.ep_scope.specs.Scopes.{depth_in}
 use Rattle.ep_check_expr.specs.Agreement.{AgreesBy, structures_of}
 use Rattle.ep_check_stmt.specs.Laws.{ResultsAreThere, StatementsAreSound}
 use Rattle.ep_check_stmt.specs.Statements.{Judgement, Passes, Waits, Fails, after}
-use Rattle.ep_check_stmt.proofs.judged.Auxiliaries.{bounded_there}
+use Rattle.ep_check_stmt.proofs.judged.Auxiliaries.{bounded_there, members_there}
 use Rattle.ep_check_stmt.proofs.judged.Fits.{Fits}
 use Rattle.ep_check_unit.specs.Declarations.{Standing, Stands, Falls, and_then, at_line, scopes_of}
 use Rattle.ep_check_unit.specs.Functions.{assigned_functions}
@@ -26,8 +26,8 @@ use Rattle.ep_check_unit.specs.Routines.{context_of, locals_of, parts_declared, 
 use Rattle.ep_unit_laws.specs.Laws.{UnitsAreValid}
 use Rattle.ep_check_unit.specs.Units.{IsTypedProgram, IsUnitOf, ProgramForm, body_judged, declarations_wait, first_missing, parameters_entered, program_block, program_form, program_judged, unless_missing}
 use Rattle.ep_check_unit.specs.Blocks.{Block, routine_form}
-use Rattle.ep_unit_laws.proofs.Agreeing.{block_agrees, within}
-use Rattle.ep_unit_laws.proofs.Holds.{Holds, HoldsStructuredType, HoldsParameter, HoldsRoutine, HoldsRoutines, head_of, innermost, levels_at, type_values}
+use Rattle.ep_unit_laws.proofs.Agreeing.{block_agrees, structures_in_view, within}
+use Rattle.ep_unit_laws.proofs.Holds.{Holds, HoldsStructuredType, HoldsParameter, HoldsRoutine, HoldsRoutines, head_of, holds_scopes, innermost, levels_at, type_values}
 use Rattle.ep_unit_laws.proofs.Open.{IsOpen}
 use Rattle.ep_unit_laws.proofs.Items.{LeadsOn, parameters_lead}
 use Rattle.ep_unit_laws.proofs.Leading.{Leads, head_in, leads_trans, prefix_refl, variables_in}
@@ -158,7 +158,11 @@ module _ (statements : StatementsAreSound) (constants : ConstantsAreSound) (boun
                   (block_agrees u (length t.form.block.types) t.form.block (block_open p u t.form made few) le held),
             ) (no_result p u t.form made few)
             (for_auxiliaries (own u) u.types (locals_of t.form.block) t.form.statements auxiliaries)
-            (for_in_auxiliaries (own u) u.types (locals_of t.form.block) t.form.statements auxiliaries p.body (bounded_there (context_of t.form.block p.body) p.body t.form.statements made.statements)));
+            (for_in_auxiliaries (own u) u.types (locals_of t.form.block) t.form.statements auxiliaries p.body (bounded_there (context_of t.form.block p.body) p.body t.form.statements made.statements))
+            (with_auxiliaries (own u) u.types (locals_of t.form.block) t.form.statements auxiliaries (type_values u) (structures_of (scopes_of t.form.block)) (λ of. refl)
+            (structures_in_view u t.form.block.own.enclosing (length t.form.block.types) (scopes_of t.form.block) le (holds_scopes u (length t.form.block.types) t.form.block held))
+            (unit_unmade u t.form.block t.form.statements held.unit t.unit.variables t.unit.start (none_under_way p u t.form made few)) p.body
+            (bounded_there (context_of t.form.block p.body) p.body t.form.statements made.statements) (members_there (context_of t.form.block p.body) p.body t.form.statements made.statements)));
         stop = t.unit.stop;
       }
 

@@ -212,7 +212,7 @@ pub(super) fn statement_is_built(s: &Statement) -> bool
         Statement::Repeat(_, _, _) => true,
         Statement::For(_, name, _, _, _, _) => control_is_built(name),
         Statement::ForIn(_, name, _, _) => control_is_built(name),
-        Statement::With(_, _, _) => false,
+        Statement::With(_, _, _) => true,
     }
 }
 

@@ -10,7 +10,7 @@ use Rattle.ep_tree.specs.declared.statement.Otherwise.{Otherwise, map-Otherwise,
 use Rattle.ep_tree.specs.declared.statement.Statement.{Statement, map-Statement, roll-Statement}
 use Rattle.ep_tree.specs.declared.statement.Statement.TheFolds.{fold-roll-Arm, fold-roll-Compound, fold-roll-Otherwise, fold-roll-Statement, ind-Compound}
 use Rattle.ep_tree.specs.declared.statement.Statement.TheOpen.{Statement-F, Arm-F, Compound-F, Otherwise-F}
-use Rattle.ep_typed.specs.Auxiliaries.{first_for, first_for_arms, first_for_in, first_for_in_arms, first_for_in_of, first_for_in_other, first_for_of, first_for_other}
+use Rattle.ep_typed.specs.Auxiliaries.{first_for, first_for_arms, first_for_in, first_for_in_arms, first_for_in_of, first_for_in_other, first_for_of, first_for_other, with_variables, with_variables_in}
 use Rattle.ep_typed.specs.Trees as tree
 use Rattle.ep_typed.specs.Trees.{Arms, Control, Entire, Expr, MemberControl, Other, Stmt, Stmts}
 use Rattle.ep_typed.specs.declared.tree.CaseRange.{CaseRange}
@@ -19,13 +19,13 @@ use Rattle.ep_check_expr.specs.Judgements.{Judged, Accepts, Breaks}
 use Rattle.ep_check_expr.proofs.Passing.{IfForm}
 use Rattle.ep_check_stmt.specs.Auxiliaries.{arm_has, compound_has, has_for, has_for_in, in_arm, in_compound, in_otherwise, in_statement, is_bounded, is_over_members, otherwise_has, statement_has}
 use Rattle.ep_check_stmt.specs.Cases.{CaseSelector, own_ranges}
-use Rattle.ep_check_stmt.specs.Statements.{ArmJudged, Context, Counted, Judgement, Passes, Waits, Fails, Under, after, arm_judged, arm_row, arms_in_order, at_arm, at_compound, at_item, at_otherwise, at_statement, call_arguments, case_judged, compound_judged, compound_under, condition_judged, control_judged, expr_item, falls_by, for_in_judged, for_judged, formed, if_judged, in_order, otherwise_judged, statement_judged, stmt_item, stmt_threat, unless_threatening}
+use Rattle.ep_check_stmt.specs.Statements.{ArmJudged, Context, Counted, Judgement, Passes, Waits, Fails, Under, after, arm_judged, arm_row, arms_in_order, at_arm, at_compound, at_item, at_otherwise, at_statement, call_arguments, case_judged, compound_judged, compound_under, condition_judged, control_judged, expr_item, falls_by, for_in_judged, for_judged, formed, if_judged, in_order, otherwise_judged, statement_judged, stmt_item, stmt_threat, unless_threatening, Opened, WithHead, behind, inside, none_opened, records_opened, with_form, with_judged}
 use Rattle.ep_check_stmt.specs.Threats.{any_true}
 use Rattle.ep_check_stmt.specs.declared.auxiliaries.ForForm.{ForForm}
 use Rattle.ep_check_stmt.specs.declared.auxiliaries.ForForm.TheVariants as form
 use Rattle.ep_check_stmt.proofs.judged.Fits.{Any, Fits, fits_weaker}
 use Rattle.ep_check_stmt.proofs.judged.Simple.{IsSimple, assignment_simple, called_simple}
-use Rattle.ep_check_stmt.proofs.valid.Passing.{FitsRow, after_fits, formed_fits, item_fits, unthreatening_fits}
+use Rattle.ep_check_stmt.proofs.valid.Passing.{FitsRow, after_fits, behind_fits, formed_fits, item_fits, unthreatening_fits}
 
 row_any : {A : Type 0} (j : Judgement A) → FitsRow Any j
 row_any (Passes a) = tt
@@ -145,17 +145,22 @@ case_has : (asked : ForForm) (line : ℕ) (e : Expr) (arms : Arms) (o : Other) (
 case_has form.Bounds line e arms o x y p q = or_some (first_for_arms arms) (first_for_other o) x y p q
 case_has form.Members line e arms o x y p q = or_some (first_for_in_arms arms) (first_for_in_other o) x y p q
 
+nested_has : (asked : ForForm) (line : ℕ) (hs : List WithHead) (s : Stmt) (x : Bool) → Has asked x s → Has asked x (with_form line hs s)
+nested_has asked line [] s x p = p
+nested_has form.Bounds line (h ∷ hs) s x p = nested_has form.Bounds line hs s x p
+nested_has form.Members line (h ∷ hs) s x p = nested_has form.Members line hs s x p
+
 -- ---- what the rules judge
 
-module _ (asked : ForForm) (c : Context) where
+module _ (asked : ForForm) where
   abbrev Row : Bool → Judgement Stmt → Type 0
   Row b = FitsRow (Has asked b)
 
   abbrev Rows : Bool → Judgement Stmts → Type 0
   Rows b = FitsRow (HasOf asked b)
 
-  simple_row : (controls : List Entire) (line : ℕ) (j : Judged (Option Stmt)) → Fits (IfForm IsSimple) j → Row false (stmt_item c controls line j)
-  simple_row controls line j h =
+  simple_row : (c : Context) (controls : List Entire) (line : ℕ) (j : Judged (Option Stmt)) → Fits (IfForm IsSimple) j → Row false (stmt_item c controls line j)
+  simple_row c controls line j h =
       item_fits (Has asked false) line (unless_threatening (stmt_threat c.routines) controls j)
       (unthreatening_fits (Has asked false) (stmt_threat c.routines) controls j (fits_weaker (IfForm IsSimple) (IfForm (Has asked false)) j weaker h))
     where
@@ -163,34 +168,34 @@ module _ (asked : ForForm) (c : Context) where
       weaker None p = tt
       weaker (Some s) p = simple_has asked s p
 
-  if_row : (line : ℕ) (x : Judgement Expr) (y z : Judgement Stmt) (p q : Bool) → Row p y → Row q z → Row (p || q) (if_judged line x y z)
-  if_row line x y z p q k l =
-      after_fits Any (λ (b : Stmt × Stmt). Has asked p b.0 × Has asked q b.1) (Has asked (p || q)) _ x (after (λ a b. (a, b)) y z) (row_any x)
-      (after_fits (Has asked p) (Has asked q) (λ (b : Stmt × Stmt). Has asked p b.0 × Has asked q b.1) (λ a b. (a, b)) y z k l (λ a b m n. (m, n)))
+  if_row : (c : Context) (line : ℕ) (x : Judgement Expr) (y : Judgement Stmt) (z : Context → Judgement Stmt) (p q : Bool) → Row p y → ((d : Context) → Row q (z d)) → Row (p || q) (if_judged line x y (z (behind with_variables c y)))
+  if_row c line x y z p q k l =
+      after_fits Any (λ (b : Stmt × Stmt). Has asked p b.0 × Has asked q b.1) (Has asked (p || q)) _ x (after (λ a b. (a, b)) y (z (behind with_variables c y))) (row_any x)
+      (behind_fits (Has asked p) (λ d. Has asked q) (λ (b : Stmt × Stmt). Has asked p b.0 × Has asked q b.1) (λ a b. (a, b)) with_variables c y z k l (λ a b m n. (m, n)))
       (λ e b f g. if_has asked line e b.0 b.1 p q g.0 g.1)
 
-  for_row_has : (controls : List Entire) (line : ℕ) (j : Judged Counted) (falls : Bool) (start end : Expression) (body : Under Stmt) (x : Bool) → ((inner : List Entire) → Row x (body inner)) → Row (is_bounded asked || x) (for_judged c controls line j falls start end body)
-  for_row_has controls line (Breaks rules) falls start end body x h = tt
-  for_row_has controls line (Accepts k) falls start end body x h =
-      after_fits Any (Has asked x) (Has asked (is_bounded asked || x)) _ _ (body (k.variable ∷ controls)) (row_any _) (h (k.variable ∷ controls)) (λ head s p q. for_has asked line head.control head.initial head.last s x q)
+  for_row_has : (c : Context) (controls : List Entire) (line : ℕ) (j : Judged Counted) (falls : Bool) (start end : Expression) (body : Under Stmt) (x : Bool) → ((d : Context) (inner : List Entire) → Row x (body d inner)) → Row (is_bounded asked || x) (for_judged c controls line j falls start end body)
+  for_row_has c controls line (Breaks rules) falls start end body x h = tt
+  for_row_has c controls line (Accepts k) falls start end body x h =
+      after_fits Any (Has asked x) (Has asked (is_bounded asked || x)) _ _ (body c (k.variable ∷ controls)) (row_any _) (h c (k.variable ∷ controls)) (λ head s p q. for_has asked line head.control head.initial head.last s x q)
 
-  for_in_row_has : (controls : List Entire) (line : ℕ) (j : Judged Counted) (set : Expression) (body : Under Stmt) (x : Bool) → ((inner : List Entire) → Row x (body inner)) → Row (is_over_members asked || x) (for_in_judged c controls line j set body)
-  for_in_row_has controls line (Breaks rules) set body x h = tt
-  for_in_row_has controls line (Accepts k) set body x h =
-      after_fits Any (Has asked x) (Has asked (is_over_members asked || x)) _ _ (body (k.variable ∷ controls)) (row_any _) (h (k.variable ∷ controls)) (λ head s p q. for_in_has asked line head.control head.set s x q)
+  for_in_row_has : (c : Context) (controls : List Entire) (line : ℕ) (j : Judged Counted) (set : Expression) (body : Under Stmt) (x : Bool) → ((d : Context) (inner : List Entire) → Row x (body d inner)) → Row (is_over_members asked || x) (for_in_judged c controls line j set body)
+  for_in_row_has c controls line (Breaks rules) set body x h = tt
+  for_in_row_has c controls line (Accepts k) set body x h =
+      after_fits Any (Has asked x) (Has asked (is_over_members asked || x)) _ _ (body c (k.variable ∷ controls)) (row_any _) (h c (k.variable ∷ controls)) (λ head s p q. for_in_has asked line head.control head.set s x q)
 
   -- inside of any `for` statements
   abbrev IsStatement : Statement → Type 0
-  IsStatement s = (controls : List Entire) → Row (statement_has asked s) (statement_judged c s controls)
+  IsStatement s = (c : Context) (controls : List Entire) → Row (statement_has asked s) (statement_judged s c controls)
 
   abbrev IsCompound : Compound → Type 0
-  IsCompound s = (controls : List Entire) → Rows (compound_has asked s) (compound_under c s controls)
+  IsCompound s = (c : Context) (controls : List Entire) → Rows (compound_has asked s) (compound_under s c controls)
 
   abbrev IsArm : Arm → Type 0
-  IsArm a = (controls : List Entire) → Row (arm_has asked a) ((arm_judged c a).1 controls)
+  IsArm a = (c : Context) (controls : List Entire) → Row (arm_has asked a) ((arm_judged a).1 c controls)
 
   abbrev IsOtherwise : Otherwise → Type 0
-  IsOtherwise o = (controls : List Entire) → Rows (otherwise_has asked o) (otherwise_judged c o controls)
+  IsOtherwise o = (c : Context) (controls : List Entire) → Rows (otherwise_has asked o) (otherwise_judged o c controls)
 
   abbrev ItsStatement : Type 0
   ItsStatement = (s : Statement) × IsStatement s
@@ -219,99 +224,108 @@ module _ (asked : ForForm) (c : Context) where
 
   -- a layer that is rolled up
   rolled : (x : Statement-F Statement Arm Compound Otherwise)
-      → ((controls : List Entire) → Row (in_statement asked (map-Statement Statement Arm Compound Otherwise Bool Bool Bool Bool (statement_has asked) (arm_has asked) (compound_has asked) (otherwise_has asked) x)) (at_statement c (map-Statement Statement Arm Compound Otherwise (Under Stmt) ArmJudged (Under Stmts) (Under Stmts) (statement_judged c) (arm_judged c) (compound_under c) (otherwise_judged c) x) controls))
+      → ((c : Context) (controls : List Entire) → Row (in_statement asked (map-Statement Statement Arm Compound Otherwise Bool Bool Bool Bool (statement_has asked) (arm_has asked) (compound_has asked) (otherwise_has asked) x)) (at_statement (map-Statement Statement Arm Compound Otherwise (Under Stmt) ArmJudged (Under Stmts) (Under Stmts) statement_judged arm_judged compound_under otherwise_judged x) c controls))
       → IsStatement (roll-Statement x)
-  rolled x h controls =
-      subst (λ b. Row b (statement_judged c (roll-Statement x) controls)) (sym (fold-roll-Statement Bool Bool Bool Bool (in_statement asked) (in_arm asked) (in_compound asked) (in_otherwise asked) x))
-      (subst (λ (judge : Under Stmt). Row (in_statement asked (map-Statement Statement Arm Compound Otherwise Bool Bool Bool Bool (statement_has asked) (arm_has asked) (compound_has asked) (otherwise_has asked) x)) (judge controls))
-      (sym (fold-roll-Statement (Under Stmt) ArmJudged (Under Stmts) (Under Stmts) (at_statement c) (at_arm c) (at_compound c) (at_otherwise c) x)) (h controls))
+  rolled x h c controls =
+      subst (λ b. Row b (statement_judged (roll-Statement x) c controls)) (sym (fold-roll-Statement Bool Bool Bool Bool (in_statement asked) (in_arm asked) (in_compound asked) (in_otherwise asked) x))
+      (subst (λ (judge : Under Stmt). Row (in_statement asked (map-Statement Statement Arm Compound Otherwise Bool Bool Bool Bool (statement_has asked) (arm_has asked) (compound_has asked) (otherwise_has asked) x)) (judge c controls))
+      (sym (fold-roll-Statement (Under Stmt) ArmJudged (Under Stmts) (Under Stmts) at_statement at_arm at_compound at_otherwise x)) (h c controls))
 
   rolled_arm : (x : Arm-F Statement Arm Compound Otherwise) → IsStatement x.body → IsArm (roll-Arm x)
-  rolled_arm x h controls =
-      subst (λ b. Row b ((arm_judged c (roll-Arm x)).1 controls)) (sym (fold-roll-Arm Bool Bool Bool Bool (in_statement asked) (in_arm asked) (in_compound asked) (in_otherwise asked) x))
-      (subst (λ (a : ArmJudged). Row (statement_has asked x.body) (a.1 controls)) (sym (fold-roll-Arm (Under Stmt) ArmJudged (Under Stmts) (Under Stmts) (at_statement c) (at_arm c) (at_compound c) (at_otherwise c) x)) (h controls))
+  rolled_arm x h c controls =
+      subst (λ b. Row b ((arm_judged (roll-Arm x)).1 c controls)) (sym (fold-roll-Arm Bool Bool Bool Bool (in_statement asked) (in_arm asked) (in_compound asked) (in_otherwise asked) x))
+      (subst (λ (a : ArmJudged). Row (statement_has asked x.body) (a.1 c controls)) (sym (fold-roll-Arm (Under Stmt) ArmJudged (Under Stmts) (Under Stmts) at_statement at_arm at_compound at_otherwise x)) (h c controls))
 
-  rolled_compound : (x : Compound-F Statement Arm Compound Otherwise) → ((controls : List Entire) → Rows (any_true (map (statement_has asked) x.statements)) (in_order (map (λ s. s controls) (map (statement_judged c) x.statements)))) → IsCompound (roll-Compound x)
-  rolled_compound x h controls =
-      subst (λ b. Rows b (compound_under c (roll-Compound x) controls)) (sym (fold-roll-Compound Bool Bool Bool Bool (in_statement asked) (in_arm asked) (in_compound asked) (in_otherwise asked) x))
-      (subst (λ (judge : Under Stmts). Rows (any_true (map (statement_has asked) x.statements)) (judge controls)) (sym (fold-roll-Compound (Under Stmt) ArmJudged (Under Stmts) (Under Stmts) (at_statement c) (at_arm c) (at_compound c) (at_otherwise c) x)) (h controls))
+  rolled_compound : (x : Compound-F Statement Arm Compound Otherwise) → ((c : Context) (controls : List Entire) → Rows (any_true (map (statement_has asked) x.statements)) (in_order (map statement_judged x.statements) c controls)) → IsCompound (roll-Compound x)
+  rolled_compound x h c controls =
+      subst (λ b. Rows b (compound_under (roll-Compound x) c controls)) (sym (fold-roll-Compound Bool Bool Bool Bool (in_statement asked) (in_arm asked) (in_compound asked) (in_otherwise asked) x))
+      (subst (λ (judge : Under Stmts). Rows (any_true (map (statement_has asked) x.statements)) (judge c controls)) (sym (fold-roll-Compound (Under Stmt) ArmJudged (Under Stmts) (Under Stmts) at_statement at_arm at_compound at_otherwise x)) (h c controls))
 
-  rolled_otherwise : (x : Otherwise-F Statement Arm Compound Otherwise) → ((controls : List Entire) → Rows (any_true (map (statement_has asked) x.statements)) (in_order (map (λ s. s controls) (map (statement_judged c) x.statements)))) → IsOtherwise (roll-Otherwise x)
-  rolled_otherwise x h controls =
-      subst (λ b. Rows b (otherwise_judged c (roll-Otherwise x) controls)) (sym (fold-roll-Otherwise Bool Bool Bool Bool (in_statement asked) (in_arm asked) (in_compound asked) (in_otherwise asked) x))
-      (subst (λ (judge : Under Stmts). Rows (any_true (map (statement_has asked) x.statements)) (judge controls)) (sym (fold-roll-Otherwise (Under Stmt) ArmJudged (Under Stmts) (Under Stmts) (at_statement c) (at_arm c) (at_compound c) (at_otherwise c) x)) (h controls))
+  rolled_otherwise : (x : Otherwise-F Statement Arm Compound Otherwise) → ((c : Context) (controls : List Entire) → Rows (any_true (map (statement_has asked) x.statements)) (in_order (map statement_judged x.statements) c controls)) → IsOtherwise (roll-Otherwise x)
+  rolled_otherwise x h c controls =
+      subst (λ b. Rows b (otherwise_judged (roll-Otherwise x) c controls)) (sym (fold-roll-Otherwise Bool Bool Bool Bool (in_statement asked) (in_arm asked) (in_compound asked) (in_otherwise asked) x))
+      (subst (λ (judge : Under Stmts). Rows (any_true (map (statement_has asked) x.statements)) (judge c controls)) (sym (fold-roll-Otherwise (Under Stmt) ArmJudged (Under Stmts) (Under Stmts) at_statement at_arm at_compound at_otherwise x)) (h c controls))
 
   -- statements in order
-  rows_have : (controls : List Entire) (ss : List ItsStatement) → Rows (any_true (map (statement_has asked) (map (λ s. s.0) ss))) (in_order (map (λ s. s controls) (map (statement_judged c) (map (λ s. s.0) ss))))
-  rows_have controls [] = none_has asked
-  rows_have controls (s ∷ ss) =
+  rows_have : (ss : List ItsStatement) (c : Context) (controls : List Entire) → Rows (any_true (map (statement_has asked) (map (λ s. s.0) ss))) (in_order (map statement_judged (map (λ s. s.0) ss)) c controls)
+  rows_have [] c controls = none_has asked
+  rows_have (s ∷ ss) c controls =
       let more : Bool = any_true (map (statement_has asked) (map (λ t. t.0) ss)) in
-      after_fits (Has asked (statement_has asked s.0)) (HasOf asked more) (HasOf asked (statement_has asked s.0 || more)) tree.next (statement_judged c s.0 controls) (in_order (map (λ t. t controls) (map (statement_judged c) (map (λ t. t.0) ss)))) (s.1 controls) (rows_have controls ss)
+      behind_fits (Has asked (statement_has asked s.0)) (λ d. HasOf asked more) (HasOf asked (statement_has asked s.0 || more)) tree.next with_variables c (statement_judged s.0 c controls) (λ d. in_order (map statement_judged (map (λ t. t.0) ss)) d controls) (s.1 c controls) (λ d. rows_have ss d controls)
       (λ x xs p q. next_has asked x xs (statement_has asked s.0) more p q)
 
   -- ---- `case`
 
-  arms_have : (line : ℕ) (h : Host) (controls : List Entire) (all : List ItsArm) → FitsRow (HasArms asked (any_true (map (arm_has asked) (map (λ a. a.0) all)))) (arms_in_order (map (arm_row c.scopes line h controls) (map (arm_judged c) (map (λ a. a.0) all))))
-  arms_have line h controls [] = no_arm_has asked
-  arms_have line h controls (a ∷ all) =
+  arms_have : (line : ℕ) (h : Host) (controls : List Entire) (all : List ItsArm) (c : Context) → FitsRow (HasArms asked (any_true (map (arm_has asked) (map (λ a. a.0) all)))) (arms_in_order line h (map arm_judged (map (λ a. a.0) all)) c controls)
+  arms_have line h controls [] c = no_arm_has asked
+  arms_have line h controls (a ∷ all) c =
       let own : Bool = arm_has asked a.0 in
       let more : Bool = any_true (map (arm_has asked) (map (λ b. b.0) all)) in
-      after_fits (λ (x : tree.Arm). Has asked own x.1) (HasArms asked more) (HasArms asked (own || more)) (λ x xs. tree.next_arm x.0 x.1 xs) (arm_row c.scopes line h controls (arm_judged c a.0)) (arms_in_order (map (arm_row c.scopes line h controls) (map (arm_judged c) (map (λ b. b.0) all))))
-      (after_fits Any (Has asked own) (λ (x : tree.Arm). Has asked own x.1) (λ ranges s. (ranges, s)) (at_item line (own_ranges c.scopes h (arm_judged c a.0).0)) ((arm_judged c a.0).1 controls) (row_any _) (a.1 controls) (λ ranges s p q. q))
-      (arms_have line h controls all) (λ x xs p q. next_arm_has asked x.0 x.1 xs own more p q)
+      behind_fits (λ (x : tree.Arm). Has asked own x.1) (λ d. HasArms asked more) (HasArms asked (own || more)) (λ x xs. tree.next_arm x.0 x.1 xs) (λ (x : tree.Arm). with_variables x.1) c (arm_row line h (arm_judged a.0) c controls) (λ d. arms_in_order line h (map arm_judged (map (λ b. b.0) all)) d controls)
+      (after_fits Any (Has asked own) (λ (x : tree.Arm). Has asked own x.1) (λ ranges s. (ranges, s)) (at_item line (own_ranges c.scopes h (arm_judged a.0).0)) ((arm_judged a.0).1 c controls) (row_any _) (a.1 c controls) (λ ranges s p q. q))
+      (λ d. arms_have line h controls all d) (λ x xs p q. next_arm_has asked x.0 x.1 xs own more p q)
 
-  case_row_has : (controls : List Entire) (line : ℕ) (j : Judged CaseSelector) (all : List ItsArm) (other : Judgement Other) (y : Bool) → FitsRow (HasOther asked y) other
-      → Row (any_true (map (arm_has asked) (map (λ a. a.0) all)) || y) (case_judged line (λ x. expr_item c controls (Accepts x)) j (λ h. arms_in_order (map (arm_row c.scopes line h controls) (map (arm_judged c) (map (λ a. a.0) all)))) other)
-  case_row_has controls line (Breaks rules) all other y h = tt
-  case_row_has controls line (Accepts s) all other y h =
+  case_row_has : (c : Context) (controls : List Entire) (line : ℕ) (j : Judged CaseSelector) (all : List ItsArm) (other : Context → Judgement Other) (y : Bool) → ((d : Context) → FitsRow (HasOther asked y) (other d))
+      → Row (any_true (map (arm_has asked) (map (λ a. a.0) all)) || y) (case_judged line (λ x. expr_item c controls (Accepts x)) j (λ h. arms_in_order line h (map arm_judged (map (λ a. a.0) all)) c controls) (λ arms. other (behind with_variables_in c arms)))
+  case_row_has c controls line (Breaks rules) all other y h = tt
+  case_row_has c controls line (Accepts s) all other y h =
       let own : Bool = any_true (map (arm_has asked) (map (λ a. a.0) all)) in
-      after_fits Any (λ (x : Arms × Other). HasArms asked own x.0 × HasOther asked y x.1) (Has asked (own || y)) _ _ _ (row_any _)
-      (after_fits (HasArms asked own) (HasOther asked y) (λ (x : Arms × Other). HasArms asked own x.0 × HasOther asked y x.1) (λ a b. (a, b)) _ other (arms_have line s.host controls all) h (λ a b p q. (p, q)))
+      let arms : Judgement Arms = arms_in_order line s.host (map arm_judged (map (λ a. a.0) all)) c controls in
+      after_fits Any (λ (x : Arms × Other). HasArms asked own x.0 × HasOther asked y x.1) (Has asked (own || y)) _ _ (after (λ a b. (a, b)) arms (other (behind with_variables_in c arms))) (row_any _)
+      (behind_fits (HasArms asked own) (λ d. HasOther asked y) (λ (x : Arms × Other). HasArms asked own x.0 × HasOther asked y x.1) (λ a b. (a, b)) with_variables_in c arms other (arms_have line s.host controls all c) h (λ a b p q. (p, q)))
       (λ e x p q. case_has asked line e x.0 x.1 own y q.0 q.1)
+
+  -- ---- `with`
+
+  with_row_has : (c : Context) (controls : List Entire) (line : ℕ) (j : Judged Opened) (body : Under Stmt) (x : Bool) → ((d : Context) (inner : List Entire) → Row x (body d inner)) → Row x (with_judged c controls line j body)
+  with_row_has c controls line (Breaks rules) body x h = tt
+  with_row_has c controls line (Accepts o) body x h = after_fits Any (Has asked x) (Has asked x) (with_form line) _ (body (inside c o) controls) (row_any _) (h (inside c o) controls) (λ hs s p q. nested_has asked line hs s x q)
 
   -- each statement, by those in it
   statement_step : (y : Statement-F ItsStatement ItsArm ItsCompound ItsOtherwise) → IsStatement (roll-Statement (statement_layer y))
-  statement_step (Statement-F.Empty line) = rolled (Statement-F.Empty line) (λ controls. empty_has asked)
-  statement_step (Statement-F.Assignment line access v) = rolled (Statement-F.Assignment line access v) (λ controls. simple_row controls line _ (assignment_simple c line access v))
-  statement_step (Statement-F.Call line access) = rolled (Statement-F.Call line access) (λ controls. simple_row controls line _ (called_simple c line (out-Access access).name (call_arguments (out-Access access).selectors)))
+  statement_step (Statement-F.Empty line) = rolled (Statement-F.Empty line) (λ c controls. empty_has asked)
+  statement_step (Statement-F.Assignment line access v) = rolled (Statement-F.Assignment line access v) (λ c controls. simple_row c controls line _ (assignment_simple c line access v))
+  statement_step (Statement-F.Call line access) = rolled (Statement-F.Call line access) (λ c controls. simple_row c controls line _ (called_simple c line (out-Access access).name (call_arguments (out-Access access).selectors)))
   statement_step (Statement-F.Compound s) =
-      rolled (Statement-F.Compound s.0) (λ controls. formed_fits (HasOf asked (compound_has asked s.0)) (Has asked (compound_has asked s.0)) tree.Compound (compound_under c s.0 controls) (s.1 controls) (λ ss p. compound_form_has asked (compound_has asked s.0) ss p))
+      rolled (Statement-F.Compound s.0) (λ c controls. formed_fits (HasOf asked (compound_has asked s.0)) (Has asked (compound_has asked s.0)) tree.Compound (compound_under s.0 c controls) (s.1 c controls) (λ ss p. compound_form_has asked (compound_has asked s.0) ss p))
   statement_step (Statement-F.If line e then_part None) =
-      rolled (statement_layer (Statement-F.If line e then_part None)) (λ controls. if_row line (condition_judged c controls line e) (statement_judged c then_part.0 controls) (Passes tree.Empty) (statement_has asked then_part.0) false (then_part.1 controls) (empty_has asked))
+      rolled (statement_layer (Statement-F.If line e then_part None))
+      (λ c controls. if_row c line (condition_judged c controls line e) (statement_judged then_part.0 c controls) (λ d. Passes tree.Empty) (statement_has asked then_part.0) false (then_part.1 c controls) (λ d. empty_has asked))
   statement_step (Statement-F.If line e then_part (Some other)) =
       rolled (statement_layer (Statement-F.If line e then_part (Some other)))
-      (λ controls. if_row line (condition_judged c controls line e) (statement_judged c then_part.0 controls) (statement_judged c other.0 controls) (statement_has asked then_part.0) (statement_has asked other.0) (then_part.1 controls) (other.1 controls))
+      (λ c controls. if_row c line (condition_judged c controls line e) (statement_judged then_part.0 c controls) (λ d. statement_judged other.0 d controls) (statement_has asked then_part.0) (statement_has asked other.0) (then_part.1 c controls) (λ d. other.1 d controls))
   statement_step (Statement-F.While line e body) =
       rolled (Statement-F.While line e body.0)
-      (λ controls. after_fits Any (Has asked (statement_has asked body.0)) (Has asked (statement_has asked body.0)) (tree.While line) (condition_judged c controls line e) (statement_judged c body.0 controls) (row_any _) (body.1 controls) (λ x s p q. while_has asked line x s (statement_has asked body.0) q))
+      (λ c controls. after_fits Any (Has asked (statement_has asked body.0)) (Has asked (statement_has asked body.0)) (tree.While line) (condition_judged c controls line e) (statement_judged body.0 c controls) (row_any _) (body.1 c controls) (λ x s p q. while_has asked line x s (statement_has asked body.0) q))
   statement_step (Statement-F.Case line e arms None) =
-      rolled (statement_layer (Statement-F.Case line e arms None)) (λ controls. case_row_has controls line _ arms (Passes tree.no_other) false (no_other_has asked))
+      rolled (statement_layer (Statement-F.Case line e arms None)) (λ c controls. case_row_has c controls line _ arms (λ d. Passes tree.no_other) false (λ d. no_other_has asked))
   statement_step (Statement-F.Case line e arms (Some o)) =
       rolled (statement_layer (Statement-F.Case line e arms (Some o)))
-      (λ controls. case_row_has controls line _ arms (formed tree.otherwise_do (otherwise_judged c o.0 controls)) (otherwise_has asked o.0)
-      (formed_fits (HasOf asked (otherwise_has asked o.0)) (HasOther asked (otherwise_has asked o.0)) tree.otherwise_do (otherwise_judged c o.0 controls) (o.1 controls) (λ ss p. otherwise_form_has asked ss (otherwise_has asked o.0) p)))
+      (λ c controls. case_row_has c controls line _ arms (λ d. formed tree.otherwise_do (otherwise_judged o.0 d controls)) (otherwise_has asked o.0)
+      (λ d. formed_fits (HasOf asked (otherwise_has asked o.0)) (HasOther asked (otherwise_has asked o.0)) tree.otherwise_do (otherwise_judged o.0 d controls) (o.1 d controls) (λ ss p. otherwise_form_has asked ss (otherwise_has asked o.0) p)))
   statement_step (Statement-F.Repeat line statements e) =
       rolled (statement_layer (Statement-F.Repeat line statements e))
-      (λ controls. let own : Bool = any_true (map (statement_has asked) (map (λ s. s.0) statements)) in
-      after_fits Any (HasOf asked own) (Has asked own) (λ x body. tree.Repeat line body x) (condition_judged c controls line e) (in_order (map (λ s. s controls) (map (statement_judged c) (map (λ s. s.0) statements)))) (row_any _) (rows_have controls statements) (λ x ss p q. repeat_has asked line x ss own q))
+      (λ c controls. let own : Bool = any_true (map (statement_has asked) (map (λ s. s.0) statements)) in
+      after_fits Any (HasOf asked own) (Has asked own) (λ x body. tree.Repeat line body x) (condition_judged c controls line e) (in_order (map statement_judged (map (λ s. s.0) statements)) c controls) (row_any _) (rows_have statements c controls) (λ x ss p q. repeat_has asked line x ss own q))
   statement_step (Statement-F.For line variable start toward end body) =
-      rolled (statement_layer (Statement-F.For line variable start toward end body)) (λ controls. for_row_has controls line (control_judged c variable) (falls_by toward) start end (statement_judged c body.0) (statement_has asked body.0) body.1)
+      rolled (statement_layer (Statement-F.For line variable start toward end body)) (λ c controls. for_row_has c controls line (control_judged c variable) (falls_by toward) start end (statement_judged body.0) (statement_has asked body.0) body.1)
   statement_step (Statement-F.ForIn line variable set body) =
-      rolled (statement_layer (Statement-F.ForIn line variable set body)) (λ controls. for_in_row_has controls line (control_judged c variable) set (statement_judged c body.0) (statement_has asked body.0) body.1)
-  statement_step (Statement-F.With line accesses body) = rolled (statement_layer (Statement-F.With line accesses body)) (λ controls. tt)
+      rolled (statement_layer (Statement-F.ForIn line variable set body)) (λ c controls. for_in_row_has c controls line (control_judged c variable) set (statement_judged body.0) (statement_has asked body.0) body.1)
+  statement_step (Statement-F.With line accesses body) =
+      rolled (statement_layer (Statement-F.With line accesses body)) (λ c controls. with_row_has c controls line (records_opened c accesses (none_opened c)) (statement_judged body.0) (statement_has asked body.0) body.1)
 
   compound_step : (s : Compound) → IsCompound s
   compound_step =
       ind-Compound IsStatement IsArm IsCompound IsOtherwise
       (λ x y e. subst (λ z. IsStatement (roll-Statement z)) e (statement_step y))
       (λ x y e. subst (λ z. IsArm (roll-Arm z)) e (rolled_arm (arm_layer y) y.body.1))
-      (λ x y e. subst (λ z. IsCompound (roll-Compound z)) e (rolled_compound (compound_layer y) (λ controls. rows_have controls y.statements)))
-      (λ x y e. subst (λ z. IsOtherwise (roll-Otherwise z)) e (rolled_otherwise (otherwise_layer y) (λ controls. rows_have controls y.statements)))
+      (λ x y e. subst (λ z. IsCompound (roll-Compound z)) e (rolled_compound (compound_layer y) (λ c controls. rows_have y.statements c controls)))
+      (λ x y e. subst (λ z. IsOtherwise (roll-Otherwise z)) e (rolled_otherwise (otherwise_layer y) (λ c controls. rows_have y.statements c controls)))
 
 -- the typed statements of a block have a first `for` with bounds exactly where the text has one
 pub bounded_there : (context : Context) (c : Compound) (ss : Stmts) → compound_judged context c ≡ Passes ss → is_some (first_for_of ss) ≡ has_for c
-bounded_there context c ss is = subst (FitsRow (HasOf form.Bounds (has_for c))) is (compound_step form.Bounds context c [])
+bounded_there context c ss is = subst (FitsRow (HasOf form.Bounds (has_for c))) is (compound_step form.Bounds c context [])
 
 -- and so one over members
 pub members_there : (context : Context) (c : Compound) (ss : Stmts) → compound_judged context c ≡ Passes ss → is_some (first_for_in_of ss) ≡ has_for_in c
-members_there context c ss is = subst (FitsRow (HasOf form.Members (has_for_in c))) is (compound_step form.Members context c [])
+members_there context c ss is = subst (FitsRow (HasOf form.Members (has_for_in c))) is (compound_step form.Members c context [])

@@ -5,7 +5,7 @@ use Rattle.std.specs.List.{list_all}
 use Rattle.std.proofs.lemmas.List.Elements.{All-nil, All-push}
 use Rattle.ep_tree.specs.declared.expression.Expression.{Expression}
 use Rattle.ep_tree.specs.declared.expression.Label.{Label, out-Label}
-use Rattle.ep_typed.specs.Auxiliaries.{first_for, first_for_arms, first_for_in, first_for_in_arms, first_for_in_other, first_for_other}
+use Rattle.ep_typed.specs.Auxiliaries.{first_for, first_for_arms, first_for_in, first_for_in_arms, first_for_in_other, first_for_other, with_variables, with_variables_in, with_variables_other}
 use Rattle.ep_typed.specs.Hosts.{is_of_host}
 use Rattle.ep_typed.specs.Operations.{is_apart}
 use Rattle.ep_typed.specs.Trees as tree
@@ -21,7 +21,9 @@ use Rattle.ep_scope.specs.declared.kind.Host.{Host}
 use Rattle.ep_scope.specs.declared.kind.Kind.{Kind}
 use Rattle.ep_scope.specs.declared.kind.Kind.TheVariants as kind
 use Rattle.ep_scope.specs.declared.rule.TheConstants as rule
-use Rattle.ep_check_expr.specs.Agreement.{Agrees, IsConstantOf}
+use Rattle.ep_typed.specs.declared.unit.UnitVariable.{UnitVariable}
+use Rattle.ep_scope.specs.declared.structure.StructuredType.{StructuredType}
+use Rattle.ep_check_expr.specs.Agreement.{Agrees, IsConstantOf, TypeValues}
 use Rattle.ep_check_expr.specs.Constants.{label_judged}
 use Rattle.ep_check_expr.specs.Hosts.{typed_host}
 use Rattle.ep_check_expr.specs.Judgements.{Judged, Accepts, Breaks, when_accepted}
@@ -30,11 +32,11 @@ use Rattle.ep_check_expr.specs.declared.constants.ConstantForm.{ConstantForm}
 use Rattle.ep_check_expr.proofs.Passing.{IfForm}
 use Rattle.ep_check_expr.proofs.SameHost.{host_same}
 use Rattle.ep_check_stmt.specs.Cases.{CaseSelector, added, arms_taken, at_least_one, end_judged, fitting, label_taken, labelled, labels_taken, no_labels, own_ranges, range_judged, ranges_formed, ranging}
-use Rattle.ep_check_stmt.specs.Statements.{ArmJudged, Context, Judgement, after, arm_row, arms_in_order, at_item, case_row}
+use Rattle.ep_check_stmt.specs.Statements.{ArmJudged, Context, Judgement, after, arm_row, arms_in_order, at_item, behind, case_row}
 use Rattle.ep_check_stmt.specs.declared.cases.Labels.{Labels}
 use Rattle.ep_check_stmt.proofs.judged.Fits.{Fits, fits_both, fits_then}
-use Rattle.ep_check_stmt.proofs.valid.Passing.{FitsRow, after_fits, item_fits}
-use Rattle.ep_check_stmt.proofs.valid.Sound.{ArmsAreSound, IsSound, OtherIsSound, first_part, second_part}
+use Rattle.ep_check_stmt.proofs.valid.Passing.{FitsRow, after_fits, behind_fits, fits_if, form_if, item_fits}
+use Rattle.ep_check_stmt.proofs.valid.Sound.{Agreed, ArmsAreSound, IsSound, OtherIsSound, agrees_in, behind_withs, first_part, second_part}
 
 -- ---- ranges that are apart
 
@@ -113,7 +115,19 @@ module _ (scopes : List Region) (h : Host) where
       go (Breaks rules) is e = cc
       go (Accepts next) is e = q next more e ∙ (ap (λ l. l ++ ranges_of arms) (p found next is) ∙ append_assoc found.ranges rs (ranges_of arms))
 
-module _ (declared : Declarations) (context : Context) (labels : LabelsAreSound) (scopes : List Region) (agrees : Agrees declared scopes) (h : Host) where
+-- the ranges of an arm: at least one, and each of the host
+abbrev AreOwn : Declarations → Host → List CaseRange → Type 0
+AreOwn declared h rs = HasRange declared rs × All (IsRange declared (typed_host h)) rs
+
+-- the labels of all arms
+abbrev pub AreApartIn : List Region → Host → List (List Label) → Type 0
+AreApartIn scopes h all = (found : Labels) × (arms_taken scopes h all no_labels ≡ Accepts found) × AreApart found.ranges
+
+-- the form of a selector of this host, and the labels of all arms
+abbrev pub IsSelected : Declarations → List Region → Host → List (List Label) → Option Expr → Type 0
+IsSelected declared scopes h all form = IfForm (λ x. IsExpr declared (valid.Ordinal (typed_host h)) x) form × AreApartIn scopes h all
+
+module _ (declared : Declarations) (labels : LabelsAreSound) (scopes : List Region) (agrees : Agrees declared scopes) (h : Host) where
   -- ---- labels
 
   -- an end of a label is a value of the host
@@ -194,82 +208,104 @@ module _ (declared : Declarations) (context : Context) (labels : LabelsAreSound)
 
   -- ---- arms
 
-  -- the ranges of an arm: at least one, and each of the host
-  abbrev AreOwn : List CaseRange → Type 0
-  AreOwn rs = HasRange declared rs × All IsRangeOf rs
-
-  at_least : (rs : List CaseRange) → All IsRangeOf rs → Fits (IfForm AreOwn) (at_least_one rs)
+  at_least : (rs : List CaseRange) → All IsRangeOf rs → Fits (IfForm (AreOwn declared h)) (at_least_one rs)
   at_least [] p = tt
   at_least (r ∷ rs) p = (tt, p)
 
-  formed_by : (found : Labels) (t : Bool) → AreLabels found → Fits (IfForm AreOwn) (if t then at_least_one found.ranges else Accepts None)
+  formed_by : (found : Labels) (t : Bool) → AreLabels found → Fits (IfForm (AreOwn declared h)) (if t then at_least_one found.ranges else Accepts None)
   formed_by found true p = at_least found.ranges p.0
   formed_by found false p = tt
 
-  own_fits : (ls : List Label) → Fits (IfForm AreOwn) (own_ranges scopes h ls)
-  own_fits ls = fits_then AreLabels (IfForm AreOwn) ranges_formed (labels_taken scopes h ls no_labels) (labels_fit ls no_labels none_yet) (λ found p. formed_by found found.built p)
+  pub own_fits : (ls : List Label) → Fits (IfForm (AreOwn declared h)) (own_ranges scopes h ls)
+  own_fits ls = fits_then AreLabels (IfForm (AreOwn declared h)) ranges_formed (labels_taken scopes h ls no_labels) (labels_fit ls no_labels none_yet) (λ found p. formed_by found found.built p)
 
-  pair_if : (P Q : List CaseRange → Type 0) (j : Judged (Option (List CaseRange))) → Fits (IfForm P) j → Fits (IfForm Q) j → Fits (IfForm (λ rs. P rs × Q rs)) j
-  pair_if P Q (Accepts None) p q = tt
-  pair_if P Q (Accepts (Some rs)) p q = (p, q)
-  pair_if P Q (Breaks rules) p q = tt
+  -- the form, where the labels are built too
+  pub labelled_fits : (all : List (List Label)) (form : Option Expr) → IfForm (λ x. IsExpr declared (valid.Ordinal (typed_host h)) x) form → Fits (λ (s : CaseSelector). (s.host ≡ h) × IsSelected declared scopes h all s.form) (labelled scopes all (record { host = h; form = form }))
+  labelled_fits all form p = go (arms_taken scopes h all no_labels) refl (all_labels_fit all no_labels none_yet)
+    where
+      by_built : (found : Labels) (t : Bool) → arms_taken scopes h all no_labels ≡ Accepts found → AreApart found.ranges → IsSelected declared scopes h all (if t then form else None)
+      by_built found true is q = (p, (found, is, q))
+      by_built found false is q = (tt, (found, is, q))
+
+      go : (j : Judged Labels) → arms_taken scopes h all no_labels ≡ j → Fits AreLabels j → Fits (λ (s : CaseSelector). (s.host ≡ h) × IsSelected declared scopes h all s.form) (when_accepted (λ found. Accepts (record { host = h; form = if found.built then form else None })) j)
+      go (Accepts found) is q = (refl, by_built found found.built is q.1)
+      go (Breaks rules) is q = tt
+
+-- ---- arms
+
+pair_if : (P Q : List CaseRange → Type 0) (j : Judged (Option (List CaseRange))) → Fits (IfForm P) j → Fits (IfForm Q) j → Fits (IfForm (λ rs. P rs × Q rs)) j
+pair_if P Q (Accepts None) p q = tt
+pair_if P Q (Accepts (Some rs)) p q = (p, q)
+pair_if P Q (Breaks rules) p q = tt
+
+abbrev pub labels_in : List ArmJudged → List (List Label)
+labels_in all = map (λ (a : ArmJudged). a.0) all
+
+module _ (declared : Declarations) (types : TypeValues) (structures : List StructuredType) (depth : ℕ) (labels : LabelsAreSound) (h : Host) where
+  abbrev Sound : Context → Stmt → Type 0
+  Sound c = IsSound declared types structures depth c
 
   -- the statement of each arm is valid, where it passes
   abbrev pub BodiesFit : List ArmJudged → Type 0
   BodiesFit [] = ⊤
-  BodiesFit (a ∷ all) = ((controls : List Entire) → FitsRow (IsSound declared context) (a.1 controls)) × BodiesFit all
+  BodiesFit (a ∷ all) = ((c : Context) (controls : List Entire) → FitsRow (Sound c) (a.1 c controls)) × BodiesFit all
 
-  abbrev labels_in : List ArmJudged → List (List Label)
-  labels_in all = map (λ (a : ArmJudged). a.0) all
-
-  abbrev AreOwnArms : List ArmJudged → Arms → Type 0
-  AreOwnArms all arms = ArmsAreSound declared context (typed_host h) arms × HaveOwn scopes h (labels_in all) arms
+  abbrev AreOwnArms : List Region → List ArmJudged → Context → Arms → Type 0
+  AreOwnArms scopes all c arms = ArmsAreSound declared types structures depth c (typed_host h) arms × HaveOwn scopes h (labels_in all) arms
 
   -- an arm with its own ranges
-  abbrev IsOwnArm : List Label → tree.Arm → Type 0
-  IsOwnArm ls x = (AreOwn x.0 × HasOwn scopes h ls x.0) × IsSound declared context x.1
+  abbrev IsOwnArm : List Label → Context → tree.Arm → Type 0
+  IsOwnArm ls c x = ((Agreed declared types structures depth c → AreOwn declared h x.0) × HasOwn c.scopes h ls x.0) × Sound c x.1
 
-  one_arm_more : (a : ArmJudged) (all : List ArmJudged) (x : tree.Arm) (arms : Arms) → IsOwnArm a.0 x → AreOwnArms all arms → AreOwnArms (a ∷ all) (next_arm x.0 x.1 arms)
-  one_arm_more a all x arms q r = (
-    λ there. (q.0.0.0, q.0.0.1, q.1 (first_part declared context (first_for x.1) (first_for_arms arms) (first_for_in x.1) (first_for_in_arms arms) there), r.0 (second_part declared context (first_for x.1) (first_for_arms arms) (first_for_in x.1) (first_for_in_arms arms) there)),
-    one_more scopes h a.0 (labels_in all) x.0 x.1 arms q.0.1 r.1,
+  abbrev arm_withs : tree.Arm → List UnitVariable
+  arm_withs x = with_variables x.1
+
+  one_arm_more : (c : Context) (a : ArmJudged) (all : List ArmJudged) (x : tree.Arm) (arms : Arms) → IsOwnArm a.0 c x → AreOwnArms c.scopes all (behind_withs c (arm_withs x)) arms → AreOwnArms c.scopes (a ∷ all) c (next_arm x.0 x.1 arms)
+  one_arm_more c a all x arms q r = (
+    λ agreed there.
+        (let own = q.0.0 agreed in (
+          own.0,
+          own.1,
+          q.1 agreed (first_part declared types structures depth c (first_for x.1) (first_for_arms arms) (first_for_in x.1) (first_for_in_arms arms) (with_variables x.1) (with_variables_in arms) there),
+          r.0 agreed (second_part declared types structures depth c (first_for x.1) (first_for_arms arms) (first_for_in x.1) (first_for_in_arms arms) (with_variables x.1) (with_variables_in arms) there),
+        )),
+    one_more c.scopes h a.0 (labels_in all) x.0 x.1 arms q.0.1 r.1,
   )
 
-  arms_fit : (line : ℕ) (controls : List Entire) (all : List ArmJudged) → BodiesFit all → FitsRow (AreOwnArms all) (arms_in_order (map (arm_row scopes line h controls) all))
-  arms_fit line controls [] p = (λ there. tt, λ found more e. let same : found ≡ more = cc in ap (λ l. l.ranges) (sym same) ∙ sym (append-nil found.ranges))
-  arms_fit line controls (a ∷ all) p =
-      after_fits (IsOwnArm a.0) (AreOwnArms all) (AreOwnArms (a ∷ all)) _ (arm_row scopes line h controls a) (arms_in_order (map (arm_row scopes line h controls) all))
-      (after_fits (λ rs. AreOwn rs × HasOwn scopes h a.0 rs) (IsSound declared context) (IsOwnArm a.0) _ (at_item line (own_ranges scopes h a.0)) (a.1 controls)
-      (item_fits (λ rs. AreOwn rs × HasOwn scopes h a.0 rs) line (own_ranges scopes h a.0) (pair_if AreOwn (HasOwn scopes h a.0) (own_ranges scopes h a.0) (own_fits a.0) (own_is scopes h a.0))) (p.0 controls) (λ rs s q r. (q, r)))
-      (arms_fit line controls all p.1)
-      (λ x arms q r. one_arm_more a all x arms q r)
+  -- an arm by itself
+  arm_fits : (c : Context) (line : ℕ) (controls : List Entire) (a : ArmJudged) → ((d : Context) (inner : List Entire) → FitsRow (Sound d) (a.1 d inner)) → FitsRow (IsOwnArm a.0 c) (arm_row line h a c controls)
+  arm_fits c line controls a p =
+      let ranges : Judged (Option (List CaseRange)) = own_ranges c.scopes h a.0 in
+      after_fits (λ rs. (Agreed declared types structures depth c → AreOwn declared h rs) × HasOwn c.scopes h a.0 rs) (Sound c) (IsOwnArm a.0 c) (λ rs s. (rs, s)) (at_item line ranges) (a.1 c controls)
+      (item_fits (λ rs. (Agreed declared types structures depth c → AreOwn declared h rs) × HasOwn c.scopes h a.0 rs) line ranges
+      (pair_if (λ rs. Agreed declared types structures depth c → AreOwn declared h rs) (HasOwn c.scopes h a.0) ranges
+      (form_if (Agreed declared types structures depth c) (AreOwn declared h) ranges (λ agreed. own_fits declared labels c.scopes (agrees_in declared types structures depth c.scopes agreed.0) h a.0)) (own_is c.scopes h a.0)))
+      (p c controls) (λ rs s q r. (q, r))
+
+  -- the scopes are those of the arms before
+  arms_fit : (line : ℕ) (controls : List Entire) (all : List ArmJudged) → BodiesFit all → (c : Context) → FitsRow (AreOwnArms c.scopes all c) (arms_in_order line h all c controls)
+  arms_fit line controls [] p c = (λ agreed there. tt, λ found more e. let same : found ≡ more = cc in ap (λ l. l.ranges) (sym same) ∙ sym (append-nil found.ranges))
+  arms_fit line controls (a ∷ all) p c =
+      behind_fits (IsOwnArm a.0 c) (λ d arms. d.scopes ≡ c.scopes → AreOwnArms c.scopes all d arms) (AreOwnArms c.scopes (a ∷ all) c) _ arm_withs c (arm_row line h a c controls) (λ d. arms_in_order line h all d controls)
+      (arm_fits c line controls a p.0)
+      (λ d. fits_if (d.scopes ≡ c.scopes) (AreOwnArms c.scopes all d) (arms_in_order line h all d controls) (λ e. subst (λ s. FitsRow (AreOwnArms s all d) (arms_in_order line h all d controls)) e (arms_fit line controls all p.1 d)))
+      (λ x arms q r. one_arm_more c a all x arms q (r refl))
 
   -- ---- the statement
 
-  -- the labels of all arms
-  abbrev pub AreApartIn : List (List Label) → Type 0
-  AreApartIn all = (found : Labels) × (arms_taken scopes h all no_labels ≡ Accepts found) × AreApart found.ranges
-
-  -- the form of a selector of this host, and the labels of all arms
-  abbrev pub IsSelected : List (List Label) → Option Expr → Type 0
-  IsSelected all form = IfForm (λ x. IsExpr declared (valid.Ordinal (typed_host h)) x) form × AreApartIn all
-
-  pub row_fits : (line : ℕ) (controls : List Entire) (selector : Judged (Option Expr)) (all : List ArmJudged) (other : Judgement Other) → Fits (IfForm (λ x. IsExpr declared (valid.Ordinal (typed_host h)) x)) selector → AreApartIn (labels_in all) → BodiesFit all → FitsRow (OtherIsSound declared context) other
-      → FitsRow (IsSound declared context) (case_row line selector (arms_in_order (map (arm_row scopes line h controls) all)) other)
-  row_fits line controls selector all other p a q r =
-      after_fits (IsExpr declared (valid.Ordinal (typed_host h))) (λ (x : Arms × Other). AreOwnArms all x.0 × OtherIsSound declared context x.1) (IsSound declared context) _ (at_item line selector) (after (λ a b. (a, b)) (arms_in_order (map (arm_row scopes line h controls) all)) other)
-      (item_fits (IsExpr declared (valid.Ordinal (typed_host h))) line selector p)
-      (after_fits (AreOwnArms all) (OtherIsSound declared context) (λ (x : Arms × Other). AreOwnArms all x.0 × OtherIsSound declared context x.1) (λ a b. (a, b)) (arms_in_order (map (arm_row scopes line h controls) all)) other (arms_fit line controls all q) r (λ a b x y. (x, y)))
-      (λ x parts e f. λ there. ((typed_host h, e, f.0.0 (first_part declared context (first_for_arms parts.0) (first_for_other parts.1) (first_for_in_arms parts.0) (first_for_in_other parts.1) there)), f.1 (second_part declared context (first_for_arms parts.0) (first_for_other parts.1) (first_for_in_arms parts.0) (first_for_in_other parts.1) there), subst AreApart (f.0.1 no_labels a.0 a.1) a.2))
-
-  -- the form, where the labels are built too
-  pub labelled_fits : (all : List (List Label)) (form : Option Expr) → IfForm (λ x. IsExpr declared (valid.Ordinal (typed_host h)) x) form → Fits (λ (s : CaseSelector). (s.host ≡ h) × IsSelected all s.form) (labelled scopes all (record { host = h; form = form }))
-  labelled_fits all form p = go (arms_taken scopes h all no_labels) refl (all_labels_fit all no_labels none_yet)
-    where
-      by_built : (found : Labels) (t : Bool) → arms_taken scopes h all no_labels ≡ Accepts found → AreApart found.ranges → IsSelected all (if t then form else None)
-      by_built found true is q = (p, (found, is, q))
-      by_built found false is q = (tt, (found, is, q))
-
-      go : (j : Judged Labels) → arms_taken scopes h all no_labels ≡ j → Fits AreLabels j → Fits (λ (s : CaseSelector). (s.host ≡ h) × IsSelected all s.form) (when_accepted (λ found. Accepts (record { host = h; form = if found.built then form else None })) j)
-      go (Accepts found) is q = (refl, by_built found found.built is q.1)
-      go (Breaks rules) is q = tt
+  pub row_fits : (line : ℕ) (c : Context) (controls : List Entire) (form : Option Expr) (selector : Judged (Option Expr)) (all : List ArmJudged) (other : Context → Judgement Other)
+      → Fits (IfForm (λ x. Agreed declared types structures depth c → IsExpr declared (valid.Ordinal (typed_host h)) x)) selector → (Agreed declared types structures depth c → AreApartIn c.scopes h (labels_in all)) → BodiesFit all
+      → ((d : Context) → FitsRow (OtherIsSound declared types structures depth d) (other d))
+      → FitsRow (Sound c) (case_row line selector (arms_in_order line h all c controls) (other (behind with_variables_in c (arms_in_order line h all c controls))))
+  row_fits line c controls form selector all other p a q r =
+      after_fits (λ x. Agreed declared types structures depth c → IsExpr declared (valid.Ordinal (typed_host h)) x) (λ (x : Arms × Other). AreOwnArms c.scopes all c x.0 × OtherIsSound declared types structures depth (behind_withs c (with_variables_in x.0)) x.1) (Sound c) _ (at_item line selector)
+      (after (λ a b. (a, b)) (arms_in_order line h all c controls) (other (behind with_variables_in c (arms_in_order line h all c controls))))
+      (item_fits (λ x. Agreed declared types structures depth c → IsExpr declared (valid.Ordinal (typed_host h)) x) line selector p)
+      (behind_fits (AreOwnArms c.scopes all c) (λ d o. OtherIsSound declared types structures depth d o) (λ (x : Arms × Other). AreOwnArms c.scopes all c x.0 × OtherIsSound declared types structures depth (behind_withs c (with_variables_in x.0)) x.1) (λ a b. (a, b)) with_variables_in c
+      (arms_in_order line h all c controls) other (arms_fit line controls all q c) r (λ a b x y. (x, y)))
+      (λ x parts e f. λ agreed there.
+      (let apart = a agreed in (
+        (typed_host h, e agreed, f.0.0 agreed (first_part declared types structures depth c (first_for_arms parts.0) (first_for_other parts.1) (first_for_in_arms parts.0) (first_for_in_other parts.1) (with_variables_in parts.0) (with_variables_other parts.1) there)),
+        f.1 agreed (second_part declared types structures depth c (first_for_arms parts.0) (first_for_other parts.1) (first_for_in_arms parts.0) (first_for_in_other parts.1) (with_variables_in parts.0) (with_variables_other parts.1) there),
+        subst AreApart (f.0.1 no_labels apart.0 apart.1) apart.2,
+      )))

@@ -15,8 +15,9 @@ use Rattle.ep_scope.specs.declared.kind.Kind.TheVariants as kind
 use Rattle.ep_scope.specs.declared.rule.TheConstants as rule
 use Rattle.ep_scope.specs.declared.thing.Declaration.{Declaration}
 use Rattle.ep_scope.specs.declared.thing.Declaration.TheVariants as declaration
+use Rattle.ep_scope.specs.declared.structure.StructuredType.{StructuredType}
 use Rattle.ep_scope.specs.declared.thing.Declared.{Declared}
-use Rattle.ep_check_expr.specs.Agreement.{Agrees, IsDeclaration, IsFormOf, IsHost, IsStoredIn, structures_of}
+use Rattle.ep_check_expr.specs.Agreement.{Agrees, IsDeclaration, IsFormOf, IsHost, IsStoredIn, TypeValues, structures_of}
 use Rattle.ep_check_expr.specs.Arguments.{own_place}
 use Rattle.ep_check_expr.specs.Expressions.{judged}
 use Rattle.ep_check_expr.specs.Hosts.{typed_host}
@@ -25,10 +26,18 @@ use Rattle.ep_check_expr.specs.Operators.{map_both}
 use Rattle.ep_check_expr.proofs.Meant.{IsMeant, meant-declared}
 use Rattle.ep_check_expr.proofs.Passing.{IfForm, given-fits, set-fits}
 use Rattle.ep_check_stmt.specs.Laws.{AuxiliariesAreThere, MembersAreThere}
-use Rattle.ep_check_stmt.specs.Statements.{Context, Counted, ForHead, Judgement, Locals, MemberHead, Named, Under, at_item, bound_judged, bounds_judged, control_if, control_judged, control_named, counted_by, declared_control, declares_own, declares_variable, for_head, for_in_judged, for_in_row, for_judged, for_row, head_threat, is_threatened_in, member_head, member_threat, members_judged, set_judged, unless_threatened_in, unless_threatening}
+use Rattle.ep_check_stmt.specs.Statements.{Context, Counted, ForHead, Locals, MemberHead, Named, Under, at_item, bound_judged, bounds_judged, control_if, control_judged, control_named, counted_by, declared_control, declares_own, declares_variable, for_head, for_in_judged, for_judged, head_threat, is_threatened_in, member_head, member_threat, members_judged, set_judged, unless_threatened_in, unless_threatening}
 use Rattle.ep_check_stmt.proofs.judged.Fits.{Fits, fits_both, fits_then}
-use Rattle.ep_check_stmt.proofs.valid.Passing.{FitsRow, after_fits, item_fits, unthreatening_fits}
-use Rattle.ep_check_stmt.proofs.valid.Sound.{IsSound}
+use Rattle.ep_check_stmt.proofs.valid.Passing.{FitsRow, after_fits, fits_if, item_fits, unthreatening_fits}
+use Rattle.ep_check_stmt.proofs.valid.Sound.{Agreed, AgreedIn, IsSound, agrees_in}
+
+-- a head is valid, where the auxiliary variables are there
+abbrev IsHeadIn : Declarations → Locals → ForHead → Type 0
+IsHeadIn declared locals head = AuxiliariesAreThere declared locals → (h : typed.Host) × IsControl declared h head.control × IsExpr declared (valid.Ordinal h) head.initial × IsExpr declared (valid.Ordinal h) head.last
+
+-- so is one of a `for` over members
+abbrev IsMemberHeadIn : Declarations → Context → MemberHead → Type 0
+IsMemberHeadIn declared c head = MembersAreThere declared c.locals c.members → (h : typed.Host) × IsMemberControl declared h head.control × IsExpr declared (valid.Set h) head.set
 
 module _ (declared : Declarations) (scopes : List Region) (agrees : Agrees declared scopes) (sound : (e : Expression) → Fits (λ t. IsFormOf declared agrees.0 (structures_of scopes) t.kind t.form) (judged scopes e)) where
   -- ---- the control variable
@@ -104,9 +113,8 @@ module _ (declared : Declarations) (scopes : List Region) (agrees : Agrees decla
   bound_fits h e =
       fits_then (λ (t : Typed). IsFormOf declared agrees.0 (structures_of scopes) t.kind t.form) (IfForm (IsBound h)) (bound_judged h) (judged scopes e) (sound e) (λ t f. given-fits declared agrees.0 (structures_of scopes) (IsBound h) (λ x. x) h (λ x q. q) t.kind t.form f)
 
-  -- a head is valid, where the auxiliary variables are there
   abbrev IsHead : Locals → ForHead → Type 0
-  IsHead locals head = AuxiliariesAreThere declared locals → (h : typed.Host) × IsControl declared h head.control × IsExpr declared (valid.Ordinal h) head.initial × IsExpr declared (valid.Ordinal h) head.last
+  IsHead locals head = IsHeadIn declared locals head
 
   head_fits : (locals : Locals) (falls : Bool) (c : Counted) → IsCounted c → (x y : Option Expr) → IfForm (IsBound c.host) x → IfForm (IsBound c.host) y → IfForm (IsHead locals) (map_both (for_head locals falls c) x y)
   head_fits locals falls c is None y p q = tt
@@ -118,23 +126,13 @@ module _ (declared : Declarations) (scopes : List Region) (agrees : Agrees decla
       fits_both (IfForm (IsBound c.host)) (IfForm (IsBound c.host)) (IfForm (IsHead locals)) (λ initial last. Accepts (map_both (for_head locals falls c) initial last)) (when_accepted (bound_judged c.host) (judged scopes start)) (when_accepted (bound_judged c.host) (judged scopes end))
       (bound_fits c.host start) (bound_fits c.host end) (λ x y p q. head_fits locals falls c is x y p q)
 
-  -- ---- the statement
-
-  row_fits : (c : Context) (line : ℕ) (head : Judgement ForHead) (body : Judgement Stmt) → FitsRow (IsHead c.locals) head → FitsRow (IsSound declared c) body → FitsRow (IsSound declared c) (for_row line head body)
-  row_fits c line head body p q =
-      after_fits (IsHead c.locals) (IsSound declared c) (IsSound declared c) (λ h s. tree.For line h.control h.initial h.last s) head body p q
-      (λ h s f g. λ there. (f (there.0 line refl), g (λ other e. there.0 line refl, there.1)))
-
-  pub for_fits : (c : Context) → c.scopes ≡ scopes → (controls : List Entire) (line : ℕ) (j : Judged Counted) (falls : Bool) (start end : Expression) (body : Under Stmt) → Fits IsCounted j → ((inner : List Entire) → FitsRow (IsSound declared c) (body inner))
-      → FitsRow (IsSound declared c) (for_judged c controls line j falls start end body)
-  for_fits c is controls line (Breaks rules) falls start end body p q = tt
-  for_fits c is controls line (Accepts k) falls start end body p q =
-      subst (λ s. FitsRow (IsSound declared c) (for_row line (at_item line (unless_threatening (head_threat c.routines) controls (bounds_judged c.locals falls k (judged s start) (judged s end)))) (body (k.variable ∷ controls)))) (sym is)
-      (row_fits c line _ (body (k.variable ∷ controls))
+  pub head_row_fits : (c : Context) → c.scopes ≡ scopes → (controls : List Entire) (line : ℕ) (k : Counted) (falls : Bool) (start end : Expression) → IsCounted k
+      → FitsRow (IsHead c.locals) (at_item line (unless_threatening (head_threat c.routines) controls (bounds_judged c.locals falls k (judged c.scopes start) (judged c.scopes end))))
+  head_row_fits c is controls line k falls start end p =
+      subst (λ s. FitsRow (IsHead c.locals) (at_item line (unless_threatening (head_threat c.routines) controls (bounds_judged c.locals falls k (judged s start) (judged s end))))) (sym is)
       (item_fits (IsHead c.locals) line _ (unthreatening_fits (IsHead c.locals) (head_threat c.routines) controls (bounds_judged c.locals falls k (judged scopes start) (judged scopes end)) (bounds_fit c.locals falls k p start end)))
-      (q (k.variable ∷ controls)))
 
-  -- ---- the statement over members
+  -- ---- the head of a `for` over members
 
   abbrev IsSetOver : Host → Expr → Type 0
   IsSetOver h x = IsExpr declared (valid.Set (typed_host h)) x
@@ -143,9 +141,8 @@ module _ (declared : Declarations) (scopes : List Region) (agrees : Agrees decla
   set_fits h e =
       fits_then (λ (t : Typed). IsFormOf declared agrees.0 (structures_of scopes) t.kind t.form) (IfForm (IsSetOver h)) (set_judged h) (judged scopes e) (sound e) (λ t f. set-fits declared agrees.0 (structures_of scopes) (IsSetOver h) (λ x. x) h (λ x q. q) t.kind t.form f)
 
-  -- its head is valid, where the auxiliary variable is there
   abbrev IsMemberHead : Context → MemberHead → Type 0
-  IsMemberHead c head = MembersAreThere declared c.locals c.members → (h : typed.Host) × IsMemberControl declared h head.control × IsExpr declared (valid.Set h) head.set
+  IsMemberHead c head = IsMemberHeadIn declared c head
 
   member_head_fits : (c : Context) (k : Counted) → IsCounted k → (x : Option Expr) → IfForm (IsSetOver k.host) x → IfForm (IsMemberHead c) (option_map (member_head c.locals c.members k) x)
   member_head_fits c k is None p = tt
@@ -155,16 +152,46 @@ module _ (declared : Declarations) (scopes : List Region) (agrees : Agrees decla
   members_fit c k is set =
       fits_then (IfForm (IsSetOver k.host)) (IfForm (IsMemberHead c)) (λ x. Accepts (option_map (member_head c.locals c.members k) x)) (when_accepted (set_judged k.host) (judged scopes set)) (set_fits k.host set) (λ x p. member_head_fits c k is x p)
 
-  member_row_fits : (c : Context) (line : ℕ) (head : Judgement MemberHead) (body : Judgement Stmt) → FitsRow (IsMemberHead c) head → FitsRow (IsSound declared c) body → FitsRow (IsSound declared c) (for_in_row line head body)
-  member_row_fits c line head body p q =
-      after_fits (IsMemberHead c) (IsSound declared c) (IsSound declared c) (λ h s. tree.ForIn line h.control h.set s) head body p q
-      (λ h s f g. λ there. (f (there.1 line refl), g (there.0, λ other e. there.1 line refl)))
-
-  pub for_in_fits : (c : Context) → c.scopes ≡ scopes → (controls : List Entire) (line : ℕ) (j : Judged Counted) (set : Expression) (body : Under Stmt) → Fits IsCounted j → ((inner : List Entire) → FitsRow (IsSound declared c) (body inner))
-      → FitsRow (IsSound declared c) (for_in_judged c controls line j set body)
-  for_in_fits c is controls line (Breaks rules) set body p q = tt
-  for_in_fits c is controls line (Accepts k) set body p q =
-      subst (λ s. FitsRow (IsSound declared c) (for_in_row line (at_item line (unless_threatening (member_threat c.routines) controls (members_judged c.locals c.members k (judged s set)))) (body (k.variable ∷ controls)))) (sym is)
-      (member_row_fits c line _ (body (k.variable ∷ controls))
+  pub member_row_fits : (c : Context) → c.scopes ≡ scopes → (controls : List Entire) (line : ℕ) (k : Counted) (set : Expression) → IsCounted k
+      → FitsRow (IsMemberHead c) (at_item line (unless_threatening (member_threat c.routines) controls (members_judged c.locals c.members k (judged c.scopes set))))
+  member_row_fits c is controls line k set p =
+      subst (λ s. FitsRow (IsMemberHead c) (at_item line (unless_threatening (member_threat c.routines) controls (members_judged c.locals c.members k (judged s set))))) (sym is)
       (item_fits (IsMemberHead c) line _ (unthreatening_fits (IsMemberHead c) (member_threat c.routines) controls (members_judged c.locals c.members k (judged scopes set)) (members_fit c k p set)))
-      (q (k.variable ∷ controls)))
+
+-- ---- the statements
+
+module _ (declared : Declarations) (types : TypeValues) (structures : List StructuredType) (depth : ℕ) (c : Context) (expressions : (agreed : AgreedIn declared types structures depth c.scopes) (e : Expression) → Fits (λ t. IsFormOf declared types (structures_of c.scopes) t.kind t.form) (judged c.scopes e)) where
+  abbrev Sound : Context → Stmt → Type 0
+  Sound d = IsSound declared types structures depth d
+
+  -- the control variable that a name is
+  counted : (agreed : AgreedIn declared types structures depth c.scopes) (name : List ℕ) (k : Counted) → control_judged c name ≡ Accepts k → IsCounted declared c.scopes (agrees_in declared types structures depth c.scopes agreed) (expressions agreed) k
+  counted agreed name k e =
+      let agrees = agrees_in declared types structures depth c.scopes agreed in
+      subst (λ j. Fits (IsCounted declared c.scopes agrees (expressions agreed)) j) e (control_fits declared c.scopes agrees (expressions agreed) c refl name)
+
+  pub for_fits : (controls : List Entire) (line : ℕ) (name : List ℕ) (falls : Bool) (start end : Expression) (body : Under Stmt) → ((d : Context) (inner : List Entire) → FitsRow (Sound d) (body d inner))
+      → FitsRow (Sound c) (for_judged c controls line (control_judged c name) falls start end body)
+  for_fits controls line name falls start end body p = go (control_judged c name) refl
+    where
+      go : (j : Judged Counted) → control_judged c name ≡ j → FitsRow (Sound c) (for_judged c controls line j falls start end body)
+      go (Breaks rules) is = tt
+      go (Accepts k) is =
+          after_fits (λ h. Agreed declared types structures depth c → IsHeadIn declared c.locals h) (Sound c) (Sound c) (λ h s. tree.For line h.control h.initial h.last s) _ (body c (k.variable ∷ controls))
+          (fits_if (Agreed declared types structures depth c) (IsHeadIn declared c.locals) (at_item line (unless_threatening (head_threat c.routines) controls (bounds_judged c.locals falls k (judged c.scopes start) (judged c.scopes end))))
+          (λ agreed. head_row_fits declared c.scopes (agrees_in declared types structures depth c.scopes agreed.0) (expressions agreed.0) c refl controls line k falls start end (counted agreed.0 name k is)))
+          (p c (k.variable ∷ controls))
+          (λ h s f g. λ agreed there. (f agreed (there.0 line refl), g agreed (λ other e. there.0 line refl, there.1, there.2)))
+
+  pub for_in_fits : (controls : List Entire) (line : ℕ) (name : List ℕ) (set : Expression) (body : Under Stmt) → ((d : Context) (inner : List Entire) → FitsRow (Sound d) (body d inner))
+      → FitsRow (Sound c) (for_in_judged c controls line (control_judged c name) set body)
+  for_in_fits controls line name set body p = go (control_judged c name) refl
+    where
+      go : (j : Judged Counted) → control_judged c name ≡ j → FitsRow (Sound c) (for_in_judged c controls line j set body)
+      go (Breaks rules) is = tt
+      go (Accepts k) is =
+          after_fits (λ h. Agreed declared types structures depth c → IsMemberHeadIn declared c h) (Sound c) (Sound c) (λ h s. tree.ForIn line h.control h.set s) _ (body c (k.variable ∷ controls))
+          (fits_if (Agreed declared types structures depth c) (IsMemberHeadIn declared c) (at_item line (unless_threatening (member_threat c.routines) controls (members_judged c.locals c.members k (judged c.scopes set))))
+          (λ agreed. member_row_fits declared c.scopes (agrees_in declared types structures depth c.scopes agreed.0) (expressions agreed.0) c refl controls line k set (counted agreed.0 name k is)))
+          (p c (k.variable ∷ controls))
+          (λ h s f g. λ agreed there. (f agreed (there.1 line refl), g agreed (there.0, λ other e. there.1 line refl, there.2)))

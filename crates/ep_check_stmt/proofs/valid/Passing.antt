@@ -6,7 +6,8 @@ use Rattle.ep_typed.specs.Trees.{Entire}
 use Rattle.ep_scope.specs.declared.rule.TheConstants as rule
 use Rattle.ep_check_expr.specs.Judgements.{Judged, Accepts, Breaks}
 use Rattle.ep_check_expr.proofs.Passing.{IfForm}
-use Rattle.ep_check_stmt.specs.Statements.{Judgement, Passes, Waits, Fails, after, at_item, formed, unless_threatening, waiting}
+use Rattle.ep_typed.specs.declared.unit.UnitVariable.{UnitVariable}
+use Rattle.ep_check_stmt.specs.Statements.{Context, Judgement, Passes, Waits, Fails, after, at_item, behind, formed, unless_threatening, waiting}
 use Rattle.ep_check_stmt.proofs.judged.Fits.{Fits}
 
 -- what passes has the property
@@ -34,6 +35,25 @@ pub after_fits : {A B C : Type 0} (P : A → Type 0) (Q : B → Type 0) (R : C �
 after_fits P Q R f (Passes a) y h k g = formed_fits Q R (f a) y k (λ b q. g a b h q)
 after_fits P Q R f (Waits line) y h k g = waiting_fits R line y
 after_fits P Q R f (Fails line rules) y h k g = tt
+
+-- a form that has the property on a condition
+pub form_if : {A : Type 0} (H : Type 0) (P : A → Type 0) (j : Judged (Option A)) → (H → Fits (IfForm P) j) → Fits (IfForm (λ a. H → P a)) j
+form_if H P (Accepts None) h = tt
+form_if H P (Accepts (Some a)) h = h
+form_if H P (Breaks rules) h = tt
+
+-- what has the property on a condition
+pub fits_if : {A : Type 0} (H : Type 0) (P : A → Type 0) (j : Judgement A) → (H → FitsRow P j) → FitsRow (λ a. H → P a) j
+fits_if H P (Passes a) h = h
+fits_if H P (Waits line) h = tt
+fits_if H P (Fails line rules) h = tt
+
+-- a row behind another one, whose `with` statements have had their variables
+pub behind_fits : {A B C : Type 0} (P : A → Type 0) (Q : Context → B → Type 0) (R : C → Type 0) (f : A → B → C) (withs : A → List UnitVariable) (c : Context) (x : Judgement A) (rest : Context → Judgement B) → FitsRow P x → ((d : Context) → FitsRow (Q d) (rest d))
+    → ((a : A) (b : B) → P a → Q (behind withs c (Passes a)) b → R (f a b)) → FitsRow R (after f x (rest (behind withs c x)))
+behind_fits P Q R f withs c (Passes a) rest h k g = formed_fits (Q (behind withs c (Passes a))) R (f a) (rest (behind withs c (Passes a))) (k (behind withs c (Passes a))) (λ b q. g a b h q)
+behind_fits P Q R f withs c (Waits line) rest h k g = waiting_fits R line (rest c)
+behind_fits P Q R f withs c (Fails line rules) rest h k g = tt
 
 -- what is accepted has the property, where it threatens no control variable too
 pub unthreatening_fits : {A : Type 0} (P : A → Type 0) (threat : Entire → A → Bool) (controls : List Entire) (j : Judged (Option A)) → Fits (IfForm P) j → Fits (IfForm P) (unless_threatening threat controls j)

@@ -16,7 +16,7 @@ use Rattle.ep_tree.specs.declared.statement.Otherwise.{Otherwise, map-Otherwise,
 use Rattle.ep_tree.specs.declared.statement.Statement.{Statement, map-Statement, roll-Statement}
 use Rattle.ep_tree.specs.declared.statement.Statement.TheFolds.{fold-roll-Arm, fold-roll-Compound, fold-roll-Otherwise, fold-roll-Statement, ind-Compound}
 use Rattle.ep_tree.specs.declared.statement.Statement.TheOpen.{Statement-F, Arm-F, Compound-F, Otherwise-F}
-use Rattle.ep_typed.specs.Auxiliaries.{first_for, first_for_in, first_for_in_of, first_for_of}
+use Rattle.ep_typed.specs.Auxiliaries.{first_for, first_for_in, first_for_in_of, first_for_of, with_variables, with_variables_in, with_variables_of}
 use Rattle.ep_typed.specs.Hosts as typed
 use Rattle.ep_typed.specs.Trees as tree
 use Rattle.ep_typed.specs.Trees.{Entire, Actual, Callee, Place, Expr, Item, Other, Stmt, Stmts}
@@ -42,7 +42,7 @@ use Rattle.ep_scope.specs.declared.thing.Declaration.TheVariants as declaration
 use Rattle.ep_scope.specs.declared.thing.Declared.{Declared}
 use Rattle.ep_check_expr.specs.declared.access.Access.{Access}
 use Rattle.ep_check_expr.specs.declared.access.Access.TheVariants as access
-use Rattle.ep_check_expr.specs.Agreement.{Agrees, AreActuals, IsDeclaration, IsFormOf, IsProcedureOf, IsStoredIn, IsValueOf, structures_of}
+use Rattle.ep_check_expr.specs.Agreement.{Agrees, AreActuals, IsDeclaration, IsFormOf, IsProcedureOf, IsStoredIn, IsValueOf, TypeValues, structures_of}
 use Rattle.ep_check_expr.specs.Arguments.{Taken, arguments_judged, callee_at, given_to, own_place, place_read, unless_protected}
 use Rattle.ep_check_expr.specs.Expressions.{given, judged, judged_value, name_judged}
 use Rattle.ep_check_expr.specs.Functions.{Given}
@@ -57,12 +57,13 @@ use Rattle.ep_check_expr.proofs.Passing.{IfForm, given-fits, set-fits, structure
 use Rattle.ep_check_expr.proofs.Places.{structured-place}
 use Rattle.ep_check_stmt.specs.Cases.{CaseSelector, labelled, selecting, selector_judged}
 use Rattle.ep_check_stmt.specs.Laws.{IsResultAt, ResultsAreThere, StatementsAreSound}
-use Rattle.ep_check_stmt.specs.Statements.{ArmJudged, Context, FunctionResult, Judgement, Passes, Shown, Target, Under, after, arm_judged, arm_row, arms_in_order, assigned, at_arm, at_compound, at_item, at_otherwise, at_statement, available, call_arguments, call_judged, case_judged, compound_under, condition, condition_judged, control_judged, declared_called, declared_target, expr_item, expr_threat, falls_by, file_given, formed, function_target, has_result, if_judged, in_order, item_form, item_judged, items_judged, measured, name_called, one_more, own_called, otherwise_judged, place_named, procedure_called, required_called, shown, something, statement_judged, stmt_item, stmt_threat, target_judged, target_of_selectors, tested, to_file, unless_threatening, usually_written, variable_target, width_judged, write_judged, written, written_or}
+use Rattle.ep_check_stmt.specs.Statements.{ArmJudged, Context, FunctionResult, Judgement, Passes, Shown, Target, Under, after, arm_judged, arms_in_order, assigned, at_arm, at_compound, at_item, at_otherwise, at_statement, available, call_arguments, call_judged, case_judged, compound_under, condition, condition_judged, declared_called, declared_target, expr_item, expr_threat, falls_by, file_given, formed, function_target, has_result, if_judged, in_order, item_form, item_judged, items_judged, measured, name_called, one_more, own_called, otherwise_judged, place_named, procedure_called, required_called, shown, something, statement_judged, stmt_item, stmt_threat, target_judged, target_of_selectors, tested, to_file, unless_threatening, usually_written, variable_target, width_judged, write_judged, written, written_or, Waits, Fails, Opened, WithHead, behind, heads_threat, inside, none_opened, records_opened, with_form, with_judged}
 use Rattle.ep_check_stmt.proofs.judged.Fits.{Any, Fits, fits_any, fits_both, fits_is, fits_pair, fits_then, fits_weaker}
-use Rattle.ep_check_stmt.proofs.valid.Passing.{FitsRow, after_fits, formed_fits, item_fits, unthreatening_fits}
-use Rattle.ep_check_stmt.proofs.valid.Loops.{control_fits, for_fits, for_in_fits}
-use Rattle.ep_check_stmt.proofs.valid.Sound.{AreSound, IsSound, OtherIsSound, first_part, second_part}
-use Rattle.ep_check_stmt.proofs.valid.Cases.{BodiesFit, IsSelected, labelled_fits, row_fits as arms_row_fits}
+use Rattle.ep_check_stmt.proofs.valid.Passing.{FitsRow, after_fits, behind_fits, fits_if, form_if, formed_fits, item_fits, unthreatening_fits}
+use Rattle.ep_check_stmt.proofs.valid.Loops.{for_fits, for_in_fits}
+use Rattle.ep_check_stmt.proofs.valid.Sound.{Agreed, AreSound, IsSound, OtherIsSound, agrees_in, behind_withs, first_part, second_part}
+use Rattle.ep_check_stmt.proofs.valid.Cases.{BodiesFit, IsSelected, labelled_fits, labels_in, row_fits as arms_row_fits}
+use Rattle.ep_check_stmt.proofs.valid.Withs.{IfBuilt, IsOpened, nested_sound, opened_fits}
 
 -- the two parts of an argument of a call
 node_is : (scopes : List Region) (line : ℕ) (e : Expression) (w : Option Expression) → given scopes (argument_node line e w) ≡ record { value = judged scopes e; width = option_map (judged scopes) w }
@@ -119,14 +120,8 @@ module _ (declared : Declarations) (expressions : ExpressionsAreSound) (passed :
   -- ---- statements without statements inside
 
   -- one that is valid, inside of `for` statements
-  stmt_fits : (c : Context) (controls : List Entire) (line : ℕ) (j : Judged (Option Stmt)) → Fits (IfForm (IsStmt declared)) j → FitsRow (IsSound declared c) (stmt_item c controls line j)
-  stmt_fits c controls line j h =
-      item_fits (IsSound declared c) line (unless_threatening (stmt_threat c.routines) controls j)
-      (unthreatening_fits (IsSound declared c) (stmt_threat c.routines) controls j (fits_weaker (IfForm (IsStmt declared)) (IfForm (IsSound declared c)) j weaker h))
-    where
-      weaker : (form : Option Stmt) → IfForm (IsStmt declared) form → IfForm (IsSound declared c) form
-      weaker None p = tt
-      weaker (Some s) p = λ there. p
+  stmt_fits : (c : Context) (controls : List Entire) (line : ℕ) (j : Judged (Option Stmt)) → Fits (IfForm (IsStmt declared)) j → FitsRow (IsStmt declared) (stmt_item c controls line j)
+  stmt_fits c controls line j h = item_fits (IsStmt declared) line (unless_threatening (stmt_threat c.routines) controls j) (unthreatening_fits (IsStmt declared) (stmt_threat c.routines) controls j h)
 
   -- ---- assignments
 
@@ -465,52 +460,26 @@ module _ (declared : Declarations) (expressions : ExpressionsAreSound) (passed :
 
   -- ---- `case`
 
-  abbrev labels_in : List ArmJudged → List (List Label)
-  labels_in all = map (λ (a : ArmJudged). a.0) all
+  -- a selector, with its labels
+  abbrev IsChosen : List (List Label) → CaseSelector → Type 0
+  IsChosen all s = IsSelected declared scopes s.host all s.form
 
-  module _ (c : Context) (is : c.scopes ≡ scopes) where
-    -- the statements of arms are valid, where they pass
-    abbrev ArmsFit : List ArmJudged → Type 0
-    ArmsFit [] = ⊤
-    ArmsFit (a ∷ all) = ((controls : List Entire) → FitsRow (IsSound declared c) (a.1 controls)) × ArmsFit all
+  selecting_fits : (all : List (List Label)) (k : Kind) (form : Option Expr) → IsFormOf declared agrees.0 structures k form → Fits (IsChosen all) (when_accepted (labelled scopes all) (selecting k form))
+  selecting_fits all (kind.Ordinal h) form f =
+      fits_weaker (λ (s : CaseSelector). (s.host ≡ h) × IsSelected declared scopes h all s.form) (IsChosen all) (labelled scopes all (record { host = h; form = form }))
+      (λ s p. subst (λ g. IsSelected declared scopes g all s.form) (sym p.0) p.1) (labelled_fits declared labels scopes agrees h all form (ordinal_form h form f))
+  selecting_fits all (kind.Structured n) form f = tt
+  selecting_fits all (kind.Set base) form f = tt
+  selecting_fits all kind.EmptySet form f = tt
+  selecting_fits all kind.Text form f = tt
+  selecting_fits all kind.File form f = tt
 
-    -- a selector, with its labels
-    abbrev IsChosen : List (List Label) → CaseSelector → Type 0
-    IsChosen all s = IsSelected declared c labels scopes agrees s.host all s.form
-
-    selecting_fits : (all : List (List Label)) (k : Kind) (form : Option Expr) → IsFormOf declared agrees.0 structures k form → Fits (IsChosen all) (when_accepted (labelled scopes all) (selecting k form))
-    selecting_fits all (kind.Ordinal h) form f =
-        fits_weaker (λ (s : CaseSelector). (s.host ≡ h) × IsSelected declared c labels scopes agrees h all s.form) (IsChosen all) (labelled scopes all (record { host = h; form = form }))
-        (λ s p. subst (λ g. IsSelected declared c labels scopes agrees g all s.form) (sym p.0) p.1) (labelled_fits declared c labels scopes agrees h all form (ordinal_form h form f))
-    selecting_fits all (kind.Structured n) form f = tt
-    selecting_fits all (kind.Set base) form f = tt
-    selecting_fits all kind.EmptySet form f = tt
-    selecting_fits all kind.Text form f = tt
-    selecting_fits all kind.File form f = tt
-
-    selector_fits : (e : Expression) (all : List (List Label)) → Fits (IsChosen all) (selector_judged scopes e all)
-    selector_fits e all = go (judged scopes e) (expression_fits e)
-      where
-        go : (j : Judged Typed) → Fits IsSoundForm j → Fits (IsChosen all) (when_accepted (labelled scopes all) (when_accepted (λ t. selecting t.kind t.form) j))
-        go (Accepts t) p = selecting_fits all t.kind t.form p
-        go (Breaks rules) p = tt
-
-    chosen_fits : (controls : List Entire) (line : ℕ) (j : Judged CaseSelector) (all : List ArmJudged) (other : Judgement Other) → Fits (IsChosen (labels_in all)) j → ArmsFit all → FitsRow (OtherIsSound declared c) other
-        → FitsRow (IsSound declared c) (case_judged line (λ x. expr_item c controls (Accepts x)) j (λ h. arms_in_order (map (arm_row scopes line h controls) all)) other)
-    chosen_fits controls line (Accepts s) all other p q r =
-        arms_row_fits declared c labels scopes agrees s.host line controls (expr_item c controls (Accepts s.form)) all other
-        (unthreatening_fits (IsExpr declared (valid.Ordinal (typed_host s.host))) (expr_threat c.routines) controls (Accepts s.form) p.0) p.1 (bodies s.host all q) r
-      where
-        bodies : (h : Host) (all : List ArmJudged) → ArmsFit all → BodiesFit declared c labels scopes agrees h all
-        bodies h [] q = tt
-        bodies h (a ∷ all) q = (q.0, bodies h all q.1)
-    chosen_fits controls line (Breaks rules) all other p q r = tt
-
-    case_fits : (controls : List Entire) (line : ℕ) (e : Expression) (all : List ArmJudged) (other : Judgement Other) → ArmsFit all → FitsRow (OtherIsSound declared c) other
-        → FitsRow (IsSound declared c) (case_judged line (λ x. expr_item c controls (Accepts x)) (selector_judged c.scopes e (labels_in all)) (λ h. arms_in_order (map (arm_row c.scopes line h controls) all)) other)
-    case_fits controls line e all other q r =
-        subst (λ s. FitsRow (IsSound declared c) (case_judged line (λ x. expr_item c controls (Accepts x)) (selector_judged s e (labels_in all)) (λ h. arms_in_order (map (arm_row s line h controls) all)) other)) (sym is)
-        (chosen_fits controls line (selector_judged scopes e (labels_in all)) all other (selector_fits e (labels_in all)) q r)
+  selector_fits : (e : Expression) (all : List (List Label)) → Fits (IsChosen all) (selector_judged scopes e all)
+  selector_fits e all = go (judged scopes e) (expression_fits e)
+    where
+      go : (j : Judged Typed) → Fits IsSoundForm j → Fits (IsChosen all) (when_accepted (labelled scopes all) (when_accepted (λ t. selecting t.kind t.form) j))
+      go (Accepts t) p = selecting_fits all t.kind t.form p
+      go (Breaks rules) p = tt
 
   -- ---- calls
 
@@ -569,136 +538,217 @@ module _ (declared : Declarations) (expressions : ExpressionsAreSound) (passed :
   called_fits c is line name None = tt
   called_fits c is line name (Some arguments) = call_fits c is line name (meant c.scopes name) arguments (subst (λ s. IsMeant declared agrees.0 structures depth (meant s name)) (sym is) (meant-declared declared agrees.0 structures depth scopes name agrees.1))
 
-  -- ---- statements
+-- ---- statements
 
-  module _ (c : Context) (is : c.scopes ≡ scopes) (there : Results c) where
-    abbrev Sound : Judgement Stmt → Type 0
-    Sound = FitsRow (IsSound declared c)
+module _ (declared : Declarations) (expressions : ExpressionsAreSound) (passed : ArgumentsAreSound) (values : ValuesAreSound) (labels : LabelsAreSound) (variables : VariablesAreSound) (types : TypeValues) (structures : List StructuredType) (depth : ℕ) where
+  abbrev Agrees_with : Context → Type 0
+  Agrees_with c = Agreed declared types structures depth c
 
-    abbrev AllSound : Judgement Stmts → Type 0
-    AllSound = FitsRow (AreSound declared c)
+  abbrev Sound : Context → Judgement Stmt → Type 0
+  Sound c = FitsRow (IsSound declared types structures depth c)
 
-    -- inside of any `for` statements
-    abbrev IsStatement : Statement → Type 0
-    IsStatement s = (controls : List Entire) → Sound (statement_judged c s controls)
+  abbrev AllSound : Context → Judgement Stmts → Type 0
+  AllSound c = FitsRow (AreSound declared types structures depth c)
 
-    abbrev IsCompound : Compound → Type 0
-    IsCompound s = (controls : List Entire) → AllSound (compound_under c s controls)
+  -- the declarations agree with its scopes
+  abbrev agreement : (c : Context) → Agrees_with c → Agrees declared c.scopes
+  agreement c agreed = agrees_in declared types structures depth c.scopes agreed.0
 
-    abbrev IsArm : Arm → Type 0
-    IsArm a = (controls : List Entire) → Sound ((arm_judged c a).1 controls)
+  -- the variables of results, by the depth of its scopes
+  results_there : (c : Context) (agreed : Agrees_with c) → ResultsAreThere declared types (depth_in c.scopes) c.results
+  results_there c agreed = subst (λ n. ResultsAreThere declared types n c.results) (sym agreed.0.1) agreed.1
 
-    abbrev IsOtherwise : Otherwise → Type 0
-    IsOtherwise o = (controls : List Entire) → AllSound (otherwise_judged c o controls)
+  -- a statement that is valid where the declarations agree
+  simple_fits : (c : Context) (controls : List Entire) (line : ℕ) (j : Judged (Option Stmt)) → (Agrees_with c → Fits (IfForm (IsStmt declared)) j) → Sound c (stmt_item c controls line j)
+  simple_fits c controls line j h =
+      weaker (stmt_item c controls line j)
+      (fits_if (Agrees_with c) (IsStmt declared) (stmt_item c controls line j) (λ agreed. stmt_fits declared expressions passed values labels variables c.scopes (agreement c agreed) c controls line j (h agreed)))
+    where
+      weaker : (x : Judgement Stmt) → FitsRow (λ s. Agrees_with c → IsStmt declared s) x → Sound c x
+      weaker (Passes s) p = λ agreed there. p agreed
+      weaker (Waits line) p = tt
+      weaker (Fails line rules) p = tt
 
-    abbrev ValidStatement : Type 0
-    ValidStatement = (s : Statement) × IsStatement s
+  -- a condition
+  abbrev IsTested : Context → Expr → Type 0
+  IsTested c x = Agrees_with c → IsExpr declared (valid.Ordinal typed.Boolean) x
 
-    abbrev ValidArm : Type 0
-    ValidArm = (a : Arm) × IsArm a
+  tested_row : (c : Context) (controls : List Entire) (line : ℕ) (e : Expression) → FitsRow (IsTested c) (condition_judged c controls line e)
+  tested_row c controls line e =
+      fits_if (Agrees_with c) (IsExpr declared (valid.Ordinal typed.Boolean)) (condition_judged c controls line e) (λ agreed. condition_fits declared expressions passed values labels variables c.scopes (agreement c agreed) c refl controls line e)
 
-    abbrev ValidCompound : Type 0
-    ValidCompound = (s : Compound) × IsCompound s
+  -- the statements of arms are valid, where they pass
+  abbrev ArmsFit : List ArmJudged → Type 0
+  ArmsFit [] = ⊤
+  ArmsFit (a ∷ all) = ((c : Context) (controls : List Entire) → Sound c (a.1 c controls)) × ArmsFit all
 
-    abbrev ValidOtherwise : Type 0
-    ValidOtherwise = (o : Otherwise) × IsOtherwise o
+  bodies : (h : Host) (all : List ArmJudged) → ArmsFit all → BodiesFit declared types structures depth labels h all
+  bodies h [] q = tt
+  bodies h (a ∷ all) q = (q.0, bodies h all q.1)
 
-    -- layers of such statements, without what holds of them
-    abbrev statement_layer : Statement-F ValidStatement ValidArm ValidCompound ValidOtherwise → Statement-F Statement Arm Compound Otherwise
-    statement_layer = map-Statement ValidStatement ValidArm ValidCompound ValidOtherwise Statement Arm Compound Otherwise (λ s. s.0) (λ a. a.0) (λ s. s.0) (λ o. o.0)
+  case_fits : (c : Context) (controls : List Entire) (line : ℕ) (e : Expression) (all : List ArmJudged) (other : Context → Judgement Other) → ArmsFit all → ((d : Context) → FitsRow (OtherIsSound declared types structures depth d) (other d))
+      → Sound c (case_judged line (λ x. expr_item c controls (Accepts x)) (selector_judged c.scopes e (labels_in all)) (λ h. arms_in_order line h all c controls) (λ arms. other (behind with_variables_in c arms)))
+  case_fits c controls line e all other q r = go (selector_judged c.scopes e (labels_in all)) refl
+    where
+      chosen : (s : CaseSelector) → selector_judged c.scopes e (labels_in all) ≡ Accepts s → Agrees_with c → IsSelected declared c.scopes s.host (labels_in all) s.form
+      chosen s is agreed =
+          subst (λ j. Fits (λ (x : CaseSelector). IsSelected declared c.scopes x.host (labels_in all) x.form) j) is (selector_fits declared expressions passed values labels variables c.scopes (agreement c agreed) e (labels_in all))
 
-    abbrev compound_layer : Compound-F ValidStatement ValidArm ValidCompound ValidOtherwise → Compound-F Statement Arm Compound Otherwise
-    compound_layer = map-Compound ValidStatement ValidArm ValidCompound ValidOtherwise Statement Arm Compound Otherwise (λ s. s.0) (λ a. a.0) (λ s. s.0) (λ o. o.0)
+      go : (j : Judged CaseSelector) → selector_judged c.scopes e (labels_in all) ≡ j → Sound c (case_judged line (λ x. expr_item c controls (Accepts x)) j (λ h. arms_in_order line h all c controls) (λ arms. other (behind with_variables_in c arms)))
+      go (Breaks rules) is = tt
+      go (Accepts s) is =
+          arms_row_fits declared types structures depth labels s.host line c controls s.form (expr_item c controls (Accepts s.form)) all other
+          (form_if (Agrees_with c) (λ x. IsExpr declared (valid.Ordinal (typed_host s.host)) x) (expr_item c controls (Accepts s.form)) (λ agreed. unthreatening_fits (IsExpr declared (valid.Ordinal (typed_host s.host))) (expr_threat c.routines) controls (Accepts s.form) (chosen s is agreed).0))
+          (λ agreed. (chosen s is agreed).1) (bodies s.host all q) r
 
-    abbrev arm_layer : Arm-F ValidStatement ValidArm ValidCompound ValidOtherwise → Arm-F Statement Arm Compound Otherwise
-    arm_layer = map-Arm ValidStatement ValidArm ValidCompound ValidOtherwise Statement Arm Compound Otherwise (λ s. s.0) (λ a. a.0) (λ s. s.0) (λ o. o.0)
+  -- ---- each statement
 
-    abbrev otherwise_layer : Otherwise-F ValidStatement ValidArm ValidCompound ValidOtherwise → Otherwise-F Statement Arm Compound Otherwise
-    otherwise_layer = map-Otherwise ValidStatement ValidArm ValidCompound ValidOtherwise Statement Arm Compound Otherwise (λ s. s.0) (λ a. a.0) (λ s. s.0) (λ o. o.0)
+  -- inside of any statements
+  abbrev IsStatement : Statement → Type 0
+  IsStatement s = (c : Context) (controls : List Entire) → Sound c (statement_judged s c controls)
 
-    rolled_arm : (x : Arm-F Statement Arm Compound Otherwise) → IsStatement x.body → IsArm (roll-Arm x)
-    rolled_arm x h controls = subst (λ (a : ArmJudged). Sound (a.1 controls)) (sym (fold-roll-Arm (Under Stmt) ArmJudged (Under Stmts) (Under Stmts) (at_statement c) (at_arm c) (at_compound c) (at_otherwise c) x)) (h controls)
+  abbrev IsCompound : Compound → Type 0
+  IsCompound s = (c : Context) (controls : List Entire) → AllSound c (compound_under s c controls)
 
-    rolled_otherwise : (x : Otherwise-F Statement Arm Compound Otherwise) → ((controls : List Entire) → AllSound (in_order (map (λ s. s controls) (map (statement_judged c) x.statements)))) → IsOtherwise (roll-Otherwise x)
-    rolled_otherwise x h controls = subst (λ (judge : Under Stmts). AllSound (judge controls)) (sym (fold-roll-Otherwise (Under Stmt) ArmJudged (Under Stmts) (Under Stmts) (at_statement c) (at_arm c) (at_compound c) (at_otherwise c) x)) (h controls)
+  abbrev IsArm : Arm → Type 0
+  IsArm a = (c : Context) (controls : List Entire) → Sound c ((arm_judged a).1 c controls)
 
-    rolled : (x : Statement-F Statement Arm Compound Otherwise) → ((controls : List Entire) → Sound (at_statement c (map-Statement Statement Arm Compound Otherwise (Under Stmt) ArmJudged (Under Stmts) (Under Stmts) (statement_judged c) (arm_judged c) (compound_under c) (otherwise_judged c) x) controls)) → IsStatement (roll-Statement x)
-    rolled x h controls = subst (λ (judge : Under Stmt). Sound (judge controls)) (sym (fold-roll-Statement (Under Stmt) ArmJudged (Under Stmts) (Under Stmts) (at_statement c) (at_arm c) (at_compound c) (at_otherwise c) x)) (h controls)
+  abbrev IsOtherwise : Otherwise → Type 0
+  IsOtherwise o = (c : Context) (controls : List Entire) → AllSound c (otherwise_judged o c controls)
 
-    rolled_compound : (x : Compound-F Statement Arm Compound Otherwise) → ((controls : List Entire) → AllSound (in_order (map (λ s. s controls) (map (statement_judged c) x.statements)))) → IsCompound (roll-Compound x)
-    rolled_compound x h controls = subst (λ (judge : Under Stmts). AllSound (judge controls)) (sym (fold-roll-Compound (Under Stmt) ArmJudged (Under Stmts) (Under Stmts) (at_statement c) (at_arm c) (at_compound c) (at_otherwise c) x)) (h controls)
+  abbrev ValidStatement : Type 0
+  ValidStatement = (s : Statement) × IsStatement s
 
-    -- one statement before others
-    both_sound : (x : Stmt) (xs : Stmts) → IsSound declared c x → AreSound declared c xs → AreSound declared c (tree.next x xs)
-    both_sound x xs p q = λ there. (p (first_part declared c (first_for x) (first_for_of xs) (first_for_in x) (first_for_in_of xs) there), q (second_part declared c (first_for x) (first_for_of xs) (first_for_in x) (first_for_in_of xs) there))
+  abbrev ValidArm : Type 0
+  ValidArm = (a : Arm) × IsArm a
 
-    row_fits : (controls : List Entire) (ss : List ValidStatement) → AllSound (in_order (map (λ s. s controls) (map (statement_judged c) (map (λ s. s.0) ss))))
-    row_fits controls [] = λ there. tt
-    row_fits controls (s ∷ ss) =
-        after_fits (IsSound declared c) (AreSound declared c) (AreSound declared c) tree.next (statement_judged c s.0 controls) (in_order (map (λ s. s controls) (map (statement_judged c) (map (λ s. s.0) ss)))) (s.1 controls) (row_fits controls ss)
-        (λ x xs p q. both_sound x xs p q)
+  abbrev ValidCompound : Type 0
+  ValidCompound = (s : Compound) × IsCompound s
 
-    -- two statements
-    abbrev BothSound : Stmt × Stmt → Type 0
-    BothSound p = IsSound declared c p.0 × IsSound declared c p.1
+  abbrev ValidOtherwise : Type 0
+  ValidOtherwise = (o : Otherwise) × IsOtherwise o
 
-    if_fits : (line : ℕ) (x : Judgement Expr) (y z : Judgement Stmt) → FitsRow (IsExpr declared (valid.Ordinal typed.Boolean)) x → Sound y → Sound z → Sound (if_judged line x y z)
-    if_fits line x y z h k l =
-        after_fits (IsExpr declared (valid.Ordinal typed.Boolean)) BothSound (IsSound declared c) _ x (after (λ a b. (a, b)) y z) h
-        (after_fits (IsSound declared c) (IsSound declared c) BothSound (λ a b. (a, b)) y z k l (λ a b p q. (p, q)))
-        (λ e p f g. λ there. (f, g.0 (first_part declared c (first_for p.0) (first_for p.1) (first_for_in p.0) (first_for_in p.1) there), g.1 (second_part declared c (first_for p.0) (first_for p.1) (first_for_in p.0) (first_for_in p.1) there)))
+  -- layers of such statements, without what holds of them
+  abbrev statement_layer : Statement-F ValidStatement ValidArm ValidCompound ValidOtherwise → Statement-F Statement Arm Compound Otherwise
+  statement_layer = map-Statement ValidStatement ValidArm ValidCompound ValidOtherwise Statement Arm Compound Otherwise (λ s. s.0) (λ a. a.0) (λ s. s.0) (λ o. o.0)
 
-    bodies_fit : (all : List ValidArm) → ArmsFit c is (map (arm_judged c) (map (λ a. a.0) all))
-    bodies_fit [] = tt
-    bodies_fit (a ∷ all) = (a.1, bodies_fit all)
+  abbrev compound_layer : Compound-F ValidStatement ValidArm ValidCompound ValidOtherwise → Compound-F Statement Arm Compound Otherwise
+  compound_layer = map-Compound ValidStatement ValidArm ValidCompound ValidOtherwise Statement Arm Compound Otherwise (λ s. s.0) (λ a. a.0) (λ s. s.0) (λ o. o.0)
 
-    nothing_there : (controls : List Entire) → Sound (Passes tree.Empty)
-    nothing_there controls = λ there. tt
+  abbrev arm_layer : Arm-F ValidStatement ValidArm ValidCompound ValidOtherwise → Arm-F Statement Arm Compound Otherwise
+  arm_layer = map-Arm ValidStatement ValidArm ValidCompound ValidOtherwise Statement Arm Compound Otherwise (λ s. s.0) (λ a. a.0) (λ s. s.0) (λ o. o.0)
 
-    -- each statement, where those in it are valid
-    statement_step : (y : Statement-F ValidStatement ValidArm ValidCompound ValidOtherwise) → IsStatement (roll-Statement (statement_layer y))
-    statement_step (Statement-F.Empty line) = rolled (Statement-F.Empty line) nothing_there
-    statement_step (Statement-F.Assignment line access v) =
-        rolled (Statement-F.Assignment line access v) (λ controls. stmt_fits c controls line _ (assignment_fits c is there line access v))
-    statement_step (Statement-F.Call line access) = rolled (Statement-F.Call line access) (λ controls. stmt_fits c controls line _ (called_fits c is line (out-Access access).name (call_arguments (out-Access access).selectors)))
-    statement_step (Statement-F.Compound s) = rolled (Statement-F.Compound s.0) (λ controls. formed_fits (AreSound declared c) (IsSound declared c) tree.Compound (compound_under c s.0 controls) (s.1 controls) (λ ss p. p))
-    statement_step (Statement-F.If line e then_part None) =
-        rolled (statement_layer (Statement-F.If line e then_part None))
-        (λ controls. if_fits line (condition_judged c controls line e) (statement_judged c then_part.0 controls) (Passes tree.Empty) (condition_fits c is controls line e) (then_part.1 controls) (nothing_there controls))
-    statement_step (Statement-F.If line e then_part (Some other)) =
-        rolled (statement_layer (Statement-F.If line e then_part (Some other)))
-        (λ controls. if_fits line (condition_judged c controls line e) (statement_judged c then_part.0 controls) (statement_judged c other.0 controls) (condition_fits c is controls line e) (then_part.1 controls) (other.1 controls))
-    statement_step (Statement-F.While line e body) =
-        rolled (Statement-F.While line e body.0)
-        (λ controls. after_fits (IsExpr declared (valid.Ordinal typed.Boolean)) (IsSound declared c) (IsSound declared c) (tree.While line) (condition_judged c controls line e) (statement_judged c body.0 controls) (condition_fits c is controls line e) (body.1 controls) (λ x s p q. λ there. (p, q there)))
-    statement_step (Statement-F.Case line e arms None) =
-        rolled (statement_layer (Statement-F.Case line e arms None)) (λ controls. case_fits c is controls line e (map (arm_judged c) (map (λ a. a.0) arms)) (Passes tree.no_other) (bodies_fit arms) (λ there. tt))
-    statement_step (Statement-F.Case line e arms (Some o)) =
-        rolled (statement_layer (Statement-F.Case line e arms (Some o)))
-        (λ controls. case_fits c is controls line e (map (arm_judged c) (map (λ a. a.0) arms)) (formed tree.otherwise_do (otherwise_judged c o.0 controls)) (bodies_fit arms)
-        (formed_fits (AreSound declared c) (OtherIsSound declared c) tree.otherwise_do (otherwise_judged c o.0 controls) (o.1 controls) (λ ss p. p)))
-    statement_step (Statement-F.Repeat line statements e) =
-        rolled (statement_layer (Statement-F.Repeat line statements e))
-        (λ controls. after_fits (IsExpr declared (valid.Ordinal typed.Boolean)) (AreSound declared c) (IsSound declared c) (λ form body. tree.Repeat line body form) (condition_judged c controls line e) (in_order (map (λ s. s controls) (map (statement_judged c) (map (λ s. s.0) statements)))) (condition_fits c is controls line e) (row_fits controls statements) (λ x ss p q. λ there. (q there, p)))
-    statement_step (Statement-F.For line variable start toward end body) =
-        rolled (statement_layer (Statement-F.For line variable start toward end body))
-        (λ controls. for_fits declared scopes agrees expression_fits c is controls line (control_judged c variable) (falls_by toward) start end (statement_judged c body.0) (control_fits declared scopes agrees expression_fits c is variable) body.1)
-    statement_step (Statement-F.ForIn line variable set body) =
-        rolled (statement_layer (Statement-F.ForIn line variable set body))
-        (λ controls. for_in_fits declared scopes agrees expression_fits c is controls line (control_judged c variable) set (statement_judged c body.0) (control_fits declared scopes agrees expression_fits c is variable) body.1)
-    statement_step (Statement-F.With line accesses body) = rolled (statement_layer (Statement-F.With line accesses body)) (λ controls. tt)
+  abbrev otherwise_layer : Otherwise-F ValidStatement ValidArm ValidCompound ValidOtherwise → Otherwise-F Statement Arm Compound Otherwise
+  otherwise_layer = map-Otherwise ValidStatement ValidArm ValidCompound ValidOtherwise Statement Arm Compound Otherwise (λ s. s.0) (λ a. a.0) (λ s. s.0) (λ o. o.0)
 
-    -- the statements of a compound statement that pass are valid
-    pub compound_fits : (s : Compound) → IsCompound s
-    compound_fits =
-        ind-Compound IsStatement IsArm IsCompound IsOtherwise
-        (λ x y e. subst (λ z. IsStatement (roll-Statement z)) e (statement_step y))
-        (λ x y e. subst (λ z. IsArm (roll-Arm z)) e (rolled_arm (arm_layer y) y.body.1))
-        (λ x y e. subst (λ z. IsCompound (roll-Compound z)) e (rolled_compound (compound_layer y) (λ controls. row_fits controls y.statements)))
-        (λ x y e. subst (λ z. IsOtherwise (roll-Otherwise z)) e (rolled_otherwise (otherwise_layer y) (λ controls. row_fits controls y.statements)))
+  rolled_arm : (x : Arm-F Statement Arm Compound Otherwise) → IsStatement x.body → IsArm (roll-Arm x)
+  rolled_arm x h c controls = subst (λ (a : ArmJudged). Sound c (a.1 c controls)) (sym (fold-roll-Arm (Under Stmt) ArmJudged (Under Stmts) (Under Stmts) at_statement at_arm at_compound at_otherwise x)) (h c controls)
+
+  rolled_otherwise : (x : Otherwise-F Statement Arm Compound Otherwise) → ((c : Context) (controls : List Entire) → AllSound c (in_order (map statement_judged x.statements) c controls)) → IsOtherwise (roll-Otherwise x)
+  rolled_otherwise x h c controls = subst (λ (judge : Under Stmts). AllSound c (judge c controls)) (sym (fold-roll-Otherwise (Under Stmt) ArmJudged (Under Stmts) (Under Stmts) at_statement at_arm at_compound at_otherwise x)) (h c controls)
+
+  rolled : (x : Statement-F Statement Arm Compound Otherwise) → ((c : Context) (controls : List Entire) → Sound c (at_statement (map-Statement Statement Arm Compound Otherwise (Under Stmt) ArmJudged (Under Stmts) (Under Stmts) statement_judged arm_judged compound_under otherwise_judged x) c controls)) → IsStatement (roll-Statement x)
+  rolled x h c controls = subst (λ (judge : Under Stmt). Sound c (judge c controls)) (sym (fold-roll-Statement (Under Stmt) ArmJudged (Under Stmts) (Under Stmts) at_statement at_arm at_compound at_otherwise x)) (h c controls)
+
+  rolled_compound : (x : Compound-F Statement Arm Compound Otherwise) → ((c : Context) (controls : List Entire) → AllSound c (in_order (map statement_judged x.statements) c controls)) → IsCompound (roll-Compound x)
+  rolled_compound x h c controls = subst (λ (judge : Under Stmts). AllSound c (judge c controls)) (sym (fold-roll-Compound (Under Stmt) ArmJudged (Under Stmts) (Under Stmts) at_statement at_arm at_compound at_otherwise x)) (h c controls)
+
+  -- one statement before others
+  both_sound : (c : Context) (x : Stmt) (xs : Stmts) → IsSound declared types structures depth c x → AreSound declared types structures depth (behind_withs c (with_variables x)) xs → AreSound declared types structures depth c (tree.next x xs)
+  both_sound c x xs p q = λ agreed there. (
+    p agreed (first_part declared types structures depth c (first_for x) (first_for_of xs) (first_for_in x) (first_for_in_of xs) (with_variables x) (with_variables_of xs) there),
+    q agreed (second_part declared types structures depth c (first_for x) (first_for_of xs) (first_for_in x) (first_for_in_of xs) (with_variables x) (with_variables_of xs) there),
+  )
+
+  row_fits : (ss : List ValidStatement) (c : Context) (controls : List Entire) → AllSound c (in_order (map statement_judged (map (λ s. s.0) ss)) c controls)
+  row_fits [] c controls = λ agreed there. tt
+  row_fits (s ∷ ss) c controls =
+      behind_fits (IsSound declared types structures depth c) (λ d xs. AreSound declared types structures depth d xs) (AreSound declared types structures depth c) tree.next with_variables c (statement_judged s.0 c controls) (λ d. in_order (map statement_judged (map (λ t. t.0) ss)) d controls)
+      (s.1 c controls) (λ d. row_fits ss d controls) (λ x xs p q. both_sound c x xs p q)
+
+  -- two statements, the second one behind the first
+  abbrev BothSound : Context → Stmt × Stmt → Type 0
+  BothSound c p = IsSound declared types structures depth c p.0 × IsSound declared types structures depth (behind_withs c (with_variables p.0)) p.1
+
+  if_fits : (c : Context) (line : ℕ) (x : Judgement Expr) (y : Judgement Stmt) (z : Context → Judgement Stmt) → FitsRow (IsTested c) x → Sound c y → ((d : Context) → Sound d (z d)) → Sound c (if_judged line x y (z (behind with_variables c y)))
+  if_fits c line x y z h k l =
+      after_fits (IsTested c) (BothSound c) (IsSound declared types structures depth c) _ x (after (λ a b. (a, b)) y (z (behind with_variables c y))) h
+      (behind_fits (IsSound declared types structures depth c) (λ d s. IsSound declared types structures depth d s) (BothSound c) (λ a b. (a, b)) with_variables c y z k l (λ a b p q. (p, q)))
+      (λ e p f g. λ agreed there. (
+        f agreed,
+        g.0 agreed (first_part declared types structures depth c (first_for p.0) (first_for p.1) (first_for_in p.0) (first_for_in p.1) (with_variables p.0) (with_variables p.1) there),
+        g.1 agreed (second_part declared types structures depth c (first_for p.0) (first_for p.1) (first_for_in p.0) (first_for_in p.1) (with_variables p.0) (with_variables p.1) there),
+      ))
+
+  bodies_fit : (all : List ValidArm) → ArmsFit (map arm_judged (map (λ a. a.0) all))
+  bodies_fit [] = tt
+  bodies_fit (a ∷ all) = (a.1, bodies_fit all)
+
+  nothing_there : (c : Context) → Sound c (Passes tree.Empty)
+  nothing_there c = λ agreed there. tt
+
+  with_fits : (c : Context) (controls : List Entire) (line : ℕ) (accesses : List syntax.Access) (body : Under Stmt) → ((d : Context) (inner : List Entire) → Sound d (body d inner)) → Sound c (with_judged c controls line (records_opened c accesses (none_opened c)) body)
+  with_fits c controls line accesses body p = go (records_opened c accesses (none_opened c)) (opened_fits declared types structures depth variables c accesses)
+    where
+      go : (j : Judged Opened) → Fits (IsOpened declared types structures depth variables c) j → Sound c (with_judged c controls line j body)
+      go (Breaks rules) h = tt
+      go (Accepts o) h =
+          after_fits (λ hs. IfBuilt declared types structures depth variables c o (Some hs)) (IsSound declared types structures depth (inside c o)) (IsSound declared types structures depth c) (with_form line) _ (body (inside c o) controls)
+          (item_fits (λ hs. IfBuilt declared types structures depth variables c o (Some hs)) line (unless_threatening (heads_threat c.routines) controls (Accepts o.heads))
+          (unthreatening_fits (λ hs. IfBuilt declared types structures depth variables c o (Some hs)) (heads_threat c.routines) controls (Accepts o.heads) (built o.heads h)))
+          (p (inside c o) controls) (λ hs s f g. nested_sound declared types structures depth variables c line s o hs f g)
+        where
+          built : (hs : Option (List WithHead)) → IfBuilt declared types structures depth variables c o hs → IfForm (λ xs. IfBuilt declared types structures depth variables c o (Some xs)) hs
+          built None q = tt
+          built (Some hs) q = q
+
+  -- each statement, where those in it are valid
+  statement_step : (y : Statement-F ValidStatement ValidArm ValidCompound ValidOtherwise) → IsStatement (roll-Statement (statement_layer y))
+  statement_step (Statement-F.Empty line) = rolled (Statement-F.Empty line) (λ c controls. nothing_there c)
+  statement_step (Statement-F.Assignment line access v) =
+      rolled (Statement-F.Assignment line access v) (λ c controls. simple_fits c controls line _ (λ agreed. assignment_fits declared expressions passed values labels variables c.scopes (agreement c agreed) c refl (results_there c agreed) line access v))
+  statement_step (Statement-F.Call line access) =
+      rolled (Statement-F.Call line access) (λ c controls. simple_fits c controls line _ (λ agreed. called_fits declared expressions passed values labels variables c.scopes (agreement c agreed) c refl line (out-Access access).name (call_arguments (out-Access access).selectors)))
+  statement_step (Statement-F.Compound s) =
+      rolled (Statement-F.Compound s.0) (λ c controls. formed_fits (AreSound declared types structures depth c) (IsSound declared types structures depth c) tree.Compound (compound_under s.0 c controls) (s.1 c controls) (λ ss p. p))
+  statement_step (Statement-F.If line e then_part None) =
+      rolled (statement_layer (Statement-F.If line e then_part None)) (λ c controls. if_fits c line (condition_judged c controls line e) (statement_judged then_part.0 c controls) (λ d. Passes tree.Empty) (tested_row c controls line e) (then_part.1 c controls) nothing_there)
+  statement_step (Statement-F.If line e then_part (Some other)) =
+      rolled (statement_layer (Statement-F.If line e then_part (Some other)))
+      (λ c controls. if_fits c line (condition_judged c controls line e) (statement_judged then_part.0 c controls) (λ d. statement_judged other.0 d controls) (tested_row c controls line e) (then_part.1 c controls) (λ d. other.1 d controls))
+  statement_step (Statement-F.While line e body) =
+      rolled (Statement-F.While line e body.0)
+      (λ c controls. after_fits (IsTested c) (IsSound declared types structures depth c) (IsSound declared types structures depth c) (tree.While line) (condition_judged c controls line e) (statement_judged body.0 c controls) (tested_row c controls line e) (body.1 c controls) (λ x s p q. λ agreed there. (p agreed, q agreed there)))
+  statement_step (Statement-F.Case line e arms None) =
+      rolled (statement_layer (Statement-F.Case line e arms None)) (λ c controls. case_fits c controls line e (map arm_judged (map (λ a. a.0) arms)) (λ d. Passes tree.no_other) (bodies_fit arms) (λ d. λ agreed there. tt))
+  statement_step (Statement-F.Case line e arms (Some o)) =
+      rolled (statement_layer (Statement-F.Case line e arms (Some o)))
+      (λ c controls. case_fits c controls line e (map arm_judged (map (λ a. a.0) arms)) (λ d. formed tree.otherwise_do (otherwise_judged o.0 d controls)) (bodies_fit arms)
+      (λ d. formed_fits (AreSound declared types structures depth d) (OtherIsSound declared types structures depth d) tree.otherwise_do (otherwise_judged o.0 d controls) (o.1 d controls) (λ ss p. p)))
+  statement_step (Statement-F.Repeat line statements e) =
+      rolled (statement_layer (Statement-F.Repeat line statements e))
+      (λ c controls. after_fits (IsTested c) (AreSound declared types structures depth c) (IsSound declared types structures depth c) (λ form body. tree.Repeat line body form) (condition_judged c controls line e) (in_order (map statement_judged (map (λ s. s.0) statements)) c controls) (tested_row c controls line e) (row_fits statements c controls) (λ x ss p q. λ agreed there. (q agreed there, p agreed)))
+  statement_step (Statement-F.For line variable start toward end body) =
+      rolled (statement_layer (Statement-F.For line variable start toward end body))
+      (λ c controls. for_fits declared types structures depth c (λ agreed. expression_fits declared expressions passed values labels variables c.scopes (agrees_in declared types structures depth c.scopes agreed)) controls line variable (falls_by toward) start end (statement_judged body.0) body.1)
+  statement_step (Statement-F.ForIn line variable set body) =
+      rolled (statement_layer (Statement-F.ForIn line variable set body))
+      (λ c controls. for_in_fits declared types structures depth c (λ agreed. expression_fits declared expressions passed values labels variables c.scopes (agrees_in declared types structures depth c.scopes agreed)) controls line variable set (statement_judged body.0) body.1)
+  statement_step (Statement-F.With line accesses body) = rolled (statement_layer (Statement-F.With line accesses body)) (λ c controls. with_fits c controls line accesses (statement_judged body.0) body.1)
+
+  -- the statements of a compound statement that pass are valid
+  pub compound_fits : (s : Compound) → IsCompound s
+  compound_fits =
+      ind-Compound IsStatement IsArm IsCompound IsOtherwise
+      (λ x y e. subst (λ z. IsStatement (roll-Statement z)) e (statement_step y))
+      (λ x y e. subst (λ z. IsArm (roll-Arm z)) e (rolled_arm (arm_layer y) y.body.1))
+      (λ x y e. subst (λ z. IsCompound (roll-Compound z)) e (rolled_compound (compound_layer y) (λ c controls. row_fits y.statements c controls)))
+      (λ x y e. subst (λ z. IsOtherwise (roll-Otherwise z)) e (rolled_otherwise (otherwise_layer y) (λ c controls. row_fits y.statements c controls)))
 
 -- the law
 pub statements_are_sound : ExpressionsAreSound → ArgumentsAreSound → ValuesAreSound → LabelsAreSound → VariablesAreSound → StatementsAreSound
-statements_are_sound expressions passed values labels variables context c ss is declared agrees there auxiliary members =
-    let sound : AreSound declared context ss = subst (FitsRow (AreSound declared context)) is (compound_fits declared expressions passed values labels variables context.scopes agrees context refl there c []) in
-    sound (auxiliary, members)
+statements_are_sound expressions passed values labels variables context c ss is declared agrees there auxiliary members withs =
+    let structures : List StructuredType = structures_of context.scopes in
+    let depth : ℕ = depth_in context.scopes in
+    let sound : AreSound declared agrees.0 structures depth context ss = subst (FitsRow (AreSound declared agrees.0 structures depth context)) is (compound_fits declared expressions passed values labels variables agrees.0 structures depth c context []) in
+    sound ((refl, refl, agrees.1), there) (auxiliary, members, withs)

@@ -1,41 +1,48 @@
-use Rattle.std.proofs.Common.{rules, ◌≡◌, ◌∙◌, ◌+◌, None, map, drop, ap, sym}
+use Rattle.std.proofs.Common.{rules, ◌≡◌, ◌∙◌, ◌+◌, List, None, map, drop, ap, sym}
 use Rattle.std.specs.Option.{option_map}
 use Rattle.ep_tree.specs.declared.statement.Statement.TheVariants as statement
 use Rattle.ep_tree.specs.declared.statement.Statement.TheViews.{the_lemmas}
 use Rattle.ep_built.specs.Built.{arm_unbuilt, first_in, statement_unbuilt}
 use Rattle.ep_typed.specs.Viewed.{arm_of, expr_of, other_of, stmt_of}
+use Rattle.ep_typed.specs.Trees.{Arms, Entire, Stmt, Stmts}
 use Rattle.ep_check_expr.specs.Judgements.{Accepts}
-use Rattle.ep_check_stmt.specs.Answers.{AnswersRow, context_of, counted_of, entire_of, head_of, labels_of, member_head_of, passed, selector_of}
+use Rattle.ep_check_stmt.specs.Answers.{AnswersRow, arms_of, context_of, counted_of, entire_of, head_of, heads_of, labels_of, member_head_of, numbered, opened_of, passed, selector_of}
 use Rattle.ep_check_stmt.specs.Cases.{selector_judged}
-use Rattle.ep_check_stmt.specs.Statements.{arm_judged, arm_row, arms_in_order, at_item, control_judged, expr_item, other_judged, statement_judged}
+use Rattle.ep_check_stmt.specs.Statements.{Context, Judgement, arm_judged, arm_row, arms_in_order, at_item, condition_judged, control_judged, else_judged, expr_item, in_order, none_opened, other_judged, records_opened, statement_judged}
 use Rattle.ep_check_stmt.proofs.CaseParts.{all_arms, arms_more, case_is, less_arms, more_arms, rest_judged, selector_falls}
 use Rattle.ep_check_stmt.proofs.judged.Rounds.{rest_built}
-use Rattle.ep_check_stmt.proofs.Branches.{call_is, for_in_is, for_is, other_built, repeat_is, then_built, while_is}
-use Rattle.ep_check_stmt.proofs.BuiltParts.{body_built, end_built, inner_built, set_built, start_built, target_built, turn_built, value_built}
+use Rattle.ep_check_stmt.proofs.Branches.{call_is, else_rest, for_in_is, for_is, if_is, opened_falls, other_built, repeat_is, then_built, while_is, with_is}
+use Rattle.ep_check_stmt.proofs.BuiltParts.{body_built, end_built, inner_built, opened_built, records_built, set_built, start_built, target_built, turn_built, value_built}
 use Rattle.ep_check_stmt.proofs.Rows.{all_together, assignment_is, item_answers, less_together, more_together, statements_more}
 use Rattle.ep_check_stmt.proofs.statements.Context.+statements.Goals as goal
-use Rattle.ep_check_stmt.proofs.statements.Context.+statements.Goals.{arms-in-Passes+in_ok-push-in-Passes, arms-in-Waits, statement-in-None-other, statement-in-Some-other, statements-in-Passes+in_ok-push-in-Passes, statements-in-Waits}
+use Rattle.ep_check_stmt.proofs.statements.Context.+statements.Goals.{arms-in-Passes+in_ok-push-in-Passes, arms-in-Waits, statement-in-None, statement-in-None-other, statement-in-Some, statement-in-Some-other, statements-in-Passes+in_ok-push-in-Passes, statements-in-Waits}
 
 pub statements-loop-s-preserved : goal.statements-loop-s-preserved
 statements-loop-s-preserved t c =
+    let context : Context = context_of c.args.self.now in
+    let here : Context = numbered context c.loop-s.withs in
+    let controls : List Entire = map entire_of c.args.controls.now in
+    let whole : Judgement Stmts = in_order (map statement_judged c.args.all.now) context controls in
     let rest : first_in (map statement_unbuilt (drop (c.loop-s.s-index + 1) c.args.all.now)) ≡ None = rest_built statement_unbuilt c.args.all.now c.loop-s.s-index c.s-item.result c.loop-s-test.true c.s-item.is c.loop-s.invariant.built in
-    elim c.match-branch-2.branch [
+    let judged = rw c.numbered.ensures at c.in_ok-one.ensures in
+    elim c.match-one-2.branch [
       | statements-in-Passes+in_ok-push-in-Passes w ↦ record {
         built = rest;
         same =
-            rw (w.waits-is, w.found-is, w.in_ok-push-in-Passes.ensures.ok, statements_more, w.into_inner.ensures)
-            (more_together (statement_judged (context_of c.args.self.now)) (λ s. s (map entire_of c.args.controls.now)) c.args.all.now c.loop-s.s-index c.s-item.result c.loop-s-test.true c.s-item.is (map stmt_of c.loop-s.found) c.loop-s.waits (stmt_of w.in-Passes.form) (c.in_ok-form.ensures ∙ ap (passed stmt_of) w.in-Passes.is) c.loop-s.invariant.same);
+            rw (w.waits-is, w.found-is, w.in_ok-push-in-Passes.ensures.ok, statements_more, w.into_inner.ensures, c.in_ok-withs.ensures context, w.in-Passes.is)
+            (more_together statement_judged controls c.args.all.now c.loop-s.s-index c.s-item.result c.loop-s-test.true c.s-item.is here (map stmt_of c.loop-s.found) c.loop-s.waits (stmt_of w.in-Passes.form) whole (judged ∙ ap (passed stmt_of) w.in-Passes.is) c.loop-s.invariant.same);
       }
       | statements-in-Waits w ↦ record {
         built = rest;
         same =
-            rw (w.waits-is, w.found-is, w.or-waits.ensures)
-            (less_together (statement_judged (context_of c.args.self.now)) (λ s. s (map entire_of c.args.controls.now)) c.args.all.now c.loop-s.s-index c.s-item.result c.loop-s-test.true c.s-item.is (map stmt_of c.loop-s.found) c.loop-s.waits w.in-Waits.line (c.in_ok-form.ensures ∙ ap (passed stmt_of) w.in-Waits.is) c.loop-s.invariant.same);
+            rw (w.waits-is, w.found-is, w.or-waits.ensures, c.in_ok-withs.ensures context, w.in-Waits.is)
+            (less_together statement_judged controls c.args.all.now c.loop-s.s-index c.s-item.result c.loop-s-test.true c.s-item.is here (map stmt_of c.loop-s.found) c.loop-s.waits w.in-Waits.line whole (judged ∙ ap (passed stmt_of) w.in-Waits.is) c.loop-s.invariant.same);
       }
     ]
 
 pub statements-returns-in-None : goal.statements-returns-in-None
-statements-returns-in-None t c = all_together (statement_judged (context_of c.args.self.now)) (λ s. s (map entire_of c.args.controls.now)) c.args.all.now c.loop-s.s-index (map stmt_of c.loop-s.found) c.loop-s.waits c.loop-s-test.false c.in-None.is c.loop-s.invariant.same
+statements-returns-in-None t c =
+    all_together statement_judged (numbered (context_of c.args.self.now) c.loop-s.withs) (map entire_of c.args.controls.now) c.args.all.now c.loop-s.s-index (map stmt_of c.loop-s.found) c.loop-s.waits (in_order (map statement_judged c.args.all.now) (context_of c.args.self.now) (map entire_of c.args.controls.now)) c.loop-s-test.false c.in-None.is c.loop-s.invariant.same
 
 pub statement-returns-in-Assignment : goal.statement-returns-in-Assignment
 statement-returns-in-Assignment t c =
@@ -99,31 +106,79 @@ pub statement-statement-first-requires : goal.statement-statement-first-requires
 statement-statement-first-requires t c =
     (search (rules, the_lemmas), rw c.get.ensures (then_built c.in-If.line c.in-If.e c.in-If.then c.in-If.other (rw c.in-If.is at c.requires)))
 
-pub statement-statement-second-requires : goal.statement-statement-second-requires
-statement-statement-second-requires t c =
+pub statement-alternative-second-requires : goal.statement-alternative-second-requires
+statement-alternative-second-requires t c =
     (search (rules, the_lemmas), rw c.get-in-Some.ensures (other_built c.in-If.line c.in-If.e c.in-If.then c.in-Some.other (rw (c.in-If.is, c.in-Some.is) at c.requires)))
+
+pub statement-returns-after-other : goal.statement-returns-after-other
+statement-returns-after-other t c =
+    let context : Context = context_of c.args.self.now in
+    let controls : List Entire = map entire_of c.args.controls.now in
+    let then_part : Judgement Stmt = statement_judged c.in-If.then context controls in
+    let first : AnswersRow stmt_of c.statement-first.result then_part = rw c.get.ensures at c.statement-first.ensures in
+    let second : AnswersRow stmt_of c.match-other.second (else_judged (else_rest c.in-If.other) context controls then_part) =
+    elim c.match-other.branch [
+      | statement-in-None w ↦ rw (w.second-is, w.in-None.is) w.empty-second.ensures
+      | statement-in-Some w ↦ rw (w.second-is, w.in-Some.is) (rw w.get-in-Some.ensures at w.alternative-second.ensures then_part first)
+    ] in
+    rw (c.in-If.is, if_is) (c.if_form.ensures (condition_judged context controls c.in-If.line c.in-If.e) then_part _ (rw c.get-in-If.ensures at c.condition.ensures) first second)
+
+pub statement-with_records-requires : goal.statement-with_records-requires
+statement-with_records-requires t c =
+    let built : statement_unbuilt (statement.With c.in-With.line c.in-With.accesses c.in-With.body) ≡ None = rw c.in-With.is at c.requires in
+    (search (rules, the_lemmas), (rw c.get-in-With.ensures (opened_built c.in-With.line c.in-With.accesses c.in-With.body built), rw c.items-in-With.ensures (records_built c.in-With.line c.in-With.accesses c.in-With.body built)))
+
+pub statement-returns-in-With : goal.statement-returns-in-With
+statement-returns-in-With t c = rw (c.in-With.is, with_is) (rw (c.get-in-With.ensures, c.items-in-With.ensures) at c.with_records.ensures)
+
+pub with_records-returns : goal.with_records-returns
+with_records-returns t c =
+    let chosen : records_opened (context_of c.args.self.now) c.args.accesses.now (none_opened (context_of c.args.self.now)) ≡ Accepts (opened_of c.in-Ok.opened) = c.in-Ok.ensures in
+    let heads : AnswersRow heads_of c.item_at.result (at_item c.args.line _) =
+    rw c.item_at.ensures (item_answers heads_of c.args.line c.unless_places_threaten-heads.result _ (rw c.into_heads.ensures at c.unless_places_threaten-heads.ensures)) in
+    rw chosen (c.with_form.ensures _ _ heads c.statement_inside-inner.ensures)
+
+pub with_records-returns-in-Err : goal.with_records-returns-in-Err
+with_records-returns-in-Err t c =
+    rw c.refused_at.ensures (opened_falls (context_of c.args.self.now) (map entire_of c.args.controls.now) c.args.line _ _ c.in-Err.refusal c.in-Err.ensures)
+
+pub statement_inside-returns : goal.statement_inside-returns
+statement_inside-returns t c = rw c.view-scopes.ensures at c.statement.ensures
+
+pub alternative-returns : goal.alternative-returns
+alternative-returns t c x h =
+    rw (c.numbered.ensures ∙ c.in_ok-withs.ensures (context_of c.args.self.now) x h) at c.statement.ensures
+
+pub otherwise-returns : goal.otherwise-returns
+otherwise-returns t c x h =
+    c.otherwise_form.ensures _ (rw (c.items.ensures, c.numbered-context.ensures ∙ c.in_ok-withs.ensures (context_of c.args.self.now) x h) at c.statements.ensures)
 
 pub arms-loop-a-preserved : goal.arms-loop-a-preserved
 arms-loop-a-preserved t c =
+    let context : Context = context_of c.args.self.now in
+    let here : Context = numbered context c.loop-a.withs in
+    let controls : List Entire = map entire_of c.args.controls.now in
+    let whole : Judgement Arms = arms_in_order c.args.line c.args.host (map arm_judged c.args.all.now) context controls in
     let rest : first_in (map arm_unbuilt (drop (c.loop-a.a-index + 1) c.args.all.now)) ≡ None = rest_built arm_unbuilt c.args.all.now c.loop-a.a-index c.a-item.result c.loop-a-test.true c.a-item.is c.loop-a.invariant.built in
-    elim c.match-branch-2.branch [
+    let judged = sym (ap (λ k. arm_row c.args.line c.args.host (arm_judged c.a-item.result) k controls) c.numbered.ensures) ∙ c.in_ok-one.ensures in
+    elim c.match-one-2.branch [
       | arms-in-Passes+in_ok-push-in-Passes w ↦ record {
         built = rest;
         same =
-            rw (w.waits-is, w.found-is, w.in_ok-push-in-Passes.ensures.ok, arms_more, w.into_inner.ensures)
-            (more_arms (arm_judged (context_of c.args.self.now)) (arm_row c.args.self.now.scopes.now c.args.line c.args.host (map entire_of c.args.controls.now)) c.args.all.now c.loop-a.a-index c.a-item.result c.loop-a-test.true c.a-item.is (map arm_of c.loop-a.found) c.loop-a.waits (arm_of w.in-Passes.form) (c.in_ok-form.ensures ∙ ap (passed arm_of) w.in-Passes.is) c.loop-a.invariant.same);
+            rw (w.waits-is, w.found-is, w.in_ok-push-in-Passes.ensures.ok, arms_more, w.into_inner.ensures, c.in_ok-withs.ensures context, w.in-Passes.is)
+            (more_arms arm_judged c.args.line c.args.host controls c.args.all.now c.loop-a.a-index c.a-item.result c.loop-a-test.true c.a-item.is here (map arm_of c.loop-a.found) c.loop-a.waits (arm_of w.in-Passes.form) whole (judged ∙ ap (passed arm_of) w.in-Passes.is) c.loop-a.invariant.same);
       }
       | arms-in-Waits w ↦ record {
         built = rest;
         same =
-            rw (w.waits-is, w.found-is, w.or-waits.ensures)
-            (less_arms (arm_judged (context_of c.args.self.now)) (arm_row c.args.self.now.scopes.now c.args.line c.args.host (map entire_of c.args.controls.now)) c.args.all.now c.loop-a.a-index c.a-item.result c.loop-a-test.true c.a-item.is (map arm_of c.loop-a.found) c.loop-a.waits w.in-Waits.line (c.in_ok-form.ensures ∙ ap (passed arm_of) w.in-Waits.is) c.loop-a.invariant.same);
+            rw (w.waits-is, w.found-is, w.or-waits.ensures, c.in_ok-withs.ensures context, w.in-Waits.is)
+            (less_arms arm_judged c.args.line c.args.host controls c.args.all.now c.loop-a.a-index c.a-item.result c.loop-a-test.true c.a-item.is here (map arm_of c.loop-a.found) c.loop-a.waits w.in-Waits.line whole (judged ∙ ap (passed arm_of) w.in-Waits.is) c.loop-a.invariant.same);
       }
     ]
 
 pub arms-returns-in-None : goal.arms-returns-in-None
 arms-returns-in-None t c =
-    all_arms (arm_judged (context_of c.args.self.now)) (arm_row c.args.self.now.scopes.now c.args.line c.args.host (map entire_of c.args.controls.now)) c.args.all.now c.loop-a.a-index (map arm_of c.loop-a.found) c.loop-a.waits c.loop-a-test.false c.in-None.is c.loop-a.invariant.same
+    all_arms arm_judged c.args.line c.args.host (numbered (context_of c.args.self.now) c.loop-a.withs) (map entire_of c.args.controls.now) c.args.all.now c.loop-a.a-index (map arm_of c.loop-a.found) c.loop-a.waits (arms_in_order c.args.line c.args.host (map arm_judged c.args.all.now) (context_of c.args.self.now) (map entire_of c.args.controls.now)) c.loop-a-test.false c.in-None.is c.loop-a.invariant.same
 
 pub statement-returns-in-Err : goal.statement-returns-in-Err
 statement-returns-in-Err t c =
@@ -133,15 +188,18 @@ statement-returns-in-Err t c =
 pub statement-returns-after-other-2 : goal.statement-returns-after-other-2
 statement-returns-after-other-2 t c =
     let line = c.in-Case.line in
+    let context : Context = context_of c.args.self.now in
+    let controls : List Entire = map entire_of c.args.controls.now in
     let chosen : selector_judged c.args.self.now.scopes.now c.in-Case.e (map labels_of c.in-Case.arms) ≡ Accepts (selector_of c.in-Ok.selector) = rw (c.get-in-Case.ensures, c.items.ensures) at c.in-Ok.ensures in
-    let rest : AnswersRow other_of c.match-other-2.rest (other_judged (rest_judged (context_of c.args.self.now) (map entire_of c.args.controls.now) c.in-Case.other)) =
+    let arms : Judgement Arms = arms_in_order line c.in-Ok.selector.host (map arm_judged c.in-Case.arms) context controls in
+    let inner : AnswersRow arms_of c.arms-inner.result arms = rw c.items-in-Case.ensures at c.arms-inner.ensures in
+    let rest : AnswersRow other_of c.match-other-2.rest (other_judged (rest_judged c.in-Case.other) context controls arms) =
     elim c.match-other-2.branch [
       | statement-in-None-other w ↦ rw (w.rest-is, w.in-None-other.is) w.no_otherwise-rest.ensures
-      | statement-in-Some-other w ↦ rw (w.rest-is, w.in-Some-other.is) (w.otherwise_form-rest.ensures _ (rw w.items-in-Some-other.ensures at w.statements.ensures))
+      | statement-in-Some-other w ↦ rw (w.rest-is, w.in-Some-other.is) (w.otherwise-rest.ensures arms inner)
     ] in
-    let form : AnswersRow expr_of c.item_at-in-Case.result (at_item line (expr_item (context_of c.args.self.now) (map entire_of c.args.controls.now) (Accepts (option_map expr_of c.in-Ok.selector.form)))) =
+    let form : AnswersRow expr_of c.item_at-in-Case.result (at_item line (expr_item context controls (Accepts (option_map expr_of c.in-Ok.selector.form)))) =
     rw c.item_at-in-Case.ensures
     (item_answers expr_of line c.unless_value_threatens-form.result _
     (c.unless_value_threatens-form.ensures (Accepts (option_map expr_of c.in-Ok.selector.form)) (ap (λ f. Accepts (option_map expr_of f)) (sym c.into_form.ensures)))) in
-    rw (c.in-Case.is, case_is, chosen)
-    (c.case_form.ensures _ (arms_in_order (map (arm_row c.args.self.now.scopes.now line c.in-Ok.selector.host (map entire_of c.args.controls.now)) (map (arm_judged (context_of c.args.self.now)) c.in-Case.arms))) (other_judged (rest_judged (context_of c.args.self.now) (map entire_of c.args.controls.now) c.in-Case.other)) form (rw c.items-in-Case.ensures at c.arms-inner.ensures) rest)
+    rw (c.in-Case.is, case_is, chosen) (c.case_form.ensures _ arms (other_judged (rest_judged c.in-Case.other) context controls arms) form inner rest)
