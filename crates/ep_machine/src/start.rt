@@ -10,6 +10,7 @@ use crate::state::{Configuration, Memory};
 use ep_base::List;
 use ep_frames::{Calls, Stack};
 use ep_object::{ImageUnit, Kind, Place, TEXT_TYPE, TypeEntry};
+use ep_rows::TypeTable;
 use std::alloc::{AllocError, Global};
 
 /// The slots of the frames of all units, which hold no place yet.
@@ -31,15 +32,15 @@ fn entry(kind: Kind) -> TypeEntry
 }
 
 /// The types from the start.
-fn types(alloc: Global) -> Result<Vec<TypeEntry>, AllocError>
-    ensures { IfOk result (λ v. v.items ≡ first_types) }
+fn types(alloc: Global) -> Result<TypeTable, AllocError>
+    ensures { IfOk result (λ types. types ≡ first_types) }
 {
-    let mut types = Vec::new(alloc);
-    types.push(entry(Kind::Ord(-i64::MAX, i64::MAX)))?;
-    types.push(entry(Kind::Ord(0, 255)))?;
-    types.push(entry(Kind::Ord(0, 1)))?;
-    types.push(entry(Kind::Text))?;
-    types.push(entry(Kind::Pointer))?;
+    let mut types = TypeTable::new(alloc);
+    types.add(entry(Kind::Ord(-i64::MAX, i64::MAX)))?;
+    types.add(entry(Kind::Ord(0, 255)))?;
+    types.add(entry(Kind::Ord(0, 1)))?;
+    types.add(entry(Kind::Text))?;
+    types.add(entry(Kind::Pointer))?;
     Ok(types)
 }
 

@@ -10,8 +10,8 @@ ghost use Rattle.std.specs.Bool.{OnTrue};
 
 use ep_base::List;
 use ep_frames::{Calls, Stack};
-use ep_object::{FrameNumber, ImageRoutine, Place, TypeEntry};
-use ep_rows::segments;
+use ep_object::{FrameNumber, ImageRoutine, Place};
+use ep_rows::{TypeTable, segments};
 use std::alloc::Global;
 
 /// What a machine has besides its place, its ticks and its operands.
@@ -28,7 +28,7 @@ pub struct Memory {
     /// The calls under way.
     pub calls: Calls,
     /// The types by number.
-    pub types: Vec<TypeEntry>,
+    pub types: TypeTable,
     /// The segments, and how many words live.
     pub store: ep_memory::Memory,
 }

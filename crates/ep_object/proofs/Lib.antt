@@ -11,4 +11,5 @@ pub mod SetWords
 mod Spinning
 pub mod Tells
 pub mod Ticks
+mod TypeEntries
 pub mod Views

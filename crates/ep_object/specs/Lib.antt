@@ -23,5 +23,6 @@ pub mod State
 pub mod Table
 pub mod Tells
 pub mod Texts
+pub mod TypeEntries
 pub mod Types
 pub mod WordRows

@@ -10,6 +10,7 @@ mod laws;
 pub mod limit;
 pub mod op;
 mod state;
+mod type_entry;
 
 pub use code::{
     CodeRoutine, CodeRoutines, ConstantType, ConstantTypes, Image, ImageRoutine, ImageRoutines,

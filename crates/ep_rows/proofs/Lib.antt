@@ -5,4 +5,5 @@ mod Indexing
 mod Making
 mod RecordTypes
 mod SetBits
+mod TypeTables
 mod WordRows

@@ -1,13 +1,12 @@
--- Record types, for the contracts of src/records.rt and of `same_parts`.
-use Rattle.std.proofs.Common.{◌≡◌, ◌≢◌, ℕ, ℤ, pos, zero, suc, ◌+◌, ◌-◌, ◌<◌, ◌≤◌, List, [], ◌∷◌, ◌++◌, Option, Some, None, MatchOption, Bool, true, false, ◌==◌, ◌&&◌, length, leb, reverse, take, drop, get_or, option_map, add-one, refl, sym, ap, subst, ◌∙◌, arith}
+-- Record types, for the contracts of src/records.rt.
+use Rattle.std.proofs.Common.{◌≡◌, ℕ, ℤ, pos, zero, suc, ◌+◌, ◌-◌, ◌<◌, ◌≤◌, List, [], ◌∷◌, ◌++◌, Option, Some, None, MatchOption, false, length, leb, reverse, take, drop, get_or, option_map, add-one, refl, ap, subst, ◌∙◌, arith}
 use Rattle.std.proofs.Math.Seq.{take-suc, drop-cons}
 use Rattle.std.proofs.lemmas.List.{reverse-append}
 use Rattle.ep_object.specs.Effects.{Work, weighing, having_weighed}
 use Rattle.ep_memory.specs.Stores.{Store}
 use Rattle.ep_object.specs.Operands.{Operand, Word, Place, Text, Value, Set, word}
 use Rattle.ep_object.specs.State.{TypeTable, size_limit}
-use Rattle.ep_object.specs.Types.{Numbered, lowest_first, and_numbered, entry_of, entries_of, words_behind, record_of, rec_row, same_parts}
-use Rattle.ep_object.specs.declared.state.RecordPart.{RecordPart}
+use Rattle.ep_object.specs.Types.{Numbered, lowest_first, and_numbered, entry_of, entries_of, words_behind, record_of, rec_row}
 use Rattle.ep_rows.specs.Parts.{typing}
 use Rattle.ep_rows.specs.Records.{pushed, words_of_all, IsPutBack}
 use Rattle.ep_rows.specs.Steps.{IsDone}
@@ -119,18 +118,3 @@ nothing_done limit ticks ticks2 types m n size st rest st2 ws (Goto to) taken al
 nothing_done limit ticks ticks2 types m n size st rest st2 ws (Error k) taken all full spent back = absurd back
 nothing_done limit ticks ticks2 types m n size st rest st2 ws Broken taken all full spent back = absurd back
 nothing_done limit ticks ticks2 types m n size st rest st2 ws Rare taken all full spent back = absurd back
-
--- ---- components one for one, for `same_parts`
-
--- lists of other lengths are not the same
-pub other_lengths : (ps qs : List RecordPart) → length ps ≢ length qs → false ≡ same_parts ps qs
-other_lengths [] [] differ = absurd (differ refl)
-other_lengths [] (q ∷ qs) differ = refl
-other_lengths (p ∷ ps) [] differ = refl
-other_lengths (p ∷ ps) (q ∷ qs) differ =
-    let others : false ≡ same_parts ps qs = other_lengths ps qs (λ same. differ (ap suc same)) in
-    rw (sym others) (go (p.type_number == q.type_number && p.offset == q.offset))
-  where
-    go : (b : Bool) → false ≡ b && false
-    go true = refl
-    go false = refl

@@ -17,8 +17,10 @@ pub mod segments;
 pub mod sets;
 mod step;
 pub mod texts;
+mod type_table;
 pub mod types;
 pub mod values;
 pub mod words;
 
 pub use step::Step;
+pub use type_table::TypeTable;

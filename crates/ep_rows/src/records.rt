@@ -9,6 +9,7 @@ ghost use Rattle.ep_rows.specs.Steps.{IsDone};
 
 use crate::control::spend;
 use crate::step::Step;
+use crate::type_table::TypeTable;
 use crate::types::{entry_of, intern};
 use ep_base::{List, NoMemory};
 use ep_frames::Stack;
@@ -94,15 +95,15 @@ pub fn rec(
     alloc: Global,
     limit: u64,
     ticks: &mut u64,
-    types: &mut Vec<TypeEntry>,
+    types: &mut TypeTable,
     memory: &mut Memory,
     stack: &mut Stack,
 ) -> Step
     requires { ticks.old < limit }
     ensures within { ticks.new < limit }
-    ensures done { IsDone limit (rec_row (pos count) (typing stack.old types.old.items memory.old))
-        result ticks.old ticks.new (typing stack.old types.old.items memory.old)
-        (typing stack.new types.new.items memory.new) }
+    ensures done { IsDone limit (rec_row (pos count) (typing stack.old types.old memory.old))
+        result ticks.old ticks.new (typing stack.old types.old memory.old)
+        (typing stack.new types.new memory.new) }
     ensures segments { memory.new.segments ≡ memory.old.segments }
 {
     let Ok(taken) = take_words(alloc, count, stack) else {
@@ -111,7 +112,7 @@ pub fn rec(
     let Some(numbers) = taken else {
         return Step::Broken;
     };
-    let Some(words) = words_of_all(types, &numbers) else {
+    let Some(words) = words_of_all(types.entries(), &numbers) else {
         return Step::Broken;
     };
     if !spend(limit, ticks, count as u64) {
@@ -120,7 +121,7 @@ pub fn rec(
     if words > limit::TYPE_WORDS as u128 {
         return Step::Error(run_error::STORAGE_LIMIT);
     }
-    let Ok(parts) = parts_of_all(alloc, types, &numbers) else {
+    let Ok(parts) = parts_of_all(alloc, types.entries(), &numbers) else {
         return Step::NoMemory;
     };
     let kind = Kind::Record(parts);

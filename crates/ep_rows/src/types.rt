@@ -1,57 +1,17 @@
 //! The rows that make types. Equal types have one number.
 
 ghost use Rattle.std.specs.Prelude.{◌≡◌, ◌<◌, ◌≤◌, ◌+◌, ◌*◌, ◌^◌, suc, length, Option, Some, None, MatchOption};
-ghost use Rattle.ep_object.specs.Types.{same_kind as is_same, same_parts as are_same, kind_number as number_of, words_of_kind as words_of, ord_row, ordinal_entry as ordinal, set_entry as set_type, set_row, added, interned, entry_of as type_of, bounds_of as kind_bounds, arr_row};
+ghost use Rattle.ep_object.specs.Types.{kind_number, words_of_kind as words_of, ord_row, ordinal_entry as ordinal, set_entry as set_type, set_row, added, interned, entry_of as type_of, bounds_of as kind_bounds, arr_row};
 ghost use Rattle.ep_rows.specs.Steps.{IsStep};
 ghost use Rattle.ep_rows.specs.Parts.{typing};
 
 use crate::step::Step;
+use crate::type_table::TypeTable;
 use crate::{bounds, places, sets, words};
 use ep_frames::Stack;
 use ep_memory::Memory;
-use ep_object::{Kind, RecordPart, SET_WORDS, TypeEntry, limit};
+use ep_object::{Kind, SET_WORDS, TypeEntry, limit};
 use ep_typed::run_error;
-
-/// Whether components have the same types at the same places, one for one.
-#[tactic(auto, using(crate::proofs::RecordTypes::other_lengths))]
-fn same_parts(parts: &[RecordPart], others: &[RecordPart]) -> bool
-    ensures { result ≡ are_same parts.now others.now }
-{
-    if parts.len() != others.len() {
-        return false;
-    }
-    for place in 0..parts.len() {
-        let part = parts[place];
-        let other = others[place];
-        if part.type_number != other.type_number || part.offset != other.offset {
-            return false;
-        }
-    }
-    true
-}
-
-/// Whether two kinds are the same.
-fn same_kind(a: &Kind, b: &Kind) -> bool
-    ensures { result ≡ is_same a.now b.now }
-{
-    match (a, b) {
-        (Kind::Ord(lo, hi), Kind::Ord(l, h)) => lo == l && hi == h,
-        (Kind::Pointer, Kind::Pointer) => true,
-        (Kind::Text, Kind::Text) => true,
-        (Kind::Array(lo, hi, c), Kind::Array(l, h, d)) => lo == l && hi == h && c == d,
-        (Kind::Set(lo, hi), Kind::Set(l, h)) => lo == l && hi == h,
-        (Kind::Record(parts), Kind::Record(others)) => same_parts(parts.items(), others.items()),
-        _ => false,
-    }
-}
-
-/// The number of the type of this kind.
-#[inline(never)]
-fn kind_number(kind: &Kind, types: &[TypeEntry]) -> Option<usize>
-    ensures { result ≡ number_of kind.now types.now }
-{
-    types.iter().position(|e| same_kind(kind, &e.kind))
-}
 
 /// How many words a new type of this kind counts.
 fn words_of_kind(kind: &Kind) -> u64
@@ -68,14 +28,21 @@ fn words_of_kind(kind: &Kind) -> u64
     }
 }
 
-/// A new type.
+/// A new type with the next number.
 #[inline(always)]
-fn add(entry: TypeEntry, types: &mut Vec<TypeEntry>, memory: &mut Memory, stack: &mut Stack) -> Step
-    ensures done { IsStep (added entry stack.old (typing stack.old types.old.items memory.old)) result
-        (typing stack.new types.new.items memory.new) }
+fn add(
+    entry: TypeEntry,
+    number: usize,
+    types: &mut TypeTable,
+    memory: &mut Memory,
+    stack: &mut Stack,
+) -> Step
+    requires next { number ≡ length types.old }
+    requires new { kind_number entry.kind types.old ≡ None }
+    ensures done { IsStep (added entry stack.old (typing stack.old types.old memory.old)) result
+        (typing stack.new types.new memory.new) }
     ensures segments { memory.new.segments ≡ memory.old.segments }
 {
-    let number = types.len();
     if number as u64 >= limit::TYPES {
         return Step::Error(run_error::STORAGE_LIMIT);
     }
@@ -83,7 +50,7 @@ fn add(entry: TypeEntry, types: &mut Vec<TypeEntry>, memory: &mut Memory, stack:
     if memory.charge(words).is_err() {
         return Step::Error(run_error::STORAGE_LIMIT);
     }
-    if types.push(entry).is_err() {
+    if types.add(entry).is_err() {
         memory.give_back(words);
         return Step::NoMemory;
     }
@@ -94,18 +61,19 @@ fn add(entry: TypeEntry, types: &mut Vec<TypeEntry>, memory: &mut Memory, stack:
 #[inline(always)]
 pub(crate) fn intern(
     entry: TypeEntry,
-    types: &mut Vec<TypeEntry>,
+    types: &mut TypeTable,
     memory: &mut Memory,
     stack: &mut Stack,
 ) -> Step
-    ensures done { IsStep (interned entry stack.old (typing stack.old types.old.items memory.old)) result
-        (typing stack.new types.new.items memory.new) }
+    ensures done { IsStep (interned entry stack.old (typing stack.old types.old memory.old)) result
+        (typing stack.new types.new memory.new) }
     ensures segments { memory.new.segments ≡ memory.old.segments }
 {
-    if let Some(number) = kind_number(&entry.kind, types) {
+    let count = types.entries().len();
+    if let Some(number) = types.number_of(&entry) {
         return words::push_word(stack, number as i64);
     }
-    add(entry, types, memory, stack)
+    add(entry, count, types, memory, stack)
 }
 
 /// The ordinal type with these bounds.
@@ -120,9 +88,9 @@ fn ordinal_entry(lo: i64, hi: i64) -> TypeEntry
 
 /// The ordinal type with two bounds.
 #[inline(always)]
-pub fn ord(types: &mut Vec<TypeEntry>, memory: &mut Memory, stack: &mut Stack) -> Step
-    ensures done { IsStep (ord_row (typing stack.old types.old.items memory.old)) result
-        (typing stack.new types.new.items memory.new) }
+pub fn ord(types: &mut TypeTable, memory: &mut Memory, stack: &mut Stack) -> Step
+    ensures done { IsStep (ord_row (typing stack.old types.old memory.old)) result
+        (typing stack.new types.new memory.new) }
     ensures segments { memory.new.segments ≡ memory.old.segments }
 {
     match words::pop_two_words(stack) {
@@ -168,15 +136,15 @@ fn set_entry(lo: i64, hi: i64) -> TypeEntry
 }
 
 /// The set type whose base type has the number on top.
-pub fn set(types: &mut Vec<TypeEntry>, memory: &mut Memory, stack: &mut Stack) -> Step
-    ensures done { IsStep (set_row (typing stack.old types.old.items memory.old)) result
-        (typing stack.new types.new.items memory.new) }
+pub fn set(types: &mut TypeTable, memory: &mut Memory, stack: &mut Stack) -> Step
+    ensures done { IsStep (set_row (typing stack.old types.old memory.old)) result
+        (typing stack.new types.new memory.new) }
     ensures segments { memory.new.segments ≡ memory.old.segments }
 {
     let Some(base) = stack.pop_word() else {
         return Step::Broken;
     };
-    let Some((_, base_type)) = entry_of(types, base) else {
+    let Some((_, base_type)) = entry_of(types.entries(), base) else {
         return Step::Broken;
     };
     let Some((lo, hi)) = bounds_of(&base_type.kind) else {
@@ -189,21 +157,21 @@ pub fn set(types: &mut Vec<TypeEntry>, memory: &mut Memory, stack: &mut Stack) -
 }
 
 /// The array type with the index type and the component type of these numbers.
-pub fn arr(types: &mut Vec<TypeEntry>, memory: &mut Memory, stack: &mut Stack) -> Step
-    ensures done { IsStep (arr_row (typing stack.old types.old.items memory.old)) result
-        (typing stack.new types.new.items memory.new) }
+pub fn arr(types: &mut TypeTable, memory: &mut Memory, stack: &mut Stack) -> Step
+    ensures done { IsStep (arr_row (typing stack.old types.old memory.old)) result
+        (typing stack.new types.new memory.new) }
     ensures segments { memory.new.segments ≡ memory.old.segments }
 {
     let Some((index, component)) = words::pop_two_words(stack) else {
         return Step::Broken;
     };
-    let Some((_, index_type)) = entry_of(types, index) else {
+    let Some((_, index_type)) = entry_of(types.entries(), index) else {
         return Step::Broken;
     };
     let Some((lo, hi)) = bounds_of(&index_type.kind) else {
         return Step::Broken;
     };
-    let Some((number, component_type)) = entry_of(types, component) else {
+    let Some((number, component_type)) = entry_of(types.entries(), component) else {
         return Step::Broken;
     };
     let Some(size) = bounds::array_size(lo, hi, component_type.size) else {
