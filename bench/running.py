@@ -4,15 +4,14 @@
     python3 bench/running.py [PROGRAM]
 
 PROGRAM is crates/epc/out/epc where none is given (`rt run` in crates/epc builds it). Each program runs three times, and the
-least time counts; those of `epc` and of Python have the start of the process and the reading of the text in them. All three
-have to write the same, or the script stops. Without `fpc` its column stays empty.
+least processor time counts; those of `epc` and of Python have the start of the process and the reading of the text in them. All
+three have to write the same, or the script stops. Without `fpc` its column stays empty.
 """
 import os
 import shutil
 import subprocess
 import sys
 import tempfile
-import time
 
 import program
 
@@ -505,14 +504,17 @@ main()
 
 
 def timed(command, folder):
-    """The least time of some runs, and what was written."""
+    """The least processor time of some runs, and what was written. What runs beside them counts in it only as far as it slows the processor."""
     best, text = None, None
     for _ in range(RUNS):
-        began = time.perf_counter()
-        done = subprocess.run(command, cwd=folder, stdout=subprocess.PIPE, check=True)
-        took = time.perf_counter() - began
+        process = subprocess.Popen(command, cwd=folder, stdout=subprocess.PIPE)
+        text = process.stdout.read()
+        _, status, used = os.wait4(process.pid, 0)
+        process.returncode = os.waitstatus_to_exitcode(status)
+        if process.returncode != 0:
+            sys.exit(f"{command}: status {process.returncode}")
+        took = used.ru_utime + used.ru_stime
         best = took if best is None else min(best, took)
-        text = done.stdout
     return best, text
 
 
