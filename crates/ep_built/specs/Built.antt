@@ -11,7 +11,7 @@
 -- - the type denoter, for an initial state
 -- - the type denoter without its initial state, for `bindable`
 -- - the type itself, for `packed`, for what is no name, no subrange, no enumeration and no structure, for a name with a tuple, and for a name that is not built
--- - the variant part of a record
+-- - the variant part of a record, for a discriminant as its selector, and for a tag whose type has a name that is not built
 -- - the statement, for an assignment to something else than a name that is built, alone or with indexes and fields, or with these behind one pair of parentheses, for a call of something else, and for a `for` whose control variable has a name that is not built
 -- - the structured value, with the name of its type or without
 -- - the factor, for `nil`, and for a character string of another length than one that is not the whole value of an argument of a `write` or `writeln` statement
@@ -49,7 +49,10 @@ use Rattle.ep_tree.specs.declared.types.Fields.{Fields, fold-Fields}
 use Rattle.ep_tree.specs.declared.types.Plain.{Plain, fold-Plain}
 use Rattle.ep_tree.specs.declared.types.Structure.{Structure, fold-Structure}
 use Rattle.ep_tree.specs.declared.types.TypeDenoter.{TypeDenoter, fold-TypeDenoter}
+use Rattle.ep_tree.specs.declared.types.Variant.{Variant, fold-Variant}
 use Rattle.ep_tree.specs.declared.types.VariantPart.{VariantPart, fold-VariantPart}
+use Rattle.ep_tree.specs.declared.types.VariantSelector.{VariantSelector}
+use Rattle.ep_tree.specs.declared.types.VariantSelector.TheVariants as selector_is
 use Rattle.ep_tree.specs.declared.declaration.ConstantDefinition.{ConstantDefinition}
 use Rattle.ep_tree.specs.declared.declaration.FormalSection.{FormalSection}
 use Rattle.ep_tree.specs.declared.declaration.FormalType.{FormalType}
@@ -169,9 +172,14 @@ built_core (Core-F.Enumeration line names) = true
 built_core (Core-F.Structured line packed structure) = not packed
 built_core _ = false
 
--- the variants of a record
-abbrev pub variants_are_built : Bool
-variants_are_built = false
+-- variants are selected by a tag of a type whose name is built
+abbrev pub built_selector : VariantSelector → Bool
+built_selector (selector_is.Tag line name of) = built_type_name of
+built_selector (selector_is.Discriminant line name) = false
+
+-- so a variant part has such a selector
+abbrev pub built_variant_part : {A B C D E F G H : Type 0} → VariantPart-F A B C D E F G H → Bool
+built_variant_part p = built_selector p.selector
 
 -- what a selector is to its access
 pub data SelectorForm : Type 0 where
@@ -482,20 +490,16 @@ values_unbuilt = fold-Values Found Found Found Selecting Placed Belonging Found 
 abbrev pub access_unbuilt : Access → Found
 access_unbuilt a = (placed_access a).1
 
--- ---- types. Nothing inside a tuple or a variant part is reached while none of their forms is built.
-
--- what is known of a node that is not reached
-abbrev pub Skipped : Type 0
-Skipped = Unit {0}
+-- ---- types. Nothing inside a tuple is reached while none of its forms is built.
 
 -- the first line inside a type
-abbrev pub in_core : Core-F Found Found Found Found Found Found Skipped Found → Found
+abbrev pub in_core : Core-F Found Found Found Found Found Found Found Found → Found
 in_core (Core-F.Range line low high) = option_or (expression_unbuilt low) (expression_unbuilt high)
 in_core (Core-F.Structured line packed structure) = structure
 in_core _ = None
 
 -- the line of a type
-abbrev pub core_line : Core-F Found Found Found Found Found Found Skipped Found → ℕ
+abbrev pub core_line : Core-F Found Found Found Found Found Found Found Found → ℕ
 core_line (Core-F.Named line name tuple) = line
 core_line (Core-F.Range line low high) = line
 core_line (Core-F.Enumeration line names) = line
@@ -505,65 +509,70 @@ core_line (Core-F.Restricted line name) = line
 core_line (Core-F.TypeOf line name) = line
 
 -- a type before what stands in it
-abbrev pub at_core : Core-F Found Found Found Found Found Found Skipped Found → Found
+abbrev pub at_core : Core-F Found Found Found Found Found Found Found Found → Found
 at_core c = at_node (built_core c) (core_line c) (in_core c)
 
 -- what stands in a structure: the index types before the type of the components, or the fields, or the base type
-abbrev pub at_structure : Structure-F Found Found Found Found Found Found Skipped Found → Found
+abbrev pub at_structure : Structure-F Found Found Found Found Found Found Found Found → Found
 at_structure (Structure-F.Array line indexes component) = option_or (first_in indexes) component
 at_structure (Structure-F.Record line fields) = fields
 at_structure (Structure-F.Set line base) = base
 
 -- the type of fields
-abbrev pub at_field_section : FieldSection-F Found Found Found Found Found Found Skipped Found → Found
+abbrev pub at_field_section : FieldSection-F Found Found Found Found Found Found Found Found → Found
 at_field_section s = s.of
 
 -- the sections before the variant part
-abbrev pub at_fields : Fields-F Found Found Found Found Found Found Skipped Found → Found
+abbrev pub at_fields : Fields-F Found Found Found Found Found Found Found Found → Found
 at_fields f = option_or (first_in f.sections) (first_if f.variants)
 
 -- a type denoter without its initial state before its type
-abbrev pub at_plain : Plain-F Found Found Found Found Found Found Skipped Found → Found
+abbrev pub at_plain : Plain-F Found Found Found Found Found Found Found Found → Found
 at_plain p = at_node (built_plain p) p.line p.core
 
 -- a type denoter before what stands in it
-abbrev pub at_type_denoter : TypeDenoter-F Found Found Found Found Found Found Skipped Found → Found
+abbrev pub at_type_denoter : TypeDenoter-F Found Found Found Found Found Found Found Found → Found
 at_type_denoter t = at_node (built_type_denoter t) t.line t.plain
 
--- variants, which are not reached
-abbrev pub at_variant : Variant-F Found Found Found Found Found Found Skipped Found → Skipped
-at_variant v = tt
+-- the labels of a variant before its fields
+abbrev pub at_variant : Variant-F Found Found Found Found Found Found Found Found → Found
+at_variant v = option_or (first_in (map label_unbuilt v.labels)) v.fields
 
-abbrev pub at_variant_part : VariantPart-F Found Found Found Found Found Found Skipped Found → Found
-at_variant_part p = at_node variants_are_built p.line None
+-- a variant part before its variants, the one that completes the others last
+abbrev pub at_variant_part : VariantPart-F Found Found Found Found Found Found Found Found → Found
+at_variant_part p = at_node (built_variant_part p) p.line (option_or (first_in p.variants) (first_if p.otherwise))
 
 -- the first line in a type
 abbrev pub core_unbuilt : Core → Found
-core_unbuilt = fold-Core Found Found Found Found Found Found Skipped Found at_core at_structure at_field_section at_fields at_plain at_type_denoter at_variant at_variant_part
+core_unbuilt = fold-Core Found Found Found Found Found Found Found Found at_core at_structure at_field_section at_fields at_plain at_type_denoter at_variant at_variant_part
 
 -- the first line in a structure
 abbrev pub structure_unbuilt : Structure → Found
-structure_unbuilt = fold-Structure Found Found Found Found Found Found Skipped Found at_core at_structure at_field_section at_fields at_plain at_type_denoter at_variant at_variant_part
+structure_unbuilt = fold-Structure Found Found Found Found Found Found Found Found at_core at_structure at_field_section at_fields at_plain at_type_denoter at_variant at_variant_part
 
 -- the first line in a field section
 abbrev pub field_section_unbuilt : FieldSection → Found
-field_section_unbuilt = fold-FieldSection Found Found Found Found Found Found Skipped Found at_core at_structure at_field_section at_fields at_plain at_type_denoter at_variant at_variant_part
+field_section_unbuilt = fold-FieldSection Found Found Found Found Found Found Found Found at_core at_structure at_field_section at_fields at_plain at_type_denoter at_variant at_variant_part
 
 -- the first line in the fields of a record
 abbrev pub fields_unbuilt : Fields → Found
-fields_unbuilt = fold-Fields Found Found Found Found Found Found Skipped Found at_core at_structure at_field_section at_fields at_plain at_type_denoter at_variant at_variant_part
+fields_unbuilt = fold-Fields Found Found Found Found Found Found Found Found at_core at_structure at_field_section at_fields at_plain at_type_denoter at_variant at_variant_part
 
 -- the first line in a variant part
 abbrev pub variant_part_unbuilt : VariantPart → Found
-variant_part_unbuilt = fold-VariantPart Found Found Found Found Found Found Skipped Found at_core at_structure at_field_section at_fields at_plain at_type_denoter at_variant at_variant_part
+variant_part_unbuilt = fold-VariantPart Found Found Found Found Found Found Found Found at_core at_structure at_field_section at_fields at_plain at_type_denoter at_variant at_variant_part
+
+-- the first line in a variant
+abbrev pub variant_unbuilt : Variant → Found
+variant_unbuilt = fold-Variant Found Found Found Found Found Found Found Found at_core at_structure at_field_section at_fields at_plain at_type_denoter at_variant at_variant_part
 
 -- the first line in a type denoter without its initial state
 abbrev pub plain_unbuilt : Plain → Found
-plain_unbuilt = fold-Plain Found Found Found Found Found Found Skipped Found at_core at_structure at_field_section at_fields at_plain at_type_denoter at_variant at_variant_part
+plain_unbuilt = fold-Plain Found Found Found Found Found Found Found Found at_core at_structure at_field_section at_fields at_plain at_type_denoter at_variant at_variant_part
 
 -- the first line in a type denoter
 abbrev pub type_denoter_unbuilt : TypeDenoter → Found
-type_denoter_unbuilt = fold-TypeDenoter Found Found Found Found Found Found Skipped Found at_core at_structure at_field_section at_fields at_plain at_type_denoter at_variant at_variant_part
+type_denoter_unbuilt = fold-TypeDenoter Found Found Found Found Found Found Found Found at_core at_structure at_field_section at_fields at_plain at_type_denoter at_variant at_variant_part
 
 -- ---- statements
 

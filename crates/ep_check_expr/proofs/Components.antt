@@ -1,11 +1,11 @@
 -- A component is valid: what is read of a structured variable, and what is taken of a structured value.
-use Rattle.std.proofs.Common.{◌≡◌, ◌∙◌, ℕ, zero, suc, List, [], ◌∷◌, slice_get, Option, Some, None, refl, sym, subst}
+use Rattle.std.proofs.Common.{◌≡◌, ◌∙◌, ℕ, List, [], ◌∷◌, slice_get, Option, Some, None, refl, sym, subst}
 use Rattle.std.proofs.lemmas.Option.{same_Some}
 use Rattle.std.specs.Prelude.{All}
 use Rattle.ep_typed.specs.Denoters.{host_of, type_of}
-use Rattle.ep_typed.specs.Trees.{Denoter, Expr, FieldValue, IndexedValue, Place, Read}
+use Rattle.ep_typed.specs.Trees.{Denoter, Expr, Field, FieldValue, IndexedValue, Place, Read}
 use Rattle.ep_typed.specs.TypeValues as type
-use Rattle.ep_typed.specs.TypeValues.{ComponentTypes, TypeValue, type_among}
+use Rattle.ep_typed.specs.TypeValues.{ComponentTypes, TypeValue}
 use Rattle.ep_typed.specs.Valid as valid
 use Rattle.ep_typed.specs.Valid.{Declarations, IsExpr, IsOfKind, IsTypeOfKind}
 use Rattle.ep_typed.specs.declared.unit.UnitType.{UnitType}
@@ -17,21 +17,16 @@ use Rattle.ep_scope.specs.declared.structure.ArrayType.{ArrayType}
 use Rattle.ep_scope.specs.declared.structure.Composition.TheVariants as composition
 use Rattle.ep_scope.specs.declared.structure.FieldType.{FieldType}
 use Rattle.ep_scope.specs.declared.structure.StructuredType.{StructuredType}
-use Rattle.ep_check_expr.specs.Agreement.{AreFieldValues, AreHeld, HasKind, HoldsStructure, IsAccessOf, IsFormOf, IsHost, IsOfType, IsStructuredValue, IsValueOf, IsValueOfKind, TypeValues}
+use Rattle.ep_scope.specs.declared.structure.TagType.{TagType}
+use Rattle.ep_scope.specs.declared.structure.VariantStep.{VariantStep}
+use Rattle.ep_check_expr.specs.Agreement.{AreHeld, HasKind, HoldsStructure, IsAccessOf, IsFieldAt, IsFieldValue, IsFormOf, IsHost, IsOfType, IsPartValue, IsStoredIn, IsStructuredAt, IsStructuredValue, IsValueOf, IsValueOfKind, TypeValues}
+use Rattle.ep_check_expr.specs.FieldDesignators.{component_taken, part_taken, reached}
 use Rattle.ep_check_expr.specs.Hosts.{typed_host}
 use Rattle.ep_check_expr.specs.Indexing.{component_access}
 use Rattle.ep_check_expr.specs.declared.access.Access.{Access}
 use Rattle.ep_check_expr.specs.declared.access.Access.TheVariants as access
+use Rattle.ep_check_expr.proofs.FieldPlaces.{all_of_each, all_there, field-place, field-tagged}
 use Rattle.ep_check_expr.proofs.Places.{IsComponent, IsComponentAt, made_so, place_at, place_wider}
-
--- the type value of a field among those of the fields
-value_there : (types : TypeValues) (fs : List FieldType) (ts : ComponentTypes) (number : ℕ) (f : FieldType) → AreFieldValues types fs ts → slice_get fs number ≡ Some f
-    → (t : TypeValue) × (type_among ts number ≡ Some t) × IsValueOfKind types f.kind t
-value_there types [] type.no_component number f all e = cc
-value_there types [] (type.next_component t ts) number f all e = absurd all
-value_there types (g ∷ gs) type.no_component number f all e = absurd all
-value_there types (g ∷ gs) (type.next_component t ts) zero f all e = let is : g ≡ f = cc in (t, refl, subst (λ (x : FieldType). IsValueOfKind types x.kind t) is all.0)
-value_there types (g ∷ gs) (type.next_component t ts) (suc number) f all e = value_there types gs ts number f all.1 e
 
 module _ (declared : Declarations) (types : TypeValues) (structures : List StructuredType) where
   -- some denoter of a list that holds the structured types is of the kind
@@ -39,7 +34,7 @@ module _ (declared : Declarations) (types : TypeValues) (structures : List Struc
   HasComponents k = (list : List UnitType) → All (HoldsStructure types list) structures → (d : Denoter) × HasKind types list d k
 
   -- a component that is not built has a valid form
-  unbuilt-form : (k : Kind) → HasComponents k → (list : List UnitType) → All (HoldsStructure types list) structures → IsFormOf declared types structures k None
+  pub unbuilt-form : (k : Kind) → HasComponents k → (list : List UnitType) → All (HoldsStructure types list) structures → IsFormOf declared types structures k None
   unbuilt-form (kind.Ordinal h) some list all = (some list all).1.0
   unbuilt-form (kind.Structured m) some list all = (list, all)
   unbuilt-form (kind.Set h) some list all = (some list all).1.0
@@ -49,7 +44,7 @@ module _ (declared : Declarations) (types : TypeValues) (structures : List Struc
 
   module _ (of : TypeName) (place : Place) where
     -- so has one that is
-    built-form : (k : Kind) → IsComponentAt declared types structures of k place → IsFormOf declared types structures k (Some (Read place))
+    pub built-form : (k : Kind) → IsComponentAt declared types structures of k place → IsFormOf declared types structures k (Some (Read place))
     built-form (kind.Ordinal h) at =
         let p = place_at declared (IsComponent declared types structures of (kind.Ordinal h)) place at in (
           p.2.0.0.0,
@@ -65,7 +60,7 @@ module _ (declared : Declarations) (types : TypeValues) (structures : List Struc
     built-form kind.File at = absurd (place_at declared (IsComponent declared types structures of kind.File) place at).2.0.0
 
     -- the component has its type
-    component-type : (k : Kind) → IsComponentAt declared types structures of k place → IsOfType declared types place of
+    pub component-type : (k : Kind) → IsComponentAt declared types structures of k place → IsOfType declared types place of
     component-type k at =
         let t = (place_at declared (IsComponent declared types structures of k) place at).2.0.1 in
         (t.0, t.1, place_wider declared (IsComponent declared types structures of k) (λ list d. type_of list d ≡ Some t.0) place (λ list d c. c.0.1.2 ∙ (sym c.0.1.1 ∙ t.1)) at)
@@ -73,6 +68,7 @@ module _ (declared : Declarations) (types : TypeValues) (structures : List Struc
     -- and it is read of a variable of that type where the whole is a variable
     built-access : (k : Kind) → IsComponentAt declared types structures of k place → (whole : Access) → IsAccessOf declared types (component_access of whole) (Some (Read place))
     built-access k at (access.Variable outer guarded) = (place, refl, component-type k at)
+    built-access k at (access.Tag outer guarded tag) = (place, refl, component-type k at)
     built-access k at access.File = tt
     built-access k at access.Constant = tt
     built-access k at access.Value = tt
@@ -80,6 +76,7 @@ module _ (declared : Declarations) (types : TypeValues) (structures : List Struc
   -- nothing is asked of what is not built
   unbuilt-access : (of : TypeName) (whole : Access) → IsAccessOf declared types (component_access of whole) None
   unbuilt-access of (access.Variable outer guarded) = tt
+  unbuilt-access of (access.Tag outer guarded tag) = tt
   unbuilt-access of access.File = tt
   unbuilt-access of access.Constant = tt
   unbuilt-access of access.Value = tt
@@ -94,6 +91,24 @@ module _ (declared : Declarations) (types : TypeValues) (structures : List Struc
   -- what is read of it is
   pub built-component : (of : TypeName) (k : Kind) (place : Place) → IsComponentAt declared types structures of k place → (whole : Access) → IsComponentForm of k whole (Some (Read place))
   built-component of k place at whole = (built-form of place k at, built-access of place k at whole)
+
+  -- what is known of a variable is known of it
+  stored-component : (of : TypeName) (place : Place) (k : Kind) → IsComponentAt declared types structures of k place → IsStoredIn declared types structures place k
+  stored-component of place (kind.Ordinal h) at = built-form of place (kind.Ordinal h) at
+  stored-component of place (kind.Structured m) at = built-form of place (kind.Structured m) at
+  stored-component of place (kind.Set h) at = built-form of place (kind.Set h) at
+  stored-component of place kind.EmptySet at = absurd (place_at declared (IsComponent declared types structures of kind.EmptySet) place at).2.0.0
+  stored-component of place kind.Text at = absurd (place_at declared (IsComponent declared types structures of kind.Text) place at).2.0.0
+  stored-component of place kind.File at = tt
+
+  -- a record at a place has the fields of its type
+  pub fields-at : (depth n : ℕ) (fs : List FieldType) → ((list : List UnitType) → All (HoldsStructure types list) structures → HoldsStructure types list (made_so n (composition.Record fs))) → (place : Place) → IsStructuredAt declared types structures n place
+      → All (λ f. IsFieldAt declared types structures depth f place) fs
+  fields-at depth n fs in_view place at =
+      all_of_each (λ f. IsFieldAt declared types structures depth f place) fs
+      (λ number f there.
+      let field = field-place declared types structures n fs in_view number f there place at in
+      (stored-component f.of (reached f place) f.kind field, component-type f.of (reached f place) f.kind field, field-tagged declared types structures n fs in_view number f there place at))
 
   -- ---- components of values
 
@@ -134,6 +149,7 @@ module _ (declared : Declarations) (types : TypeValues) (structures : List Struc
   -- no component of it is a variable, since the value is none
   value-access : (of : TypeName) (whole : Access) (x component : Expr) → ((place : Place) → x ≡ Read place → ⊥) → IsAccessOf declared types whole (Some x) → IsAccessOf declared types (component_access of whole) (Some component)
   value-access of (access.Variable outer guarded) x component unread h = absurd (unread h.0 h.1)
+  value-access of (access.Tag outer guarded tag) x component unread h = absurd (unread (Field (Field h.0 h.1) 0) h.2)
   value-access of access.File x component unread h = tt
   value-access of access.Constant x component unread h = tt
   value-access of access.Value x component unread h = tt
@@ -154,14 +170,24 @@ module _ (declared : Declarations) (types : TypeValues) (structures : List Struc
           value-access a.component whole x (IndexedValue x index) unread g,
         )
 
-    -- a field of the value of a record
-    pub field-component : (fs : List FieldType) (number : ℕ) (f : FieldType) → slice_get fs number ≡ Some f → HoldsStructure types v.1.0 (made_so n (composition.Record fs))
-        → (whole : Access) → IsAccessOf declared types whole (Some x) → IsComponentForm f.of f.kind whole (Some (FieldValue x number))
-    field-component fs number f there h whole g =
+    -- a component of the value of a record
+    part-form : (ts : ComponentTypes) → IsExpr declared (valid.Structured (type.Record ts)) x → (k : Kind) (number : ℕ) (tag : Option TagType) → IsPartValue types tag number k ts
+        → IsFormOf declared types structures k (Some (component_taken tag number x))
+    part-form ts whole k number None p = field-form k x number (taken-value k p.0 (FieldValue x number) p.2 v.1 (λ w q. (ts, p.0, whole, p.1, q)))
+    part-form ts whole k number (Some tag) p =
+        let own = type.next_component p.0 type.no_component in
+        field-form k (FieldValue x number) 0 (taken-value k p.0 (FieldValue (FieldValue x number) 0) p.2 v.1 (λ w q. (own, p.0, (ts, type.Record own, whole, p.1, (refl, tt)), refl, q)))
+
+    -- a field of it, which is not built in a variant
+    field-taken : (ts : ComponentTypes) → IsExpr declared (valid.Structured (type.Record ts)) x → (f : FieldType) → HasComponents f.kind → (path : List VariantStep) → IsFieldValue types path f ts
+        → IsFormOf declared types structures f.kind (part_taken path f.tag f.number x)
+    field-taken ts whole f some [] p = part-form ts whole f.kind f.number f.tag p
+    field-taken ts whole f some (s ∷ path) p = unbuilt-form f.kind some v.1.0 v.1.1
+
+    pub field-component : (fs : List FieldType) (number : ℕ) (f : FieldType) → slice_get fs number ≡ Some f → HoldsStructure types v.1.0 (made_so n (composition.Record fs)) → HasComponents f.kind
+        → IsFormOf declared types structures f.kind (part_taken f.path f.tag f.number x)
+    field-component fs number f there h some =
         let made = h.value_made in
         let same : v.0.0 ≡ type.Record made.0 = one_type n v.0.0 h.type_value v.0.1 h.has_value ∙ made.1 in
-        let record_value : IsExpr declared (valid.Structured (type.Record made.0)) x = subst (λ t. IsExpr declared (valid.Structured t) x) same v.0.2 in
-        let q = value_there types fs made.0 number f made.2 there in (
-          field-form f.kind x number (taken-value f.kind q.0 (FieldValue x number) q.2 v.1 (λ w p. (made.0, q.0, record_value, q.1, p))),
-          value-access f.of whole x (FieldValue x number) unread g,
-        )
+        let whole : IsExpr declared (valid.Structured (type.Record made.0)) x = subst (λ t. IsExpr declared (valid.Structured t) x) same v.0.2 in
+        field-taken made.0 whole f some f.path (all_there (λ (g : FieldType). IsFieldValue types g.path g made.0) fs number f made.2 there)

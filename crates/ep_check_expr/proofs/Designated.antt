@@ -1,5 +1,5 @@
 -- What the name of a field gives of a valid form is valid.
-use Rattle.std.proofs.Common.{◌≡◌, ℕ, suc, nat_le, List, [], ◌∷◌, slice_get, Option, Some, None, refl, subst, sym}
+use Rattle.std.proofs.Common.{◌≡◌, ◌+◌, ℕ, nat_le, List, [], ◌∷◌, slice_get, Option, Some, None, refl, subst, sym}
 use Rattle.std.specs.Prelude.{All}
 use Rattle.ep_typed.specs.Trees.{Place, Expr, Constant, Text, Read, One, Two, Short, Step, Function, IndexedValue, FieldValue, SetConstant, SetOf, OnSets, Card, Field}
 use Rattle.ep_typed.specs.Valid.{Declarations}
@@ -8,40 +8,43 @@ use Rattle.ep_scope.specs.Fields.{field_number}
 use Rattle.ep_scope.specs.Scopes.{Region, structure_in}
 use Rattle.ep_scope.specs.declared.kind.Kind.{Kind}
 use Rattle.ep_scope.specs.declared.kind.Kind.TheVariants as kind
+use Rattle.ep_scope.specs.declared.parameter.Protection.{Protection}
 use Rattle.ep_scope.specs.declared.rule.TheConstants as rule
 use Rattle.ep_scope.specs.declared.structure.Composition.{Composition}
 use Rattle.ep_scope.specs.declared.structure.Composition.TheVariants as composition
 use Rattle.ep_scope.specs.declared.structure.FieldType.{FieldType}
 use Rattle.ep_scope.specs.declared.structure.StructuredType.{StructuredType}
 use Rattle.ep_check_expr.specs.Agreement.{HoldsStructure, IsAccessOf, IsFormOf, IsStructuredAt, IsStructuredValue, TypeValues, structures_of}
-use Rattle.ep_check_expr.specs.FieldDesignators.{designated, designated_by, field_by, field_form, field_if, field_typed, field_within, part_form}
+use Rattle.ep_check_expr.specs.FieldDesignators.{along, designated, designated_by, field_access, field_by, field_form, field_if, field_typed, field_within, part_form, part_taken, reached, steps_to, variable_access}
 use Rattle.ep_check_expr.specs.Judgements.{Judged, Accepts, Breaks, Typed}
 use Rattle.ep_check_expr.specs.declared.access.Access.{Access}
+use Rattle.ep_check_expr.specs.declared.access.Access.TheVariants as access
 use Rattle.ep_check_expr.specs.declared.forms.TheConstants as limit
-use Rattle.ep_check_expr.proofs.Components.{IsComponentForm, built-component, field-component, unbuilt-component}
+use Rattle.ep_check_expr.proofs.Components.{HasComponents, built-form, component-type, field-component, unbuilt-form}
+use Rattle.ep_check_expr.proofs.FieldPlaces.{field-place, field-tagged, read-access, some-field, unread-access}
 use Rattle.ep_check_expr.proofs.Keeping.{Satisfies, if-satisfies}
 use Rattle.ep_check_expr.proofs.Passing.{IsForm}
-use Rattle.ep_check_expr.proofs.Places.{field-place, made_so, some-field, structure_in-holds}
+use Rattle.ep_check_expr.proofs.Places.{made_so, structure_in-holds}
 
 -- what the name of a field gives: a field of a record type in view
 module _ (Q : Typed → Type 0) (scopes : List Region) where
-  field_if-given : (fs : List FieldType) (number : ℕ) (o : Option FieldType) → slice_get fs number ≡ o → (x : Typed) → ((f : FieldType) → slice_get fs number ≡ Some f → Satisfies Q (field_typed number f x)) → Satisfies Q (field_if number o x)
+  field_if-given : (fs : List FieldType) (number : ℕ) (o : Option FieldType) → slice_get fs number ≡ o → (x : Typed) → ((f : FieldType) → slice_get fs number ≡ Some f → Satisfies Q (field_typed f x)) → Satisfies Q (field_if o x)
   field_if-given fs number None e x c = tt
   field_if-given fs number (Some f) e x c = c f e
 
-  field_by-given : (fs : List FieldType) (o : Option ℕ) (x : Typed) → ((number : ℕ) (f : FieldType) → slice_get fs number ≡ Some f → Satisfies Q (field_typed number f x)) → Satisfies Q (field_by fs o x)
+  field_by-given : (fs : List FieldType) (o : Option ℕ) (x : Typed) → ((number : ℕ) (f : FieldType) → slice_get fs number ≡ Some f → Satisfies Q (field_typed f x)) → Satisfies Q (field_by fs o x)
   field_by-given fs None x c = tt
   field_by-given fs (Some number) x c = field_if-given fs number (slice_get fs number) refl x (c number)
 
   -- of a record, by its number
   field_within-given : (n : ℕ) (o : Option Composition) → structure_in scopes n ≡ o → (name : List ℕ) (x : Typed)
-      → ((fs : List FieldType) (number : ℕ) (f : FieldType) → structure_in scopes n ≡ Some (composition.Record fs) → slice_get fs number ≡ Some f → Satisfies Q (field_typed number f x)) → Satisfies Q (field_within o name x)
+      → ((fs : List FieldType) (number : ℕ) (f : FieldType) → structure_in scopes n ≡ Some (composition.Record fs) → slice_get fs number ≡ Some f → Satisfies Q (field_typed f x)) → Satisfies Q (field_within o name x)
   field_within-given n None e name x c = tt
   field_within-given n (Some (composition.Array a)) e name x c = tt
   field_within-given n (Some (composition.Record fs)) e name x c = field_by-given fs (field_number fs name) x (λ number f there. c fs number f e there)
 
   pub field-given : (k : Kind) (name : List ℕ) (x : Typed)
-      → ((n : ℕ) (fs : List FieldType) (number : ℕ) (f : FieldType) → k ≡ kind.Structured n → structure_in scopes n ≡ Some (composition.Record fs) → slice_get fs number ≡ Some f → Satisfies Q (field_typed number f x))
+      → ((n : ℕ) (fs : List FieldType) (number : ℕ) (f : FieldType) → k ≡ kind.Structured n → structure_in scopes n ≡ Some (composition.Record fs) → slice_get fs number ≡ Some f → Satisfies Q (field_typed f x))
       → Satisfies Q (designated_by scopes k name x)
   field-given (kind.Ordinal h) name x c = tt
   field-given (kind.Structured n) name x c = field_within-given n (structure_in scopes n) refl name x (λ fs number f. c n fs number f refl)
@@ -58,23 +61,53 @@ module _ (declared : Declarations) (types : TypeValues) (structures : List Struc
   Holds = Satisfies (IsForm declared types structures)
 
   module _ (n : ℕ) (fs : List FieldType) (number : ℕ) (f : FieldType) (there : slice_get fs number ≡ Some f) (in_view : (list : List UnitType) → All (HoldsStructure types list) structures → HoldsStructure types list (made_so n (composition.Record fs))) where
-    -- a field has a valid form, where the record has one
+    -- the field has a valid form, where the record has one
     abbrev IsFieldForm : Access → Option Expr → Type 0
-    IsFieldForm whole x = IsComponentForm declared types structures f.of f.kind whole (field_form x number)
+    IsFieldForm whole x = IsFormOf declared types structures f.kind (field_form f x) × IsAccessOf declared types (field_access f whole) (field_form f x)
+
+    some-kind : HasComponents declared types structures f.kind
+    some-kind = some-field declared types structures n fs in_view number f there
 
     -- where the record is not built
+    unbuilt-access : (whole : Access) → IsAccessOf declared types (field_access f whole) None
+    unbuilt-access (access.Variable outer guarded) = unread-access declared types f.of guarded f.tag
+    unbuilt-access (access.Tag outer guarded tag) = unread-access declared types f.of guarded f.tag
+    unbuilt-access access.File = tt
+    unbuilt-access access.Constant = tt
+    unbuilt-access access.Value = tt
+
     unbuilt-field : (list : List UnitType) → All (HoldsStructure types list) structures → (whole : Access) → IsFieldForm whole None
-    unbuilt-field list all whole = unbuilt-component declared types structures f.of f.kind (some-field declared types structures n (composition.Record fs) in_view fs refl number f there) list all whole
+    unbuilt-field list all whole = (unbuilt-form declared types structures f.kind some-kind list all, unbuilt-access whole)
 
     -- where it is read of a variable
-    read-field : (place : Place) → IsStructuredAt declared types structures n place → (whole : Access) → IsFieldForm whole (Some (Read place))
-    read-field place at whole = built-component declared types structures f.of f.kind (Field place number) (field-place declared types structures n (composition.Record fs) in_view fs refl number f there place at) whole
+    read-variable : (place : Place) → IsStructuredAt declared types structures n place → (guarded : Protection) → IsAccessOf declared types (variable_access f.of guarded f.tag) (Some (Read (reached f place)))
+    read-variable place at guarded =
+        read-access declared types f.of guarded f.tag f.number (along f.path place)
+        (component-type declared types structures f.of (reached f place) f.kind (field-place declared types structures n fs in_view number f there place at)) (field-tagged declared types structures n fs in_view number f there place at)
 
-    -- where it is a value
-    value-field : (x : Expr) → part_form number x ≡ FieldValue x number → ((place : Place) → x ≡ Read place → ⊥) → IsStructuredValue declared types structures n x → (whole : Access) → IsAccessOf declared types whole (Some x) → IsFieldForm whole (Some x)
-    value-field x is unread v whole g =
-        subst (λ z. IsComponentForm declared types structures f.of f.kind whole (Some z)) (sym is)
-        (field-component declared types structures n x unread v fs number f there (in_view v.1.0 v.1.1) whole g)
+    reading-access : (place : Place) → IsStructuredAt declared types structures n place → (whole : Access) → IsAccessOf declared types (field_access f whole) (Some (Read (reached f place)))
+    reading-access place at (access.Variable outer guarded) = read-variable place at guarded
+    reading-access place at (access.Tag outer guarded tag) = read-variable place at guarded
+    reading-access place at access.File = tt
+    reading-access place at access.Constant = tt
+    reading-access place at access.Value = tt
+
+    read-field : (place : Place) → IsStructuredAt declared types structures n place → (whole : Access) → IsFieldForm whole (Some (Read place))
+    read-field place at whole = (built-form declared types structures f.of (reached f place) f.kind (field-place declared types structures n fs in_view number f there place at), reading-access place at whole)
+
+    -- where it is a value, of which no field is a variable
+    value-access : (x : Expr) → ((place : Place) → x ≡ Read place → ⊥) → (whole : Access) → IsAccessOf declared types whole (Some x) → (field : Option Expr) → IsAccessOf declared types (field_access f whole) field
+    value-access x unread (access.Variable outer guarded) h field = absurd (unread h.0 h.1)
+    value-access x unread (access.Tag outer guarded tag) h field = absurd (unread (Field (Field h.0 h.1) 0) h.2)
+    value-access x unread access.File h field = tt
+    value-access x unread access.Constant h field = tt
+    value-access x unread access.Value h field = tt
+
+    value-field : (x : Expr) → part_form f x ≡ part_taken f.path f.tag f.number x → ((place : Place) → x ≡ Read place → ⊥) → IsStructuredValue declared types structures n x → (whole : Access) → IsAccessOf declared types whole (Some x) → IsFieldForm whole (Some x)
+    value-field x is unread v whole g = (
+      subst (IsFormOf declared types structures f.kind) (sym is) (field-component declared types structures n x unread v fs number f there (in_view v.1.0 v.1.1) some-kind),
+      value-access x unread whole g (part_form f x),
+    )
 
     -- each way
     field-valid : (x : Option Expr) → IsFormOf declared types structures (kind.Structured n) x → (whole : Access) → IsAccessOf declared types whole x → IsFieldForm whole x
@@ -95,10 +128,10 @@ module _ (declared : Declarations) (types : TypeValues) (structures : List Struc
     field-valid (Some (Card x)) g whole h = absurd g
 
     -- a field of a valid record is valid
-    field-fits : (x : Typed) → IsFormOf declared types structures (kind.Structured n) x.form → IsAccessOf declared types x.access x.form → Holds (field_typed number f x)
+    field-fits : (x : Typed) → IsFormOf declared types structures (kind.Structured n) x.form → IsAccessOf declared types x.access x.form → Holds (field_typed f x)
     field-fits x g h =
         let c = field-valid x.form g x.access h in
-        if-satisfies (IsForm declared types structures) (nat_le (suc x.depth) limit.DEPTH) (Accepts _) (Breaks (rule.TOO_DEEP ∷ [])) (λ e. c) tt
+        if-satisfies (IsForm declared types structures) (nat_le (steps_to f + x.depth) limit.DEPTH) (Accepts _) (Breaks (rule.TOO_DEEP ∷ [])) (λ e. c) tt
 
 module _ (declared : Declarations) (types : TypeValues) (scopes : List Region) where
   -- what the name of a field gives of a valid form is one

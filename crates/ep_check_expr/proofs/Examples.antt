@@ -16,9 +16,11 @@ use Rattle.ep_typed.specs.declared.operations.Binary.TheVariants as binary
 use Rattle.ep_typed.specs.declared.value.Value.TheVariants as value
 use Rattle.ep_scope.specs.Scopes.{Region, within}
 use Rattle.ep_scope.specs.declared.structure.Composition.TheVariants as composition
+use Rattle.ep_scope.specs.declared.structure.FieldType.{FieldType}
 use Rattle.ep_scope.specs.declared.structure.StructuredType.{StructuredType}
 use Rattle.ep_scope.specs.declared.kind.Host.{Host}
 use Rattle.ep_scope.specs.declared.kind.Host.TheVariants as host
+use Rattle.ep_scope.specs.declared.kind.Kind.{Kind}
 use Rattle.ep_scope.specs.declared.kind.Kind.TheVariants as kind
 use Rattle.ep_scope.specs.declared.rule.TheConstants as rule
 use Rattle.ep_typed.specs.declared.denoter.RequiredType.TheVariants as simple
@@ -26,6 +28,7 @@ use Rattle.ep_typed.specs.declared.interface.FormalMode.{FormalMode}
 use Rattle.ep_typed.specs.declared.interface.FormalMode.TheVariants as mode
 use Rattle.ep_scope.specs.declared.parameter.FormalParameter.{FormalParameter}
 use Rattle.ep_scope.specs.declared.parameter.Protection.TheVariants as protection
+use Rattle.ep_scope.specs.declared.parameter.TypeName.{TypeName}
 use Rattle.ep_scope.specs.declared.parameter.TypeName.TheVariants as type_name
 use Rattle.ep_scope.specs.declared.thing.Declaration.{Declaration}
 use Rattle.ep_scope.specs.declared.thing.Declaration.TheVariants as declaration
@@ -46,7 +49,7 @@ factor_term f = term_node 1 f []
 abbrev simple_of : Factor → Simple
 simple_of f = simple_node 1 None (factor_term f) []
 
-abbrev bare : Factor → Expression
+abbrev pub bare : Factor → Expression
 bare f = expression_node 1 (simple_of f) None
 
 abbrev name : List ℕ → Factor
@@ -71,27 +74,27 @@ abbrev equality : Factor → Factor → Expression
 equality x y = expression_node 1 (simple_of x) (Some (comparison_node relation.Equal (simple_of y)))
 
 -- a call
-abbrev call : List ℕ → List Argument → Factor
+abbrev pub call : List ℕ → List Argument → Factor
 call f arguments = factor.Access (access_node 1 f (selector.Arguments 1 arguments ∷ []))
 
 -- with indexes
 abbrev indexed : List ℕ → List Expression → Factor
 indexed a indexes = factor.Access (access_node 1 a (selector.Index 1 indexes ∷ []))
 
-abbrev plain : Factor → Argument
+abbrev pub plain : Factor → Argument
 plain x = argument_node 1 (bare x) None
 
 abbrev wide : Factor → Factor → Argument
 wide x w = argument_node 1 (bare x) (Some (bare w))
 
 -- the colors, of which red is the first and blue the last one
-abbrev color : Host
+abbrev pub color : Host
 color = host.Enumeration (record { number = 0; last = 1 })
 
 abbrev declares_at : ℕ → ℕ → Declaration → Thing
 declares_at level number what = thing.Declared (record { unit = codes "p"; number = number; level = level; what = what })
 
-abbrev declares : ℕ → Declaration → Thing
+abbrev pub declares : ℕ → Declaration → Thing
 declares number what = declares_at 0 number what
 
 -- a formal parameter of type integer
@@ -99,7 +102,7 @@ abbrev integer_parameter : FormalMode → FormalParameter
 integer_parameter how = record { name = codes "n"; mode = how; section = 0; of = type_name.Required simple.Integer; kind = integer }
 
 -- a function of an integer, whose result is a color
-abbrev function_of : FormalMode → Declaration
+abbrev pub function_of : FormalMode → Declaration
 function_of how = declaration.Function (integer_parameter how ∷ []) (type_name.Entry 0) (kind.Ordinal color)
 
 -- an array of integers by colors, and one of such arrays by Booleans
@@ -134,7 +137,7 @@ scope = record {
 } ∷ []
 
 -- a function of the program
-abbrev of_program : ℕ → Callee
+abbrev pub of_program : ℕ → Callee
 of_program number = record { unit = codes "p"; number = number; levels = 0 }
 
 -- an integer of a routine
@@ -357,9 +360,13 @@ constant_given_array = simp (expression-judged, simple-judged, term-judged, name
 
 -- ---- fields of records
 
+-- a field of a record that is in no variant
+abbrev pub plain_field : List ℕ → TypeName → Kind → ℕ → FieldType
+plain_field name of k number = record { name = name; of = of; kind = k; path = []; number = number; tag = None }
+
 -- a record of an integer x and a color y, and an array of such records by colors
 abbrev point : StructuredType
-point = record { number = 5; composition = composition.Record (record { name = codes "x"; of = type_name.Required simple.Integer; kind = integer } ∷ record { name = codes "y"; of = type_name.Entry 0; kind = kind.Ordinal color } ∷ []) }
+point = record { number = 5; composition = composition.Record (plain_field (codes "x") (type_name.Required simple.Integer) integer 0 ∷ plain_field (codes "y") (type_name.Entry 0) (kind.Ordinal color) 1 ∷ []) }
 
 abbrev points : StructuredType
 points = record { number = 6; composition = composition.Array (record { index = color; component = type_name.Entry 5; kind = kind.Structured 5 }) }
@@ -375,7 +382,7 @@ with_records = record {
   records = [];
 } ∷ []
 
-abbrev field : List ℕ → List ℕ → Factor
+abbrev pub field : List ℕ → List ℕ → Factor
 field r f = factor.Access (access_node 1 r (selector.Field 1 f ∷ []))
 
 -- c.y
@@ -429,7 +436,7 @@ with_open =
     (record {
       variable = OfUnit (codes "p") 20;
       guarded = protection.Protected;
-      fields = record { name = codes "x"; of = type_name.Required simple.Integer; kind = integer } ∷ record { name = codes "shades"; of = type_name.Entry 0; kind = kind.Ordinal color } ∷ [];
+      fields = plain_field (codes "x") (type_name.Required simple.Integer) integer 0 ∷ plain_field (codes "shades") (type_name.Entry 0) (kind.Ordinal color) 1 ∷ [];
     }) with_records
 
 -- x, which hides the variable of its name

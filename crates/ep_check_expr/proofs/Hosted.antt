@@ -1,5 +1,5 @@
 -- The host of what the rules accept is a required type, or that of something that the scopes declare.
-use Rattle.std.proofs.Common.{◌≡◌, ◌==◌, ◌∙◌, ℕ, ℤ, zero, suc, slice_get, Bool, true, false, ◌&&◌, nat_le, List, [], ◌∷◌, Option, Some, None, inl, inr, refl, sym, subst}
+use Rattle.std.proofs.Common.{◌≡◌, ◌==◌, ◌∙◌, ◌+◌, ℕ, ℤ, zero, suc, slice_get, Bool, true, false, ◌&&◌, nat_le, List, [], ◌∷◌, Option, Some, None, inl, inr, refl, sym, subst}
 use Rattle.std.specs.Prelude.{⊤, if◌then◌else◌}
 use Rattle.std.specs.Str.{bytes_eq}
 use Rattle.ep_tree.specs.declared.operator.AddingOperator.{AddingOperator}
@@ -43,7 +43,7 @@ use Rattle.ep_check_expr.specs.declared.access.Access.TheVariants as access
 use Rattle.ep_check_expr.specs.Arguments.{Taken, arguments_judged, callee_at, function_typed}
 use Rattle.ep_check_expr.specs.Constructors.{Label, Members, extended, joined_by, may_join, no_member, set_judged, set_kind}
 use Rattle.ep_check_expr.specs.Expressions.{spelled}
-use Rattle.ep_check_expr.specs.FieldDesignators.{field_typed}
+use Rattle.ep_check_expr.specs.FieldDesignators.{field_typed, steps_to}
 use Rattle.ep_check_expr.specs.Functions.{Given, applied_one, applied_two, card_by, ordinal_by, other_argument, step_typed, stepped_by, one}
 use Rattle.ep_check_expr.specs.Hosts.{typed_host}
 use Rattle.ep_check_expr.specs.Indexing.{component_depth, component_typed}
@@ -67,7 +67,7 @@ abbrev MeantComes : (Host → Type 0) → Meant → Type 0
 MeantComes P (Declares d) = (h : Host) → DeclaresHost d.what h → P h
 MeantComes P (meaning.Standard file) = ⊤
 MeantComes P (Requires r) = ⊤
-MeantComes P (FieldOf f) = (h : Host) → HasHost f.kind h → P h
+MeantComes P (FieldOf f) = (h : Host) → HasHost f.field.kind h → P h
 MeantComes P Nothing = ⊤
 
 thing_wider : (P Q : Host → Type 0) (o : Option Thing) → ((h : Host) → P h → Q h) → ThingComes P o → ThingComes Q o
@@ -123,13 +123,13 @@ field_has (g ∷ gs) (suc number) f h e p = inr (field_has gs number f h e p)
 -- so is that of a field of an open record
 abbrev FieldComes : (Host → Type 0) → Option OpenField → Type 0
 FieldComes P None = ⊤
-FieldComes P (Some f) = (h : Host) → HasHost f.kind h → P h
+FieldComes P (Some f) = (h : Host) → HasHost f.field.kind h → P h
 
 field_wider : (P Q : Host → Type 0) (o : Option OpenField) → ((h : Host) → P h → Q h) → FieldComes P o → FieldComes Q o
 field_wider P Q None f c = tt
 field_wider P Q (Some x) f c = λ h e. f h (c h e)
 
-open_comes : (r : OpenRecord) (number : ℕ) (o : Option FieldType) → slice_get r.fields number ≡ o → FieldComes (FieldsHaveHost r.fields) (field_if r number o)
+open_comes : (r : OpenRecord) (number : ℕ) (o : Option FieldType) → slice_get r.fields number ≡ o → FieldComes (FieldsHaveHost r.fields) (field_if r o)
 open_comes r number None e = tt
 open_comes r number (Some f) e = λ h p. field_has r.fields number f h e p
 
@@ -255,7 +255,7 @@ module _ (scopes : List Region) where
   named_comes name (Declares d) c = declared_comes (depth_in scopes) d d.what c
   named_comes name (meaning.Standard file) c = tt
   named_comes name (Requires r) c = value_comes r
-  named_comes name (FieldOf f) c = kind_comes f.kind c
+  named_comes name (FieldOf f) c = kind_comes f.field.kind c
   named_comes name Nothing c = tt
 
   unary_comes : (b : Bool) (operation : Unary) (k : Kind) (x : Typed) (other : Judged Typed) → IsKnownKind scopes k → Comes other → Comes (if b then unary_typed operation k x else other)
@@ -407,9 +407,9 @@ module _ (scopes : List Region) where
   component_comes n a x i e =
       if-satisfies IsKnown (nat_le (component_depth x.access x.depth i.depth) 1000) (Accepts _) (Breaks (rule.TOO_DEEP ∷ [])) (λ d. kind_comes a.kind (λ h p. structure_comes n scopes (composition.Array a) h e p)) tt
 
-  field_comes : (n : ℕ) (fs : List FieldType) (number : ℕ) (f : FieldType) (x : Typed) → structure_in scopes n ≡ Some (composition.Record fs) → slice_get fs number ≡ Some f → Comes (field_typed number f x)
+  field_comes : (n : ℕ) (fs : List FieldType) (number : ℕ) (f : FieldType) (x : Typed) → structure_in scopes n ≡ Some (composition.Record fs) → slice_get fs number ≡ Some f → Comes (field_typed f x)
   field_comes n fs number f x e there =
-      if-satisfies IsKnown (nat_le (suc x.depth) 1000) (Accepts _) (Breaks (rule.TOO_DEEP ∷ [])) (λ d. kind_comes f.kind (λ h p. structure_comes n scopes (composition.Record fs) h e (field_has fs number f h there p))) tt
+      if-satisfies IsKnown (nat_le (steps_to f + x.depth) 1000) (Accepts _) (Breaks (rule.TOO_DEEP ∷ [])) (λ d. kind_comes f.kind (λ h p. structure_comes n scopes (composition.Record fs) h e (field_has fs number f h there p))) tt
 
   -- each rule gives a known host for known ones
   pub knowledge_is_kept : IsKept IsKnown scopes

@@ -8,12 +8,14 @@ pub mod Labels
 pub mod SetExamples
 pub mod SetForms
 pub mod Examples
+pub mod VariantExamples
 pub mod Folds
 pub mod Hosted
 pub mod Known
 pub mod Meant
 pub mod Nodes
 pub mod Places
+pub mod FieldPlaces
 pub mod Components
 pub mod Designated
 pub mod Indexed

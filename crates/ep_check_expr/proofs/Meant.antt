@@ -6,7 +6,7 @@ use Rattle.ep_typed.specs.Valid.{Declarations}
 use Rattle.ep_typed.specs.declared.value.Value.{Value}
 use Rattle.ep_typed.specs.declared.value.Value.TheVariants as value
 use Rattle.ep_typed.specs.Hosts as hosts
-use Rattle.ep_typed.specs.Trees.{Place, Read, Variable}
+use Rattle.ep_typed.specs.Trees.{Place, Read, Variable, entire}
 use Rattle.ep_scope.specs.Fields.{field_number}
 use Rattle.ep_scope.specs.Required.{look_up, required_of}
 use Rattle.ep_scope.specs.Scopes.{Entries, OpenField, OpenRecord, Region, Meant, Declares, Requires, FieldOf, Nothing, field_among, field_at, field_if, field_of, field_or, meant, meant_in, or_field, unless_field, look_up_in, look_up_if, as_thing, as_required, or_outside, unless_hidden}
@@ -25,10 +25,12 @@ use Rattle.ep_scope.specs.declared.thing.Thing.{Thing}
 use Rattle.ep_scope.specs.declared.thing.Thing.TheVariants as thing
 use Rattle.ep_check_expr.specs.Agreement.{IsConstantOf, IsStoredIn, IsDeclaration, IsFieldAt, IsOpen, IsThing, AreThings, AreInterfaces, AreOpen, AgreesBy, TypeValues, IsFormOf}
 use Rattle.ep_check_expr.specs.Arguments.{callee_at, own_place}
+use Rattle.ep_check_expr.specs.FieldDesignators.{along}
 use Rattle.ep_check_expr.specs.Hosts.{typed_host}
 use Rattle.ep_check_expr.specs.Names.{call_declared, field_place, value_declared, value_form, value_required, value_named}
 use Rattle.ep_check_expr.specs.Functions.{Given}
 use Rattle.ep_check_expr.specs.Judgements.{Judged, Typed}
+use Rattle.ep_check_expr.proofs.FieldPlaces.{all_there, read-access}
 use Rattle.ep_check_expr.proofs.Passing.{IsForm, function_called-fits}
 use Rattle.ep_check_expr.proofs.Keeping.{AreGiven, IsCalled, Satisfies}
 
@@ -43,7 +45,7 @@ module _ (declared : Declarations) (types : TypeValues) (structures : List Struc
   IsMeant (Declares d) = IsDeclaration declared types structures depth d d.what
   IsMeant (meaning.Standard file) = ⊤
   IsMeant (Requires r) = ⊤
-  IsMeant (FieldOf f) = IsFieldAt declared types structures depth (field_place f) f.of f.kind
+  IsMeant (FieldOf f) = IsFieldAt declared types structures depth f.field (entire f.variable)
   IsMeant Nothing = ⊤
 
   -- a field of an open record is a variable
@@ -51,9 +53,9 @@ module _ (declared : Declarations) (types : TypeValues) (structures : List Struc
   IsFieldIf None = ⊤
   IsFieldIf (Some f) = IsMeant (FieldOf f)
 
-  field_if-meant : (r : OpenRecord) (number : ℕ) (o : Option FieldType) → slice_get r.fields number ≡ o → IsOpen declared types structures depth r → IsFieldIf (field_if r number o)
+  field_if-meant : (r : OpenRecord) (number : ℕ) (o : Option FieldType) → slice_get r.fields number ≡ o → IsOpen declared types structures depth r → IsFieldIf (field_if r o)
   field_if-meant r number None e h = tt
-  field_if-meant r number (Some f) e h = h number f e
+  field_if-meant r number (Some f) e h = all_there (λ (g : FieldType). IsFieldAt declared types structures depth g (entire r.variable)) r.fields number f h e
 
   field_at-meant : (r : OpenRecord) (o : Option ℕ) → IsOpen declared types structures depth r → IsFieldIf (field_at r o)
   field_at-meant r None h = tt
@@ -179,7 +181,8 @@ module _ (declared : Declarations) (types : TypeValues) (structures : List Struc
   value_named-fits name (Declares d) s = value_declared-fits d d.what s
   value_named-fits name (meaning.Standard file) s = (tt, tt)
   value_named-fits name (Requires r) s = value_required-fits r
-  value_named-fits name (FieldOf f) s = (variable-fits (field_place f) f.kind s.0, (field_place f, refl, s.1))
+  value_named-fits name (FieldOf f) s =
+      (variable-fits (field_place f) f.field.kind s.0, read-access declared types f.field.of f.guarded f.field.tag f.field.number (along f.field.path (entire f.variable)) s.1 s.2)
   value_named-fits name Nothing s = tt
 
   call_declared-fits : (d : Declared) (what : Declaration) (gs : List Given) → IsDeclaration declared types structures depth d what → AreGiven (IsForm declared types structures) gs → Holds (call_declared depth d what gs)

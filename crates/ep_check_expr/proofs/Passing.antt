@@ -193,6 +193,7 @@ module _ (declared : Declarations) (types : TypeValues) (structures : List Struc
 
       variable-fits : (a : Access) (form : Option Expr) → IsAccessOf declared types a form → Satisfies (IfForm IsVariable) (variable_taken p.of a form)
       variable-fits (access.Variable of guarded) form x = taken_if (same_type p.of of) of guarded form refl x
+      variable-fits (access.Tag of guarded tag) form x = tt
       variable-fits access.File form x = tt
       variable-fits access.Constant form x = tt
       variable-fits access.Value form x = tt

@@ -6,7 +6,7 @@ use Rattle.std.proofs.lemmas.List.Elements.{All-head, All-tail}
 use Rattle.ep_typed.specs.Denoters.{ArrayParts, array_of, array_within, definition_of, denoter_at, found_of, host_of, record_of, record_within}
 use Rattle.ep_typed.specs.Hosts as hosts
 use Rattle.ep_typed.specs.Steps.{variant_number}
-use Rattle.ep_typed.specs.Trees.{Array, Denoter, Denoters, Enumeration, Expr, Field, Indexed, Named, Own, Place, Record, Required, Set, Standard, Subrange, Variable, Variant, next_denoter, no_denoter}
+use Rattle.ep_typed.specs.Trees.{Array, Denoter, Denoters, Enumeration, Expr, Field, Indexed, Named, Own, Place, Record, Required, Set, Standard, Subrange, Variable, Variant}
 use Rattle.ep_typed.specs.Valid as valid
 use Rattle.ep_typed.specs.TypeValues.{TypeValue}
 use Rattle.ep_typed.specs.Valid.{Declarations, IsExpr, IsOfKind, IsPlaceWhere, IsSelection}
@@ -132,20 +132,12 @@ module _ (list : List UnitType) where
         within (Records ds) there made = absurd made
 
     -- the components of a record
-    record_parts : (fs : List FieldType) → HoldsStructure types list (made_so n (composition.Record fs)) → (ds : Denoters) × (record_of list d ≡ Some ds) × AreFields types list fs ds
+    pub record_parts : (fs : List FieldType) → HoldsStructure types list (made_so n (composition.Record fs)) → (ds : Denoters) × (record_of list d ≡ Some ds) × AreFields types list fs ds
     record_parts fs h = within h.structure h.has_structure h.made_of
       where
         within : (m : Structure) → HasStructure list (Named n []) m → IsMadeOf types list (composition.Record fs) m → (ds : Denoters) × (record_of list d ≡ Some ds) × AreFields types list fs ds
         within (Arrays p) there made = absurd made
         within (Records ds) there made = (ds, alike d n of.0 (Records ds) of.1 of.2 there, made)
-
-  -- a field of the fields
-  field_there : (types : TypeValues) (fs : List FieldType) (ds : Denoters) (number : ℕ) (f : FieldType) → AreFields types list fs ds → slice_get fs number ≡ Some f → (c : Denoter) × (denoter_at ds number ≡ Some c) × IsDenoterOf types list f.of f.kind c
-  field_there types [] no_denoter number f all e = cc
-  field_there types [] (next_denoter d ds) number f all e = absurd all
-  field_there types (g ∷ gs) no_denoter number f all e = absurd all
-  field_there types (g ∷ gs) (next_denoter d ds) zero f all e = let is : g ≡ f = cc in (d, refl, subst (λ (x : FieldType). IsDenoterOf types list x.of x.kind d) is all.0)
-  field_there types (g ∷ gs) (next_denoter d ds) (suc number) f all e = field_there types gs ds number f all.1 e
 
 -- ---- components
 
@@ -159,7 +151,7 @@ module _ (declared : Declarations) (types : TypeValues) (structures : List Struc
   IsComponentAt of k place = IsPlaceWhere declared (IsComponent of k) place
 
   -- and of the denoter of a structured variable, by its number
-  abbrev IsStructured : ℕ → List UnitType → Denoter → Type 0
+  abbrev pub IsStructured : ℕ → List UnitType → Denoter → Type 0
   IsStructured n list d = HasKind types list d (kind.Structured n) × All (HoldsStructure types list) structures
 
   -- some list of types holds the structured types
@@ -183,16 +175,6 @@ module _ (declared : Declarations) (types : TypeValues) (structures : List Struc
             let p = array_parts list types d n k.0.0 a (subst (λ z. HoldsStructure types list (made_so n z)) is (in_view list k.1)) in
             (p.0, p.1, (p.2.2, k.1), (typed_host a.index, p.2.1, index))
 
-    -- a field of a record
-    pub field-place : (fs : List FieldType) → c ≡ composition.Record fs → (number : ℕ) (f : FieldType) → slice_get fs number ≡ Some f → (place : Place) → IsStructuredAt declared types structures n place → IsComponentAt f.of f.kind (Field place number)
-    field-place fs is number f there place at = place_wider declared (IsStructured n) (IsFieldWhere declared (IsComponent f.of f.kind) number) place within at
-      where
-        within : (list : List UnitType) (d : Denoter) → IsStructured n list d → IsFieldWhere declared (IsComponent f.of f.kind) number list d
-        within list d k =
-            let p = record_parts list types d n k.0.0 fs (subst (λ z. HoldsStructure types list (made_so n z)) is (in_view list k.1)) in
-            let q = field_there list types fs p.0 number f p.2 there in
-            (p.0, p.1, q.0, q.1, (q.2, k.1))
-
     -- some denoter is that of a component
     pub some-component : (a : ArrayType) → c ≡ composition.Array a → (list : List UnitType) → All (HoldsStructure types list) structures → (d : Denoter) × HasKind types list d a.kind
     some-component a is list all = within h.structure h.made_of
@@ -203,13 +185,3 @@ module _ (declared : Declarations) (types : TypeValues) (structures : List Struc
         within : (m : Structure) → IsMadeOf types list (composition.Array a) m → (d : Denoter) × HasKind types list d a.kind
         within (Arrays p) made = (p.component, made.2.0)
         within (Records ds) made = absurd made
-
-    pub some-field : (fs : List FieldType) → c ≡ composition.Record fs → (number : ℕ) (f : FieldType) → slice_get fs number ≡ Some f → (list : List UnitType) → All (HoldsStructure types list) structures → (d : Denoter) × HasKind types list d f.kind
-    some-field fs is number f there list all = within h.structure h.made_of
-      where
-        h : HoldsStructure types list (made_so n (composition.Record fs))
-        h = subst (λ z. HoldsStructure types list (made_so n z)) is (in_view list all)
-
-        within : (m : Structure) → IsMadeOf types list (composition.Record fs) m → (d : Denoter) × HasKind types list d f.kind
-        within (Arrays p) made = absurd made
-        within (Records ds) made = let q = field_there list types fs ds number f made there in (q.0, q.2.0)

@@ -1,15 +1,16 @@
 -- What is the bare name of a variable is read of a place.
-use Rattle.std.proofs.Common.{◌≡◌, ℕ, suc, nat_le, List, [], ◌∷◌, Option, Some, None, Result, Ok, Err, ap, refl, subst, sym, ◌∙◌}
+use Rattle.std.proofs.Common.{◌≡◌, ◌+◌, ℕ, nat_le, List, [], ◌∷◌, Option, Some, None, Result, Ok, Err, ap, refl, subst, sym, ◌∙◌}
 use Rattle.std.specs.Prelude.{IfOk}
 use Rattle.std.specs.Option.{option_map}
 use Rattle.ep_tree.specs.declared.expression.Access as syntax
 use Rattle.ep_tree.specs.declared.expression.Argument.{Argument, out-Argument}
-use Rattle.ep_typed.specs.Trees.{Callee, Expr, Field, Indexed, Variable}
+use Rattle.ep_typed.specs.Trees.{Callee, Expr, Field, Indexed, Place, Read, Variable, entire}
 use Rattle.ep_typed.specs.Viewed.{expr_of}
 use Rattle.ep_scope.specs.Scopes.{Region, Meant, Declares, Requires, FieldOf, Nothing, depth_in, meant, meant_in}
 use Rattle.ep_scope.specs.Scopes as meaning
 use Rattle.ep_scope.specs.declared.kind.Host.TheVariants as host
 use Rattle.ep_scope.specs.declared.kind.Kind.{Kind}
+use Rattle.ep_scope.specs.declared.parameter.Protection.{Protection}
 use Rattle.ep_scope.specs.declared.parameter.TypeName.{TypeName}
 use Rattle.ep_scope.specs.declared.required.Required.{Required}
 use Rattle.ep_scope.specs.declared.required.Required.TheVariants as required
@@ -17,6 +18,7 @@ use Rattle.ep_scope.specs.declared.required.RequiredConstant.TheVariants as cons
 use Rattle.ep_scope.specs.declared.rule.TheConstants as rule
 use Rattle.ep_scope.specs.declared.structure.ArrayType.{ArrayType}
 use Rattle.ep_scope.specs.declared.structure.FieldType.{FieldType}
+use Rattle.ep_scope.specs.declared.structure.TagType.{TagType}
 use Rattle.ep_scope.specs.declared.thing.Declaration.{Declaration}
 use Rattle.ep_scope.specs.declared.thing.Declaration.TheVariants as declaration
 use Rattle.ep_scope.specs.declared.thing.Declared.{Declared}
@@ -26,13 +28,13 @@ use Rattle.ep_check_expr.specs.declared.forms.TheConstants as limit
 use Rattle.ep_check_expr.specs.declared.forms.Refusal.{Refusal}
 use Rattle.ep_check_expr.specs.declared.forms.Typed as code
 use Rattle.ep_check_expr.specs.Answers.{AnswersTyped, typed_of}
-use Rattle.ep_check_expr.specs.Arguments.{IsReading, IsReadingIf, Taken, arguments_judged, callee_at, function_typed, own_place}
+use Rattle.ep_check_expr.specs.Arguments.{IsReading, IsReadingIf, IsTagReadingIf, Taken, arguments_judged, callee_at, function_typed, own_place}
 use Rattle.ep_check_expr.specs.Expressions.{given, name_judged}
-use Rattle.ep_check_expr.specs.FieldDesignators.{field_form, field_typed, part_form}
+use Rattle.ep_check_expr.specs.FieldDesignators.{along, component_place, field_access, field_form, field_typed, steps_to, variable_access}
 use Rattle.ep_check_expr.specs.Functions.{Given}
 use Rattle.ep_check_expr.specs.Indexing.{component_access, component_depth, component_form, component_typed, element_form}
 use Rattle.ep_check_expr.specs.Judgements.{Judged, Accepts, Breaks, Typed, when_accepted}
-use Rattle.ep_check_expr.specs.Names.{call_declared, field_place, value_declared, value_named, value_required}
+use Rattle.ep_check_expr.specs.Names.{call_declared, value_declared, value_named, value_required}
 use Rattle.ep_check_expr.proofs.Accepted.{accesses-fit, expressions-fit}
 use Rattle.ep_check_expr.proofs.Designated.{field-given}
 use Rattle.ep_check_expr.proofs.Indexed.{index-given}
@@ -76,11 +78,20 @@ required-placed (required.«Type» t) = tt
 required-placed (required.Function f) = tt
 required-placed (required.Procedure p) = tt
 
+-- what is read of a field is, and a tag of its record
+field-read : (of : TypeName) (guarded : Protection) (tag : Option TagType) (number : ℕ) (whole : Place) → IsReading (variable_access of guarded tag) (Some (Read (component_place tag number whole)))
+field-read of guarded None number whole = (Field whole number, refl)
+field-read of guarded (Some tag) number whole = (whole, number, refl)
+
+field-unread : (of : TypeName) (guarded : Protection) (tag : Option TagType) → IsReading (variable_access of guarded tag) None
+field-unread of guarded None = tt
+field-unread of guarded (Some tag) = tt
+
 named-placed : (depth : ℕ) (name : List ℕ) (m : Meant) → Satisfies IsPlaced (value_named depth name m)
 named-placed depth name (Declares d) = declared-placed depth d d.what
 named-placed depth name (meaning.Standard file) = tt
 named-placed depth name (Requires r) = required-placed r
-named-placed depth name (FieldOf f) = (field_place f, refl)
+named-placed depth name (FieldOf f) = field-read f.field.of f.guarded f.field.tag f.field.number (along f.field.path (entire f.variable))
 named-placed depth name Nothing = tt
 
 call-placed : (depth : ℕ) (m : Meant) → IsCalled depth IsPlaced m
@@ -96,9 +107,15 @@ component-placed None i r = tt
 component-placed (Some x) None r = tt
 component-placed (Some x) (Some i) r = (Indexed r.0 i, ap (λ z. element_form z i) r.1)
 
+-- what is read of a tag is read of a place
+tag-reads : (x : Option Expr) → IsTagReadingIf x → IsReadingIf x
+tag-reads None r = tt
+tag-reads (Some x) r = (Field (Field r.0 r.1) 0, r.2)
+
 -- so is what is a variable, where the whole is one
 access-placed : (component : TypeName) (a : Access) (x form : Option Expr) → (IsReadingIf x → IsReadingIf form) → IsReading a x → IsReading (component_access component a) form
 access-placed component (access.Variable of guarded) x form f r = f r
+access-placed component (access.Tag of guarded tag) x form f r = f (tag-reads x r)
 access-placed component access.File x form f r = tt
 access-placed component access.Constant x form f r = tt
 access-placed component access.Value x form f r = tt
@@ -110,13 +127,20 @@ index-placed a x i p =
     (λ e. access-placed a.component x.access x.form (component_form x.form i.form) (component-placed x.form i.form) p) tt
 
 -- so is a field
-field-built : (x : Option Expr) (number : ℕ) → IsReadingIf x → IsReadingIf (field_form x number)
-field-built None number r = tt
-field-built (Some x) number r = (Field r.0 number, ap (part_form number) r.1)
+field-built : (f : FieldType) (guarded : Protection) (x : Option Expr) → IsReadingIf x → IsReading (variable_access f.of guarded f.tag) (field_form f x)
+field-built f guarded None r = field-unread f.of guarded f.tag
+field-built f guarded (Some x) r =
+    subst (λ z. IsReading (variable_access f.of guarded f.tag) (field_form f (Some z))) (sym r.1) (field-read f.of guarded f.tag f.number (along f.path r.0))
 
-field-placed : (number : ℕ) (f : FieldType) (x : Typed) → IsPlaced x → Satisfies IsPlaced (field_typed number f x)
-field-placed number f x p =
-    if-satisfies IsPlaced (nat_le (suc x.depth) limit.DEPTH) (Accepts _) (Breaks (rule.TOO_DEEP ∷ [])) (λ e. access-placed f.of x.access x.form (field_form x.form number) (field-built x.form number) p) tt
+field-accessed : (f : FieldType) (a : Access) (x : Option Expr) → IsReading a x → IsReading (field_access f a) (field_form f x)
+field-accessed f (access.Variable of guarded) x r = field-built f guarded x r
+field-accessed f (access.Tag of guarded tag) x r = field-built f guarded x (tag-reads x r)
+field-accessed f access.File x r = tt
+field-accessed f access.Constant x r = tt
+field-accessed f access.Value x r = tt
+
+field-placed : (f : FieldType) (x : Typed) → IsPlaced x → Satisfies IsPlaced (field_typed f x)
+field-placed f x p = if-satisfies IsPlaced (nat_le (steps_to f + x.depth) limit.DEPTH) (Accepts _) (Breaks (rule.TOO_DEEP ∷ [])) (λ e. field-accessed f x.access x.form p) tt
 
 -- each rule keeps it
 placing_is_kept : (scopes : List Region) → IsKept IsPlaced scopes
@@ -128,7 +152,7 @@ placing_is_kept scopes = record {
   within = λ interface name. named-placed (depth_in scopes) name (meant_in scopes interface name);
   called = λ name. call-placed (depth_in scopes) (meant scopes name);
   indexes = λ x i p q. index-given IsPlaced scopes x.kind x i (λ n a is e same. index-placed a x i p) (deep-plain IsPlaced plain _ _ _);
-  fields = λ name x p. field-given IsPlaced scopes x.kind name x (λ n fs number f is e there. field-placed number f x p);
+  fields = λ name x p. field-given IsPlaced scopes x.kind name x (λ n fs number f is e there. field-placed f x p);
   parenthesizes = λ x p. tt;
   signs = signed-plain IsPlaced plain;
   negates = λ x p. negated-plain IsPlaced plain x;

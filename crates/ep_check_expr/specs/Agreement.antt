@@ -1,19 +1,20 @@
 -- Declarations that hold what scopes declare, under which typed forms are valid.
-use Rattle.std.specs.Prelude.{◌≡◌, ℕ, ℤ, pos, All, List, [], ◌∷◌, ◌++◌, slice_get, Option, Some, None, IsTrue, int_le, ⊤}
-use Rattle.ep_typed.specs.Denoters.{ArrayParts, array_of, base_of, host_of, record_of, type_of}
+use Rattle.std.specs.Prelude.{◌≡◌, ℕ, ℤ, pos, All, List, [], ◌∷◌, ◌++◌, Option, Some, None, IsTrue, int_le, ⊤}
+use Rattle.ep_typed.specs.Denoters.{ArrayParts, array_of, base_of, denoter_at, host_of, record_of, type_of}
 use Rattle.ep_typed.specs.Hosts.{greatest, is_of_host, least}
 use Rattle.ep_typed.specs.Hosts as typed
 use Rattle.ep_typed.specs.Operations.{maxint}
 use Rattle.ep_typed.specs.Sets.{IsSet, are_between}
-use Rattle.ep_typed.specs.Trees.{Denoter, Denoters, Named, no_denoter, next_denoter, Callee, Place, Variable, Field, entire, Expr, Constant, Text, Read, One, Two, Short, Step, Function, IndexedValue, FieldValue, SetConstant, SetOf, OnSets, Card, Actual, actuals}
-use Rattle.ep_typed.specs.Valid.{Declarations, AreGiven, IsCallee, IsFunction, IsOfKind, IsPlace, IsPlaceWhere, IsExpr, IsProcedure, IsSetOf, IsStructured, IsTypeOf, IsVariableOf}
+use Rattle.ep_typed.specs.Steps.{variant_number}
+use Rattle.ep_typed.specs.Trees.{Denoter, Denoters, Named, Record, no_denoter, next_denoter, Callee, Place, Variable, Field, entire, Expr, Constant, Text, Read, One, Two, Short, Step, Function, IndexedValue, FieldValue, SetConstant, SetOf, OnSets, Card, Actual, actuals}
+use Rattle.ep_typed.specs.Valid.{Declarations, AreGiven, IsCallee, IsFunction, IsOfKind, IsPlace, IsPlaceWhere, IsExpr, IsProcedure, IsSelection, IsSetOf, IsStructured, IsTagged, IsTypeOf, IsVariableOf}
 use Rattle.ep_typed.specs.Valid as valid
 use Rattle.ep_typed.specs.Viewed.{denoter_of}
 use Rattle.ep_typed.specs.declared.interface.Formal.{Formal}
 use Rattle.ep_typed.specs.declared.interface.RoutineEntry.{RoutineEntry}
 use Rattle.ep_typed.specs.declared.interface.RoutineResult.{RoutineResult}
 use Rattle.ep_typed.specs.declared.unit.UnitType.{UnitType}
-use Rattle.ep_typed.specs.TypeValues.{ComponentTypes, TypeValue}
+use Rattle.ep_typed.specs.TypeValues.{ComponentTypes, TypeValue, type_among}
 use Rattle.ep_typed.specs.TypeValues as type
 use Rattle.ep_typed.specs.declared.value.Value.{Value}
 use Rattle.ep_typed.specs.declared.value.Value.TheVariants as value
@@ -29,6 +30,8 @@ use Rattle.ep_scope.specs.declared.structure.Composition.{Composition}
 use Rattle.ep_scope.specs.declared.structure.Composition.TheVariants as composition
 use Rattle.ep_scope.specs.declared.structure.FieldType.{FieldType}
 use Rattle.ep_scope.specs.declared.structure.StructuredType.{StructuredType}
+use Rattle.ep_scope.specs.declared.structure.TagType.{TagType}
+use Rattle.ep_scope.specs.declared.structure.VariantStep.{VariantStep}
 use Rattle.ep_scope.specs.declared.thing.Declaration.{Declaration}
 use Rattle.ep_scope.specs.declared.thing.Declaration.TheVariants as declaration
 use Rattle.ep_scope.specs.declared.thing.Declared.{Declared}
@@ -37,6 +40,7 @@ use Rattle.ep_scope.specs.declared.thing.Thing.TheVariants as thing
 use Rattle.ep_check_expr.specs.declared.access.Access.{Access}
 use Rattle.ep_check_expr.specs.declared.access.Access.TheVariants as access
 use Rattle.ep_check_expr.specs.Arguments.{Taken, callee_at, own_place}
+use Rattle.ep_check_expr.specs.FieldDesignators.{along, reached}
 use Rattle.ep_check_expr.specs.Hosts.{typed_host}
 use Rattle.ep_check_expr.specs.Judgements.{Typed}
 
@@ -131,11 +135,19 @@ module _ (types : TypeValues) where
   abbrev pub IsArrayValue : ArrayType → TypeValue → Type 0
   IsArrayValue a t = (low high : ℤ) × (of : TypeValue) × (t ≡ type.Array low high of) × IsTypeOf (typed_host a.index) (type.Ordinal low high) × IsValueOfKind a.kind of
 
-  -- they are those of the fields of a record, one for one
+  -- the component of this number is of the kind; a tag is the one component of a record that has the number
+  abbrev pub IsPartValue : Option TagType → ℕ → Kind → ComponentTypes → Type 0
+  IsPartValue None number k ts = (t : TypeValue) × (type_among ts number ≡ Some t) × IsValueOfKind k t
+  IsPartValue (Some tag) number k ts = (t : TypeValue) × (type_among ts number ≡ Some (type.Record (type.next_component t type.no_component))) × IsValueOfKind k t
+
+  -- so is that of a field; of one that is in a variant nothing is asked, since it is not taken of a value
+  abbrev pub IsFieldValue : List VariantStep → FieldType → ComponentTypes → Type 0
+  IsFieldValue [] f ts = IsPartValue f.tag f.number f.kind ts
+  IsFieldValue (s ∷ path) f ts = ⊤
+
+  -- the components are those of a record with these fields
   abbrev pub AreFieldValues : List FieldType → ComponentTypes → Type 0
-  AreFieldValues [] type.no_component = ⊤
-  AreFieldValues (f ∷ fs) (type.next_component t ts) = IsValueOfKind f.kind t × AreFieldValues fs ts
-  AreFieldValues fs ts = ⊥
+  AreFieldValues fs ts = All (λ f. IsFieldValue f.path f ts) fs
 
   -- the type value is made of those of the components
   abbrev pub IsValueMadeOf : Composition → TypeValue → Type 0
@@ -151,11 +163,32 @@ module _ (types : TypeValues) (list : List UnitType) where
   abbrev pub IsArrayOf : ArrayType → ArrayParts → Type 0
   IsArrayOf a p = IsHost a.index × (host_of list p.index ≡ Some (typed_host a.index)) × IsDenoterOf a.component a.kind p.component
 
-  -- a record has components of the types and kinds of its fields, one for one
+  -- The components are those of a record, or of a variant, whose variants a tag with this denoter selects: its type is of the
+  -- host, and has these bounds (ISO 10206, 6.4.3.4).
+  abbrev pub Selects : TagType → Denoter → Denoters → Type 0
+  Selects tag d ds =
+      (declared : Declarations) → (s : IsSelection declared list ds tag.selection) × (s.tag ≡ d) × (s.host ≡ typed_host tag.host) × (type_of list d ≡ Some (type.Ordinal tag.low tag.high))
+
+  -- The component of this number is of the type and kind. A tag is the one component of a record that has the number, and
+  -- selects the variants behind it.
+  abbrev pub IsPartOf : Option TagType → ℕ → TypeName → Kind → Denoters → Type 0
+  IsPartOf None number of k ds = (d : Denoter) × (denoter_at ds number ≡ Some d) × IsDenoterOf of k d
+  IsPartOf (Some tag) number of k ds =
+      (d : Denoter) × (denoter_at ds number ≡ Some (Record (next_denoter d no_denoter))) × IsDenoterOf of k d × (tag.selection.tag ≡ number) × Selects tag d ds
+
+  -- this holds of the components of the variant to which these steps lead from a record with these components
+  abbrev pub IsAlong : (Denoters → Type 0) → List VariantStep → Denoters → Type 0
+  IsAlong Holds [] ds = Holds ds
+  IsAlong Holds (s ∷ path) ds =
+      ((declared : Declarations) → IsSelection declared list ds s.selection) × (inner : Denoters) × (denoter_at ds (variant_number s.selection s.variant) ≡ Some (Record inner)) × IsAlong Holds path inner
+
+  -- a record with these components has the field
+  abbrev pub IsFieldOf : Denoters → FieldType → Type 0
+  IsFieldOf ds f = IsAlong (IsPartOf f.tag f.number f.of f.kind) f.path ds
+
+  -- and all of these
   abbrev pub AreFields : List FieldType → Denoters → Type 0
-  AreFields [] no_denoter = ⊤
-  AreFields (f ∷ fs) (next_denoter d ds) = IsDenoterOf f.of f.kind d × AreFields fs ds
-  AreFields fs ds = ⊥
+  AreFields fs ds = All (IsFieldOf ds) fs
 
   abbrev pub IsMadeOf : Composition → Structure → Type 0
   IsMadeOf (composition.Array a) (Arrays p) = IsArrayOf a p
@@ -256,10 +289,22 @@ module _ (declared : Declarations) (types : TypeValues) where
   abbrev pub IsOfType : Place → TypeName → Type 0
   IsOfType place t = (v : TypeValue) × (types t ≡ Some v) × IsVariableOf declared v place
 
-  -- what is a variable of this type is read of its place, where it is built
+  -- the place is that of a record whose variants the tag selects
+  abbrev pub IsTaggedBy : TagType → Place → Type 0
+  IsTaggedBy tag place = IsPlaceWhere declared (IsTagged declared (typed_host tag.host) tag.low tag.high tag.selection) place
+
+  -- where there is one
+  abbrev pub IsTaggedIf : Option TagType → Place → Type 0
+  IsTaggedIf None place = ⊤
+  IsTaggedIf (Some tag) place = IsTaggedBy tag place
+
+  -- what is a variable of this type is read of its place, where it is built, and a tag of that of its record
   abbrev pub IsAccessOf : Access → Option Expr → Type 0
   IsAccessOf (access.Variable of guarded) None = ⊤
   IsAccessOf (access.Variable of guarded) (Some x) = (place : Place) × (x ≡ Read place) × IsOfType place of
+  IsAccessOf (access.Tag of guarded tag) None = ⊤
+  IsAccessOf (access.Tag of guarded tag) (Some x) =
+      (whole : Place) × (number : ℕ) × (x ≡ Read (Field (Field whole number) 0)) × IsOfType (Field (Field whole number) 0) of × IsTaggedBy tag whole
   IsAccessOf access.File form = ⊤
   IsAccessOf access.Constant form = ⊤
   IsAccessOf access.Value form = ⊤
@@ -293,9 +338,10 @@ module _ (declared : Declarations) (types : TypeValues) (structures : List Struc
   IsDeclaration d (declaration.Procedure parameters) = IsProcedureOf declared types (callee_at depth d) parameters
   IsDeclaration d (declaration.Function parameters of kind) = IsFunctionOf declared types structures (callee_at depth d) parameters kind
 
-  -- the place is that of a variable of this type and kind
-  abbrev pub IsFieldAt : Place → TypeName → Kind → Type 0
-  IsFieldAt place of kind = IsStoredIn declared types structures place kind × IsOfType declared types place of
+  -- a record at this place has a field of its type and kind, and where that is a tag, it selects the variants
+  abbrev pub IsFieldAt : FieldType → Place → Type 0
+  IsFieldAt f whole =
+      IsStoredIn declared types structures (reached f whole) f.kind × IsOfType declared types (reached f whole) f.of × IsTaggedIf declared types f.tag (along f.path whole)
 
   abbrev pub IsThing : Thing → Type 0
   IsThing (thing.Declared d) = IsDeclaration d d.what
@@ -311,7 +357,7 @@ module _ (declared : Declarations) (types : TypeValues) (structures : List Struc
 
   -- the variable that stands for an open record has its fields
   abbrev pub IsOpen : OpenRecord → Type 0
-  IsOpen r = (number : ℕ) (f : FieldType) → slice_get r.fields number ≡ Some f → IsFieldAt (Field (entire r.variable) number) f.of f.kind
+  IsOpen r = All (λ f. IsFieldAt f (entire r.variable)) r.fields
 
   abbrev pub AreOpen : List OpenRecord → Type 0
   AreOpen [] = ⊤

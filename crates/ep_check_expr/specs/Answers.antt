@@ -1,5 +1,5 @@
 -- What a call answers of what is judged: the typed form, or one of the rules that fail; want of memory is free.
-use Rattle.std.specs.Prelude.{◌≡◌, ℕ, suc, nat_eq, nat_le, true, false, map, None, Result, Ok, Err, IsTrue, ⊤}
+use Rattle.std.specs.Prelude.{◌≡◌, ℕ, ◌+◌, suc, nat_eq, nat_le, true, false, map, None, Result, Ok, Err, IsTrue, ⊤}
 use Rattle.std.specs.List.{list_any}
 use Rattle.std.specs.Option.{option_map}
 use Rattle.ep_typed.specs.Viewed.{actual_of, designator_of, expr_of}
@@ -43,6 +43,12 @@ abbrev pub AnswersDepth : ℕ → Result ℕ Refusal → Type 0
 AnswersDepth depth (Ok deeper) = (deeper ≡ suc depth) × (nat_le deeper limit.DEPTH ≡ true)
 AnswersDepth depth (Err (Rule rule)) = (rule ≡ rules.TOO_DEEP) × (nat_le (suc depth) limit.DEPTH ≡ false)
 AnswersDepth depth (Err NoMemory) = ⊥
+
+-- so many typed nodes more, where there is room for them
+abbrev pub AnswersSteps : ℕ → ℕ → Result ℕ Refusal → Type 0
+AnswersSteps steps depth (Ok deeper) = (deeper ≡ steps + depth) × (nat_le deeper limit.DEPTH ≡ true)
+AnswersSteps steps depth (Err (Rule rule)) = (rule ≡ rules.TOO_DEEP) × (nat_le (steps + depth) limit.DEPTH ≡ false)
+AnswersSteps steps depth (Err NoMemory) = ⊥
 
 -- an argument of a function that is accepted has no width; or one of the rules that fail in it
 abbrev pub AnswersGiven : Result Typed Refusal → Given → Type 0

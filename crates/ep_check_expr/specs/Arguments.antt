@@ -61,9 +61,15 @@ abbrev pub IsReadingIf : Option Expr → Type 0
 IsReadingIf None = ⊤
 IsReadingIf (Some x) = (place : Place) × (x ≡ tree.Read place)
 
--- so is what is a variable
+-- what is read of the one component of a component, where it is built
+abbrev pub IsTagReadingIf : Option Expr → Type 0
+IsTagReadingIf None = ⊤
+IsTagReadingIf (Some x) = (whole : Place) × (number : ℕ) × (x ≡ tree.Read (tree.Field (tree.Field whole number) 0))
+
+-- so is what is a variable, or a tag
 abbrev pub IsReading : Access → Option Expr → Type 0
 IsReading (access.Variable of guarded) form = IsReadingIf form
+IsReading (access.Tag of guarded tag) form = IsTagReadingIf form
 IsReading access.File form = ⊤
 IsReading access.Constant form = ⊤
 IsReading access.Value form = ⊤
@@ -73,13 +79,23 @@ abbrev pub place_read : Option Expr → Option Place
 place_read (Some (tree.Read place)) = Some place
 place_read _ = None
 
+-- the place of the record whose tag is read
+abbrev pub tagged_read : Option Expr → Option Place
+tagged_read (Some (tree.Read (tree.Field (tree.Field whole number) own))) = Some whole
+tagged_read _ = None
+
 -- the variable whose value is read
 abbrev pub accessed : Option Expr → Option Actual
 accessed form = option_map tree.Accessed (place_read form)
 
--- a variable parameter takes a variable of its type; none has the type of text files so far
+-- the rule that fails where a variable has another type than the parameter
+abbrev pub other_type : TypeName → TypeName → List ℕ
+other_type parameter of = if same_type parameter of then [] else rule.VARIABLE_ARGUMENT ∷ []
+
+-- A variable parameter takes a variable of its type that is no tag (ISO 10206, 6.7.3.3); none has the type of text files so far.
 abbrev pub variable_taken : TypeName → Access → Option Expr → Judged (Option Actual)
 variable_taken parameter (access.Variable of guarded) form = if same_type parameter of then Accepts (accessed form) else Breaks (rule.VARIABLE_ARGUMENT ∷ [])
+variable_taken parameter (access.Tag of guarded tag) form = Breaks (rule.ARGUMENT_COMPONENT ∷ other_type parameter of)
 variable_taken parameter access.File form = Breaks (rule.VARIABLE_ARGUMENT ∷ [])
 variable_taken parameter access.Constant form = Breaks (rule.CONSTANT_THREATENED ∷ rule.VARIABLE_NEEDED ∷ [])
 variable_taken parameter access.Value form = Breaks (rule.VARIABLE_NEEDED ∷ [])
@@ -92,7 +108,10 @@ unless_protected protection.Protected = Breaks (rule.PROTECTED ∷ [])
 -- a variable is not protected that is given for a variable parameter that is not
 abbrev pub threatened : Access → Judged (Unit {0})
 threatened (access.Variable of guarded) = unless_protected guarded
-threatened _ = Accepts tt
+threatened (access.Tag of guarded tag) = unless_protected guarded
+threatened access.File = Accepts tt
+threatened access.Constant = Accepts tt
+threatened access.Value = Accepts tt
 
 -- ---- arguments (ISO 10206, 6.7.3.1)
 

@@ -1,47 +1,102 @@
 -- What the name of a field gives of a record (ISO 10206, 6.5.3.3).
-use Rattle.std.specs.Prelude.{ℕ, suc, nat_le, List, [], ◌∷◌, slice_get, Option, Some, None, if◌then◌else◌}
-use Rattle.std.specs.Option.{option_map}
-use Rattle.ep_typed.specs.Trees.{Expr, Field, FieldValue, Read}
+use Rattle.std.specs.Prelude.{ℕ, ◌+◌, nat_le, List, [], ◌∷◌, length, slice_get, Option, Some, None, if◌then◌else◌}
+use Rattle.ep_typed.specs.Trees.{Expr, Field, FieldValue, Place, Read, Variant}
 use Rattle.ep_scope.specs.Fields.{field_number}
 use Rattle.ep_scope.specs.Scopes.{Region, structure_in}
 use Rattle.ep_scope.specs.declared.kind.Kind.{Kind}
 use Rattle.ep_scope.specs.declared.kind.Kind.TheVariants as kind
+use Rattle.ep_scope.specs.declared.parameter.Protection.{Protection}
+use Rattle.ep_scope.specs.declared.parameter.TypeName.{TypeName}
 use Rattle.ep_scope.specs.declared.rule.TheConstants as rule
 use Rattle.ep_scope.specs.declared.structure.Composition.{Composition}
 use Rattle.ep_scope.specs.declared.structure.Composition.TheVariants as composition
 use Rattle.ep_scope.specs.declared.structure.FieldType.{FieldType}
-use Rattle.ep_check_expr.specs.Indexing.{component_access}
+use Rattle.ep_scope.specs.declared.structure.TagType.{TagType}
+use Rattle.ep_scope.specs.declared.structure.VariantStep.{VariantStep}
 use Rattle.ep_check_expr.specs.Judgements.{Judged, Accepts, Breaks, Typed}
+use Rattle.ep_check_expr.specs.declared.access.Access.{Access}
+use Rattle.ep_check_expr.specs.declared.access.Access.TheVariants as access
 use Rattle.ep_check_expr.specs.declared.forms.TheConstants as limit
 
--- a field is read of its place where the record is (ISO 10206, 6.5.3.3), and else taken of its value (6.8.6.3)
-abbrev pub part_form : ℕ → Expr → Expr
-part_form number (Read place) = Read (Field place number)
-part_form number whole = FieldValue whole number
+-- ---- where a field is (ISO 10206, 6.4.3.4 and 6.5.3.3)
+
+-- the variant to which these steps lead from a record at a place
+abbrev pub along : List VariantStep → Place → Place
+along [] whole = whole
+along (s ∷ path) whole = along path (Variant whole s.selection s.variant)
+
+-- the component of this number; a tag is the one component of a record that has the number
+abbrev pub component_place : Option TagType → ℕ → Place → Place
+component_place None number whole = Field whole number
+component_place (Some tag) number whole = Field (Field whole number) 0
+
+-- the place of a field of a record that is at a place
+abbrev pub reached : FieldType → Place → Place
+reached f whole = component_place f.tag f.number (along f.path whole)
+
+-- how many places stand between that of the record and that of a component, itself among them
+abbrev pub component_steps : Option TagType → ℕ
+component_steps None = 1
+component_steps (Some tag) = 2
+
+-- and that of a field
+abbrev pub steps_to : FieldType → ℕ
+steps_to f = length f.path + component_steps f.tag
+
+-- ---- a field as a value
+
+-- a component of a value
+abbrev pub component_taken : Option TagType → ℕ → Expr → Expr
+component_taken None number whole = FieldValue whole number
+component_taken (Some tag) number whole = FieldValue (FieldValue whole number) 0
+
+-- a field taken of a value (ISO 10206, 6.8.6.3); one that is in a variant has no code yet
+abbrev pub part_taken : List VariantStep → Option TagType → ℕ → Expr → Option Expr
+part_taken [] tag number whole = Some (component_taken tag number whole)
+part_taken (s ∷ path) tag number whole = None
+
+-- a field is read of its place where the record is (ISO 10206, 6.5.3.3), and else taken of its value
+abbrev pub part_form : FieldType → Expr → Option Expr
+part_form f (Read place) = Some (Read (reached f place))
+part_form f whole = part_taken f.path f.tag f.number whole
 
 -- a field, where the record is built
-abbrev pub field_form : Option Expr → ℕ → Option Expr
-field_form form number = option_map (part_form number) form
+abbrev pub field_form : FieldType → Option Expr → Option Expr
+field_form f None = None
+field_form f (Some x) = part_form f x
 
--- the field with this number
-abbrev pub field_typed : ℕ → FieldType → Typed → Judged Typed
-field_typed number f x =
-    if nat_le (suc x.depth) limit.DEPTH
-    then Accepts (record { form = field_form x.form number; kind = f.kind; depth = suc x.depth; access = component_access f.of x.access })
+-- a variable of this type, which may be a tag
+abbrev pub variable_access : TypeName → Protection → Option TagType → Access
+variable_access of guarded None = access.Variable of guarded
+variable_access of guarded (Some tag) = access.Tag of guarded tag
+
+-- a field is a variable where the record is one, and protected where that is (ISO 10206, 6.5.1)
+abbrev pub field_access : FieldType → Access → Access
+field_access f (access.Variable of guarded) = variable_access f.of guarded f.tag
+field_access f (access.Tag of guarded tag) = variable_access f.of guarded f.tag
+field_access f access.File = access.File
+field_access f access.Constant = access.Constant
+field_access f access.Value = access.Value
+
+-- the field of a record
+abbrev pub field_typed : FieldType → Typed → Judged Typed
+field_typed f x =
+    if nat_le (steps_to f + x.depth) limit.DEPTH
+    then Accepts (record { form = field_form f x.form; kind = f.kind; depth = steps_to f + x.depth; access = field_access f x.access })
     else Breaks (rule.TOO_DEEP ∷ [])
 
 -- there is no such field
 abbrev pub no_field : Judged Typed
 no_field = Breaks (rule.FIELD ∷ [])
 
-abbrev pub field_if : ℕ → Option FieldType → Typed → Judged Typed
-field_if number None x = no_field
-field_if number (Some f) x = field_typed number f x
+abbrev pub field_if : Option FieldType → Typed → Judged Typed
+field_if None x = no_field
+field_if (Some f) x = field_typed f x
 
--- by the number of the field of the name, where there is one
+-- by the place of the name among the fields, where there is one
 abbrev pub field_by : List FieldType → Option ℕ → Typed → Judged Typed
 field_by fs None x = no_field
-field_by fs (Some number) x = field_if number (slice_get fs number) x
+field_by fs (Some place) x = field_if (slice_get fs place) x
 
 -- a structured type is one that is in view; an array has no fields
 abbrev pub field_within : Option Composition → List ℕ → Typed → Judged Typed

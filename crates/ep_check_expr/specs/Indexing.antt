@@ -24,15 +24,21 @@ element_form array index = IndexedValue array index
 abbrev pub component_form : Option Expr → Option Expr → Option Expr
 component_form = map_both element_form
 
--- a component is a variable where the array or the record is one, and protected where that is (ISO 10206, 6.5.1)
+-- a component is a variable where the array is one, and protected where that is (ISO 10206, 6.5.1)
 abbrev pub component_access : TypeName → Access → Access
 component_access component (access.Variable of guarded) = access.Variable component guarded
-component_access component whole = whole
+component_access component (access.Tag of guarded tag) = access.Variable component guarded
+component_access component access.File = access.File
+component_access component access.Constant = access.Constant
+component_access component access.Value = access.Value
 
 -- What a component stands above: where it is read of a variable its place, which is above the place of the array and the index, and else the value of the array and the index.
 abbrev pub below_component : Access → ℕ → ℕ → ℕ
 below_component (access.Variable of guarded) array index = suc (max (array - 1) index)
-below_component whole array index = max array index
+below_component (access.Tag of guarded tag) array index = suc (max (array - 1) index)
+below_component access.File array index = max array index
+below_component access.Constant array index = max array index
+below_component access.Value array index = max array index
 
 abbrev pub component_depth : Access → ℕ → ℕ → ℕ
 component_depth whole array index = suc (below_component whole array index)

@@ -1,9 +1,9 @@
 -- What names stand for as values and as functions (ISO 10206, 6.7.1 and 6.8.1).
-use Rattle.std.specs.Prelude.{ℕ, pos, nat_eq, Bool, true, false, ◌||◌, List, [], ◌∷◌, ◌++◌, codes, Some, if◌then◌else◌}
+use Rattle.std.specs.Prelude.{ℕ, ◌+◌, pos, nat_eq, Bool, true, false, ◌||◌, List, [], ◌∷◌, ◌++◌, codes, Some, if◌then◌else◌}
 use Rattle.std.specs.List.{list_any}
 use Rattle.std.specs.Str.{bytes_eq}
 use Rattle.ep_typed.specs.Operations.{maxint, last_char}
-use Rattle.ep_typed.specs.Trees.{Expr, Constant, Text, SetConstant, Read, Place, Variable, Standard, Field, entire}
+use Rattle.ep_typed.specs.Trees.{Expr, Constant, Text, SetConstant, Read, Place, Variable, Standard, entire}
 use Rattle.ep_typed.specs.declared.value.Value.{Value}
 use Rattle.ep_typed.specs.declared.value.Value.TheVariants as value
 use Rattle.ep_scope.specs.Scopes.{Region, Meant, OpenField, Declares, Requires, FieldOf, Nothing, depth_in, meant, meant_in}
@@ -22,7 +22,7 @@ use Rattle.ep_scope.specs.declared.thing.Declared.{Declared}
 use Rattle.ep_check_expr.specs.declared.access.Access.{Access}
 use Rattle.ep_check_expr.specs.declared.access.Access.TheVariants as access
 use Rattle.ep_check_expr.specs.Arguments.{callee_at, function_called, own_place}
-use Rattle.ep_check_expr.specs.FieldDesignators.{designated}
+use Rattle.ep_check_expr.specs.FieldDesignators.{along, designated, reached, steps_to, variable_access}
 use Rattle.ep_check_expr.specs.Functions.{Given, all_faults, applied}
 use Rattle.ep_check_expr.specs.Judgements.{Judged, Accepts, Breaks, Typed, when_accepted}
 use Rattle.ep_check_expr.specs.Operators.{integer, character, boolean}
@@ -50,11 +50,16 @@ reading form kind access = Accepts (record { form = Some form; kind = kind; dept
 
 -- the place of a field of an open record, which is that of the variable that stands for it (ISO 10206, 6.9.3.10)
 abbrev pub field_place : OpenField → Place
-field_place f = Field (entire f.variable) f.number
+field_place f = reached f.field (entire f.variable)
 
--- such a field as a value, which stands above its place and that of the variable
+-- the place of the record, or of the variant in it, that such a field belongs to, whose variants it selects where it is a tag
+abbrev pub tagged_place : OpenField → Place
+tagged_place f = along f.field.path (entire f.variable)
+
+-- such a field as a value, which stands above its place, those within the record, and that of the variable
 abbrev pub field_read : OpenField → Judged Typed
-field_read f = Accepts (record { form = Some (Read (field_place f)); kind = f.kind; depth = 3; access = access.Variable f.of f.guarded })
+field_read f =
+    Accepts (record { form = Some (Read (field_place f)); kind = f.field.kind; depth = steps_to f.field + 2; access = variable_access f.field.of f.guarded f.field.tag })
 
 -- what is declared as a value, in code of a depth
 abbrev pub value_declared : ℕ → Declared → Declaration → Judged Typed

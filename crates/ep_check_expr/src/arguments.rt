@@ -70,20 +70,21 @@ fn accessed(value: Typed) -> Option<Actual>
     Some(Actual::Variable(place))
 }
 
-/// The variable for a variable parameter of this type.
+/// The variable for a variable parameter of this type, which is no tag.
 fn variable_taken(parameter: TypeName, value: Typed) -> Result<Option<Actual>, Refusal>
     requires { IsReading value.access (option_map expr_of value.form) }
     ensures { AnswersJudged (option_map actual_of) result
         (variable_taken parameter value.access (option_map expr_of value.form)) }
 {
-    match value.access {
+    match &value.access {
         Access::Variable(of, _) => {
-            if same_type(parameter, of) {
+            if same_type(parameter, *of) {
                 Ok(accessed(value))
             } else {
                 Err(Refusal::Rule(rule::VARIABLE_ARGUMENT))
             }
         }
+        Access::Tag(_, _, _) => Err(Refusal::Rule(rule::ARGUMENT_COMPONENT)),
         Access::File => Err(Refusal::Rule(rule::VARIABLE_ARGUMENT)),
         Access::Constant => Err(Refusal::Rule(rule::CONSTANT_THREATENED)),
         Access::Value => Err(Refusal::Rule(rule::VARIABLE_NEEDED)),
@@ -101,11 +102,13 @@ pub fn unless_protected(protection: Protection) -> Result<(), Refusal>
 }
 
 /// A variable is not protected that is given for a variable parameter that is not.
-fn threatened(access: Access) -> Result<(), Refusal>
-    ensures { AnswersJudged (λ done. done) result (threatened access) }
+fn threatened(access: &Access) -> Result<(), Refusal>
+    ensures { AnswersJudged (λ done. done) result (threatened access.now) }
 {
     match access {
-        Access::Variable(_, protection) => unless_protected(protection),
+        Access::Variable(_, protection) | Access::Tag(_, protection, _) => {
+            unless_protected(*protection)
+        }
         _ => Ok(()),
     }
 }
@@ -117,9 +120,9 @@ fn unprotected_taken(parameter: TypeName, value: Typed) -> Result<Option<Actual>
         (variable_taken parameter value.access (option_map expr_of value.form))
         (threatened value.access)) }
 {
-    let access = value.access;
+    let threat = threatened(&value.access);
     let actual = variable_taken(parameter, value)?;
-    threatened(access)?;
+    threat?;
     Ok(actual)
 }
 

@@ -66,7 +66,7 @@ pub fn constant_value(
 }
 
 /// The value of a constant expression, alike.
-fn constant_expression_value(
+pub fn constant_expression_value(
     alloc: Global,
     tree: &Expression,
     scopes: &View<'_>,

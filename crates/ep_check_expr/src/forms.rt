@@ -5,7 +5,7 @@ ghost use Rattle.std.specs.Option.{option_map};
 ghost use Rattle.ep_typed.specs.Trees.{Constant};
 ghost use Rattle.ep_scope.specs.declared.kind.Kind.TheVariants as kind;
 ghost use Rattle.ep_check_expr.specs.Answers.{taken_of, typed_of, AnswersTyped, AnswersDepth};
-ghost use Rattle.ep_check_expr.specs.Arguments.{IsReadingIf, callee_at, function_typed, place_read};
+ghost use Rattle.ep_check_expr.specs.Arguments.{IsReadingIf, IsTagReadingIf, callee_at, function_typed, place_read, tagged_read};
 ghost use Rattle.ep_check_expr.specs.Expressions.{spelled};
 ghost use Rattle.ep_check_expr.specs.Operators.{unary_typed, binary_typed, on_sets_typed, short_typed, unbuilt_typed};
 ghost use Rattle.ep_check_expr.specs.Functions.{card_typed, step_typed};
@@ -102,6 +102,21 @@ impl Typed {
         let form = self.into_form()?;
         match form.into_inner() {
             TypedExpr::Read(place) => Some(place),
+            _ => unreachable!(),
+        }
+    }
+
+    /// The place of the record whose tag is read, where the form is built.
+    pub fn into_tagged(self) -> Option<TypedPlace>
+        requires { IsTagReadingIf (option_map expr_of self.form) }
+        ensures { option_map place_of result ≡ tagged_read (option_map expr_of self.form) }
+    {
+        let form = self.into_form()?;
+        match form.into_inner() {
+            TypedExpr::Read(TypedPlace::Field(own, _)) => match own.into_inner() {
+                TypedPlace::Field(whole, _) => Some(whole.into_inner()),
+                _ => unreachable!(),
+            },
             _ => unreachable!(),
         }
     }

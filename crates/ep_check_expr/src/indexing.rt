@@ -14,22 +14,26 @@ use ep_scope::{ArrayType, Composition, Host, Kind, TypeName, View, rule, structu
 use ep_typed::{TypedExpr, TypedPlace};
 use std::alloc::Global;
 
-/// A component is a variable where the array or the record is one, and protected where that is (ISO 10206, 6.5.1).
-pub(crate) fn component_access(component: TypeName, whole: Access) -> Access
-    ensures { result ≡ component_access component whole }
+/// A component is a variable where the array is one, and protected where that is (ISO 10206, 6.5.1).
+fn component_access(component: TypeName, whole: &Access) -> Access
+    ensures { result ≡ component_access component whole.now }
 {
     match whole {
-        Access::Variable(_, guarded) => Access::Variable(component, guarded),
-        other => other,
+        Access::Variable(_, guarded) | Access::Tag(_, guarded, _) => {
+            Access::Variable(component, *guarded)
+        }
+        Access::File => Access::File,
+        Access::Constant => Access::Constant,
+        Access::Value => Access::Value,
     }
 }
 
 /// The depth of a component of what is such an access.
-fn component_depth(access: Access, array: u32, index: u32) -> Result<u32, Refusal>
-    ensures { AnswersDepth (below_component access array index) result }
+fn component_depth(access: &Access, array: u32, index: u32) -> Result<u32, Refusal>
+    ensures { AnswersDepth (below_component access.now array index) result }
 {
     match access {
-        Access::Variable(_, _) => {
+        Access::Variable(_, _) | Access::Tag(_, _, _) => {
             let inner = array.saturating_sub(1).max(index);
             if inner < DEPTH - 1 {
                 Ok(inner + 2)
@@ -79,8 +83,8 @@ fn component_form(
 fn component(alloc: Global, of: ArrayType, array: Typed, index: Typed) -> Result<Typed, Refusal>
     ensures { AnswersTyped result (component_typed of (typed_of array) (typed_of index)) }
 {
-    let depth = component_depth(array.access, array.depth, index.depth)?;
-    let access = component_access(of.component, array.access);
+    let depth = component_depth(&array.access, array.depth, index.depth)?;
+    let access = component_access(of.component, &array.access);
     let form = component_form(alloc, array.into_form(), index.into_form())?;
     Ok(Typed {
         form,

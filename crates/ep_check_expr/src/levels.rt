@@ -1,15 +1,18 @@
 //! What is declared as code names it that so many routines are around, which is its depth.
 
 ghost use Rattle.std.specs.Prelude.{◌≡◌, IfOk};
+ghost use Rattle.ep_typed.specs.Trees.{entire};
 ghost use Rattle.ep_typed.specs.Viewed.{callee_of, place_of};
 ghost use Rattle.ep_scope.specs.Meanings.{field_meant};
+ghost use Rattle.ep_scope.specs.Records.{variable_of};
 ghost use Rattle.ep_check_expr.specs.Arguments.{callee_at, own_place};
-ghost use Rattle.ep_check_expr.specs.Names.{field_place};
+ghost use Rattle.ep_check_expr.specs.Names.{field_place, tagged_place};
 
+use crate::fields::{along, reached};
 use ep_base::{Boxed, NoMemory};
 use ep_scope::{Declared, OpenField, RecordVariable};
 use ep_typed::{Callee, TypedPlace};
-use std::alloc::{AllocError, Global};
+use std::alloc::Global;
 
 /// The place of a variable of a routine.
 pub fn own_place(depth: u32, d: &Declared) -> TypedPlace
@@ -33,16 +36,29 @@ pub fn callee_at(alloc: Global, depth: u32, d: &Declared) -> Result<Callee, NoMe
     })
 }
 
-/// The place of a field of an open record. An error comes as well where 32 bits do not hold its number.
+/// The variable that stands for an open record.
+fn record_place(alloc: Global, variable: RecordVariable<'_>) -> Result<TypedPlace, NoMemory>
+    ensures { IfOk result (λ place. place_of place ≡ entire (variable_of variable.entry)) }
+{
+    match variable {
+        RecordVariable::Unit(unit, number) => Ok(TypedPlace::Variable(unit.copy(alloc)?, number)),
+        RecordVariable::Own(number) => Ok(TypedPlace::Own(0, number)),
+    }
+}
+
+/// The place of a field of an open record.
 pub fn field_place(alloc: Global, field: OpenField<'_>) -> Result<TypedPlace, NoMemory>
     ensures { IfOk result (λ place. place_of place ≡ field_place (field_meant field.entry)) }
 {
-    let Ok(number) = u32::try_from(field.number) else {
-        return Err(AllocError);
-    };
-    let whole = match field.variable {
-        RecordVariable::Unit(unit, variable) => TypedPlace::Variable(unit.copy(alloc)?, variable),
-        RecordVariable::Own(variable) => TypedPlace::Own(0, variable),
-    };
-    Ok(TypedPlace::Field(Boxed::new(alloc, whole)?, number))
+    let whole = Boxed::new(alloc, record_place(alloc, field.variable)?)?;
+    reached(alloc, field.field, whole)
+}
+
+/// The place of the record, or of the variant in it, that a field of an open record belongs to.
+pub fn tagged_place(alloc: Global, field: OpenField<'_>) -> Result<TypedPlace, NoMemory>
+    ensures { IfOk result (λ place. place_of place ≡ tagged_place (field_meant field.entry)) }
+{
+    let whole = Boxed::new(alloc, record_place(alloc, field.variable)?)?;
+    let place = along(alloc, field.field.path.items(), whole)?;
+    Ok(place.into_inner())
 }

@@ -10,7 +10,7 @@ ghost use Rattle.ep_check_expr.specs.Names.{field_read, value_declared, value_re
 
 use crate::access::Access;
 use crate::arguments::Taken;
-use crate::fields::designated;
+use crate::fields::{designated, steps, variable_access};
 use crate::forms::{Refusal, Typed};
 use crate::levels::{field_place, own_place};
 use ep_base::{Boxed, Name};
@@ -19,7 +19,7 @@ use ep_scope::{
     RequiredConstant, View, depth_in, meaning_in, meaning_of, rule,
 };
 use ep_typed::{TypedExpr, TypedPlace};
-use std::alloc::Global;
+use std::alloc::{AllocError, Global};
 
 /// Whether a name is that of a standard file.
 fn is_standard(name: &Name) -> bool
@@ -107,14 +107,18 @@ fn required_value(alloc: Global, required: Required) -> Result<Typed, Refusal>
 fn field_value(alloc: Global, field: OpenField<'_>) -> Result<Typed, Refusal>
     ensures { AnswersTyped result (field_read (field_meant field.entry)) }
 {
-    let access = Access::Variable(field.of, field.protection);
+    // the value and the variable, besides the places of the field
+    let depth = steps(field.field).and_then(|steps| steps.checked_add(2));
+    let Some(depth) = depth else {
+        return Err(AllocError)?;
+    };
+    let access = variable_access(field.field.of, field.protection, &field.field.tag)?;
     let place = field_place(alloc, field)?;
     let form = Some(Boxed::new(alloc, TypedExpr::Read(place))?);
     Ok(Typed {
         form,
-        kind: field.kind,
-        // the value, the place of the field and that of the variable
-        depth: 3,
+        kind: field.field.kind,
+        depth,
         access,
     })
 }

@@ -33,7 +33,7 @@ use Rattle.ep_check_expr.proofs.Nodes.{access-judged, argument-judged, expressio
 use Rattle.ep_check_expr.specs.Expressions.{judged}
 use Rattle.ep_check_expr.specs.Judgements.{Judged, Accepts, Breaks, both}
 use Rattle.ep_check_stmt.specs.RoutineForms.{RoutineForm}
-use Rattle.ep_check_stmt.specs.Statements.{Context, FunctionResult, MemberHead, OfRoutine, OfUnit, assigned, counted_by, declared_called, declared_control, function_target, is_threatened_in, members_judged, stmt_threat, target_judged, unless_threatening}
+use Rattle.ep_check_stmt.specs.Statements.{At, Context, FunctionResult, MemberHead, OfRoutine, OfUnit, assigned, counted_by, declared_called, declared_control, function_target, is_threatened_in, members_judged, stmt_threat, target_judged, unless_threatening}
 
 -- an expression of one factor
 abbrev bare : Factor → Expression
@@ -161,7 +161,7 @@ by_itself = refl
 abbrev result : FunctionResult
 result = record { function = 3; level = 1; variable = 0; kind = kind.Ordinal host.Integer }
 
-assigned_deeper : function_target 2 (codes "u") (declares 3 x) (result ∷ []) ≡ Accepts (record { place = Some (Own 1 0); kind = kind.Ordinal host.Integer })
+assigned_deeper : function_target 2 (codes "u") (declares 3 x) (result ∷ []) ≡ Accepts (record { receiver = Some (At (Own 1 0)); kind = kind.Ordinal host.Integer })
 assigned_deeper = refl
 
 other_function : function_target 2 (codes "u") (declares 4 x) (result ∷ []) ≡ Breaks (rule.FUNCTION_ASSIGNED ∷ [])
@@ -216,7 +216,7 @@ indexed n index = access_node 1 n (selector.Index 1 (index ∷ []) ∷ [])
 
 -- the assignment of an expression
 abbrev assigns : Access → Expression → Judged (Option Stmt)
-assigns a e = both (assigned 1) (target_judged rows a) (judged rows.scopes e)
+assigns a e = both (assigned rows.locals 1) (target_judged rows a) (judged rows.scopes e)
 
 -- a[red] := 1
 component_assigned : assigns (indexed (codes "a") (name_alone (codes "red"))) (number_alone 1) ≡ Accepts (Some (Assign 1 (Indexed (Variable (codes "u") 2) (Constant (pos 0))) (Constant (pos 1))))

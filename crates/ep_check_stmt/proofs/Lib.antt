@@ -9,5 +9,6 @@ pub mod Nested
 pub mod Behind
 pub mod Printing
 pub mod Rows
+pub mod TagExamples
 pub mod Threatening
 pub mod valid

@@ -1,3 +1,4 @@
+pub mod Assignments
 pub mod Cases
 pub mod Loops
 pub mod Passing

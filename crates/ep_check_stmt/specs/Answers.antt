@@ -37,6 +37,8 @@ use Rattle.ep_check_stmt.specs.declared.statements.Locals.TheVariants as locals
 use Rattle.ep_check_stmt.specs.declared.records.Opened.{Opened}
 use Rattle.ep_check_stmt.specs.declared.records.RecordNamed.{RecordNamed}
 use Rattle.ep_check_stmt.specs.declared.records.WithHead.{WithHead}
+use Rattle.ep_check_stmt.specs.declared.targets.Receiver.{Receiver}
+use Rattle.ep_check_stmt.specs.declared.targets.Receiver.TheVariants as receiver
 use Rattle.ep_check_stmt.specs.declared.targets.Target.{Target}
 use Rattle.ep_check_stmt.specs.declared.threats.Entire.{Entire}
 use Rattle.ep_check_stmt.specs.declared.threats.Entire.TheVariants as entire
@@ -94,8 +96,12 @@ abbrev pub numbered : rows.Context → ℕ → rows.Context
 numbered c withs = record c { withs = withs }
 
 -- what is assigned to
+abbrev pub receiver_of : Receiver → rows.Receiver
+receiver_of (receiver.At place) = rows.At (place_of place)
+receiver_of (receiver.TagOf whole tag) = rows.TagOf (place_of whole) tag
+
 abbrev pub target_of : Target → rows.Target
-target_of t = record { place = option_map place_of t.place; kind = t.kind }
+target_of t = record { receiver = option_map receiver_of t.receiver; kind = t.kind }
 
 -- an entire variable, of which threats are asked
 abbrev pub entire_of : Entire → tree.Entire

@@ -5,4 +5,5 @@ pub mod Laws
 pub mod Outcomes
 pub mod RoutineForms
 pub mod Statements
+pub mod Tags
 pub mod Threats

@@ -23,7 +23,7 @@ use Rattle.ep_tree.specs.declared.statement.Compound.{Compound, fold-Compound}
 use Rattle.ep_typed.specs.Auxiliaries.{with_variables, with_variables_in}
 use Rattle.ep_typed.specs.Hosts.{greatest, least}
 use Rattle.ep_typed.specs.Trees as tree
-use Rattle.ep_typed.specs.Trees.{Control, Entire, MemberControl, Place, Expr, Item, Stmt, Stmts, Arm, Arms, Other}
+use Rattle.ep_typed.specs.Trees.{Control, Entire, MemberControl, Tagging, Place, Expr, Item, Stmt, Stmts, Arm, Arms, Other}
 use Rattle.ep_typed.specs.declared.operations.Print.{Print}
 use Rattle.ep_typed.specs.declared.operations.Print.TheVariants as print
 use Rattle.ep_typed.specs.declared.tree.StandardFile.{StandardFile}
@@ -44,16 +44,17 @@ use Rattle.ep_scope.specs.declared.rule.TheConstants as rule
 use Rattle.ep_scope.specs.declared.structure.Composition.{Composition}
 use Rattle.ep_scope.specs.declared.structure.Composition.TheVariants as composition
 use Rattle.ep_scope.specs.declared.structure.FieldType.{FieldType}
+use Rattle.ep_scope.specs.declared.structure.TagType.{TagType}
 use Rattle.ep_scope.specs.declared.thing.Declaration.{Declaration}
 use Rattle.ep_scope.specs.declared.thing.Declaration.TheVariants as declaration
 use Rattle.ep_scope.specs.declared.thing.Declared.{Declared}
 use Rattle.ep_check_expr.specs.declared.access.Access.{Access}
 use Rattle.ep_check_expr.specs.declared.access.Access.TheVariants as access
-use Rattle.ep_check_expr.specs.Arguments.{arguments_judged, callee_at, given_to, own_place, place_read, unless_protected}
+use Rattle.ep_check_expr.specs.Arguments.{arguments_judged, callee_at, given_to, own_place, place_read, tagged_read, unless_protected}
 use Rattle.ep_check_expr.specs.Hosts.{typed_host}
 use Rattle.ep_check_expr.specs.Judgements.{Judged, Accepts, Breaks, Typed, when_accepted, both}
 use Rattle.ep_check_expr.specs.Functions.{Given}
-use Rattle.ep_check_expr.specs.Names.{field_place, undeclared}
+use Rattle.ep_check_expr.specs.Names.{field_place, tagged_place, undeclared}
 use Rattle.ep_check_expr.specs.Operators.{map_both}
 use Rattle.ep_check_expr.specs.Expressions.{given, judged, judged_value, name_judged}
 use Rattle.ep_check_stmt.specs.Cases.{CaseSelector, own_ranges, selector_judged}
@@ -103,9 +104,14 @@ after f (Fails line rules) more = Fails line rules
 
 -- ---- assignments (ISO 10206, 6.9.2.2)
 
--- What can be assigned to: its place, where it is built, and its kind. An index that is accepted and not built leaves a component without one.
+-- where a value is assigned: to the variable at a place, or to the tag of the record at one
+pub data Receiver : Type 0 where
+  At : (place : Place) → Receiver
+  TagOf : (whole : Place) (tag : TagType) → Receiver
+
+-- What can be assigned to: where, where it is built, and its kind. An index that is accepted and not built leaves a component without it.
 pub record Target : Type 0 where
-  pub place : Option Place
+  pub receiver : Option Receiver
   pub kind : Kind
 
 -- A function in whose block the statements are, maybe deeper, where its name is assigned to for the result: its number among the routines of the unit, how many routines are around its variables, itself among them, the variable that has the result, and the kind of that (ISO 10206, 6.7.2).
@@ -123,7 +129,7 @@ has_result unit d r = nat_eq d.number r.function && bytes_eq d.unit unit
 abbrev pub function_target : ℕ → List ℕ → Declared → List FunctionResult → Judged Target
 function_target depth unit d [] = Breaks (rule.FUNCTION_ASSIGNED ∷ [])
 function_target depth unit d (r ∷ rs) =
-    if has_result unit d r then Accepts (record { place = Some (tree.Own (depth - r.level) r.variable); kind = r.kind }) else function_target depth unit d rs
+    if has_result unit d r then Accepts (record { receiver = Some (At (tree.Own (depth - r.level) r.variable)); kind = r.kind }) else function_target depth unit d rs
 
 -- the rules that fail where a required identifier is assigned to
 abbrev pub target_rules : Required → List ℕ
@@ -132,16 +138,25 @@ target_rules (required.«Type» t) = rule.OTHER_THING ∷ rule.VARIABLE_NEEDED �
 target_rules (required.Function f) = rule.FUNCTION_ASSIGNED ∷ rule.VARIABLE_NEEDED ∷ []
 target_rules (required.Procedure p) = rule.OTHER_THING ∷ rule.VARIABLE_NEEDED ∷ []
 
--- a field of an open record, which is protected where the record is (ISO 10206, 6.5.1)
+-- a tag, of a record that is at a place, where it is built
+abbrev pub tag_target : TagType → Option Place → Target
+tag_target tag whole = record { receiver = option_map (λ p. TagOf p tag) whole; kind = kind.Ordinal tag.host }
+
+-- a field of an open record, which may be a tag
+abbrev pub field_target_of : OpenField → Option TagType → Target
+field_target_of f None = record { receiver = Some (At (field_place f)); kind = f.field.kind }
+field_target_of f (Some tag) = tag_target tag (Some (tagged_place f))
+
+-- it is protected where the record is (ISO 10206, 6.5.1)
 abbrev pub field_target : OpenField → Judged Target
-field_target f = when_accepted (λ done. Accepts (record { place = Some (field_place f); kind = f.kind })) (unless_protected f.guarded)
+field_target f = when_accepted (λ done. Accepts (field_target_of f f.field.tag)) (unless_protected f.guarded)
 
 -- in code of a depth, of a unit, in the blocks of these functions
 module _ (depth : ℕ) (unit : List ℕ) (results : List FunctionResult) where
   -- a declared name that is assigned to
   abbrev pub declared_target : Declared → Declaration → Judged Target
-  declared_target d (declaration.Variable of k) = Accepts (record { place = Some (tree.Variable d.unit d.number); kind = k })
-  declared_target d (declaration.Own of k guarded) = when_accepted (λ done. Accepts (record { place = Some (own_place depth d); kind = k })) (unless_protected guarded)
+  declared_target d (declaration.Variable of k) = Accepts (record { receiver = Some (At (tree.Variable d.unit d.number)); kind = k })
+  declared_target d (declaration.Own of k guarded) = when_accepted (λ done. Accepts (record { receiver = Some (At (own_place depth d)); kind = k })) (unless_protected guarded)
   declared_target d (declaration.Constant k value) = Breaks (rule.CONSTANT_THREATENED ∷ rule.VARIABLE_NEEDED ∷ [])
   declared_target d (declaration.«Type» of h nodes) = Breaks (rule.OTHER_THING ∷ rule.VARIABLE_NEEDED ∷ [])
   declared_target d (declaration.Procedure parameters) = Breaks (rule.OTHER_THING ∷ rule.VARIABLE_NEEDED ∷ [])
@@ -150,21 +165,45 @@ module _ (depth : ℕ) (unit : List ℕ) (results : List FunctionResult) where
   -- a name that means this
   abbrev pub place_named : List ℕ → Meant → Judged Target
   place_named name (Declares d) = declared_target d d.what
-  place_named name (Standard f) = Accepts (record { place = Some (tree.Standard f); kind = kind.File })
+  place_named name (Standard f) = Accepts (record { receiver = Some (At (tree.Standard f)); kind = kind.File })
   place_named name (Requires r) = Breaks (target_rules r)
   place_named name (FieldOf f) = field_target f
   place_named name Nothing = Breaks (undeclared name)
 
--- What an access with selectors denotes, as what is assigned to: a variable, whose components are protected where it is (6.5.1). No component is a file.
+-- What an access with selectors denotes, as what is assigned to: a variable, whose components are protected where it is (6.5.1), or a tag (6.5.3.3). No component is a file.
 abbrev pub variable_target : Access → Option Expr → Kind → Judged Target
-variable_target (access.Variable of guarded) form k = when_accepted (λ done. Accepts (record { place = place_read form; kind = k })) (unless_protected guarded)
-variable_target access.File form k = Accepts (record { place = None; kind = kind.File })
+variable_target (access.Variable of guarded) form k = when_accepted (λ done. Accepts (record { receiver = option_map At (place_read form); kind = k })) (unless_protected guarded)
+variable_target (access.Tag of guarded tag) form k = when_accepted (λ done. Accepts (tag_target tag (tagged_read form))) (unless_protected guarded)
+variable_target access.File form k = Accepts (record { receiver = None; kind = kind.File })
 variable_target access.Constant form k = Breaks (rule.CONSTANT_THREATENED ∷ rule.VARIABLE_NEEDED ∷ [])
 variable_target access.Value form k = Breaks (rule.VARIABLE_NEEDED ∷ [])
 
--- a value is assigned, which has code where it is built and what is assigned to has a place
-abbrev pub assigned : ℕ → Target → Typed → Judged (Option Stmt)
-assigned line target value = when_accepted (λ x. Accepts (map_both (tree.Assign line) target.place x)) (given_to (λ x. x) target.kind value.kind value.form)
+-- The variables of a block: those of a unit, or those of the routine of a number, of which the first one that its block declares has a number. The auxiliary variables are behind all of them, and the first of these has a number too.
+pub data Locals : Type 0 where
+  OfUnit : (unit : List ℕ) (auxiliary : ℕ) → Locals
+  OfRoutine : (routine first auxiliary : ℕ) → Locals
+
+-- the auxiliary variables, which have the initial and the final value of a `for`, and the first one the value that a tag is to have
+abbrev pub initial_variable : Locals → Entire
+initial_variable (OfUnit unit auxiliary) = tree.OfUnit unit auxiliary
+initial_variable (OfRoutine routine first auxiliary) = tree.OfRoutine 0 auxiliary
+
+abbrev pub last_variable : Locals → Entire
+last_variable (OfUnit unit auxiliary) = tree.OfUnit unit (auxiliary + 1)
+last_variable (OfRoutine routine first auxiliary) = tree.OfRoutine 0 (auxiliary + 1)
+
+-- what an assignment to a tag works with in a block with these variables
+abbrev pub tagging : Locals → TagType → Tagging
+tagging locals tag = record { value = initial_variable locals; low = tag.low; high = tag.high }
+
+-- an assignment to the variable at a place, or to a tag (ISO 10206, 6.5.3.3)
+abbrev pub assignment : Locals → ℕ → Receiver → Expr → Stmt
+assignment locals line (At place) x = tree.Assign line place x
+assignment locals line (TagOf whole tag) x = tree.AssignTag line (tagging locals tag) whole tag.selection x
+
+-- a value is assigned, which has code where it is built and what is assigned to is
+abbrev pub assigned : Locals → ℕ → Target → Typed → Judged (Option Stmt)
+assigned locals line target value = when_accepted (λ x. Accepts (map_both (assignment locals line) target.receiver x)) (given_to (λ x. x) target.kind value.kind value.form)
 
 -- ---- conditions (ISO 10206, 6.9.3)
 
@@ -273,20 +312,6 @@ case_judged line form (Breaks rules) arms other = Fails line rules
 case_judged line form (Accepts s) arms other = case_row line (form s.form) (arms s.host) (other (arms s.host))
 
 -- ---- `for` (ISO 10206, 6.9.3.9)
-
--- The variables of a block: those of a unit, or those of the routine of a number, of which the first one that its block declares has a number. The auxiliary variables are behind all of them, and the first of these has a number too.
-pub data Locals : Type 0 where
-  OfUnit : (unit : List ℕ) (auxiliary : ℕ) → Locals
-  OfRoutine : (routine first auxiliary : ℕ) → Locals
-
--- the auxiliary variables, which have the initial and the final value
-abbrev pub initial_variable : Locals → Entire
-initial_variable (OfUnit unit auxiliary) = tree.OfUnit unit auxiliary
-initial_variable (OfRoutine routine first auxiliary) = tree.OfRoutine 0 auxiliary
-
-abbrev pub last_variable : Locals → Entire
-last_variable (OfUnit unit auxiliary) = tree.OfUnit unit (auxiliary + 1)
-last_variable (OfRoutine routine first auxiliary) = tree.OfRoutine 0 (auxiliary + 1)
 
 -- whether a variable of a unit, or one of a routine, is declared in the block, whose code has a depth
 abbrev pub declares_variable : Locals → List ℕ → Bool
@@ -702,7 +727,7 @@ with_judged c controls line (Accepts o) body =
 
 abbrev pub at_statement : Statement-F (Under Stmt) ArmJudged (Under Stmts) (Under Stmts) → Under Stmt
 at_statement (Statement-F.Empty line) c controls = Passes tree.Empty
-at_statement (Statement-F.Assignment line access v) c controls = stmt_item c controls line (both (assigned line) (target_judged c access) (judged_value c.scopes v))
+at_statement (Statement-F.Assignment line access v) c controls = stmt_item c controls line (both (assigned c.locals line) (target_judged c access) (judged_value c.scopes v))
 at_statement (Statement-F.Call line access) c controls = stmt_item c controls line (name_called c line (out-Access access).name (call_arguments (out-Access access).selectors))
 at_statement (Statement-F.Compound statements) c controls = formed tree.Compound (statements c controls)
 at_statement (Statement-F.If line e then_part other) c controls = if_judged line (condition_judged c controls line e) (then_part c controls) (else_judged other c controls (then_part c controls))

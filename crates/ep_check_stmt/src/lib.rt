@@ -5,8 +5,8 @@
 //! the text, and specs/Cases.antt for the labels of `case`; names are those of ep_scope, and expressions those of
 //! ep_check_expr, as are the rules of what is given to variables and procedures. By `laws_of_statements` what the rules
 //! accept is valid. `threatens`, `inner_threatens` and `assigns` tell whether statements threaten a variable and whether
-//! they give a function its result, as specs/Threats.antt says; `has_for` and `has_for_in` which auxiliary variables a block
-//! needs, as specs/Auxiliaries.antt says. `CheckRefusal` and `Outcome` are what items come to,
+//! they give a function its result, as specs/Threats.antt says; `has_for`, `has_for_in` and `assigns_tag` which auxiliary
+//! variables a block needs, as specs/Auxiliaries.antt and specs/Tags.antt say. `CheckRefusal` and `Outcome` are what items come to,
 //! declarations too. proofs/judged is a library of lemmas on what rules judge, for the crates above as well.
 #![tactic(auto)]
 
@@ -19,6 +19,7 @@ mod numbering;
 mod outcome;
 mod records;
 mod statements;
+mod tags;
 mod targets;
 mod threats;
 mod writing;
@@ -27,4 +28,5 @@ pub use auxiliaries::{has_for, has_for_in};
 pub use laws::laws_of_statements;
 pub use outcome::{CheckRefusal, Outcome, refused_at};
 pub use statements::{Context, FunctionResult, Locals, Row};
+pub use tags::assigns_tag;
 pub use threats::{Entire, assigns, inner_threatens, threatens};

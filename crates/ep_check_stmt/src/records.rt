@@ -225,10 +225,11 @@ fn record_made<'a>(scopes: &View<'a>, variable: Typed) -> Result<RecordNamed<'a>
     ensures { AnswersForm record_named_of result
         (record_accessed scopes.now variable.access (option_map expr_of variable.form) variable.kind) }
 {
-    let (Access::Variable(_, protection), Kind::Structured(of)) = (variable.access, variable.kind)
+    let (Access::Variable(_, protection), Kind::Structured(of)) = (&variable.access, variable.kind)
     else {
         return Err(Refusal::Rule(rule::WITH_RECORD));
     };
+    let protection = *protection;
     let Some(Composition::Record(fields)) = structure_of(scopes, of) else {
         return Err(Refusal::Rule(rule::WITH_RECORD));
     };

@@ -13,7 +13,7 @@ ghost use Rattle.ep_typed.specs.Viewed.{arm_of, expr_of, other_of, stmt_of};
 ghost use Rattle.ep_check_expr.specs.Answers.{typed_of};
 ghost use Rattle.ep_check_expr.specs.Expressions.{judged, judged_value};
 ghost use Rattle.ep_check_expr.specs.Judgements.{both};
-ghost use Rattle.ep_check_stmt.specs.Answers.{AnswersForm, AnswersRow, arms_of, context_of, entire_of, fails_among, numbered, opened_of, stmts_of, target_of};
+ghost use Rattle.ep_check_stmt.specs.Answers.{AnswersForm, AnswersRow, arms_of, context_of, entire_of, fails_among, locals_of, numbered, opened_of, stmts_of, target_of};
 ghost use Rattle.ep_check_stmt.specs.Statements as spec;
 ghost use Rattle.ep_check_stmt.specs.Statements.{Judgement, after, arm_judged, arm_row, arms_in_order, assigned, component_rules, compound_judged, compound_under, condition_judged, control_judged, declared_called, for_in_judged, for_judged, formed, if_judged, in_order, name_called, none_opened, own_called, records_opened, repeat_judged, required_called, statement_judged, target_judged, tested, with_judged};
 
@@ -23,6 +23,7 @@ use crate::members::for_in_form;
 use crate::numbering::{behind_arm, behind_arms, behind_statement, behind_then};
 use crate::outcome::{CheckRefusal, Outcome, item_at, refused_at};
 use crate::records::{Opened, with_form};
+use crate::tags::assignment;
 use crate::targets::Target;
 use crate::threats::Entire;
 use ep_base::{Boxed, Line, List, Name};
@@ -56,7 +57,7 @@ pub struct FunctionResult {
 }
 
 /// The variables of a block, with the number of the first of its two auxiliary variables, which stand behind all of them
-/// (ISO 10206, 6.9.3.9.2).
+/// (ISO 10206, 6.9.3.9.2 and 6.5.3.3).
 #[derive(Clone, Copy)]
 pub enum Locals<'a> {
     /// Those of the unit of this name.
@@ -88,20 +89,21 @@ pub struct Context<'a> {
     pub withs: u32,
 }
 
-/// An assignment of a value.
+/// An assignment of a value, in a block with these variables.
 fn assigned(
     alloc: Global,
+    locals: Locals<'_>,
     line: Line,
     target: Target,
     value: Typed,
 ) -> Result<Option<Boxed<TypedStmt>>, Refusal>
-    ensures { AnswersForm (option_map stmt_of) result (assigned line (target_of target) (typed_of value)) }
+    ensures { AnswersForm (option_map stmt_of) result
+        (assigned (locals_of locals.entry) line (target_of target) (typed_of value)) }
 {
     let form = given_value(target.kind, value)?;
-    match (target.into_place(), form) {
-        (Some(place), Some(form)) => {
-            let assignment = TypedStmt::Assign(line, place, form);
-            Ok(Some(Boxed::new(alloc, assignment)?))
+    match (target.into_receiver(), form) {
+        (Some(receiver), Some(form)) => {
+            Ok(Some(assignment(alloc, locals, line, receiver, form)?))
         }
         _ => Ok(None),
     }
@@ -597,13 +599,13 @@ impl<'a> Context<'a> {
     ) -> Result<Option<Boxed<TypedStmt>>, Refusal>
         requires target { access_unbuilt access.now ≡ None }
         requires value { component_value_unbuilt value.now ≡ None }
-        ensures { AnswersForm (option_map stmt_of) result (both (assigned line)
+        ensures { AnswersForm (option_map stmt_of) result (both (assigned (context_of self.now).locals line)
             (target_judged (context_of self.now) access.now)
             (judged_value self.now.scopes.now value.now)) }
     {
         let target = self.target(access)?;
         let value = typed_value(self.alloc, value, self.scopes)?;
-        assigned(self.alloc, line, target, value)
+        assigned(self.alloc, self.locals, line, target, value)
     }
 
     /// `access` as a statement.

@@ -1,49 +1,84 @@
-//! What is assigned to: variables and their components, and the names of functions for their results (ISO 10206, 6.9.2.2).
+//! What is assigned to: variables and their components, tags among them, and the names of functions for their results (ISO
+//! 10206, 6.9.2.2).
 
-ghost use Rattle.std.specs.Prelude.{◌≡◌, IsTrue, None, map};
+ghost use Rattle.std.specs.Prelude.{◌≡◌, IsTrue, None, Some, map};
 ghost use Rattle.std.specs.Option.{option_map};
 ghost use Rattle.ep_built.specs.Built.{access_unbuilt};
 ghost use Rattle.ep_scope.specs.Meanings.{field_meant};
 ghost use Rattle.ep_scope.specs.Scopes.{depth_in, meant};
-ghost use Rattle.ep_typed.specs.Viewed.{expr_of};
+ghost use Rattle.ep_typed.specs.Viewed.{expr_of, place_of};
 ghost use Rattle.ep_check_expr.specs.Arguments.{IsReading};
 ghost use Rattle.ep_check_expr.specs.Expressions.{name_judged};
 ghost use Rattle.ep_check_expr.specs.Judgements.{when_accepted};
 ghost use Rattle.ep_check_stmt.specs.Answers.{AnswersForm, context_of, fails_among, result_of, target_of};
-ghost use Rattle.ep_check_stmt.specs.Statements.{declared_target, field_target, function_target, has_result, place_named, target_judged, target_rules, variable_target};
+ghost use Rattle.ep_check_stmt.specs.Statements as spec;
+ghost use Rattle.ep_check_stmt.specs.Statements.{declared_target, field_target, function_target, has_result, place_named, tag_target, target_judged, target_rules, variable_target};
 
 use crate::statements::{Context, FunctionResult};
 use ep_base::Name;
 use ep_check_expr::{
-    Access, Refusal, Typed, field_place, own_place, typed_access, undeclared, unless_protected,
+    Access, Refusal, Typed, field_place, own_place, tagged_place, typed_access, undeclared,
+    unless_protected,
 };
 use ep_scope::{
-    Declaration, Declared, Kind, Meaning, OpenField, Required, depth_in, meaning_of, rule,
+    Declaration, Declared, Kind, Meaning, OpenField, Required, TagType, depth_in, meaning_of, rule,
 };
 use ep_typed::TypedPlace;
 use std::alloc::Global;
 
+/// Where a value is assigned.
+#[derive(Drop)]
+pub(crate) enum Receiver {
+    /// To the variable at this place.
+    At(TypedPlace),
+    /// To the tag of the record at this place (ISO 10206, 6.5.3.3).
+    TagOf(TypedPlace, TagType),
+}
+
 /// What is assigned to, and its kind.
 pub(crate) struct Target {
-    /// The place, where it is built.
-    pub(crate) place: Option<TypedPlace>,
+    /// Where, where it is built.
+    pub(crate) receiver: Option<Receiver>,
     /// The kind.
     pub(crate) kind: Kind,
 }
 
 impl Drop for Target {
     fn drop(self) {
-        let Target { place: _, kind: _ } = self;
+        let Target {
+            receiver: _,
+            kind: _,
+        } = self;
     }
 }
 
 impl Target {
-    /// The place alone.
-    pub(crate) fn into_place(self) -> Option<TypedPlace>
-        ensures { result ≡ self.place }
+    /// The variable at a place.
+    fn at(place: TypedPlace, kind: Kind) -> Target
+        ensures { target_of result ≡ record { receiver = Some (spec.At (place_of place)); kind = kind } }
     {
-        let Target { place, kind: _ } = self;
-        place
+        let receiver = Some(Receiver::At(place));
+        Target { receiver, kind }
+    }
+
+    /// The tag of a record that is at a place, where it is built.
+    fn tag(tag: TagType, whole: Option<TypedPlace>) -> Target
+        ensures { target_of result ≡ tag_target tag (option_map place_of whole) }
+    {
+        let kind = Kind::Ordinal(tag.host);
+        let receiver = match whole {
+            None => None,
+            Some(whole) => Some(Receiver::TagOf(whole, tag)),
+        };
+        Target { receiver, kind }
+    }
+
+    /// Where it is assigned alone.
+    pub(crate) fn into_receiver(self) -> Option<Receiver>
+        ensures { result ≡ self.receiver }
+    {
+        let Target { receiver, kind: _ } = self;
+        receiver
     }
 }
 
@@ -67,10 +102,7 @@ fn function_target(
     for function in results {
         if has_result(unit, declared, *function) {
             let up = depth.saturating_sub(function.level);
-            return Ok(Target {
-                place: Some(TypedPlace::Own(up, function.variable)),
-                kind: function.kind,
-            });
+            return Ok(Target::at(TypedPlace::Own(up, function.variable), function.kind));
         }
     }
     Err(Refusal::Rule(rule::FUNCTION_ASSIGNED))
@@ -95,14 +127,19 @@ fn variable_target(variable: Typed) -> Result<Target, Refusal>
         (variable_target variable.access (option_map expr_of variable.form) variable.kind) }
 {
     let kind = variable.kind;
-    match variable.access {
-        Access::Variable(_, protection) => {
-            unless_protected(protection)?;
-            let place = variable.into_place();
-            Ok(Target { place, kind })
+    match &variable.access {
+        Access::Variable(_, protected) => {
+            unless_protected(*protected)?;
+            let receiver = variable.into_place().map(Receiver::At);
+            Ok(Target { receiver, kind })
+        }
+        Access::Tag(_, protected, tag) => {
+            unless_protected(*protected)?;
+            let tag = tag.share()?;
+            Ok(Target::tag(tag, variable.into_tagged()))
         }
         Access::File => Ok(Target {
-            place: None,
+            receiver: None,
             kind: Kind::File,
         }),
         Access::Constant => Err(Refusal::Rule(rule::CONSTANT_THREATENED)),
@@ -115,9 +152,13 @@ fn field_target(alloc: Global, field: OpenField<'_>) -> Result<Target, Refusal>
     ensures { AnswersForm target_of result (field_target (field_meant field.entry)) }
 {
     unless_protected(field.protection)?;
-    let kind = field.kind;
-    let place = Some(field_place(alloc, field)?);
-    Ok(Target { place, kind })
+    match &field.field.tag {
+        None => Ok(Target::at(field_place(alloc, field)?, field.field.kind)),
+        Some(tag) => {
+            let tag = tag.share()?;
+            Ok(Target::tag(tag, Some(tagged_place(alloc, field)?)))
+        }
+    }
 }
 
 impl Context<'_> {
@@ -150,10 +191,7 @@ impl Context<'_> {
     {
         match &meaning_of(self.scopes, name) {
             Meaning::Declared(declared) => self.declared_target(declared),
-            Meaning::Standard(file) => Ok(Target {
-                place: Some(TypedPlace::Standard(*file)),
-                kind: Kind::File,
-            }),
+            Meaning::Standard(file) => { Ok(Target::at(TypedPlace::Standard(*file), Kind::File)) }
             Meaning::Required(required) => Err(Refusal::Rule(required_target(*required))),
             Meaning::Field(field) => field_target(self.alloc, *field),
             Meaning::Nothing => Err(Refusal::Rule(undeclared(name))),
@@ -169,13 +207,13 @@ impl Context<'_> {
         match &declared.what {
             Declaration::Variable(_, kind) => {
                 let unit = declared.unit.copy(self.alloc)?;
-                let place = Some(TypedPlace::Variable(unit, declared.number));
-                Ok(Target { place, kind: *kind })
+                let place = TypedPlace::Variable(unit, declared.number);
+                Ok(Target::at(place, *kind))
             }
             Declaration::Own(_, kind, protection) => {
                 unless_protected(*protection)?;
-                let place = Some(own_place(depth_in(self.scopes)?, declared));
-                Ok(Target { place, kind: *kind })
+                let place = own_place(depth_in(self.scopes)?, declared);
+                Ok(Target::at(place, *kind))
             }
             Declaration::Constant(_, _) => Err(Refusal::Rule(rule::CONSTANT_THREATENED)),
             Declaration::Type(_, _, _) => Err(Refusal::Rule(rule::OTHER_THING)),

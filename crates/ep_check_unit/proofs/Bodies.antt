@@ -1,5 +1,5 @@
 -- The block of a routine, by the steps of its functions.
-use Rattle.std.proofs.Common.{◌≡◌, ℕ, List, ap, ◌∙◌, subst}
+use Rattle.std.proofs.Common.{◌≡◌, ℕ, List, ap, sym, ◌∙◌, subst}
 use Rattle.ep_tree.specs.declared.statement.Compound.{Compound}
 use Rattle.ep_scope.specs.Scopes.{Row, opened}
 use Rattle.ep_check_expr.specs.Judgements.{Accepts}
@@ -9,17 +9,30 @@ use Rattle.ep_check_stmt.specs.Outcomes.{refused_at}
 use Rattle.ep_check_unit.specs.Answers.{RefusesItems}
 use Rattle.ep_check_unit.specs.Blocks.{Block}
 use Rattle.ep_check_unit.specs.declared.block.OwnVariables.{OwnVariables}
-use Rattle.ep_check_unit.specs.Declarations.{at_line}
+use Rattle.ep_check_unit.specs.Declarations.{Standing, and_then, at_line}
 use Rattle.ep_check_unit.specs.Routines.{Headed, PartJudged, block_declared, heading_entered, inside_declared, own_variables, scope_opened}
 use Rattle.ep_check_unit.proofs.Refusing.{line_refused, then_refused}
 use Rattle.ep_check_unit.proofs.Subranges.{accepted_same}
+
+-- the block of a routine begins with its scope, and with the variables of its heading
+begun_same : (h : Headed) (scopes : Row) (own now : OwnVariables) → scopes ≡ opened h.block.scopes → now ≡ own → Accepts (own_variables h.number h.parameters h.result h.block.own.enclosing) ≡ Accepts own
+    → record h.block { scopes = scopes; own = now } ≡ scope_opened h h.block
+begun_same h scopes own now inner is begun =
+    let b : Block = h.block in
+    let there : now ≡ own_variables h.number h.parameters h.result b.own.enclosing = is ∙ accepted_same (own_variables h.number h.parameters h.result b.own.enclosing) own begun in
+    ap (λ s. record b { scopes = s; own = now }) inner ∙ ap (λ o. record b { scopes = opened b.scopes; own = o }) there
+
+-- what is inside of a routine whose heading is entered is what its block comes to
+pub heading_passed : (line : ℕ) (name : List ℕ) (ps : List PartJudged) (c : Compound) (h : Headed) (scopes : Row) (own now : OwnVariables) (entered : Block) (Holds : Standing → Type 0)
+    → scopes ≡ opened h.block.scopes → now ≡ own → Accepts (own_variables h.number h.parameters h.result h.block.own.enclosing) ≡ Accepts own → heading_entered h (record h.block { scopes = scopes; own = now }) ≡ Accepts entered
+    → Holds (inside_declared line name h.number h.block.own ps c entered) → Holds (block_declared line name ps c h)
+heading_passed line name ps c h scopes own now entered Holds inner is begun accepted held =
+    let there : heading_entered h (scope_opened h h.block) ≡ Accepts entered = ap (heading_entered h) (sym (begun_same h scopes own now inner is begun)) ∙ accepted in
+    subst (λ j. Holds (and_then (inside_declared line name h.number h.block.own ps c) (at_line line j))) (sym there) held
 
 -- a heading that is refused in the block of its routine
 pub heading_refused : (line : ℕ) (name : List ℕ) (ps : List PartJudged) (c : Compound) (h : Headed) (scopes : Row) (own now : OwnVariables) (e : Refusal)
     → scopes ≡ opened h.block.scopes → now ≡ own → Accepts (own_variables h.number h.parameters h.result h.block.own.enclosing) ≡ Accepts own → Refuses e (heading_entered h (record h.block { scopes = scopes; own = now })) → RefusesItems (refused_at line e) (block_declared line name ps c h)
 heading_refused line name ps c h scopes own now e inner is begun refused =
-    let b : Block = h.block in
-    let there : now ≡ own_variables h.number h.parameters h.result b.own.enclosing = is ∙ accepted_same (own_variables h.number h.parameters h.result b.own.enclosing) own begun in
-    let same : record b { scopes = scopes; own = now } ≡ scope_opened h b = ap (λ s. record b { scopes = s; own = now }) inner ∙ ap (λ o. record b { scopes = opened b.scopes; own = o }) there in
-    then_refused (inside_declared line name h.number b.own ps c) (refused_at line e) (at_line line (heading_entered h (scope_opened h b)))
-    (line_refused line e (heading_entered h (scope_opened h b)) (subst (λ k. Refuses e (heading_entered h k)) same refused))
+    then_refused (inside_declared line name h.number h.block.own ps c) (refused_at line e) (at_line line (heading_entered h (scope_opened h h.block)))
+    (line_refused line e (heading_entered h (scope_opened h h.block)) (subst (λ k. Refuses e (heading_entered h k)) (begun_same h scopes own now inner is begun) refused))

@@ -3,23 +3,24 @@ use Rattle.std.proofs.Common.{ℕ, true, false, List, [], ◌∷◌, map, Option
 use Rattle.std.specs.Prelude.{⊤}
 use Rattle.ep_tree.specs.declared.expression.Expression.{Expression}
 use Rattle.ep_tree.specs.declared.operator.QualifiedName.{QualifiedName}
-use Rattle.ep_tree.specs.declared.types.Core.TheFolds.{fold-roll-Core, fold-roll-FieldSection, fold-roll-Fields, fold-roll-Plain, fold-roll-Structure, fold-roll-TypeDenoter, ind-Core}
-use Rattle.ep_tree.specs.declared.types.Core.TheOpen.{Core-F, FieldSection-F, Fields-F, Plain-F, Structure-F, TypeDenoter-F}
+use Rattle.ep_tree.specs.declared.types.Core.TheFolds.{fold-roll-Core, fold-roll-FieldSection, fold-roll-Fields, fold-roll-Plain, fold-roll-Structure, fold-roll-TypeDenoter, fold-roll-Variant, fold-roll-VariantPart, ind-Core}
+use Rattle.ep_tree.specs.declared.types.Core.TheOpen.{Core-F, FieldSection-F, Fields-F, Plain-F, Structure-F, TypeDenoter-F, Variant-F, VariantPart-F}
 use Rattle.ep_tree.specs.declared.types.Core.{Core, map-Core, roll-Core}
 use Rattle.ep_tree.specs.declared.types.FieldSection.{FieldSection, map-FieldSection, roll-FieldSection}
 use Rattle.ep_tree.specs.declared.types.Fields.{Fields, map-Fields, roll-Fields}
 use Rattle.ep_tree.specs.declared.types.Plain.{Plain, map-Plain, roll-Plain}
 use Rattle.ep_tree.specs.declared.types.Structure.{Structure, map-Structure, roll-Structure}
 use Rattle.ep_tree.specs.declared.types.TypeDenoter.{TypeDenoter, fold-TypeDenoter, map-TypeDenoter, roll-TypeDenoter}
-use Rattle.ep_tree.specs.declared.types.Variant.{Variant}
-use Rattle.ep_tree.specs.declared.types.VariantPart.{VariantPart}
+use Rattle.ep_tree.specs.declared.types.Variant.{Variant, map-Variant, roll-Variant}
+use Rattle.ep_tree.specs.declared.types.VariantPart.{VariantPart, map-VariantPart, roll-VariantPart}
+use Rattle.ep_tree.specs.declared.types.VariantSelector.{VariantSelector}
 use Rattle.ep_check_expr.specs.Constants.{bound_judged}
 use Rattle.ep_check_expr.specs.Judgements.{both}
-use Rattle.ep_check_unit.specs.Declarations.{Part, Passed, Section, array_part, array_written, at_core, at_field_section, at_fields, at_plain, at_structure, at_type_denoter, core_part, enumeration, fields_part, plain_part, range, record_written, scopes_of, set_written, section_part, structure_part, structured, type_named, unbuilt_part}
+use Rattle.ep_check_unit.specs.Declarations.{ListJudged, Part, PartJudged, Section, VariantJudged, array_part, array_written, at_core, at_field_section, at_fields, at_plain, at_structure, at_type_denoter, at_variant, at_variant_part, core_part, enumeration, fields_judged, list_written, plain_part, range, record_written, scopes_of, set_written, section_part, structure_part, structured, type_named, unbuilt_part, variant_judged, variant_part_written, variants_judged}
 
 -- the part of a denoter with or without an initial state
 abbrev pub denoter_part : TypeDenoter → Part
-denoter_part = fold-TypeDenoter Part Part Section Part Part Part Passed Passed at_core at_structure at_field_section at_fields at_plain at_type_denoter (λ v. tt) (λ v. tt)
+denoter_part = fold-TypeDenoter Part Part Section ListJudged Part Part VariantJudged PartJudged at_core at_structure at_field_section at_fields at_plain at_type_denoter at_variant at_variant_part
 
 -- the parts of denoters
 abbrev pub name_part : QualifiedName → Part
@@ -34,8 +35,8 @@ enumeration_part names = record { is_name = false; written = λ line b. enumerat
 abbrev pub over_part : Part → Part → Part
 over_part index of = record { is_name = false; written = array_written index of }
 
-abbrev pub record_part : List Section → Part
-record_part sections = record { is_name = false; written = record_written sections }
+abbrev pub record_part : ListJudged → Part
+record_part fields = record { is_name = false; written = record_written fields }
 
 abbrev pub set_part : Part → Part
 set_part base = record { is_name = false; written = set_written base }
@@ -45,18 +46,30 @@ abbrev pub AreKept : (Part → Type 0) → List Section → Type 0
 AreKept P [] = ⊤
 AreKept P (s ∷ ss) = P s.of × AreKept P ss
 
--- each rule keeps it
-pub record KeptByDenoters (P : Part → Type 0) : Type 0 where
+-- the one that there may be has it
+abbrev pub IsKeptIf : {A : Type 0} → (A → Type 0) → Option A → Type 0
+IsKeptIf P None = ⊤
+IsKeptIf P (Some a) = P a
+
+-- the fields of all variants have it
+abbrev pub AreVariantsKept : (ListJudged → Type 0) → List VariantJudged → Type 0
+AreVariantsKept L [] = ⊤
+AreVariantsKept L (v ∷ vs) = L v.fields × AreVariantsKept L vs
+
+-- each rule keeps it, of denoters, of lists of fields, and of variant parts
+pub record KeptByDenoters (P : Part → Type 0) (L : ListJudged → Type 0) (Q : PartJudged → Type 0) : Type 0 where
   pub names : (name : QualifiedName) → P (name_part name)
   pub ranges : (low high : Expression) → P (range_part low high)
   pub enumerations : (names : List (List ℕ)) → P (enumeration_part names)
   pub others : P unbuilt_part
   pub arrays : (index of : Part) → P index → P of → P (over_part index of)
-  pub records : (sections : List Section) → AreKept P sections → P (record_part sections)
+  pub lists : (sections : List Section) (part : Option PartJudged) → AreKept P sections → IsKeptIf Q part → L (list_written sections part)
+  pub variants : (s : VariantSelector) (variants : List VariantJudged) (other : Option ListJudged) → AreVariantsKept L variants → IsKeptIf L other → Q (variant_part_written s variants other)
+  pub records : (fields : ListJudged) → L fields → P (record_part fields)
   pub sets : (base : Part) → P base → P (set_part base)
   pub structures : (p : Part) → P p → P (structured p)
 
-module _ (P : Part → Type 0) (kept : KeptByDenoters P) where
+module _ (P : Part → Type 0) (L : ListJudged → Type 0) (Q : PartJudged → Type 0) (kept : KeptByDenoters P L Q) where
   abbrev OfCore : Core → Type 0
   OfCore c = P (core_part c)
 
@@ -67,7 +80,7 @@ module _ (P : Part → Type 0) (kept : KeptByDenoters P) where
   OfSection s = P (section_part s).of
 
   abbrev OfFields : Fields → Type 0
-  OfFields f = P (fields_part f)
+  OfFields f = L (fields_judged f)
 
   abbrev OfPlain : Plain → Type 0
   OfPlain p = P (plain_part p)
@@ -75,9 +88,11 @@ module _ (P : Part → Type 0) (kept : KeptByDenoters P) where
   abbrev OfDenoter : TypeDenoter → Type 0
   OfDenoter t = P (denoter_part t)
 
-  -- nothing is asked of other nodes
-  abbrev Any : {A : Type 0} → A → Type 0
-  Any x = ⊤
+  abbrev OfVariant : Variant → Type 0
+  OfVariant v = L (variant_judged v).fields
+
+  abbrev OfVariants : VariantPart → Type 0
+  OfVariants p = Q (variants_judged p)
 
   -- nodes of which this holds
   abbrev KeptCore : Type 0
@@ -98,77 +113,95 @@ module _ (P : Part → Type 0) (kept : KeptByDenoters P) where
   abbrev KeptDenoter : Type 0
   KeptDenoter = (t : TypeDenoter) × OfDenoter t
 
-  abbrev AnyVariant : Type 0
-  AnyVariant = (v : Variant) × Any v
+  abbrev KeptVariant : Type 0
+  KeptVariant = (v : Variant) × OfVariant v
 
-  abbrev AnyVariants : Type 0
-  AnyVariants = (v : VariantPart) × Any v
+  abbrev KeptVariants : Type 0
+  KeptVariants = (p : VariantPart) × OfVariants p
 
   -- layers of such nodes, without what holds of them
-  abbrev core_layer : Core-F KeptCore KeptStructure KeptSection KeptFields KeptPlain KeptDenoter AnyVariant AnyVariants → Core-F Core Structure FieldSection Fields Plain TypeDenoter Variant VariantPart
-  core_layer = map-Core KeptCore KeptStructure KeptSection KeptFields KeptPlain KeptDenoter AnyVariant AnyVariants Core Structure FieldSection Fields Plain TypeDenoter Variant VariantPart (λ e. e.0) (λ e. e.0) (λ e. e.0) (λ e. e.0) (λ e. e.0) (λ e. e.0) (λ e. e.0) (λ e. e.0)
+  abbrev core_layer : Core-F KeptCore KeptStructure KeptSection KeptFields KeptPlain KeptDenoter KeptVariant KeptVariants → Core-F Core Structure FieldSection Fields Plain TypeDenoter Variant VariantPart
+  core_layer = map-Core KeptCore KeptStructure KeptSection KeptFields KeptPlain KeptDenoter KeptVariant KeptVariants Core Structure FieldSection Fields Plain TypeDenoter Variant VariantPart (λ e. e.0) (λ e. e.0) (λ e. e.0) (λ e. e.0) (λ e. e.0) (λ e. e.0) (λ e. e.0) (λ e. e.0)
 
-  abbrev structure_layer : Structure-F KeptCore KeptStructure KeptSection KeptFields KeptPlain KeptDenoter AnyVariant AnyVariants → Structure-F Core Structure FieldSection Fields Plain TypeDenoter Variant VariantPart
-  structure_layer = map-Structure KeptCore KeptStructure KeptSection KeptFields KeptPlain KeptDenoter AnyVariant AnyVariants Core Structure FieldSection Fields Plain TypeDenoter Variant VariantPart (λ e. e.0) (λ e. e.0) (λ e. e.0) (λ e. e.0) (λ e. e.0) (λ e. e.0) (λ e. e.0) (λ e. e.0)
+  abbrev structure_layer : Structure-F KeptCore KeptStructure KeptSection KeptFields KeptPlain KeptDenoter KeptVariant KeptVariants → Structure-F Core Structure FieldSection Fields Plain TypeDenoter Variant VariantPart
+  structure_layer = map-Structure KeptCore KeptStructure KeptSection KeptFields KeptPlain KeptDenoter KeptVariant KeptVariants Core Structure FieldSection Fields Plain TypeDenoter Variant VariantPart (λ e. e.0) (λ e. e.0) (λ e. e.0) (λ e. e.0) (λ e. e.0) (λ e. e.0) (λ e. e.0) (λ e. e.0)
 
-  abbrev plain_layer : Plain-F KeptCore KeptStructure KeptSection KeptFields KeptPlain KeptDenoter AnyVariant AnyVariants → Plain-F Core Structure FieldSection Fields Plain TypeDenoter Variant VariantPart
-  plain_layer = map-Plain KeptCore KeptStructure KeptSection KeptFields KeptPlain KeptDenoter AnyVariant AnyVariants Core Structure FieldSection Fields Plain TypeDenoter Variant VariantPart (λ e. e.0) (λ e. e.0) (λ e. e.0) (λ e. e.0) (λ e. e.0) (λ e. e.0) (λ e. e.0) (λ e. e.0)
+  abbrev plain_layer : Plain-F KeptCore KeptStructure KeptSection KeptFields KeptPlain KeptDenoter KeptVariant KeptVariants → Plain-F Core Structure FieldSection Fields Plain TypeDenoter Variant VariantPart
+  plain_layer = map-Plain KeptCore KeptStructure KeptSection KeptFields KeptPlain KeptDenoter KeptVariant KeptVariants Core Structure FieldSection Fields Plain TypeDenoter Variant VariantPart (λ e. e.0) (λ e. e.0) (λ e. e.0) (λ e. e.0) (λ e. e.0) (λ e. e.0) (λ e. e.0) (λ e. e.0)
 
-  abbrev section_layer : FieldSection-F KeptCore KeptStructure KeptSection KeptFields KeptPlain KeptDenoter AnyVariant AnyVariants → FieldSection-F Core Structure FieldSection Fields Plain TypeDenoter Variant VariantPart
-  section_layer = map-FieldSection KeptCore KeptStructure KeptSection KeptFields KeptPlain KeptDenoter AnyVariant AnyVariants Core Structure FieldSection Fields Plain TypeDenoter Variant VariantPart (λ e. e.0) (λ e. e.0) (λ e. e.0) (λ e. e.0) (λ e. e.0) (λ e. e.0) (λ e. e.0) (λ e. e.0)
+  abbrev section_layer : FieldSection-F KeptCore KeptStructure KeptSection KeptFields KeptPlain KeptDenoter KeptVariant KeptVariants → FieldSection-F Core Structure FieldSection Fields Plain TypeDenoter Variant VariantPart
+  section_layer = map-FieldSection KeptCore KeptStructure KeptSection KeptFields KeptPlain KeptDenoter KeptVariant KeptVariants Core Structure FieldSection Fields Plain TypeDenoter Variant VariantPart (λ e. e.0) (λ e. e.0) (λ e. e.0) (λ e. e.0) (λ e. e.0) (λ e. e.0) (λ e. e.0) (λ e. e.0)
 
-  abbrev fields_layer : Fields-F KeptCore KeptStructure KeptSection KeptFields KeptPlain KeptDenoter AnyVariant AnyVariants → Fields-F Core Structure FieldSection Fields Plain TypeDenoter Variant VariantPart
-  fields_layer = map-Fields KeptCore KeptStructure KeptSection KeptFields KeptPlain KeptDenoter AnyVariant AnyVariants Core Structure FieldSection Fields Plain TypeDenoter Variant VariantPart (λ e. e.0) (λ e. e.0) (λ e. e.0) (λ e. e.0) (λ e. e.0) (λ e. e.0) (λ e. e.0) (λ e. e.0)
+  abbrev fields_layer : Fields-F KeptCore KeptStructure KeptSection KeptFields KeptPlain KeptDenoter KeptVariant KeptVariants → Fields-F Core Structure FieldSection Fields Plain TypeDenoter Variant VariantPart
+  fields_layer = map-Fields KeptCore KeptStructure KeptSection KeptFields KeptPlain KeptDenoter KeptVariant KeptVariants Core Structure FieldSection Fields Plain TypeDenoter Variant VariantPart (λ e. e.0) (λ e. e.0) (λ e. e.0) (λ e. e.0) (λ e. e.0) (λ e. e.0) (λ e. e.0) (λ e. e.0)
 
-  abbrev denoter_layer : TypeDenoter-F KeptCore KeptStructure KeptSection KeptFields KeptPlain KeptDenoter AnyVariant AnyVariants → TypeDenoter-F Core Structure FieldSection Fields Plain TypeDenoter Variant VariantPart
-  denoter_layer = map-TypeDenoter KeptCore KeptStructure KeptSection KeptFields KeptPlain KeptDenoter AnyVariant AnyVariants Core Structure FieldSection Fields Plain TypeDenoter Variant VariantPart (λ e. e.0) (λ e. e.0) (λ e. e.0) (λ e. e.0) (λ e. e.0) (λ e. e.0) (λ e. e.0) (λ e. e.0)
+  abbrev denoter_layer : TypeDenoter-F KeptCore KeptStructure KeptSection KeptFields KeptPlain KeptDenoter KeptVariant KeptVariants → TypeDenoter-F Core Structure FieldSection Fields Plain TypeDenoter Variant VariantPart
+  denoter_layer = map-TypeDenoter KeptCore KeptStructure KeptSection KeptFields KeptPlain KeptDenoter KeptVariant KeptVariants Core Structure FieldSection Fields Plain TypeDenoter Variant VariantPart (λ e. e.0) (λ e. e.0) (λ e. e.0) (λ e. e.0) (λ e. e.0) (λ e. e.0) (λ e. e.0) (λ e. e.0)
+
+  abbrev variant_layer : Variant-F KeptCore KeptStructure KeptSection KeptFields KeptPlain KeptDenoter KeptVariant KeptVariants → Variant-F Core Structure FieldSection Fields Plain TypeDenoter Variant VariantPart
+  variant_layer = map-Variant KeptCore KeptStructure KeptSection KeptFields KeptPlain KeptDenoter KeptVariant KeptVariants Core Structure FieldSection Fields Plain TypeDenoter Variant VariantPart (λ e. e.0) (λ e. e.0) (λ e. e.0) (λ e. e.0) (λ e. e.0) (λ e. e.0) (λ e. e.0) (λ e. e.0)
+
+  abbrev variants_layer : VariantPart-F KeptCore KeptStructure KeptSection KeptFields KeptPlain KeptDenoter KeptVariant KeptVariants → VariantPart-F Core Structure FieldSection Fields Plain TypeDenoter Variant VariantPart
+  variants_layer = map-VariantPart KeptCore KeptStructure KeptSection KeptFields KeptPlain KeptDenoter KeptVariant KeptVariants Core Structure FieldSection Fields Plain TypeDenoter Variant VariantPart (λ e. e.0) (λ e. e.0) (λ e. e.0) (λ e. e.0) (λ e. e.0) (λ e. e.0) (λ e. e.0) (λ e. e.0)
 
   -- the sections of a record
   sections_kept : (ss : List KeptSection) → AreKept P (map section_part (map (λ s. s.0) ss))
   sections_kept [] = tt
   sections_kept (s ∷ ss) = (s.1, sections_kept ss)
 
+  -- the variants of a variant part
+  variants_kept : (vs : List KeptVariant) → AreVariantsKept L (map variant_judged (map (λ v. v.0) vs))
+  variants_kept [] = tt
+  variants_kept (v ∷ vs) = (v.1, variants_kept vs)
+
   -- an array of several index types
   arrays_kept : (of : Part) → P of → (is : List KeptPlain) → P (array_part of (map plain_part (map (λ p. p.0) is)))
   arrays_kept of o [] = o
   arrays_kept of o (i ∷ is) = kept.arrays (plain_part i.0) (array_part of (map plain_part (map (λ p. p.0) is))) i.1 (arrays_kept of o is)
 
-  core_kept : (y : Core-F KeptCore KeptStructure KeptSection KeptFields KeptPlain KeptDenoter AnyVariant AnyVariants) → OfCore (roll-Core (core_layer y))
-  core_kept (Core-F.Named at name tuple) = subst P (sym (fold-roll-Core Part Part Section Part Part Part Passed Passed at_core at_structure at_field_section at_fields at_plain at_type_denoter (λ v. tt) (λ v. tt) (Core-F.Named at name tuple))) (kept.names name)
-  core_kept (Core-F.Range at low high) = subst P (sym (fold-roll-Core Part Part Section Part Part Part Passed Passed at_core at_structure at_field_section at_fields at_plain at_type_denoter (λ v. tt) (λ v. tt) (Core-F.Range at low high))) (kept.ranges low high)
-  core_kept (Core-F.Enumeration at names) = subst P (sym (fold-roll-Core Part Part Section Part Part Part Passed Passed at_core at_structure at_field_section at_fields at_plain at_type_denoter (λ v. tt) (λ v. tt) (Core-F.Enumeration at names))) (kept.enumerations names)
-  core_kept (Core-F.Pointer at name) = subst P (sym (fold-roll-Core Part Part Section Part Part Part Passed Passed at_core at_structure at_field_section at_fields at_plain at_type_denoter (λ v. tt) (λ v. tt) (Core-F.Pointer at name))) kept.others
-  core_kept (Core-F.Structured at packed structure) = subst P (sym (fold-roll-Core Part Part Section Part Part Part Passed Passed at_core at_structure at_field_section at_fields at_plain at_type_denoter (λ v. tt) (λ v. tt) (Core-F.Structured at packed structure.0))) structure.1
-  core_kept (Core-F.Restricted at name) = subst P (sym (fold-roll-Core Part Part Section Part Part Part Passed Passed at_core at_structure at_field_section at_fields at_plain at_type_denoter (λ v. tt) (λ v. tt) (Core-F.Restricted at name))) kept.others
-  core_kept (Core-F.TypeOf at name) = subst P (sym (fold-roll-Core Part Part Section Part Part Part Passed Passed at_core at_structure at_field_section at_fields at_plain at_type_denoter (λ v. tt) (λ v. tt) (Core-F.TypeOf at name))) kept.others
+  core_kept : (y : Core-F KeptCore KeptStructure KeptSection KeptFields KeptPlain KeptDenoter KeptVariant KeptVariants) → OfCore (roll-Core (core_layer y))
+  core_kept (Core-F.Named at name tuple) = subst P (sym (fold-roll-Core Part Part Section ListJudged Part Part VariantJudged PartJudged at_core at_structure at_field_section at_fields at_plain at_type_denoter at_variant at_variant_part (Core-F.Named at name tuple))) (kept.names name)
+  core_kept (Core-F.Range at low high) = subst P (sym (fold-roll-Core Part Part Section ListJudged Part Part VariantJudged PartJudged at_core at_structure at_field_section at_fields at_plain at_type_denoter at_variant at_variant_part (Core-F.Range at low high))) (kept.ranges low high)
+  core_kept (Core-F.Enumeration at names) = subst P (sym (fold-roll-Core Part Part Section ListJudged Part Part VariantJudged PartJudged at_core at_structure at_field_section at_fields at_plain at_type_denoter at_variant at_variant_part (Core-F.Enumeration at names))) (kept.enumerations names)
+  core_kept (Core-F.Pointer at name) = subst P (sym (fold-roll-Core Part Part Section ListJudged Part Part VariantJudged PartJudged at_core at_structure at_field_section at_fields at_plain at_type_denoter at_variant at_variant_part (Core-F.Pointer at name))) kept.others
+  core_kept (Core-F.Structured at packed structure) = subst P (sym (fold-roll-Core Part Part Section ListJudged Part Part VariantJudged PartJudged at_core at_structure at_field_section at_fields at_plain at_type_denoter at_variant at_variant_part (Core-F.Structured at packed structure.0))) structure.1
+  core_kept (Core-F.Restricted at name) = subst P (sym (fold-roll-Core Part Part Section ListJudged Part Part VariantJudged PartJudged at_core at_structure at_field_section at_fields at_plain at_type_denoter at_variant at_variant_part (Core-F.Restricted at name))) kept.others
+  core_kept (Core-F.TypeOf at name) = subst P (sym (fold-roll-Core Part Part Section ListJudged Part Part VariantJudged PartJudged at_core at_structure at_field_section at_fields at_plain at_type_denoter at_variant at_variant_part (Core-F.TypeOf at name))) kept.others
 
-  structure_kept : (y : Structure-F KeptCore KeptStructure KeptSection KeptFields KeptPlain KeptDenoter AnyVariant AnyVariants) → OfStructure (roll-Structure (structure_layer y))
-  structure_kept (Structure-F.Array at indexes component) = subst P (sym (fold-roll-Structure Part Part Section Part Part Part Passed Passed at_core at_structure at_field_section at_fields at_plain at_type_denoter (λ v. tt) (λ v. tt) (Structure-F.Array at (map (λ p. p.0) indexes) component.0))) (kept.structures (array_part (plain_part component.0) (map plain_part (map (λ p. p.0) indexes))) (arrays_kept (plain_part component.0) component.1 indexes))
-  structure_kept (Structure-F.Record at fields) = subst P (sym (fold-roll-Structure Part Part Section Part Part Part Passed Passed at_core at_structure at_field_section at_fields at_plain at_type_denoter (λ v. tt) (λ v. tt) (Structure-F.Record at fields.0))) (kept.structures (fields_part fields.0) fields.1)
-  structure_kept (Structure-F.Set at base) = subst P (sym (fold-roll-Structure Part Part Section Part Part Part Passed Passed at_core at_structure at_field_section at_fields at_plain at_type_denoter (λ v. tt) (λ v. tt) (Structure-F.Set at base.0))) (kept.sets (plain_part base.0) base.1)
+  structure_kept : (y : Structure-F KeptCore KeptStructure KeptSection KeptFields KeptPlain KeptDenoter KeptVariant KeptVariants) → OfStructure (roll-Structure (structure_layer y))
+  structure_kept (Structure-F.Array at indexes component) = subst P (sym (fold-roll-Structure Part Part Section ListJudged Part Part VariantJudged PartJudged at_core at_structure at_field_section at_fields at_plain at_type_denoter at_variant at_variant_part (Structure-F.Array at (map (λ p. p.0) indexes) component.0))) (kept.structures (array_part (plain_part component.0) (map plain_part (map (λ p. p.0) indexes))) (arrays_kept (plain_part component.0) component.1 indexes))
+  structure_kept (Structure-F.Record at fields) = subst P (sym (fold-roll-Structure Part Part Section ListJudged Part Part VariantJudged PartJudged at_core at_structure at_field_section at_fields at_plain at_type_denoter at_variant at_variant_part (Structure-F.Record at fields.0))) (kept.records (fields_judged fields.0) fields.1)
+  structure_kept (Structure-F.Set at base) = subst P (sym (fold-roll-Structure Part Part Section ListJudged Part Part VariantJudged PartJudged at_core at_structure at_field_section at_fields at_plain at_type_denoter at_variant at_variant_part (Structure-F.Set at base.0))) (kept.sets (plain_part base.0) base.1)
 
-  section_kept : (y : FieldSection-F KeptCore KeptStructure KeptSection KeptFields KeptPlain KeptDenoter AnyVariant AnyVariants) → OfSection (roll-FieldSection (section_layer y))
-  section_kept y = subst (λ (s : Section). P s.of) (sym (fold-roll-FieldSection Part Part Section Part Part Part Passed Passed at_core at_structure at_field_section at_fields at_plain at_type_denoter (λ v. tt) (λ v. tt) (section_layer y))) y.of.1
+  section_kept : (y : FieldSection-F KeptCore KeptStructure KeptSection KeptFields KeptPlain KeptDenoter KeptVariant KeptVariants) → OfSection (roll-FieldSection (section_layer y))
+  section_kept y = subst (λ (s : Section). P s.of) (sym (fold-roll-FieldSection Part Part Section ListJudged Part Part VariantJudged PartJudged at_core at_structure at_field_section at_fields at_plain at_type_denoter at_variant at_variant_part (section_layer y))) y.of.1
 
-  fields_kept : (at : ℕ) (ss : List KeptSection) (v : Option AnyVariants) → OfFields (roll-Fields (fields_layer (record { line = at; sections = ss; variants = v })))
-  fields_kept at ss None = subst P (sym (fold-roll-Fields Part Part Section Part Part Part Passed Passed at_core at_structure at_field_section at_fields at_plain at_type_denoter (λ v. tt) (λ v. tt) (fields_layer (record { line = at; sections = ss; variants = None })))) (kept.records (map section_part (map (λ s. s.0) ss)) (sections_kept ss))
-  fields_kept at ss (Some v) = subst P (sym (fold-roll-Fields Part Part Section Part Part Part Passed Passed at_core at_structure at_field_section at_fields at_plain at_type_denoter (λ v. tt) (λ v. tt) (fields_layer (record { line = at; sections = ss; variants = Some v })))) kept.others
+  fields_kept : (at : ℕ) (ss : List KeptSection) (v : Option KeptVariants) → OfFields (roll-Fields (fields_layer (record { line = at; sections = ss; variants = v })))
+  fields_kept at ss None = subst L (sym (fold-roll-Fields Part Part Section ListJudged Part Part VariantJudged PartJudged at_core at_structure at_field_section at_fields at_plain at_type_denoter at_variant at_variant_part (fields_layer (record { line = at; sections = ss; variants = None })))) (kept.lists (map section_part (map (λ s. s.0) ss)) None (sections_kept ss) tt)
+  fields_kept at ss (Some v) = subst L (sym (fold-roll-Fields Part Part Section ListJudged Part Part VariantJudged PartJudged at_core at_structure at_field_section at_fields at_plain at_type_denoter at_variant at_variant_part (fields_layer (record { line = at; sections = ss; variants = Some v })))) (kept.lists (map section_part (map (λ s. s.0) ss)) (Some (variants_judged v.0)) (sections_kept ss) v.1)
 
-  denoter_kept : (y : TypeDenoter-F KeptCore KeptStructure KeptSection KeptFields KeptPlain KeptDenoter AnyVariant AnyVariants) → OfDenoter (roll-TypeDenoter (denoter_layer y))
-  denoter_kept y = subst P (sym (fold-roll-TypeDenoter Part Part Section Part Part Part Passed Passed at_core at_structure at_field_section at_fields at_plain at_type_denoter (λ v. tt) (λ v. tt) (denoter_layer y))) y.plain.1
+  variant_kept : (y : Variant-F KeptCore KeptStructure KeptSection KeptFields KeptPlain KeptDenoter KeptVariant KeptVariants) → OfVariant (roll-Variant (variant_layer y))
+  variant_kept y = subst (λ (v : VariantJudged). L v.fields) (sym (fold-roll-Variant Part Part Section ListJudged Part Part VariantJudged PartJudged at_core at_structure at_field_section at_fields at_plain at_type_denoter at_variant at_variant_part (variant_layer y))) y.fields.1
 
-  plain_kept : (y : Plain-F KeptCore KeptStructure KeptSection KeptFields KeptPlain KeptDenoter AnyVariant AnyVariants) → OfPlain (roll-Plain (plain_layer y))
-  plain_kept y = subst P (sym (fold-roll-Plain Part Part Section Part Part Part Passed Passed at_core at_structure at_field_section at_fields at_plain at_type_denoter (λ v. tt) (λ v. tt) (plain_layer y))) y.core.1
+  variant_part_kept : (at : ℕ) (s : VariantSelector) (vs : List KeptVariant) (other : Option KeptFields) → OfVariants (roll-VariantPart (variants_layer (record { line = at; selector = s; variants = vs; otherwise = other })))
+  variant_part_kept at s vs None = subst Q (sym (fold-roll-VariantPart Part Part Section ListJudged Part Part VariantJudged PartJudged at_core at_structure at_field_section at_fields at_plain at_type_denoter at_variant at_variant_part (variants_layer (record { line = at; selector = s; variants = vs; otherwise = None })))) (kept.variants s (map variant_judged (map (λ v. v.0) vs)) None (variants_kept vs) tt)
+  variant_part_kept at s vs (Some f) = subst Q (sym (fold-roll-VariantPart Part Part Section ListJudged Part Part VariantJudged PartJudged at_core at_structure at_field_section at_fields at_plain at_type_denoter at_variant at_variant_part (variants_layer (record { line = at; selector = s; variants = vs; otherwise = Some f })))) (kept.variants s (map variant_judged (map (λ v. v.0) vs)) (Some (fields_judged f.0)) (variants_kept vs) f.1)
+
+  denoter_kept : (y : TypeDenoter-F KeptCore KeptStructure KeptSection KeptFields KeptPlain KeptDenoter KeptVariant KeptVariants) → OfDenoter (roll-TypeDenoter (denoter_layer y))
+  denoter_kept y = subst P (sym (fold-roll-TypeDenoter Part Part Section ListJudged Part Part VariantJudged PartJudged at_core at_structure at_field_section at_fields at_plain at_type_denoter at_variant at_variant_part (denoter_layer y))) y.plain.1
+
+  plain_kept : (y : Plain-F KeptCore KeptStructure KeptSection KeptFields KeptPlain KeptDenoter KeptVariant KeptVariants) → OfPlain (roll-Plain (plain_layer y))
+  plain_kept y = subst P (sym (fold-roll-Plain Part Part Section ListJudged Part Part VariantJudged PartJudged at_core at_structure at_field_section at_fields at_plain at_type_denoter at_variant at_variant_part (plain_layer y))) y.core.1
 
   -- so it holds of all
   pub each_denoter : (c : Core) → P (core_part c)
   each_denoter =
-      ind-Core OfCore OfStructure OfSection OfFields OfPlain OfDenoter Any Any
+      ind-Core OfCore OfStructure OfSection OfFields OfPlain OfDenoter OfVariant OfVariants
       (λ x y is. subst (λ z. OfCore (roll-Core z)) is (core_kept y))
       (λ x y is. subst (λ z. OfStructure (roll-Structure z)) is (structure_kept y))
       (λ x y is. subst (λ z. OfSection (roll-FieldSection z)) is (section_kept y))
       (λ x y is. subst (λ z. OfFields (roll-Fields z)) is (fields_kept y.line y.sections y.variants))
       (λ x y is. subst (λ z. OfPlain (roll-Plain z)) is (plain_kept y))
       (λ x y is. subst (λ z. OfDenoter (roll-TypeDenoter z)) is (denoter_kept y))
-      (λ x y is. tt)
-      (λ x y is. tt)
+      (λ x y is. subst (λ z. OfVariant (roll-Variant z)) is (variant_kept y))
+      (λ x y is. subst (λ z. OfVariants (roll-VariantPart z)) is (variant_part_kept y.line y.selector y.variants y.otherwise))

@@ -1,7 +1,7 @@
 -- The fields of a record are written section by section, from left to right.
 use Rattle.std.proofs.Common.{◌≡◌, ℕ, ◌+◌, ◌<◌, Bool, true, false, List, map, length, drop, get_or, None, sym, ap, ◌∙◌, subst}
 use Rattle.ep_built.specs.Built as built
-use Rattle.ep_built.specs.Built.{Found, Skipped, field_section_unbuilt, plain_unbuilt, type_denoter_unbuilt, at_node, built_type_denoter}
+use Rattle.ep_built.specs.Built.{Found, field_section_unbuilt, plain_unbuilt, type_denoter_unbuilt, at_node, built_type_denoter}
 use Rattle.ep_tree.specs.declared.types.Core.TheFolds.{fold_out-FieldSection, fold_out-TypeDenoter}
 use Rattle.ep_tree.specs.declared.types.FieldSection.{FieldSection, out-FieldSection}
 use Rattle.ep_tree.specs.declared.types.Plain.{Plain}
@@ -13,7 +13,7 @@ use Rattle.ep_check_stmt.proofs.judged.Refusing.{part_refused}
 use Rattle.ep_check_stmt.proofs.judged.Rounds.{next_item}
 use Rattle.ep_check_unit.specs.Answers.{field_in, field_named, fields_in, named_in}
 use Rattle.ep_check_unit.specs.Blocks.{Block}
-use Rattle.ep_check_unit.specs.Declarations.{Fielded, Part, Passed, Section, Written, at_core, at_field_section, at_fields, at_plain, at_structure, at_type_denoter, field_of, fields_named, plain_part, section_part, section_written, sections_written, settled_part}
+use Rattle.ep_check_unit.specs.Declarations.{Fielded, ListJudged, Part, PartJudged, Section, VariantJudged, Written, at_core, at_field_section, at_fields, at_plain, at_structure, at_type_denoter, at_variant, at_variant_part, field_of, fields_named, plain_part, section_part, section_written, sections_written, settled_part}
 use Rattle.ep_check_unit.specs.declared.records.WrittenField.{WrittenField}
 use Rattle.ep_check_unit.specs.declared.types.NamedType.{NamedType}
 
@@ -24,8 +24,8 @@ plain_in s = (out-TypeDenoter (out-FieldSection s).of).plain
 -- a section by its parts
 section_is : (s : FieldSection) → section_part s ≡ record { names = (out-FieldSection s).names; of = plain_part (plain_in s) }
 section_is s =
-    fold_out-FieldSection Part Part Section Part Part Part Passed Passed at_core at_structure at_field_section at_fields at_plain at_type_denoter (λ v. tt) (λ v. tt) s
-    ∙ ap (λ (p : Part). record { names = (out-FieldSection s).names; of = p }) (fold_out-TypeDenoter Part Part Section Part Part Part Passed Passed at_core at_structure at_field_section at_fields at_plain at_type_denoter (λ v. tt) (λ v. tt) (out-FieldSection s).of)
+    fold_out-FieldSection Part Part Section ListJudged Part Part VariantJudged PartJudged at_core at_structure at_field_section at_fields at_plain at_type_denoter at_variant at_variant_part s
+    ∙ ap (λ (p : Part). record { names = (out-FieldSection s).names; of = p }) (fold_out-TypeDenoter Part Part Section ListJudged Part Part VariantJudged PartJudged at_core at_structure at_field_section at_fields at_plain at_type_denoter at_variant at_variant_part (out-FieldSection s).of)
 
 -- where a section is built, its type is
 node_inner : (b : Bool) (line : ℕ) (inner : Found) → at_node b line inner ≡ None → inner ≡ None
@@ -35,12 +35,12 @@ node_inner false line inner h = cc
 denoter_built : (t : TypeDenoter) → type_denoter_unbuilt t ≡ None → plain_unbuilt (out-TypeDenoter t).plain ≡ None
 denoter_built t h =
     node_inner _ _ _
-    (sym (fold_out-TypeDenoter Found Found Found Found Found Found Skipped Found built.at_core built.at_structure built.at_field_section built.at_fields built.at_plain built.at_type_denoter built.at_variant built.at_variant_part t) ∙ h)
+    (sym (fold_out-TypeDenoter Found Found Found Found Found Found Found Found built.at_core built.at_structure built.at_field_section built.at_fields built.at_plain built.at_type_denoter built.at_variant built.at_variant_part t) ∙ h)
 
 pub section_built : (s : FieldSection) → field_section_unbuilt s ≡ None → plain_unbuilt (plain_in s) ≡ None
 section_built s h =
     denoter_built (out-FieldSection s).of
-    (sym (fold_out-FieldSection Found Found Found Found Found Found Skipped Found built.at_core built.at_structure built.at_field_section built.at_fields built.at_plain built.at_type_denoter built.at_variant built.at_variant_part s) ∙ h)
+    (sym (fold_out-FieldSection Found Found Found Found Found Found Found Found built.at_core built.at_structure built.at_field_section built.at_fields built.at_plain built.at_type_denoter built.at_variant built.at_variant_part s) ∙ h)
 
 module _ (line : ℕ) (sections : List FieldSection) (n : ℕ) (s : FieldSection) (within : n < length sections) (is : s ≡ get_or sections n s) (b : Block) (all : List WrittenField) where
   -- the sections behind

@@ -25,7 +25,7 @@ use Rattle.ep_check_stmt.proofs.judged.Refusing.{part_refused}
 use Rattle.ep_check_stmt.proofs.judged.Rounds.{next_item}
 use Rattle.ep_check_unit.specs.Answers.{arrays_below, index_of, indexes_written, named_in}
 use Rattle.ep_check_unit.specs.Blocks.{Block}
-use Rattle.ep_check_unit.specs.Declarations.{Part, Passed, Section, Written, array_over, array_part, at_core, at_field_section, at_fields, at_plain, at_structure, at_type_denoter, core_part, index_host, plain_part, settled, settled_part, structure_part, structured, type_denoter}
+use Rattle.ep_check_unit.specs.Declarations.{ListJudged, Part, PartJudged, Section, VariantJudged, Written, array_over, array_part, at_core, at_field_section, at_fields, at_plain, at_structure, at_type_denoter, at_variant, at_variant_part, core_part, index_host, plain_part, settled, settled_part, structure_part, structured, type_denoter}
 use Rattle.ep_check_unit.specs.declared.types.IndexType.{IndexType}
 use Rattle.ep_check_unit.specs.declared.types.NamedType.{NamedType}
 use Rattle.ep_check_unit.proofs.Forms.{map_push}
@@ -140,12 +140,12 @@ next_index line plains n p lt is made pushed index host b new all push settles h
 -- ---- structures
 
 array_rolled : (at : ℕ) (is : List Plain) (of : Plain) → structure_part (structure.Array at is of) ≡ structured (array_part (plain_part of) (map plain_part is))
-array_rolled at is of = ap structure_part (sym (structure.rolls-Array at is of)) ∙ fold-roll-Structure Part Part Section Part Part Part Passed Passed at_core at_structure at_field_section at_fields at_plain at_type_denoter (λ v. tt) (λ v. tt) (Structure-F.Array at is of)
+array_rolled at is of = ap structure_part (sym (structure.rolls-Array at is of)) ∙ fold-roll-Structure Part Part Section ListJudged Part Part VariantJudged PartJudged at_core at_structure at_field_section at_fields at_plain at_type_denoter at_variant at_variant_part (Structure-F.Array at is of)
 
 structure_unnamed : (x : Structure-F Core Structure FieldSection Fields Plain TypeDenoter Variant VariantPart) → (structure_part (roll-Structure x)).is_name ≡ false
-structure_unnamed (Structure-F.Array at is of) = ap (λ (p : Part). p.is_name) (fold-roll-Structure Part Part Section Part Part Part Passed Passed at_core at_structure at_field_section at_fields at_plain at_type_denoter (λ v. tt) (λ v. tt) (Structure-F.Array at is of))
-structure_unnamed (Structure-F.Record at fields) = ap (λ (p : Part). p.is_name) (fold-roll-Structure Part Part Section Part Part Part Passed Passed at_core at_structure at_field_section at_fields at_plain at_type_denoter (λ v. tt) (λ v. tt) (Structure-F.Record at fields))
-structure_unnamed (Structure-F.Set at base) = ap (λ (p : Part). p.is_name) (fold-roll-Structure Part Part Section Part Part Part Passed Passed at_core at_structure at_field_section at_fields at_plain at_type_denoter (λ v. tt) (λ v. tt) (Structure-F.Set at base))
+structure_unnamed (Structure-F.Array at is of) = ap (λ (p : Part). p.is_name) (fold-roll-Structure Part Part Section ListJudged Part Part VariantJudged PartJudged at_core at_structure at_field_section at_fields at_plain at_type_denoter at_variant at_variant_part (Structure-F.Array at is of))
+structure_unnamed (Structure-F.Record at fields) = ap (λ (p : Part). p.is_name) (fold-roll-Structure Part Part Section ListJudged Part Part VariantJudged PartJudged at_core at_structure at_field_section at_fields at_plain at_type_denoter at_variant at_variant_part (Structure-F.Record at fields))
+structure_unnamed (Structure-F.Set at base) = ap (λ (p : Part). p.is_name) (fold-roll-Structure Part Part Section ListJudged Part Part VariantJudged PartJudged at_core at_structure at_field_section at_fields at_plain at_type_denoter at_variant at_variant_part (Structure-F.Set at base))
 
 structures_unnamed : (s : Structure) → (structure_part s).is_name ≡ false
 structures_unnamed s = subst (λ z. (structure_part z).is_name ≡ false) (roll-out-Structure s) (structure_unnamed (out-Structure s))
@@ -201,12 +201,12 @@ other_settled p line b w other writes = ap (λ n. when_accepted (λ v. Accepts (
 -- what is no name is none for its part
 core_unnamed : (x : Core-F Core Structure FieldSection Fields Plain TypeDenoter Variant VariantPart) → ((at : ℕ) (name : QualifiedName) (tuple : List Expression) → roll-Core x ≡ core.Named at name tuple → ⊥) → (core_part (roll-Core x)).is_name ≡ false
 core_unnamed (Core-F.Named at name tuple) other = absurd (other at name tuple (core.rolls-Named at name tuple))
-core_unnamed (Core-F.Range at low high) other = ap (λ (p : Part). p.is_name) (fold-roll-Core Part Part Section Part Part Part Passed Passed at_core at_structure at_field_section at_fields at_plain at_type_denoter (λ v. tt) (λ v. tt) (Core-F.Range at low high))
-core_unnamed (Core-F.Enumeration at names) other = ap (λ (p : Part). p.is_name) (fold-roll-Core Part Part Section Part Part Part Passed Passed at_core at_structure at_field_section at_fields at_plain at_type_denoter (λ v. tt) (λ v. tt) (Core-F.Enumeration at names))
-core_unnamed (Core-F.Pointer at name) other = ap (λ (p : Part). p.is_name) (fold-roll-Core Part Part Section Part Part Part Passed Passed at_core at_structure at_field_section at_fields at_plain at_type_denoter (λ v. tt) (λ v. tt) (Core-F.Pointer at name))
-core_unnamed (Core-F.Structured at packed structure) other = ap (λ (p : Part). p.is_name) (fold-roll-Core Part Part Section Part Part Part Passed Passed at_core at_structure at_field_section at_fields at_plain at_type_denoter (λ v. tt) (λ v. tt) (Core-F.Structured at packed structure)) ∙ structures_unnamed structure
-core_unnamed (Core-F.Restricted at name) other = ap (λ (p : Part). p.is_name) (fold-roll-Core Part Part Section Part Part Part Passed Passed at_core at_structure at_field_section at_fields at_plain at_type_denoter (λ v. tt) (λ v. tt) (Core-F.Restricted at name))
-core_unnamed (Core-F.TypeOf at name) other = ap (λ (p : Part). p.is_name) (fold-roll-Core Part Part Section Part Part Part Passed Passed at_core at_structure at_field_section at_fields at_plain at_type_denoter (λ v. tt) (λ v. tt) (Core-F.TypeOf at name))
+core_unnamed (Core-F.Range at low high) other = ap (λ (p : Part). p.is_name) (fold-roll-Core Part Part Section ListJudged Part Part VariantJudged PartJudged at_core at_structure at_field_section at_fields at_plain at_type_denoter at_variant at_variant_part (Core-F.Range at low high))
+core_unnamed (Core-F.Enumeration at names) other = ap (λ (p : Part). p.is_name) (fold-roll-Core Part Part Section ListJudged Part Part VariantJudged PartJudged at_core at_structure at_field_section at_fields at_plain at_type_denoter at_variant at_variant_part (Core-F.Enumeration at names))
+core_unnamed (Core-F.Pointer at name) other = ap (λ (p : Part). p.is_name) (fold-roll-Core Part Part Section ListJudged Part Part VariantJudged PartJudged at_core at_structure at_field_section at_fields at_plain at_type_denoter at_variant at_variant_part (Core-F.Pointer at name))
+core_unnamed (Core-F.Structured at packed structure) other = ap (λ (p : Part). p.is_name) (fold-roll-Core Part Part Section ListJudged Part Part VariantJudged PartJudged at_core at_structure at_field_section at_fields at_plain at_type_denoter at_variant at_variant_part (Core-F.Structured at packed structure)) ∙ structures_unnamed structure
+core_unnamed (Core-F.Restricted at name) other = ap (λ (p : Part). p.is_name) (fold-roll-Core Part Part Section ListJudged Part Part VariantJudged PartJudged at_core at_structure at_field_section at_fields at_plain at_type_denoter at_variant at_variant_part (Core-F.Restricted at name))
+core_unnamed (Core-F.TypeOf at name) other = ap (λ (p : Part). p.is_name) (fold-roll-Core Part Part Section ListJudged Part Part VariantJudged PartJudged at_core at_structure at_field_section at_fields at_plain at_type_denoter at_variant at_variant_part (Core-F.TypeOf at name))
 
 pub unnamed : (c : Core) → ((at : ℕ) (name : QualifiedName) (tuple : List Expression) → c ≡ core.Named at name tuple → ⊥) → (core_part c).is_name ≡ false
 unnamed c other =

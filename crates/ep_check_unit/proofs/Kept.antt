@@ -1,6 +1,6 @@
 -- A block stays that of its unit.
 use Rattle.std.proofs.Common.{◌≡◌, ℕ, nat_le, pos, suc, Bool, true, false, not, ◌&&◌, ◌||◌, List, [], ◌∷◌, length, map, Option, Some, None, subst, sym}
-use Rattle.std.specs.Prelude.{⊤, is_none, if◌then◌else◌}
+use Rattle.std.specs.Prelude.{⊤, is_none, is_some, if◌then◌else◌}
 use Rattle.ep_tree.specs.declared.declaration.ConstantDefinition.{ConstantDefinition}
 use Rattle.ep_tree.specs.declared.declaration.TypeDefinition.{TypeDefinition}
 use Rattle.ep_tree.specs.declared.declaration.VariableDeclaration.{VariableDeclaration}
@@ -13,9 +13,12 @@ use Rattle.ep_tree.specs.declared.routine.RoutineBody.{RoutineBody, map-RoutineB
 use Rattle.ep_tree.specs.declared.routine.RoutineStart.{RoutineStart}
 use Rattle.ep_tree.specs.declared.routine.RoutineStart.TheVariants as start
 use Rattle.ep_tree.specs.declared.statement.Compound.{Compound}
+use Rattle.ep_tree.specs.declared.expression.Label.{Label}
 use Rattle.ep_tree.specs.declared.types.Core.{Core}
+use Rattle.ep_tree.specs.declared.types.VariantSelector.{VariantSelector}
 use Rattle.ep_typed.specs.Trees.{Stmts}
 use Rattle.ep_typed.specs.declared.denoter.Denoter.{Denoter}
+use Rattle.ep_typed.specs.declared.tree.CaseRange.{CaseRange}
 use Rattle.ep_typed.specs.declared.tree.StandardFile.{StandardFile}
 use Rattle.ep_typed.specs.declared.value.Value.{Value}
 use Rattle.ep_typed.specs.declared.value.Value.TheVariants as value
@@ -41,14 +44,17 @@ use Rattle.ep_check_expr.specs.Names.{undeclared}
 use Rattle.ep_check_expr.specs.declared.constants.ConstantForm.{ConstantForm}
 use Rattle.ep_check_stmt.proofs.judged.Fits.{Any, Fits, fits_then, fits_both, fits_any}
 use Rattle.ep_check_stmt.specs.Statements.{Judgement, Passes, Waits, Fails}
-use Rattle.ep_check_unit.specs.Declarations.{unless_large, Fielded, Part as DenoterPart, Section, field_of, fields_named, record_over, section_written, sections_written, set_on, set_over, unless_wide, all_variables_declared, and_then, array_over, at_line, common_host, constant_definition, constant_entered, constants_declared, core_of, core_part, core_written, declaration_ended, declared_type, entered, enumerated, enumeration, index_host, next_enumeration, noted, ordered, range, scopes_of, settled, settled_part, settled_type, Standing, Stands, Falls, subrange, type_definition, type_definitions, type_entered, type_meant, type_named, type_written, unused, variable_declaration, variable_entered, variables_declared, variables_entered, with_constant, with_name, with_type, is_outermost, with_own_variable, with_unit_variable, with_variable, own_thing, Written}
+use Rattle.ep_check_unit.specs.Declarations.{unless_large, Fielded, Gathered, Labelled, ListJudged, Listed, Part as DenoterPart, PartJudged as VariantsJudged, Section, Tag, VariantJudged, all_fields, completing_added, completing_written, field_of, fields_named, labels_noted, list_ended, list_written, record_over, selection_of, tag_written, unless_left_out, variant_added, variant_list, variant_listing, variant_part_written, variant_written, variants_after, variants_written, none_gathered, section_written, sections_written, set_on, set_over, unless_wide, all_variables_declared, and_then, array_over, at_line, common_host, constant_definition, constant_entered, constants_declared, core_of, core_part, core_written, declaration_ended, declared_type, entered, enumerated, enumeration, index_host, next_enumeration, noted, ordered, range, scopes_of, settled, settled_part, settled_type, Standing, Stands, Falls, subrange, type_definition, type_definitions, type_entered, type_meant, type_named, type_written, unused, variable_declaration, variable_entered, variables_declared, variables_entered, with_constant, with_name, with_type, is_outermost, with_own_variable, with_unit_variable, with_variable, own_thing, Written}
 use Rattle.ep_check_unit.specs.Functions.{if_given, in_block, is_assigned, is_in_view, own_name_entered, result_entered, routine_declaration, row_gives, same_result}
 use Rattle.ep_check_unit.specs.Routines.{BodyJudged, Headed, PartJudged, all_declared, assigns_among, block_declared, body_closed, body_declared, body_ended, declared_routine, formals_entered, forwarded, has_body, headed_again, headed_first, headed_over, headed_then, heading_entered, identified_again, identified_over, inside_declared, is_repeated, of_body, of_part, of_routine, part_judged, parts_declared, result_headed, result_judged, routine_body_judged, routine_judged, routine_there, scope_opened, sections_judged, start_headed, start_name, statements_judged, with_routine}
 use Rattle.ep_check_unit.specs.declared.functions.HeadingResult.{HeadingResult}
+use Rattle.ep_check_unit.specs.Labels.{completed, variant_labelled}
+use Rattle.ep_check_unit.specs.declared.labels.Labels.{Labels}
+use Rattle.ep_check_unit.specs.declared.labels.TagValues.{TagValues}
 use Rattle.ep_check_unit.specs.Units.{parameter_entered, parameters_entered, standard_file}
 use Rattle.ep_check_unit.specs.Blocks.{Block}
 use Rattle.ep_check_unit.specs.declared.types.TheConstants as limit
-use Rattle.ep_check_unit.proofs.Denoters.{AreKept, KeptByDenoters, each_denoter, over_part, record_part, set_part}
+use Rattle.ep_check_unit.proofs.Denoters.{AreKept, AreVariantsKept, IsKeptIf, KeptByDenoters, each_denoter, over_part, record_part, set_part}
 use Rattle.ep_check_unit.specs.declared.block.OwnResult.{OwnResult}
 use Rattle.ep_check_unit.specs.declared.block.OwnVariables.{OwnVariables}
 
@@ -144,11 +150,74 @@ module _ (n : List ℕ) where
   sections_written-kept line [] h f i = i
   sections_written-kept line (s ∷ ss) h f i = fits_then IsInFields IsInFields (sections_written line ss) (section_written line s f) (section_written-kept line s h.0 f i) (λ g j. sections_written-kept line ss h.1 g j)
 
-  record_written-kept : (sections : List Section) → AreKept IsKeptPart sections → IsKeptPart (record_part sections)
-  record_written-kept sections h line b i =
-      fits_then IsInFields IsIn (λ f. Accepts (record_over f)) (sections_written line sections (record { fields = []; block = b })) (sections_written-kept line sections h (record { fields = []; block = b }) i) (λ f j. j)
+  -- lists of fields, and variants
+  abbrev IsInList : Listed → Type 0
+  IsInList l = IsOf l.block
 
-  parts_kept : KeptByDenoters IsKeptPart
+  abbrev IsKeptList : ListJudged → Type 0
+  IsKeptList fields = (line : ℕ) (b : Block) → IsOf b → Fits IsInList (fields line b)
+
+  abbrev IsKeptVariants : VariantsJudged → Type 0
+  IsKeptVariants part = (line : ℕ) (f : Fielded) → IsInFields f → Fits IsInList (part line f)
+
+  abbrev IsInGathered : Gathered → Type 0
+  IsInGathered g = IsOf g.block
+
+  abbrev IsInLabelled : Labelled → Type 0
+  IsInLabelled x = IsOf x.block
+
+  labels_noted-kept : (line : ℕ) (t : TagValues) (ls : List Label) (b : Block) (found : Labels) → IsOf b → Fits IsInLabelled (labels_noted line t ls b found)
+  labels_noted-kept line t ls b found i =
+      fits_then Any IsInLabelled (λ (x : List CaseRange × Labels). Accepts (record { ranges = x.0; labels = x.1; block = noted x.1.built line b })) (variant_labelled (scopes_of b) t ls found) (fits_any (variant_labelled (scopes_of b) t ls found))
+      (λ x j. noted-kept x.1.built line b i)
+
+  variant_written-kept : (line : ℕ) (t : TagValues) (v : VariantJudged) → IsKeptList v.fields → (g : Gathered) → IsInGathered g → Fits IsInGathered (variant_written line t v g)
+  variant_written-kept line t v h g i =
+      fits_then IsInLabelled IsInGathered (λ x. when_accepted (λ l. Accepts (variant_added x.ranges x.labels l g)) (v.fields line x.block)) (labels_noted line t v.labels g.block g.labels) (labels_noted-kept line t v.labels g.block g.labels i)
+      (λ x j. fits_then IsInList IsInGathered (λ l. Accepts (variant_added x.ranges x.labels l g)) (v.fields line x.block) (h line x.block j) (λ l k. k))
+
+  variants_written-kept : (line : ℕ) (t : TagValues) (vs : List VariantJudged) → AreVariantsKept IsKeptList vs → (g : Gathered) → IsInGathered g → Fits IsInGathered (variants_written line t vs g)
+  variants_written-kept line t [] h g i = i
+  variants_written-kept line t (v ∷ vs) h g i =
+      fits_then IsInGathered IsInGathered (variants_written line t vs) (variant_written line t v g) (variant_written-kept line t v h.0 g i) (λ d j. variants_written-kept line t vs h.1 d j)
+
+  completing_written-kept : (line : ℕ) (other : Option ListJudged) → IsKeptIf IsKeptList other → (g : Gathered) → IsInGathered g → Fits IsInGathered (completing_written line other g)
+  completing_written-kept line None h g i = i
+  completing_written-kept line (Some fields) h g i = fits_then IsInList IsInGathered (λ l. Accepts (completing_added l g)) (fields line g.block) (h line g.block i) (λ l j. j)
+
+  left_out-kept : (t : TagValues) (g : Gathered) → IsInGathered g → Fits IsInGathered (unless_left_out t g)
+  left_out-kept t g i = fits_then Any IsInGathered (λ _. Accepts g) (completed t g.labels (is_some g.completing)) (fits_any (completed t g.labels (is_some g.completing))) (λ done j. i)
+
+  variant_list-kept : (f : Fielded) (t : Tag) (g : Gathered) → IsInGathered g → Fits IsInList (variant_list f t g)
+  variant_list-kept f t g i =
+      let all = all_fields (selection_of (length f.fields) g) t f.fields g.lists in
+      fits_then Any IsInList (λ fields. Accepts (variant_listing f t g fields)) all (fits_any all) (λ fields j. i)
+
+  variants_after-kept : (line : ℕ) (vs : List VariantJudged) (other : Option ListJudged) → AreVariantsKept IsKeptList vs → IsKeptIf IsKeptList other → (f : Fielded) → IsInFields f → (t : Tag) → Fits IsInList (variants_after line vs other f t)
+  variants_after-kept line vs other h o f i t =
+      let first = variants_written line t.values vs (none_gathered f.block) in
+      let second = when_accepted (completing_written line other) first in
+      let third = when_accepted (unless_left_out t.values) second in
+      let first-kept : Fits IsInGathered first = variants_written-kept line t.values vs h (none_gathered f.block) i in
+      let second-kept : Fits IsInGathered second = fits_then IsInGathered IsInGathered (completing_written line other) first first-kept (completing_written-kept line other o) in
+      let third-kept : Fits IsInGathered third = fits_then IsInGathered IsInGathered (unless_left_out t.values) second second-kept (left_out-kept t.values) in
+      fits_then IsInGathered IsInList (variant_list f t) third third-kept (variant_list-kept f t)
+
+  variant_part-kept : (s : VariantSelector) (vs : List VariantJudged) (other : Option ListJudged) → AreVariantsKept IsKeptList vs → IsKeptIf IsKeptList other → IsKeptVariants (variant_part_written s vs other)
+  variant_part-kept s vs other h o line f i = fits_then Any IsInList (variants_after line vs other f) (tag_written s f.block) (fits_any (tag_written s f.block)) (λ t j. variants_after-kept line vs other h o f i t)
+
+  list_ended-kept : (line : ℕ) (part : Option VariantsJudged) → IsKeptIf IsKeptVariants part → (f : Fielded) → IsInFields f → Fits IsInList (list_ended line part f)
+  list_ended-kept line None h f i = i
+  list_ended-kept line (Some part) h f i = h line f i
+
+  list_written-kept : (sections : List Section) (part : Option VariantsJudged) → AreKept IsKeptPart sections → IsKeptIf IsKeptVariants part → IsKeptList (list_written sections part)
+  list_written-kept sections part h g line b i =
+      fits_then IsInFields IsInList (list_ended line part) (sections_written line sections (record { fields = []; block = b })) (sections_written-kept line sections h (record { fields = []; block = b }) i) (list_ended-kept line part g)
+
+  record_written-kept : (fields : ListJudged) → IsKeptList fields → IsKeptPart (record_part fields)
+  record_written-kept fields h line b i = fits_then IsInList IsIn (λ l. Accepts (record_over l)) (fields line b) (h line b i) (λ l j. j)
+
+  parts_kept : KeptByDenoters IsKeptPart IsKeptList IsKeptVariants
   parts_kept = record {
     names = λ name line b i. type_named-kept name.first name.second b i;
     ranges = λ low high line b i.
@@ -157,16 +226,18 @@ module _ (n : List ℕ) where
     enumerations = λ names line b i. enumeration-kept names b i;
     others = λ line b i. tt;
     arrays = array_written-kept;
+    lists = list_written-kept;
+    variants = variant_part-kept;
     records = record_written-kept;
     sets = set_written-kept;
     structures = λ p h line b i. h line b i;
   }
 
   core_written-kept : (line : ℕ) (c : Core) (b : Block) → IsOf b → Fits IsIn (core_written line c b)
-  core_written-kept line c b i = each_denoter IsKeptPart parts_kept c line b i
+  core_written-kept line c b i = each_denoter IsKeptPart IsKeptList IsKeptVariants parts_kept c line b i
 
   settled_type-kept : (line : ℕ) (c : Core) (b : Block) → IsOf b → Fits IsIn (settled_type line c b)
-  settled_type-kept line c b i = settled_part-kept (core_part c) (each_denoter IsKeptPart parts_kept c) line b i
+  settled_type-kept line c b i = settled_part-kept (core_part c) (each_denoter IsKeptPart IsKeptList IsKeptVariants parts_kept c) line b i
 
   large_kept : (w : Written) → IsIn w → Fits IsIn (unless_large w)
   large_kept w i = chosen (nat_le w.nodes limit.TYPE_NODES)

@@ -5,9 +5,11 @@ pub mod Examples
 pub mod Forms
 pub mod Indexes
 pub mod Kept
+pub mod OwnFields
 pub mod Parameters
 pub mod Programs
 pub mod Refusing
 pub mod FieldSections
 pub mod Rounds
 pub mod Subranges
+pub mod VariantParts

@@ -1,6 +1,7 @@
 -- What the functions answer of what is judged: the form, or a rule that fails first; want of memory is free.
 use Rattle.std.specs.Prelude.{◌≡◌, ℕ, Bool, true, List, [], ◌∷◌, ◌++◌, length, map, Option, Result, Ok, Err, IsTrue, ⊤}
 use Rattle.ep_typed.specs.declared.denoter.Denoter.{Denoter}
+use Rattle.ep_typed.specs.declared.tree.CaseRange.{CaseRange}
 use Rattle.ep_typed.specs.declared.value.Value.{Value}
 use Rattle.ep_scope.specs.declared.kind.Host.{Host}
 use Rattle.ep_scope.specs.declared.kind.Kind.{Kind}
@@ -22,7 +23,11 @@ use Rattle.ep_check_unit.specs.declared.headings.Heading.{Heading}
 use Rattle.ep_check_unit.specs.declared.types.IndexType.{IndexType}
 use Rattle.ep_check_unit.specs.declared.types.NamedType.{NamedType}
 use Rattle.ep_check_unit.specs.declared.types.Written.{Written}
+use Rattle.ep_check_unit.specs.declared.labels.Labels.{Labels}
+use Rattle.ep_check_unit.specs.declared.records.Listing.{Listing}
 use Rattle.ep_check_unit.specs.declared.records.WrittenField.{WrittenField}
+use Rattle.ep_check_unit.specs.declared.variants.Gathered.{Gathered}
+use Rattle.ep_check_unit.specs.declared.variants.Tag.{Tag}
 
 -- a count as a number of 32 bits, where it is one
 abbrev pub AnswersNumber : ℕ → Result ℕ Refusal → Type 0
@@ -82,6 +87,27 @@ arrays_below line (i ∷ is) w = spec.settled line (spec.array_over i.0 i.1 i.2 
 -- a field that is written
 abbrev pub field_in : WrittenField → spec.Field
 field_in f = record { name = f.name; denoter = spec.type_denoter f.of.name; of = f.of.of; kind = f.of.kind; nodes = f.of.nodes }
+
+-- the labels after what is judged, exactly where it is accepted, or a refusal
+abbrev pub AnswersLabels : Result (Unit {0}) Refusal → Labels → Judged Labels → Type 0
+AnswersLabels (Ok done) new judged = judged ≡ Accepts new
+AnswersLabels (Err refusal) new judged = Refuses refusal judged
+
+-- a list of fields that is written, in a block
+abbrev pub listed_in : Block → Listing → spec.Listed
+listed_in b l = record { listing = l; block = b }
+
+-- the ranges of a variant, with the labels behind it, in a block
+abbrev pub labelled_in : Block → List CaseRange → Labels → spec.Labelled
+labelled_in b ranges found = record { ranges = ranges; labels = found; block = b }
+
+-- a tag that is written
+abbrev pub tag_in : Tag → spec.Tag
+tag_in t = record { name = t.name.now; denoter = spec.type_denoter t.of.name; of = t.of.of; values = t.values; nodes = t.of.nodes }
+
+-- variants that are written so far, in a block
+abbrev pub gathered_in : Block → Gathered → spec.Gathered
+gathered_in b g = record { labels = g.labels; variants = g.variants; lists = g.lists; nodes = g.nodes; completing = g.completing; block = b }
 
 -- fields of a type that is written
 abbrev pub field_named : NamedType → List ℕ → spec.Field

@@ -2,16 +2,21 @@
 --
 -- Items are taken in the order of the text. A constant definition and a variable declaration are items, on the line of their first token, and a type part is one, on the line of the word `type`. A name means what is declared before its use, or outside of the block: a later declaration of it plays no part (own).
 use Rattle.std.specs.List.{list_any}
-use Rattle.std.specs.Prelude.{ℕ, nat_eq, nat_le, ◌==◌, ◌+◌, ℤ, pos, suc, int_le, Bool, true, false, ◌&&◌, ◌||◌, List, [], ◌∷◌, ◌++◌, length, slice_get, map, Option, Some, None, if◌then◌else◌}
+use Rattle.std.specs.Prelude.{ℕ, nat_eq, nat_le, ◌==◌, ◌+◌, ℤ, pos, suc, int_le, Bool, true, false, ◌&&◌, ◌||◌, List, [], ◌∷◌, ◌++◌, length, slice_get, map, Option, Some, None, is_some, if◌then◌else◌}
 use Rattle.std.specs.Option.{option_or}
 use Rattle.std.specs.Str.{bytes_eq}
-use Rattle.ep_tree.specs.declared.types.Core.TheOpen.{Core-F, FieldSection-F, Fields-F, Plain-F, Structure-F, TypeDenoter-F}
+use Rattle.ep_tree.specs.declared.expression.Label.{Label}
+use Rattle.ep_tree.specs.declared.types.Core.TheOpen.{Core-F, FieldSection-F, Fields-F, Plain-F, Structure-F, TypeDenoter-F, Variant-F, VariantPart-F}
 use Rattle.ep_tree.specs.declared.types.Core.{Core, fold-Core}
 use Rattle.ep_tree.specs.declared.types.FieldSection.{FieldSection, fold-FieldSection}
 use Rattle.ep_tree.specs.declared.types.Fields.{Fields, fold-Fields}
 use Rattle.ep_tree.specs.declared.types.Plain.{Plain, fold-Plain, out-Plain}
 use Rattle.ep_tree.specs.declared.types.Structure.{Structure, fold-Structure}
 use Rattle.ep_tree.specs.declared.types.TypeDenoter.{TypeDenoter, out-TypeDenoter}
+use Rattle.ep_tree.specs.declared.types.Variant.{Variant as VariantTree, fold-Variant}
+use Rattle.ep_tree.specs.declared.types.VariantPart.{VariantPart as VariantPartTree, fold-VariantPart}
+use Rattle.ep_tree.specs.declared.types.VariantSelector.{VariantSelector}
+use Rattle.ep_tree.specs.declared.types.VariantSelector.TheVariants as selector
 use Rattle.ep_tree.specs.declared.declaration.ConstantDefinition.{ConstantDefinition}
 use Rattle.ep_tree.specs.declared.declaration.TypeDefinition.{TypeDefinition}
 use Rattle.ep_tree.specs.declared.declaration.VariableDeclaration.{VariableDeclaration}
@@ -25,9 +30,14 @@ use Rattle.ep_typed.specs.declared.denoter.Denoter.{Denoter}
 use Rattle.ep_typed.specs.declared.denoter.Denoter.TheVariants as denoter
 use Rattle.ep_typed.specs.declared.denoter.FieldPart.{FieldPart, roll-FieldPart}
 use Rattle.ep_typed.specs.declared.denoter.RecordField.{RecordField, roll-RecordField}
+use Rattle.ep_typed.specs.declared.denoter.Selector.TheVariants as written_selector
+use Rattle.ep_typed.specs.declared.denoter.Variant.{Variant, roll-Variant}
+use Rattle.ep_typed.specs.declared.denoter.VariantPart.{VariantPart, roll-VariantPart}
 use Rattle.ep_typed.specs.declared.denoter.RequiredType.{RequiredType}
 use Rattle.ep_typed.specs.declared.denoter.RequiredType.TheVariants as simple
 use Rattle.ep_typed.specs.declared.interface.ConstantEntry.{ConstantEntry}
+use Rattle.ep_typed.specs.declared.tree.CaseRange.{CaseRange}
+use Rattle.ep_typed.specs.declared.tree.Selection.{Selection}
 use Rattle.ep_typed.specs.declared.unit.UnitType.{UnitType}
 use Rattle.ep_typed.specs.declared.unit.UnitVariable.{UnitVariable}
 use Rattle.ep_typed.specs.declared.value.Value.{Value}
@@ -57,7 +67,11 @@ use Rattle.ep_check_expr.specs.Constants.{constant_judged, bound_judged}
 use Rattle.ep_check_expr.specs.declared.constants.ConstantForm.{ConstantForm}
 use Rattle.ep_check_expr.specs.Names.{undeclared}
 use Rattle.ep_check_unit.specs.Blocks.{Block, own_count}
+use Rattle.ep_check_unit.specs.Labels.{completed, no_labels, tag_values, variant_labelled}
 use Rattle.ep_check_unit.specs.declared.block.Enclosing.{Enclosing}
+use Rattle.ep_check_unit.specs.declared.labels.Labels.{Labels}
+use Rattle.ep_check_unit.specs.declared.labels.TagValues.{TagValues}
+use Rattle.ep_check_unit.specs.declared.records.Listing.{Listing}
 use Rattle.ep_check_unit.specs.declared.types.TheConstants as limit
 
 -- ---- names
@@ -388,39 +402,214 @@ abbrev pub sections_written : ℕ → List Section → Fielded → Judged Fielde
 sections_written line [] f = Accepts f
 sections_written line (s ∷ ss) f = when_accepted (sections_written line ss) (section_written line s f)
 
--- a field, as the denoter of a record has it, and as the rules see it
+-- ---- lists of fields: those of a record, and those of its variants (ISO 10206, 6.4.3.4)
+
+-- a list of fields that is written (its part of the denoter, its fields with its tag and those of its variants, and how many nodes it has), and what has been declared with it
+pub record Listed : Type 0 where
+  pub listing : Listing
+  pub block : Block
+
+-- a field, as a denoter has it
 abbrev pub record_field : Field → RecordField
 record_field f = roll-RecordField (record { name = f.name; denoter = f.denoter })
 
-abbrev pub field_type : Field → FieldType
-field_type f = record { name = f.name; of = f.of; kind = f.kind }
+-- the fields that are none of a variant, as the rules see them, from this number on
+abbrev pub own_fields : ℕ → List Field → List FieldType
+own_fields number [] = []
+own_fields number (f ∷ fs) = record { name = f.name; of = f.of; kind = f.kind; path = []; number = number; tag = None } ∷ own_fields (suc number) fs
 
--- the nodes of a record, which has these and those of these fields
-abbrev pub record_nodes : ℕ → List Field → ℕ
-record_nodes nodes [] = nodes
-record_nodes nodes (f ∷ fs) = record_nodes (counted nodes f.nodes) fs
+-- these nodes and those of these fields
+abbrev pub fields_nodes : ℕ → List Field → ℕ
+fields_nodes nodes [] = nodes
+fields_nodes nodes (f ∷ fs) = fields_nodes (counted nodes f.nodes) fs
 
--- all of a record, which has no variant part
-abbrev pub field_part : List Field → FieldPart
-field_part fields = roll-FieldPart (record { fields = map record_field fields; variant_part = None })
+abbrev pub field_part : List Field → Option VariantPart → FieldPart
+field_part fields variants = roll-FieldPart (record { fields = map record_field fields; variant_part = variants })
 
--- the record type with these fields (ISO 10206, 6.4.3.4)
-abbrev pub record_over : Fielded → Written
-record_over f =
-    record {
-      denoter = denoter.Record (field_part f.fields);
-      of = next_type f.block;
-      kind = kind.Structured (length f.block.types);
-      nodes = record_nodes 1 f.fields;
-      block = with_structure (record { number = length f.block.types; composition = composition.Record (map field_type f.fields) }) f.block;
+-- a list without a variant part
+abbrev pub plain_list : Fielded → Listed
+plain_list f = record { listing = record { part = field_part f.fields None; fields = own_fields 0 f.fields; nodes = fields_nodes 0 f.fields }; block = f.block }
+
+-- what a list of fields comes to in an item on a line
+abbrev pub ListJudged : Type 0
+ListJudged = ℕ → Block → Judged Listed
+
+-- a tag: its name, the denoter of its type, which type that is, its values, and how many nodes it has
+pub record Tag : Type 0 where
+  pub name : List ℕ
+  pub denoter : Denoter
+  pub of : TypeName
+  pub values : TagValues
+  pub nodes : ℕ
+
+abbrev pub tag_named : List ℕ → Written → TagValues → Tag
+tag_named name w values = record { name = name; denoter = w.denoter; of = w.of; values = values; nodes = w.nodes }
+
+-- its type is ordinal
+abbrev pub tag_of : List ℕ → Written → Judged Tag
+tag_of name w = when_accepted (λ values. Accepts (tag_named name w values)) (when_accepted (λ h. tag_values h (value_of w.block.types w.of)) (index_host w.kind))
+
+-- selection by a discriminant is not built
+abbrev pub tag_written : VariantSelector → Block → Judged Tag
+tag_written (selector.Tag at name of) b = when_accepted (tag_of name) (type_named of.first of.second b)
+tag_written (selector.Discriminant at name) b = unbuilt
+
+-- What is gathered of variants, with what has been declared behind them: their labels, their denoters, the fields of each, and how many nodes they have; and the variant that completes the others, whose fields are then the last ones.
+pub record Gathered : Type 0 where
+  pub labels : Labels
+  pub variants : List Variant
+  pub lists : List (List FieldType)
+  pub nodes : ℕ
+  pub completing : Option FieldPart
+  pub block : Block
+
+abbrev pub none_gathered : Block → Gathered
+none_gathered b = record { labels = no_labels; variants = []; lists = []; nodes = 0; completing = None; block = b }
+
+-- a variant, by its labels and its fields
+pub record VariantJudged : Type 0 where
+  pub labels : List Label
+  pub fields : ListJudged
+
+-- the nodes of a variant and of the bounds of its labels more
+abbrev pub bounds_nodes : ℕ → List CaseRange → ℕ
+bounds_nodes nodes [] = nodes
+bounds_nodes nodes (r ∷ rs) = bounds_nodes (counted nodes 2) rs
+
+abbrev pub variant_nodes : ℕ → List CaseRange → ℕ → ℕ
+variant_nodes nodes ranges inner = counted (bounds_nodes (counted nodes 1) ranges) inner
+
+-- one more, with these ranges, behind which the labels are these
+abbrev pub variant_added : List CaseRange → Labels → Listed → Gathered → Gathered
+variant_added ranges found l g =
+    record g {
+      labels = found;
+      variants = g.variants ++ roll-Variant (record { ranges = ranges; part = l.listing.part }) ∷ [];
+      lists = g.lists ++ l.listing.fields ∷ [];
+      nodes = variant_nodes g.nodes ranges l.listing.nodes;
+      block = l.block;
     }
 
-abbrev pub record_written : List Section → ℕ → Block → Judged Written
-record_written sections line b = when_accepted (λ f. Accepts (record_over f)) (sections_written line sections (record { fields = []; block = b }))
+-- the ranges of a variant, the labels behind it, and the block, which waits where they are not all built
+pub record Labelled : Type 0 where
+  pub ranges : List CaseRange
+  pub labels : Labels
+  pub block : Block
 
--- what is not judged
-abbrev pub Passed : Type 0
-Passed = Unit {0}
+abbrev pub labels_noted : ℕ → TagValues → List Label → Block → Labels → Judged Labelled
+labels_noted line t ls b found =
+    when_accepted (λ (x : List CaseRange × Labels). Accepts (record { ranges = x.0; labels = x.1; block = noted x.1.built line b })) (variant_labelled (scopes_of b) t ls found)
+
+-- its labels, and then its fields
+abbrev pub variant_written : ℕ → TagValues → VariantJudged → Gathered → Judged Gathered
+variant_written line t v g =
+    when_accepted (λ x. when_accepted (λ l. Accepts (variant_added x.ranges x.labels l g)) (v.fields line x.block)) (labels_noted line t v.labels g.block g.labels)
+
+abbrev pub variants_written : ℕ → TagValues → List VariantJudged → Gathered → Judged Gathered
+variants_written line t [] g = Accepts g
+variants_written line t (v ∷ vs) g = when_accepted (variants_written line t vs) (variant_written line t v g)
+
+-- the one that completes them, where there is one
+abbrev pub completing_added : Listed → Gathered → Gathered
+completing_added l g =
+    record g { lists = g.lists ++ l.listing.fields ∷ []; nodes = variant_nodes g.nodes [] l.listing.nodes; completing = Some l.listing.part; block = l.block }
+
+abbrev pub completing_written : ℕ → Option ListJudged → Gathered → Judged Gathered
+completing_written line None g = Accepts g
+completing_written line (Some fields) g = when_accepted (λ l. Accepts (completing_added l g)) (fields line g.block)
+
+-- no value of the tag is left out
+abbrev pub unless_left_out : TagValues → Gathered → Judged Gathered
+unless_left_out t g = when_accepted (λ _. Accepts g) (completed t g.labels (is_some g.completing))
+
+-- how the variants are selected, by a tag in the component of this number
+abbrev pub selection_of : ℕ → Gathered → Selection
+selection_of number g = record { tag = number; labels = g.labels.before; completed = is_some g.completing }
+
+-- a field of a variant of this number
+abbrev pub inside : Selection → ℕ → FieldType → FieldType
+inside s number f = record f { path = record { selection = s; variant = number } ∷ f.path }
+
+-- whether one of these fields has the name
+abbrev pub is_among_fields : List FieldType → List ℕ → Bool
+is_among_fields [] name = false
+is_among_fields (f ∷ fs) name = bytes_eq f.name name || is_among_fields fs name
+
+-- A record has one list of field names, whatever variants they are in, and no two are the same (ISO 10206, 6.2.2.7 and 6.4.3.4).
+abbrev pub fields_joined : List FieldType → List FieldType → Judged (List FieldType)
+fields_joined [] all = Accepts all
+fields_joined (f ∷ fs) all = if is_among_fields all f.name then Breaks (rule.TWICE ∷ []) else fields_joined fs (all ++ f ∷ [])
+
+-- the fields of variants from this number on more
+abbrev pub variants_joined : Selection → ℕ → List (List FieldType) → List FieldType → Judged (List FieldType)
+variants_joined s number [] all = Accepts all
+variants_joined s number (fs ∷ more) all = when_accepted (variants_joined s (suc number) more) (fields_joined (map (inside s number) fs) all)
+
+-- the tag as a field, in the component behind the other fields
+abbrev pub tag_field : Selection → Tag → FieldType
+tag_field s t =
+    record {
+      name = t.name;
+      of = t.of;
+      kind = kind.Ordinal t.values.host;
+      path = [];
+      number = s.tag;
+      tag = Some (record { selection = s; host = t.values.host; low = t.values.low; high = t.values.high });
+    }
+
+-- the fields of a list with a variant part: its own, the tag, and those of the variants
+abbrev pub all_fields : Selection → Tag → List Field → List (List FieldType) → Judged (List FieldType)
+all_fields s t fields lists = when_accepted (variants_joined s 0 lists) (fields_joined (tag_field s t ∷ []) (own_fields 0 fields))
+
+-- the variant part, as a denoter has it
+abbrev pub variant_part : Tag → Gathered → VariantPart
+variant_part t g = roll-VariantPart (record { selector = written_selector.Tag t.name t.denoter; variants = g.variants; completing = g.completing })
+
+-- a list with these variants
+abbrev pub variant_listing : Fielded → Tag → Gathered → List FieldType → Listed
+variant_listing f t g fields =
+    record {
+      listing = record { part = field_part f.fields (Some (variant_part t g)); fields = fields; nodes = counted (counted (fields_nodes 0 f.fields) t.nodes) g.nodes };
+      block = g.block;
+    }
+
+abbrev pub variant_list : Fielded → Tag → Gathered → Judged Listed
+variant_list f t g = when_accepted (λ fields. Accepts (variant_listing f t g fields)) (all_fields (selection_of (length f.fields) g) t f.fields g.lists)
+
+-- a variant part behind the fields of its list
+abbrev pub PartJudged : Type 0
+PartJudged = ℕ → Fielded → Judged Listed
+
+abbrev pub variants_after : ℕ → List VariantJudged → Option ListJudged → Fielded → Tag → Judged Listed
+variants_after line variants other f t =
+    when_accepted (variant_list f t) (when_accepted (unless_left_out t.values) (when_accepted (completing_written line other) (variants_written line t.values variants (none_gathered f.block))))
+
+abbrev pub variant_part_written : VariantSelector → List VariantJudged → Option ListJudged → PartJudged
+variant_part_written s variants other line f = when_accepted (variants_after line variants other f) (tag_written s f.block)
+
+-- fields that are written, with what follows them
+abbrev pub list_ended : ℕ → Option PartJudged → Fielded → Judged Listed
+list_ended line None f = Accepts (plain_list f)
+list_ended line (Some part) f = part line f
+
+abbrev pub list_written : List Section → Option PartJudged → ListJudged
+list_written sections part line b = when_accepted (list_ended line part) (sections_written line sections (record { fields = []; block = b }))
+
+-- the record type with these fields (ISO 10206, 6.4.3.4)
+abbrev pub record_over : Listed → Written
+record_over l =
+    record {
+      denoter = denoter.Record l.listing.part;
+      of = next_type l.block;
+      kind = kind.Structured (length l.block.types);
+      nodes = counted 1 l.listing.nodes;
+      block = with_structure (record { number = length l.block.types; composition = composition.Record l.listing.fields }) l.block;
+    }
+
+abbrev pub record_written : ListJudged → ℕ → Block → Judged Written
+record_written fields line b = when_accepted (λ l. Accepts (record_over l)) (fields line b)
+
+-- ---- denoters, node by node
 
 -- a structure is no name
 abbrev pub structured : Part → Part
@@ -430,31 +619,32 @@ structured p = record { is_name = false; written = p.written }
 abbrev pub unbuilt_part : Part
 unbuilt_part = record { is_name = false; written = λ line b. unbuilt }
 
--- the fields of a record, whose variants are not built
-abbrev pub fields_over : List Section → Option Passed → Part
-fields_over sections None = record { is_name = false; written = record_written sections }
-fields_over sections (Some variants) = unbuilt_part
+abbrev pub at_variant : Variant-F Part Part Section ListJudged Part Part VariantJudged PartJudged → VariantJudged
+at_variant v = record { labels = v.labels; fields = v.fields }
 
-abbrev pub at_fields : Fields-F Part Part Section Part Part Part Passed Passed → Part
-at_fields f = fields_over f.sections f.variants
+abbrev pub at_variant_part : VariantPart-F Part Part Section ListJudged Part Part VariantJudged PartJudged → PartJudged
+at_variant_part p = variant_part_written p.selector p.variants p.otherwise
 
-abbrev pub at_field_section : FieldSection-F Part Part Section Part Part Part Passed Passed → Section
+abbrev pub at_fields : Fields-F Part Part Section ListJudged Part Part VariantJudged PartJudged → ListJudged
+at_fields f = list_written f.sections f.variants
+
+abbrev pub at_field_section : FieldSection-F Part Part Section ListJudged Part Part VariantJudged PartJudged → Section
 at_field_section s = record { names = s.names; of = s.of }
 
-abbrev pub at_plain : Plain-F Part Part Section Part Part Part Passed Passed → Part
+abbrev pub at_plain : Plain-F Part Part Section ListJudged Part Part VariantJudged PartJudged → Part
 at_plain p = p.core
 
-abbrev pub at_type_denoter : TypeDenoter-F Part Part Section Part Part Part Passed Passed → Part
+abbrev pub at_type_denoter : TypeDenoter-F Part Part Section ListJudged Part Part VariantJudged PartJudged → Part
 at_type_denoter t = t.plain
 
 -- a structure, which is an array, a record or a set
-abbrev pub at_structure : Structure-F Part Part Section Part Part Part Passed Passed → Part
+abbrev pub at_structure : Structure-F Part Part Section ListJudged Part Part VariantJudged PartJudged → Part
 at_structure (Structure-F.Array at indexes component) = structured (array_part component indexes)
-at_structure (Structure-F.Record at fields) = structured fields
+at_structure (Structure-F.Record at fields) = record { is_name = false; written = record_written fields }
 at_structure (Structure-F.Set at base) = record { is_name = false; written = set_written base }
 
 -- a denoter
-abbrev pub at_core : Core-F Part Part Section Part Part Part Passed Passed → Part
+abbrev pub at_core : Core-F Part Part Section ListJudged Part Part VariantJudged PartJudged → Part
 at_core (Core-F.Named at name tuple) = record { is_name = true; written = λ line b. type_named name.first name.second b }
 at_core (Core-F.Range at low high) = record { is_name = false; written = λ line b. both (range line b) (bound_judged (scopes_of b) low) (bound_judged (scopes_of b) high) }
 at_core (Core-F.Enumeration at names) = record { is_name = false; written = λ line b. enumeration names b }
@@ -462,20 +652,26 @@ at_core (Core-F.Structured at packed structure) = structure
 at_core _ = unbuilt_part
 
 abbrev pub core_part : Core → Part
-core_part = fold-Core Part Part Section Part Part Part Passed Passed at_core at_structure at_field_section at_fields at_plain at_type_denoter (λ v. tt) (λ v. tt)
+core_part = fold-Core Part Part Section ListJudged Part Part VariantJudged PartJudged at_core at_structure at_field_section at_fields at_plain at_type_denoter at_variant at_variant_part
 
--- that of a structure, of fields and of a section of them, and that of a plain denoter
+-- that of a structure, of fields and of a section of them, of a variant part and of a variant, and that of a plain denoter
 abbrev pub structure_part : Structure → Part
-structure_part = fold-Structure Part Part Section Part Part Part Passed Passed at_core at_structure at_field_section at_fields at_plain at_type_denoter (λ v. tt) (λ v. tt)
+structure_part = fold-Structure Part Part Section ListJudged Part Part VariantJudged PartJudged at_core at_structure at_field_section at_fields at_plain at_type_denoter at_variant at_variant_part
 
-abbrev pub fields_part : Fields → Part
-fields_part = fold-Fields Part Part Section Part Part Part Passed Passed at_core at_structure at_field_section at_fields at_plain at_type_denoter (λ v. tt) (λ v. tt)
+abbrev pub fields_judged : Fields → ListJudged
+fields_judged = fold-Fields Part Part Section ListJudged Part Part VariantJudged PartJudged at_core at_structure at_field_section at_fields at_plain at_type_denoter at_variant at_variant_part
 
 abbrev pub section_part : FieldSection → Section
-section_part = fold-FieldSection Part Part Section Part Part Part Passed Passed at_core at_structure at_field_section at_fields at_plain at_type_denoter (λ v. tt) (λ v. tt)
+section_part = fold-FieldSection Part Part Section ListJudged Part Part VariantJudged PartJudged at_core at_structure at_field_section at_fields at_plain at_type_denoter at_variant at_variant_part
+
+abbrev pub variants_judged : VariantPartTree → PartJudged
+variants_judged = fold-VariantPart Part Part Section ListJudged Part Part VariantJudged PartJudged at_core at_structure at_field_section at_fields at_plain at_type_denoter at_variant at_variant_part
+
+abbrev pub variant_judged : VariantTree → VariantJudged
+variant_judged = fold-Variant Part Part Section ListJudged Part Part VariantJudged PartJudged at_core at_structure at_field_section at_fields at_plain at_type_denoter at_variant at_variant_part
 
 abbrev pub plain_part : Plain → Part
-plain_part = fold-Plain Part Part Section Part Part Part Passed Passed at_core at_structure at_field_section at_fields at_plain at_type_denoter (λ v. tt) (λ v. tt)
+plain_part = fold-Plain Part Part Section ListJudged Part Part VariantJudged PartJudged at_core at_structure at_field_section at_fields at_plain at_type_denoter at_variant at_variant_part
 
 abbrev pub core_written : ℕ → Core → Block → Judged Written
 core_written line c b = (core_part c).written line b

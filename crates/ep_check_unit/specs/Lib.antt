@@ -3,5 +3,6 @@ pub mod Blocks
 pub mod Checks
 pub mod Declarations
 pub mod Functions
+pub mod Labels
 pub mod Routines
 pub mod Units

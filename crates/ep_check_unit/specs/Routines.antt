@@ -22,7 +22,7 @@ use Rattle.ep_typed.specs.declared.interface.FormalMode.TheVariants as mode
 use Rattle.ep_typed.specs.declared.unit.UnitVariable.{UnitVariable}
 use Rattle.ep_scope.specs.Parameters.{protection_of, same_parameters}
 use Rattle.ep_scope.specs.Required.{look_up}
-use Rattle.ep_scope.specs.Scopes.{opened, closed}
+use Rattle.ep_scope.specs.Scopes.{Region, opened, closed}
 use Rattle.ep_scope.specs.declared.kind.Kind.{Kind}
 use Rattle.ep_scope.specs.declared.parameter.FormalParameter.{FormalParameter}
 use Rattle.ep_scope.specs.declared.parameter.TypeName.{TypeName}
@@ -34,6 +34,7 @@ use Rattle.ep_scope.specs.declared.thing.Thing.TheVariants as thing
 use Rattle.ep_check_expr.specs.Judgements.{Judged, Accepts, Breaks, unbuilt, when_accepted}
 use Rattle.ep_check_stmt.specs.Auxiliaries.{has_for, has_for_in}
 use Rattle.ep_check_stmt.specs.Statements.{Context, Locals, OfUnit, OfRoutine, Judgement, Passes, Waits, Fails, compound_judged}
+use Rattle.ep_check_stmt.specs.Tags.{assigns_tag}
 use Rattle.ep_check_stmt.specs.Threats.{assigns}
 use Rattle.ep_check_unit.specs.Blocks.{Block, RoutineForm, around_of, first_own, own_count}
 pub use Rattle.ep_check_unit.specs.Blocks.{has_number}
@@ -240,16 +241,20 @@ abbrev pub first_auxiliary : Locals → ℕ
 first_auxiliary (OfUnit unit auxiliary) = auxiliary
 first_auxiliary (OfRoutine routine first auxiliary) = auxiliary
 
--- that of the one of `for` over members, which stands behind the two of `for` with bounds, where the statements have such a `for`
-abbrev pub members_of : Locals → Compound → ℕ
-members_of locals c = first_auxiliary locals + (if has_for c then 2 else 0)
+-- whether the statements have a `for` with bounds or an assignment to a tag, in view of scopes
+abbrev pub has_bounds : List Region → Compound → Bool
+has_bounds scopes c = has_for c || assigns_tag scopes c
+
+-- that of the one of `for` over members, which stands behind the two of `for` with bounds and of assignments to tags, where the statements have such ones
+abbrev pub members_of : List Region → Locals → Compound → ℕ
+members_of scopes locals c = first_auxiliary locals + (if has_bounds scopes c then 2 else 0)
 
 -- that of the first one of `with`, which stands behind that one, where the statements have such a `for`
 abbrev pub withs_behind : ℕ → Compound → ℕ
 withs_behind members c = members + (if has_for_in c then 1 else 0)
 
-abbrev pub withs_of : Locals → Compound → ℕ
-withs_of locals c = withs_behind (members_of locals c) c
+abbrev pub withs_of : List Region → Locals → Compound → ℕ
+withs_of scopes locals c = withs_behind (members_of scopes locals c) c
 
 -- what the statements of the block know
 abbrev pub context_of : Block → Compound → Context
@@ -260,9 +265,9 @@ context_of b c =
       output = b.output;
       results = assigned_functions b.own.enclosing;
       locals = locals_of b;
-      members = members_of (locals_of b) c;
+      members = members_of (scopes_of b) (locals_of b) c;
       routines = b.routines;
-      withs = withs_of (locals_of b) c;
+      withs = withs_of (scopes_of b) (locals_of b) c;
     }
 
 abbrev pub statements_judged : Block → Compound → Judgement Stmts

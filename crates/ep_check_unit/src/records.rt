@@ -1,11 +1,13 @@
-//! Record types as an item writes them.
+//! Records and their lists of fields as an item writes them; src/variants.rt has variants.
 
-ghost use Rattle.std.specs.Prelude.{◌≡◌, IfOk, map};
+ghost use Rattle.std.specs.Prelude.{◌≡◌, IfOk, None, map};
+ghost use Rattle.ep_typed.specs.declared.denoter.FieldPart.{FieldPart};
 ghost use Rattle.ep_check_expr.specs.Judgements.{Accepts};
 ghost use Rattle.ep_check_stmt.specs.Answers.{AnswersForm};
-ghost use Rattle.ep_check_unit.specs.Answers.{field_in, field_named, fields_in, written_in};
-ghost use Rattle.ep_check_unit.specs.Blocks.{block_of};
-ghost use Rattle.ep_check_unit.specs.Declarations.{field_type, fields_named, has_field, record_field, record_nodes, record_over};
+ghost use Rattle.ep_check_unit.specs.Answers.{field_in, field_named, fields_in, listed_in, written_in};
+ghost use Rattle.ep_check_unit.specs.Blocks.{Block as BlockNow, block_of};
+ghost use Rattle.ep_check_unit.specs.Declarations as spec;
+ghost use Rattle.ep_check_unit.specs.Declarations.{fields_named, fields_nodes, has_field, record_field, record_over};
 
 use crate::block::{Block, number};
 use crate::types::{NamedType, Written, counted, type_denoter};
@@ -15,7 +17,7 @@ use ep_scope::{Composition, FieldType, FieldTypes, Kind, StructuredType, TypeNam
 use ep_typed::{Denoter, FieldPart, RecordField, RecordFields};
 use std::alloc::Global;
 
-/// A field of a record that is written (ISO 10206, 6.4.3.4).
+/// A field of a record or of a variant that is written (ISO 10206, 6.4.3.4).
 pub(crate) struct WrittenField {
     /// Its name.
     pub(crate) name: Name,
@@ -29,8 +31,43 @@ impl Drop for WrittenField {
     }
 }
 
-/// Fields of a record that are written, in order.
+/// Fields of a record or of a variant that are written, in order.
 pub(crate) type WrittenFields = List<WrittenField>;
+
+/// A list of fields that is written, with its variant part.
+pub(crate) struct Listing {
+    /// As a denoter has it.
+    pub(crate) part: FieldPart,
+    /// Its fields, tags and fields of variants among them, as the rules see them.
+    pub(crate) fields: FieldTypes,
+    /// How many nodes it has.
+    pub(crate) nodes: u32,
+}
+
+impl Drop for Listing {
+    fn drop(self) {
+        let Listing {
+            part: _,
+            fields: _,
+            nodes: _,
+        } = self;
+    }
+}
+
+impl Listing {
+    /// As a denoter has it, and its fields.
+    pub(crate) fn into_parts(self) -> (FieldPart, FieldTypes)
+        ensures part { result.0 ≡ self.part }
+        ensures fields { result.1 ≡ self.fields }
+    {
+        let Listing {
+            part,
+            fields,
+            nodes: _,
+        } = self;
+        (part, fields)
+    }
+}
 
 /// Whether a field has the name.
 fn has_field(fields: &[WrittenField], name: &Name) -> bool
@@ -64,8 +101,8 @@ pub(crate) fn add_fields(
     Ok(())
 }
 
-/// Fields, as the denoter of a record has them.
-fn denoted(alloc: Global, fields: &[WrittenField]) -> Result<RecordFields, NoMemory>
+/// Fields, as a denoter has them.
+pub(crate) fn denoted(alloc: Global, fields: &[WrittenField]) -> Result<RecordFields, NoMemory>
     ensures { IfOk result (λ all. all ≡ map record_field (map field_in fields.now)) }
 {
     let mut all = List::new(alloc);
@@ -77,56 +114,71 @@ fn denoted(alloc: Global, fields: &[WrittenField]) -> Result<RecordFields, NoMem
     Ok(all)
 }
 
-/// Fields, as the rules see them.
-fn typed(alloc: Global, fields: &[WrittenField]) -> Result<FieldTypes, NoMemory>
-    ensures { IfOk result (λ all. all ≡ map field_type (map field_in fields.now)) }
+/// Fields that are none of a variant, as the rules see them.
+pub(crate) fn own_fields(alloc: Global, fields: &[WrittenField]) -> Result<FieldTypes, Refusal>
+    ensures { AnswersForm (λ all. all) result (Accepts (spec.own_fields 0 (map field_in fields.now))) }
 {
     let mut all = List::new(alloc);
-    for field in fields {
+    for (place, field) in fields.iter().enumerate() {
         let name = field.name.copy(alloc)?;
-        let of = field.of.of;
-        let kind = field.of.kind;
-        all.push(FieldType { name, of, kind })?;
+        all.push(FieldType {
+            name,
+            of: field.of.of,
+            kind: field.of.kind,
+            path: List::new(alloc),
+            number: number(place)?,
+            tag: None,
+        })?;
     }
     Ok(all)
 }
 
-/// The nodes of a record with these fields.
-fn nodes(fields: &[WrittenField]) -> u32
-    ensures { result ≡ record_nodes 1 (map field_in fields.now) }
+/// The nodes of these fields.
+pub(crate) fn nodes(fields: &[WrittenField]) -> u32
+    ensures { result ≡ fields_nodes 0 (map field_in fields.now) }
 {
-    let mut nodes = 1;
+    let mut nodes = 0;
     for field in fields {
         nodes = counted(nodes, field.of.nodes);
     }
     nodes
 }
 
+/// A list of these fields, without a variant part.
+pub(crate) fn plain_list(alloc: Global, fields: &[WrittenField]) -> Result<Listing, Refusal>
+    ensures { (b : BlockNow) → AnswersForm (listed_in b) result
+        (Accepts (spec.plain_list (fields_in b fields.now))) }
+{
+    let own = own_fields(alloc, fields)?;
+    let part = FieldPart {
+        fields: denoted(alloc, fields)?,
+        variant_part: None,
+    };
+    Ok(Listing {
+        part,
+        fields: own,
+        nodes: nodes(fields),
+    })
+}
+
 impl Block {
     /// The record type with these fields.
-    pub(crate) fn record_over(
-        &mut self,
-        alloc: Global,
-        fields: &[WrittenField],
-    ) -> Result<Written, Refusal>
+    pub(crate) fn record_over(&mut self, listing: Listing) -> Result<Written, Refusal>
         ensures { AnswersForm (written_in (block_of self.new)) result
-            (Accepts (record_over (fields_in (block_of self.old) fields.now))) }
+            (Accepts (record_over (listed_in (block_of self.old) listing))) }
     {
         let number = number(self.types.items().len())?;
-        let part = FieldPart {
-            fields: denoted(alloc, fields)?,
-            variant_part: None,
-        };
-        let composition = Composition::Record(typed(alloc, fields)?);
+        let nodes = counted(1, listing.nodes);
+        let (part, fields) = listing.into_parts();
         self.scopes.add_structure(StructuredType {
             number,
-            composition,
+            composition: Composition::Record(fields),
         })?;
         Ok(Written {
             denoter: Denoter::Record(part),
             of: TypeName::Entry(number),
             kind: Kind::Structured(number),
-            nodes: nodes(fields),
+            nodes,
         })
     }
 }

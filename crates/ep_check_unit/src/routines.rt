@@ -1,20 +1,23 @@
 //! The parts of a block, and declarations of procedures and functions.
 
-ghost use Rattle.std.specs.Prelude.{◌≡◌, None, true, false, map};
+ghost use Rattle.std.specs.Prelude.{◌≡◌, None, true, false, IfOk, map};
 ghost use Rattle.ep_built.specs.Built.{compound_unbuilt, first_in, part_unbuilt, routine_unbuilt, start_unbuilt};
 ghost use Rattle.ep_typed.specs.Trees as tree;
 ghost use Rattle.ep_check_stmt.specs.Answers.{AnswersRow, locals_of as locals_view, passed, stmts_of};
 ghost use Rattle.ep_check_unit.specs.Answers.{AnswersLocals, AnswersNumber, AnswersStanding, headed_in};
 ghost use Rattle.ep_check_unit.specs.Blocks.{block_of, routine_form};
 ghost use Rattle.ep_check_unit.specs.Declarations.{Stands};
-ghost use Rattle.ep_check_unit.specs.Routines.{all_declared, block_declared, body_closed, body_declared, forwarded, headed_then, inside_declared, locals_of, members_of, part_judged, routine_judged, start_headed, start_name, statements_judged, with_block, with_its_block, withs_behind};
+ghost use Rattle.ep_check_unit.specs.Routines.{all_declared, block_declared, body_closed, body_declared, forwarded, has_bounds, headed_then, inside_declared, locals_of, members_of, part_judged, routine_judged, start_headed, start_name, statements_judged, with_block, with_its_block, withs_behind};
 
 use crate::block::{Block, Forward, OwnVariables, number};
 use crate::functions::if_given;
 use crate::headings::{Heading, start_name};
-use ep_base::{Line, Name};
+use ep_base::{Line, Name, NoMemory};
 use ep_check_expr::Refusal;
-use ep_check_stmt::{CheckRefusal, Context, Locals, Outcome, has_for, has_for_in, refused_at};
+use ep_check_stmt::{
+    CheckRefusal, Context, Locals, Outcome, assigns_tag, has_for, has_for_in, refused_at,
+};
+use ep_scope::View;
 use ep_tree::{Compound, Part, Routine, RoutineBody, RoutineStart};
 use ep_typed::{TypedStmt, TypedStmts, UnitRoutine, UnitVariables};
 use std::alloc::Global;
@@ -36,19 +39,35 @@ fn take_block(
     routine.line = line;
 }
 
-/// How many auxiliary variables `for` statements with bounds have (ISO 10206, 6.9.3.9.2).
+/// How many auxiliary variables `for` statements with bounds and assignments to tags have (ISO 10206, 6.9.3.9.2 and 6.5.3.3).
 const BOUNDS: u32 = 2;
 
-/// The number of the auxiliary variable of `for` statements over members among these variables of a block, which stands
-/// behind those of `for` statements with bounds, where its statements have such a one.
-fn members_of(locals: Locals<'_>, statements: &Compound) -> Result<u32, Refusal>
-    ensures { AnswersNumber (members_of (locals_view locals.entry) statements.now) result }
+/// Whether the statements of a block have a `for` with bounds or an assignment to a tag, in view of these scopes.
+fn has_bounds(alloc: Global, scopes: &View<'_>, statements: &Compound) -> Result<bool, NoMemory>
+    ensures { IfOk result (λ has. has ≡ has_bounds scopes.now statements.now) }
+{
+    if has_for(statements) {
+        return Ok(true);
+    }
+    assigns_tag(alloc, scopes, statements)
+}
+
+/// The number of the auxiliary variable of `for` statements over members among these variables of a block, in view of these
+/// scopes. It stands behind those of `for` statements with bounds and of assignments to tags, where its statements have
+/// such ones.
+fn members_of(
+    alloc: Global,
+    scopes: &View<'_>,
+    locals: Locals<'_>,
+    statements: &Compound,
+) -> Result<u32, Refusal>
+    ensures { AnswersNumber (members_of scopes.now (locals_view locals.entry) statements.now) result }
 {
     let first = match locals {
         Locals::Unit(_, auxiliary) => auxiliary,
         Locals::Routine(_, _, auxiliary) => auxiliary,
     };
-    if !has_for(statements) {
+    if !has_bounds(alloc, scopes, statements)? {
         return Ok(first);
     }
     match first.checked_add(BOUNDS) {
@@ -247,7 +266,8 @@ impl Block {
             Ok(locals) => locals,
             Err(refusal) => return Err(refused_at(body.line, refusal)),
         };
-        let members = match members_of(locals, body) {
+        let scopes = self.scopes.in_view();
+        let members = match members_of(alloc, &scopes, locals, body) {
             Ok(members) => members,
             Err(refusal) => return Err(refused_at(body.line, refusal)),
         };
@@ -256,7 +276,6 @@ impl Block {
             Err(refusal) => return Err(refused_at(body.line, refusal)),
         };
         let results = self.assigned_functions(alloc)?;
-        let scopes = self.scopes.in_view();
         let context = Context {
             alloc,
             unit: &self.unit,

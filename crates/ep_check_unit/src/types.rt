@@ -1,25 +1,30 @@
 //! Types as an item writes them.
 
 ghost use Rattle.std.specs.Prelude.{◌≡◌, ◌&&◌, ℕ, List, [], None, IfOk, IsTrue, map};
-ghost use Rattle.ep_built.specs.Built.{core_unbuilt, expression_unbuilt, field_section_unbuilt, fields_unbuilt, first_in, plain_unbuilt, structure_unbuilt};
+ghost use Rattle.std.specs.Option.{option_map};
+ghost use Rattle.ep_built.specs.Built.{core_unbuilt, expression_unbuilt, field_section_unbuilt, fields_unbuilt, first_if, first_in, plain_unbuilt, structure_unbuilt, variant_part_unbuilt, variant_unbuilt};
 ghost use Rattle.ep_scope.specs.Meanings.{meant_by};
 ghost use Rattle.ep_check_expr.specs.Constants.{bound_judged};
 ghost use Rattle.ep_check_expr.specs.Judgements.{Accepts, both, when_accepted};
 ghost use Rattle.ep_check_stmt.specs.Answers.{AnswersForm, fails_among};
-ghost use Rattle.ep_check_unit.specs.Answers.{AnswersBlock, arrays_below, fields_in, index_of, indexes_written, named_in, written_in};
+ghost use Rattle.ep_check_unit.specs.Answers.{AnswersBlock, arrays_below, fields_in, gathered_in, index_of, indexes_written, listed_in, named_in, written_in};
 ghost use Rattle.ep_check_unit.specs.Declarations as spec;
 ghost use Rattle.ep_check_unit.specs.Blocks.{Block as BlockNow, block_of};
-ghost use Rattle.ep_check_unit.specs.Declarations.{array_over, common_host, core_written, counted, unless_large, index_host, plain_part, settled, settled_part, settled_type, structure_part, fields_part, section_part, sections_written, enumerated, enumeration, host_denoter, next_type, number_in, ordered, range, required_host, scopes_of, subrange_denoter, type_denoter, type_meant};
+ghost use Rattle.ep_check_unit.specs.Declarations.{array_over, common_host, core_written, counted, unless_large, index_host, plain_part, settled, settled_part, settled_type, structure_part, completing_written, fields_judged, none_gathered, record_written, section_part, variant_judged, variant_written, variants_judged, variants_written, sections_written, enumerated, enumeration, host_denoter, next_type, number_in, ordered, range, required_host, scopes_of, subrange_denoter, type_denoter, type_meant};
 
 use crate::block::{Block, number};
-use crate::records::{WrittenFields, add_fields};
+use crate::labels::TagValues;
+use crate::records::{Listing, WrittenField, WrittenFields, add_fields, plain_list};
+use crate::variants::{Gathered, variant_list};
 use ep_base::{Boxed, Line, List, Name, Names, NoMemory};
 use ep_check_expr::{ConstantForm, Refusal, bound_value, undeclared};
 use ep_scope::{
     ArrayType, Composition, Declaration, Enumeration, Host, Kind, Meaning, Required,
     StructuredType, TypeName, meaning_in, meaning_of, rule, same_host,
 };
-use ep_tree::{Core, Expression, FieldSection, Fields, Plain, QualifiedName, Structure};
+use ep_tree::{
+    Core, Expression, FieldSection, Fields, Plain, QualifiedName, Structure, Variant, VariantPart,
+};
 use ep_typed::{Bound, Denoter, RequiredType, Value};
 use std::alloc::Global;
 
@@ -402,15 +407,113 @@ impl Block {
         }
     }
 
-    /// `"record" fields "end"`, without variants.
+    /// `"record" fields "end"`
     #[cycle(denoters)]
     fn record(&mut self, alloc: Global, line: Line, fields: &Fields) -> Result<Written, Refusal>
         requires { fields_unbuilt fields.now ≡ None }
         ensures { AnswersForm (written_in (block_of self.new)) result
-            ((fields_part fields.now).written line (block_of self.old)) }
+            (record_written (fields_judged fields.now) line (block_of self.old)) }
     {
-        let all = self.sections(alloc, line, fields.sections.items())?;
-        self.record_over(alloc, all.items())
+        let listing = self.fields(alloc, line, fields)?;
+        self.record_over(listing)
+    }
+
+    /// `fields`, of a record or of a variant
+    #[cycle(denoters)]
+    fn fields(&mut self, alloc: Global, line: Line, fields: &Fields) -> Result<Listing, Refusal>
+        requires { fields_unbuilt fields.now ≡ None }
+        ensures { AnswersForm (listed_in (block_of self.new)) result
+            (fields_judged fields.now line (block_of self.old)) }
+    {
+        let own = self.sections(alloc, line, fields.sections.items())?;
+        match &fields.variants {
+            None => plain_list(alloc, own.items()),
+            Some(part) => self.variant_part(alloc, line, own.items(), part.get()),
+        }
+    }
+
+    /// `vpart`, behind the fields of its list
+    #[cycle(denoters)]
+    fn variant_part(
+        &mut self,
+        alloc: Global,
+        line: Line,
+        own: &[WrittenField],
+        part: &VariantPart,
+    ) -> Result<Listing, Refusal>
+        requires { variant_part_unbuilt part.now ≡ None }
+        ensures { AnswersForm (listed_in (block_of self.new)) result
+            (variants_judged part.now line (fields_in (block_of self.old) own.now)) }
+    {
+        let tag = self.tag(&part.selector)?;
+        let gathered = self.variants(alloc, line, tag.values, part.variants.items())?;
+        let gathered = self.completing(alloc, line, &part.otherwise, gathered)?;
+        let gathered = gathered.unless_left_out(tag.values)?;
+        variant_list(alloc, own, tag, gathered)
+    }
+
+    /// `variant { ";" variant }`
+    #[cycle(denoters)]
+    fn variants(
+        &mut self,
+        alloc: Global,
+        line: Line,
+        values: TagValues,
+        variants: &[Variant],
+    ) -> Result<Gathered, Refusal>
+        requires { first_in (map variant_unbuilt variants.now) ≡ None }
+        ensures { AnswersForm (gathered_in (block_of self.new)) result
+            (variants_written line values (map variant_judged variants.now) (none_gathered (block_of self.old))) }
+    {
+        let mut gathered = Gathered::new(alloc);
+        for variant in variants {
+            gathered = self.variant(alloc, line, values, variant, gathered)?;
+        }
+        Ok(gathered)
+    }
+
+    /// `variant`, behind others
+    #[cycle(denoters)]
+    fn variant(
+        &mut self,
+        alloc: Global,
+        line: Line,
+        values: TagValues,
+        variant: &Variant,
+        before: Gathered,
+    ) -> Result<Gathered, Refusal>
+        requires { variant_unbuilt variant.now ≡ None }
+        ensures { AnswersForm (gathered_in (block_of self.new)) result
+            (variant_written line values (variant_judged variant.now) (gathered_in (block_of self.old) before)) }
+    {
+        let mut gathered = before;
+        let labels = variant.labels.items();
+        let ranges = self.variant_labels(alloc, line, values, labels, &mut gathered.labels)?;
+        let listing = self.fields(alloc, line, &variant.fields)?;
+        gathered.add(ranges, listing)?;
+        Ok(gathered)
+    }
+
+    /// `[ "otherwise" "(" fields ")" ]`, behind the variants
+    #[cycle(denoters)]
+    fn completing(
+        &mut self,
+        alloc: Global,
+        line: Line,
+        other: &Option<Boxed<Fields>>,
+        before: Gathered,
+    ) -> Result<Gathered, Refusal>
+        requires { first_if (option_map fields_unbuilt other.now) ≡ None }
+        ensures { AnswersForm (gathered_in (block_of self.new)) result
+            (completing_written line (option_map fields_judged other.now) (gathered_in (block_of self.old) before)) }
+    {
+        let Some(fields) = other else {
+            return Ok(before);
+        };
+        let mut gathered = before;
+        let listing = self.fields(alloc, line, fields.get())?;
+        gathered.complete(alloc, listing)?;
+        Ok(gathered)
     }
 
     /// `fsec { ";" fsec }`

@@ -3,6 +3,6 @@ use Rattle.std.specs.Prelude.{ℕ, List, Option, position}
 use Rattle.std.specs.Str.{bytes_eq}
 use Rattle.ep_scope.specs.declared.structure.FieldType.{FieldType}
 
--- the number of the field of this name, counted from 0
+-- the place of the field of this name among these, counted from 0
 abbrev pub field_number : List FieldType → List ℕ → Option ℕ
 field_number fields name = position (λ f. bytes_eq f.name name) fields

@@ -7,7 +7,7 @@ use Rattle.ep_scope.specs.declared.record.OpenField.{OpenField}
 use Rattle.ep_scope.specs.Records.{variable_of}
 
 abbrev pub field_meant : OpenField → scope.OpenField
-field_meant f = record { variable = variable_of f.variable; guarded = f.protection; number = f.number; of = f.of; kind = f.kind }
+field_meant f = record { variable = variable_of f.variable; guarded = f.protection; field = f.field.now }
 
 abbrev pub meant_by : Meaning → Meant
 meant_by (meaning.Declared declared) = Declares declared.now

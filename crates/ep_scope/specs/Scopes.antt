@@ -6,9 +6,7 @@ use Rattle.ep_typed.specs.declared.tree.StandardFile.{StandardFile}
 use Rattle.ep_scope.specs.Fields.{field_number}
 use Rattle.ep_scope.specs.Required.{look_up, required_of}
 use Rattle.ep_scope.specs.declared.required.Required.{Required}
-use Rattle.ep_scope.specs.declared.kind.Kind.{Kind}
 use Rattle.ep_scope.specs.declared.parameter.Protection.{Protection}
-use Rattle.ep_scope.specs.declared.parameter.TypeName.{TypeName}
 use Rattle.ep_scope.specs.declared.structure.Composition.{Composition}
 use Rattle.ep_scope.specs.declared.structure.FieldType.{FieldType}
 use Rattle.ep_scope.specs.declared.structure.StructuredType.{StructuredType}
@@ -21,19 +19,17 @@ abbrev pub Entries : Type 0
 Entries = List (List ℕ × Thing)
 
 -- A record that is open by `with` (ISO 10206, 6.9.3.10): the variable that stands for it, whether it is protected, and its
--- fields, whose names stand for those of the variable.
+-- fields, tags and those of variants among them, whose names stand for those of the variable.
 pub record OpenRecord : Type 0 where
   pub variable : Entire
   pub guarded : Protection
   pub fields : List FieldType
 
--- one of its fields, by its number
+-- one of its fields
 pub record OpenField : Type 0 where
   pub variable : Entire
   pub guarded : Protection
-  pub number : ℕ
-  pub of : TypeName
-  pub kind : Kind
+  pub field : FieldType
 
 -- what a scope has under names, what its interfaces have (ISO 10206, 6.2.2 and 6.11.3), the structured types that are
 -- written in it, and the records that are open in it, the innermost first
@@ -96,14 +92,15 @@ pub data Meant : Type 0 where
   FieldOf : (field : OpenField) → Meant
   Nothing : Meant
 
--- the field of this number
-abbrev pub field_if : OpenRecord → ℕ → Option FieldType → Option OpenField
-field_if r number None = None
-field_if r number (Some f) = Some (record { variable = r.variable; guarded = r.guarded; number = number; of = f.of; kind = f.kind })
+-- the field, where there is one
+abbrev pub field_if : OpenRecord → Option FieldType → Option OpenField
+field_if r None = None
+field_if r (Some f) = Some (record { variable = r.variable; guarded = r.guarded; field = f })
 
+-- the one at this place among its fields
 abbrev pub field_at : OpenRecord → Option ℕ → Option OpenField
 field_at r None = None
-field_at r (Some number) = field_if r number (slice_get r.fields number)
+field_at r (Some place) = field_if r (slice_get r.fields place)
 
 -- the field of this name
 abbrev pub field_of : OpenRecord → List ℕ → Option OpenField

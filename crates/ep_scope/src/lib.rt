@@ -15,6 +15,7 @@ mod required;
 pub mod rule;
 mod scope;
 mod scopes;
+mod selection;
 mod structure;
 mod thing;
 mod view;
@@ -29,6 +30,10 @@ pub use record::{OpenField, OpenRecord, RecordVariable};
 pub use required::{Function, Procedure, Required, RequiredConstant, required_identifier};
 pub use scope::{Scope, ScopeRefusal};
 pub use scopes::Scopes;
-pub use structure::{ArrayType, Composition, FieldType, FieldTypes, StructuredType, field_number};
+pub use selection::SharedSelection;
+pub use structure::{
+    ArrayType, Composition, FieldType, FieldTypes, StructuredType, TagType, VariantPath,
+    VariantStep, field_number,
+};
 pub use thing::{Declaration, Declared, Thing};
 pub use view::{Inner, View, depth_in, meaning_in, meaning_of, structure_of};

@@ -6,8 +6,7 @@ ghost use Rattle.ep_scope.specs.Meanings.{field_meant};
 ghost use Rattle.ep_scope.specs.Records.{open_of};
 ghost use Rattle.ep_scope.specs.Scopes.{field_among, field_of};
 
-use crate::kind::Kind;
-use crate::parameter::{Protection, TypeName};
+use crate::parameter::Protection;
 use crate::structure::{FieldType, field_number};
 use ep_base::{List, Name, NoMemory};
 use std::alloc::Global;
@@ -28,7 +27,7 @@ pub struct OpenRecord<'a> {
     pub variable: RecordVariable<'a>,
     /// Whether it is protected.
     pub protection: Protection,
-    /// Its fields, in order.
+    /// Its fields, with its tags and those of its variants, in order.
     pub fields: &'a [FieldType],
 }
 
@@ -39,12 +38,8 @@ pub struct OpenField<'a> {
     pub variable: RecordVariable<'a>,
     /// Whether it is protected.
     pub protection: Protection,
-    /// The number of the field, counted from 0.
-    pub number: usize,
-    /// Its type.
-    pub of: TypeName,
-    /// The kind of its type.
-    pub kind: Kind,
+    /// The field.
+    pub field: &'a FieldType,
 }
 
 /// The field of this name.
@@ -59,9 +54,7 @@ fn field_of<'a>(opened: OpenRecord<'a>, name: &Name) -> Option<OpenField<'a>>
         Some(field) => Some(OpenField {
             variable: opened.variable,
             protection: opened.protection,
-            number,
-            of: field.of,
-            kind: field.kind,
+            field,
         }),
     }
 }

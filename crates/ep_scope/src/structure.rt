@@ -1,6 +1,6 @@
 //! Structured types, as the static rules see them.
 
-ghost use Rattle.std.specs.Prelude.{◌≡◌};
+ghost use Rattle.std.specs.Prelude.{◌≡◌, IfOk};
 ghost use Rattle.std.specs.Option.{option_copied};
 ghost use Rattle.ep_scope.specs.Scopes.{structure_in};
 ghost use Rattle.ep_scope.specs.Fields.{field_number};
@@ -8,7 +8,8 @@ ghost use Rattle.ep_scope.specs.Fields.{field_number};
 use crate::kind::{Host, Kind};
 use crate::parameter::TypeName;
 use crate::scope::Scope;
-use ep_base::{List, Name};
+use crate::selection::SharedSelection;
+use ep_base::{List, Name, NoMemory};
 
 /// A structured type of a unit (ISO 10206, 6.4.3.1).
 pub struct StructuredType {
@@ -31,7 +32,7 @@ impl Drop for StructuredType {
 pub enum Composition {
     /// An array (ISO 10206, 6.4.3.2).
     Array(ArrayType),
-    /// A record with these fields, in order (ISO 10206, 6.4.3.4).
+    /// A record with these fields, tags and fields of variants among them, in the order of the text (ISO 10206, 6.4.3.4).
     Record(FieldTypes),
 }
 
@@ -55,7 +56,7 @@ pub struct ArrayType {
     pub kind: Kind,
 }
 
-/// A field of a record type (ISO 10206, 6.4.3.4).
+/// A field of a record type, also a tag or a field of a variant, however deep (ISO 10206, 6.4.3.4).
 pub struct FieldType {
     /// Its name.
     pub name: Name,
@@ -63,6 +64,13 @@ pub struct FieldType {
     pub of: TypeName,
     /// The kind of its type.
     pub kind: Kind,
+    /// The variants in which it is, the outermost first. A field of the record itself is in none.
+    pub path: VariantPath,
+    /// The number of the component that it is of the record, or of the innermost of these variants. A tag is the one
+    /// component of a record that has this number.
+    pub number: u32,
+    /// What it selects, where it is a tag.
+    pub tag: Option<TagType>,
 }
 
 impl Drop for FieldType {
@@ -71,11 +79,71 @@ impl Drop for FieldType {
             name: _,
             of: _,
             kind: _,
+            path: _,
+            number: _,
+            tag: _,
         } = self;
     }
 }
 
-/// The fields of a record type, in order.
+/// The step from a record, or from a variant, to a variant of its variant part.
+pub struct VariantStep {
+    /// How the variants of that part are selected.
+    pub selection: SharedSelection,
+    /// The number of the variant among them, counted from 0.
+    pub variant: u32,
+}
+
+impl Drop for VariantStep {
+    fn drop(self) {
+        let VariantStep {
+            selection: _,
+            variant: _,
+        } = self;
+    }
+}
+
+/// Steps from a record to a variant in it, the first one first.
+pub type VariantPath = List<VariantStep>;
+
+/// The tag of a variant part (ISO 10206, 6.4.3.4).
+pub struct TagType {
+    /// How it selects the variants.
+    pub selection: SharedSelection,
+    /// The host of its type.
+    pub host: Host,
+    /// The least value of its type.
+    pub low: i64,
+    /// The greatest one.
+    pub high: i64,
+}
+
+impl Drop for TagType {
+    fn drop(self) {
+        let TagType {
+            selection: _,
+            host: _,
+            low: _,
+            high: _,
+        } = self;
+    }
+}
+
+impl TagType {
+    /// The same tag.
+    pub fn share(&self) -> Result<TagType, NoMemory>
+        ensures { IfOk result (λ tag. tag ≡ self.now) }
+    {
+        Ok(TagType {
+            selection: self.selection.share()?,
+            host: self.host,
+            low: self.low,
+            high: self.high,
+        })
+    }
+}
+
+/// The fields of a record type, with its tags and those of its variants, in the order of the text.
 pub type FieldTypes = List<FieldType>;
 
 /// What the structured type of this number is made of in these scopes. `None` comes exactly where none of them has it.
@@ -90,7 +158,7 @@ pub(crate) fn structure_among(scopes: &[Scope], number: u32) -> Option<&Composit
     None
 }
 
-/// The number of the field of this name, counted from 0. `None` comes exactly where there is none. It takes no memory.
+/// The place of the field of this name among these, counted from 0. `None` comes exactly where there is none. It takes no memory.
 pub fn field_number(fields: &[FieldType], name: &Name) -> Option<usize>
     ensures { result ≡ field_number fields.now name.now }
 {

@@ -19,7 +19,6 @@ use Rattle.ep_typed.specs.declared.unit.UnitVariable.{UnitVariable}
 use Rattle.ep_scope.specs.Scopes.{Entries, Region, depth_in}
 use Rattle.ep_scope.specs.declared.structure.Composition.{Composition}
 use Rattle.ep_scope.specs.declared.structure.Composition.TheVariants as composition
-use Rattle.ep_scope.specs.declared.structure.FieldType.{FieldType}
 use Rattle.ep_scope.specs.declared.structure.StructuredType.{StructuredType}
 use Rattle.ep_scope.specs.declared.kind.Host.{Host}
 use Rattle.ep_scope.specs.declared.kind.Kind.{Kind}
@@ -31,7 +30,7 @@ use Rattle.ep_scope.specs.declared.thing.Declaration.TheVariants as declaration
 use Rattle.ep_scope.specs.declared.thing.Declared.{Declared}
 use Rattle.ep_scope.specs.declared.thing.Thing.{Thing}
 use Rattle.ep_scope.specs.declared.thing.Thing.TheVariants as thing
-use Rattle.ep_check_expr.specs.Agreement.{Agrees, AgreesBy, AreFields, AreInterfaces, AreOpen, AreParameters, AreThings, Arrays, HasKind, HoldsStructure, IsDeclaration, IsDenoterOf, IsKind, IsMadeOf, Records, Structure, IsFunctionWith, IsOfType, IsStoredIn, IsThing, structures_of}
+use Rattle.ep_check_expr.specs.Agreement.{Agrees, AgreesBy, AreInterfaces, AreOpen, AreParameters, AreThings, Arrays, HasKind, HoldsStructure, IsDeclaration, IsDenoterOf, IsKind, IsMadeOf, Records, Structure, IsFunctionWith, IsOfType, IsStoredIn, IsThing, structures_of}
 use Rattle.ep_check_expr.specs.Arguments.{callee_at, callee_levels}
 use Rattle.ep_check_expr.specs.Hosts.{typed_host}
 use Rattle.ep_check_unit.specs.Declarations.{scopes_of, type_denoter}
@@ -43,7 +42,7 @@ use Rattle.ep_check_unit.specs.declared.block.Enclosing.{Enclosing}
 use Rattle.ep_check_unit.specs.declared.block.OwnResult.{OwnResult}
 use Rattle.ep_unit_laws.proofs.Open.{IsOpen, around_length}
 use Rattle.ep_unit_laws.proofs.Denoting.{DenotesKind, kind_had, kind_type, set_of_kind}
-use Rattle.ep_unit_laws.proofs.Holds.{HasKindHere, HasTypeHere, Head, Holds, HoldsComposition, HoldsFields, HoldsStructuredType, HoldsDeclaration, HoldsOwn, HoldsParameter, HoldsResultOf, HoldsResults, HoldsScopes, HoldsThing, HoldsThings, HoldsVariable, ListsKind, head_of, holds_scopes, levels_at, lists_kind_small, lists_small, name_denotes, named_tree, type_values}
+use Rattle.ep_unit_laws.proofs.Holds.{HasKindHere, HasTypeHere, Head, Holds, HoldsComposition, HoldsStructuredType, HoldsDeclaration, HoldsOwn, HoldsParameter, HoldsResultOf, HoldsResults, HoldsScopes, HoldsThing, HoldsThings, HoldsVariable, ListsKind, head_of, holds_scopes, levels_at, lists_kind_small, lists_small, name_denotes, named_tree, type_values}
 
 name_same : (a b : List ℕ) → a ≡ b → bytes_eq a b ≡ true
 name_same a b h = grind (arith, bytes_eq-Decides)
@@ -100,7 +99,7 @@ module _ (u : TypedUnit) where
       )
 
   -- a denoter is one of its type and kind
-  denoter_holds : (i : ℕ) (d : tree.Denoter) (of : TypeName) (k : Kind) → i ≤ length u.types → ListsKind u i k → HasTypeHere u i d of k → IsDenoterOf (type_values u) u.types of k d
+  pub denoter_holds : (i : ℕ) (d : tree.Denoter) (of : TypeName) (k : Kind) → i ≤ length u.types → ListsKind u i k → HasTypeHere u i d of k → IsDenoterOf (type_values u) u.types of k d
   denoter_holds i d of k le l x = (
     has_kind i d k x.0 le (lists_kind_small u i k l) x.1,
     (
@@ -110,17 +109,11 @@ module _ (u : TypedUnit) where
     ),
   )
 
-  fields_hold : (i : ℕ) (fs : List FieldType) (ds : tree.Denoters) → i ≤ length u.types → HoldsFields u i fs ds → AreFields (type_values u) u.types fs ds
-  fields_hold i [] tree.no_denoter le x = tt
-  fields_hold i [] (tree.next_denoter d ds) le x = absurd x
-  fields_hold i (f ∷ fs) tree.no_denoter le x = absurd x
-  fields_hold i (f ∷ fs) (tree.next_denoter d ds) le x = (denoter_holds i d f.of f.kind le x.0 x.1, fields_hold i fs ds le x.2)
-
   components_hold : (i : ℕ) (c : Composition) (s : Structure) → i ≤ length u.types → HoldsComposition u i c s → IsMadeOf (type_values u) u.types c s
   components_hold i (composition.Array a) (Arrays p) le x = (lists_small u i a.index x.index_lists, x.index.1.has_host (suc (length u.types)) (omega (arith, le)), denoter_holds i p.component a.component a.kind le x.lists x.denotes)
   components_hold i (composition.Array a) (Records ds) le x = absurd x
   components_hold i (composition.Record fs) (Arrays p) le x = absurd x
-  components_hold i (composition.Record fs) (Records ds) le x = fields_hold i fs ds le x
+  components_hold i (composition.Record fs) (Records ds) le x = x.1
 
   -- a structured type, with what it is made of
   structure_holds : (i : ℕ) (s : StructuredType) → i ≤ length u.types → HoldsStructuredType u i s → HoldsStructure (type_values u) u.types s

@@ -1,4 +1,4 @@
--- The auxiliary variables of a block are there, behind those that it declares: two integers where it has a `for` with bounds, a set where it has a `for` over members, and those of its `with` statements.
+-- The auxiliary variables of a block are there, behind those that it declares: two integers where it has a `for` with bounds or an assignment to a tag, a set where it has a `for` over members, and those of its `with` statements.
 use Rattle.std.proofs.Common.{◌≡◌, ℕ, suc, ◌+◌, Bool, true, false, List, [], ◌∷◌, ◌++◌, length, Option, Some, None, slice_get, refl, sym, ap, ◌∙◌, subst, arith, append_assoc}
 use Rattle.std.proofs.lemmas.List.{length-append}
 use Rattle.std.specs.Prelude.{◌≤◌, All, is_some, if◌then◌else◌}
@@ -20,11 +20,12 @@ use Rattle.ep_typed.specs.declared.unit.UnitVariable.{UnitVariable}
 use Rattle.ep_scope.specs.declared.parameter.TypeName.TheVariants as type_name
 use Rattle.ep_scope.specs.declared.structure.StructuredType.{StructuredType}
 use Rattle.ep_check_expr.specs.Agreement.{HoldsStructure, TypeValues}
-use Rattle.ep_check_stmt.specs.Auxiliaries.{has_for, has_for_in}
+use Rattle.ep_scope.specs.Scopes.{Region}
+use Rattle.ep_check_stmt.specs.Auxiliaries.{has_for_in}
 use Rattle.ep_check_stmt.specs.Laws.{AuxiliariesAreThere, MembersAreThere, WithsAreThere}
 use Rattle.ep_check_stmt.specs.Statements.{Locals, OfRoutine, OfUnit, block_variable}
 use Rattle.ep_check_unit.specs.Blocks.{Block, own_count}
-use Rattle.ep_check_unit.specs.Routines.{first_auxiliary, locals_in, locals_of, members_of, withs_of}
+use Rattle.ep_check_unit.specs.Routines.{first_auxiliary, has_bounds, locals_in, locals_of, members_of, withs_of}
 use Rattle.ep_check_unit.specs.declared.block.Enclosing.{Enclosing}
 use Rattle.ep_unit_laws.proofs.Agreeing.{types_own, variables_own, within}
 use Rattle.ep_unit_laws.proofs.Holds.{innermost, levels_at}
@@ -42,7 +43,7 @@ behind (x ∷ xs) ys k = ap (slice_get (x ∷ (xs ++ ys))) {x = suc (length xs) 
 abbrev pub auxiliaries_of : Stmts → List UnitVariable
 auxiliaries_of ss = block_auxiliaries (tree.Compound ss) ++ with_variables_of ss
 
--- those of `for` with bounds are two, where there is such a `for`
+-- those of `for` with bounds and of assignments to tags are two, where there is such a one
 integers_counted : (o : Option ℕ) (has : Bool) → is_some o ≡ has → length (auxiliary_variables o) ≡ (if has then 2 else 0)
 integers_counted None true e = cc
 integers_counted None false e = refl
@@ -75,7 +76,7 @@ module _ (declared : Declarations) (types : List UnitType) where
   abbrev pub IsUnmadeFrom : Locals → ℕ → Type 0
   IsUnmadeFrom locals first = (n : ℕ) → first ≤ n → IsUnmade declared (block_variable locals n)
 
-  -- the integers, where there is a `for` with bounds
+  -- the integers, where there is a `for` with bounds or an assignment to a tag
   integers_there : (locals : Locals) (o : Option ℕ) (more : List UnitVariable) (at : ℕ) → o ≡ Some at → AreBehind locals (auxiliary_variables o ++ more) → AuxiliariesAreThere declared locals
   integers_there locals None more at e x = cc
   integers_there (OfUnit unit auxiliary) (Some line) more at e x =
@@ -109,16 +110,16 @@ module _ (declared : Declarations) (types : List UnitType) where
         integers_there locals (first_for_of ss) (member_variables (first_for_in_of ss) ++ with_variables_of ss) at has
         (subst (AreBehind locals) (append_assoc (auxiliary_variables (first_for_of ss)) (member_variables (first_for_in_of ss)) (with_variables_of ss)) all)
 
-    pub for_in_auxiliaries : (c : Compound) → is_some (first_for_of ss) ≡ has_for c → (at : ℕ) → first_for_in_of ss ≡ Some at → MembersAreThere declared locals (members_of locals c)
-    for_in_auxiliaries c same at has =
-        subst (λ n. MembersAreThere declared locals (first_auxiliary locals + n)) (integers_counted (first_for_of ss) (has_for c) same)
+    pub for_in_auxiliaries : (scopes : List Region) (c : Compound) → is_some (first_for_of ss) ≡ has_bounds scopes c → (at : ℕ) → first_for_in_of ss ≡ Some at → MembersAreThere declared locals (members_of scopes locals c)
+    for_in_auxiliaries scopes c same at has =
+        subst (λ n. MembersAreThere declared locals (first_auxiliary locals + n)) (integers_counted (first_for_of ss) (has_bounds scopes c) same)
         (set_there locals (auxiliary_variables (first_for_of ss)) (first_for_in_of ss) (with_variables_of ss) at has all)
 
     -- the first one of `with` stands behind all that are made
-    withs_first : (c : Compound) → is_some (first_for_of ss) ≡ has_for c → is_some (first_for_in_of ss) ≡ has_for_in c → withs_of locals c ≡ first_auxiliary locals + length (block_auxiliaries (tree.Compound ss))
-    withs_first c same same_in =
+    withs_first : (scopes : List Region) (c : Compound) → is_some (first_for_of ss) ≡ has_bounds scopes c → is_some (first_for_in_of ss) ≡ has_for_in c → withs_of scopes locals c ≡ first_auxiliary locals + length (block_auxiliaries (tree.Compound ss))
+    withs_first scopes c same same_in =
         let many = length-append (auxiliary_variables (first_for_of ss)) (member_variables (first_for_in_of ss)) in
-        omega (arith, many, integers_counted (first_for_of ss) (has_for c) same, set_counted (first_for_in_of ss) (has_for_in c) same_in)
+        omega (arith, many, integers_counted (first_for_of ss) (has_bounds scopes c) same, set_counted (first_for_in_of ss) (has_for_in c) same_in)
 
     -- each stands for a record of its type, where the types hold the structured types and no code makes a variable behind those that are made
     with_placed : (values : TypeValues) (structures : List StructuredType) → ((of : ℕ) → values (type_name.Entry of) ≡ type_of types (tree.Named of [])) → All (HoldsStructure values types) structures
@@ -134,10 +135,10 @@ module _ (declared : Declarations) (types : List UnitType) where
         )
 
     pub with_auxiliaries : (values : TypeValues) (structures : List StructuredType) → ((of : ℕ) → values (type_name.Entry of) ≡ type_of types (tree.Named of [])) → All (HoldsStructure values types) structures
-        → IsUnmadeFrom locals (first_auxiliary locals + length (block_auxiliaries (tree.Compound ss))) → (c : Compound) → is_some (first_for_of ss) ≡ has_for c → is_some (first_for_in_of ss) ≡ has_for_in c
-        → WithsAreThere declared values structures locals (withs_of locals c) (with_variables_of ss)
-    with_auxiliaries values structures numbered held unmade c same same_in =
-        with_placed values structures numbered held (withs_of locals c) (withs_first c same same_in) (subst (IsUnmadeFrom locals) (sym (withs_first c same same_in)) unmade)
+        → IsUnmadeFrom locals (first_auxiliary locals + length (block_auxiliaries (tree.Compound ss))) → (scopes : List Region) (c : Compound) → is_some (first_for_of ss) ≡ has_bounds scopes c → is_some (first_for_in_of ss) ≡ has_for_in c
+        → WithsAreThere declared values structures locals (withs_of scopes locals c) (with_variables_of ss)
+    with_auxiliaries values structures numbered held unmade scopes c same same_in =
+        with_placed values structures numbered held (withs_of scopes locals c) (withs_first scopes c same same_in) (subst (IsUnmadeFrom locals) (sym (withs_first scopes c same same_in)) unmade)
 
 -- ---- in a routine, to which the unit gives these variables
 

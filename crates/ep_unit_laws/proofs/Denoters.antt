@@ -12,15 +12,16 @@ use Rattle.ep_check_unit.specs.Declarations.{core_part, core_written, range, sco
 use Rattle.ep_check_unit.proofs.Denoters.{KeptByDenoters, each_denoter}
 use Rattle.ep_unit_laws.proofs.Types.{Settles, Writes, enumeration-writes, range_writes, type_named-names}
 use Rattle.ep_unit_laws.proofs.Arrays.{array_writes}
-use Rattle.ep_unit_laws.proofs.Records.{record_writes}
+use Rattle.ep_unit_laws.proofs.Records.{IsKnownList, record_writes}
 use Rattle.ep_unit_laws.proofs.Sets.{set_writes}
 use Rattle.ep_unit_laws.proofs.Structures.{IsKnown, part_settles, part_writes}
+use Rattle.ep_unit_laws.proofs.Variants.{IsKnownVariants, list_fits, variant_part_fits}
 
 module _ (u : TypedUnit) where
   -- ---- all denoters
 
   module _ (few : length u.constants ≤ maxint) (sound : BoundsAreSound) (bound_hosts : BoundsAreKnown) where
-    known_kept : KeptByDenoters (IsKnown u)
+    known_kept : KeptByDenoters (IsKnown u) (IsKnownList u) (IsKnownVariants u)
     known_kept = record {
       names = λ name line b. type_named-names u name.first name.second b;
       ranges = λ low high line b.
@@ -29,13 +30,15 @@ module _ (u : TypedUnit) where
       enumerations = λ names line b. enumeration-writes u few names b;
       others = λ line b. tt;
       arrays = λ index of i o line b. array_writes u index of i o line b;
-      records = λ sections known line b. record_writes u sections known line b;
+      lists = λ sections part known also line b. list_fits u sections part known also line b;
+      variants = λ s vs other known also line b f x. variant_part_fits u s vs other known also line b f x;
+      records = λ fields known line b. record_writes u fields known line b;
       sets = λ base known line b. set_writes u base known line b;
       structures = λ p known line b. part_writes u p known line b;
     }
 
     pub core_written-writes : (line : ℕ) (c : Core) (b : Block) → Fits (Writes u b) (core_written line c b)
-    core_written-writes line c b = part_writes u (core_part c) (each_denoter (IsKnown u) known_kept c) line b
+    core_written-writes line c b = part_writes u (core_part c) (each_denoter (IsKnown u) (IsKnownList u) (IsKnownVariants u) known_kept c) line b
 
     pub settled_type-settles : (line : ℕ) (c : Core) (b : Block) → Fits (Settles u b) (settled_type line c b)
-    settled_type-settles line c b = part_settles u (core_part c) (each_denoter (IsKnown u) known_kept c) line b
+    settled_type-settles line c b = part_settles u (core_part c) (each_denoter (IsKnown u) (IsKnownList u) (IsKnownVariants u) known_kept c) line b

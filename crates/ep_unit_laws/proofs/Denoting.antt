@@ -243,13 +243,13 @@ module _ (types : List UnitType) where
   all_found k m (next_denoter d ds) (next_component t ts) lt x =
       ap (λ o. next_type o (types_step types (type_within types m) ds)) (x.0 (suc m) lt) ∙ ap (next_type (Some t)) (all_found k m ds ts lt x.2)
 
-  all_typed : (k : ℕ) (ds : Denoters) (ts : ComponentTypes) → AreDenoted k ds ts → AreTyped types ds ts
+  pub all_typed : (k : ℕ) (ds : Denoters) (ts : ComponentTypes) → AreDenoted k ds ts → AreTyped types ds ts
   all_typed k no_denoter no_component x = none_typed
   all_typed k no_denoter (next_component t ts) x = absurd x
   all_typed k (next_denoter d ds) no_component x = absurd x
   all_typed k (next_denoter d ds) (next_component t ts) x = next_typed d ds t ts x.1 (all_typed k ds ts x.2)
 
-  record_found : (ds : Denoters) (ts : ComponentTypes) (k n : ℕ) → k < n → AreDenoted k ds ts → type_within types n (Record ds) ≡ Some (type.Record ts)
+  pub record_found : (ds : Denoters) (ts : ComponentTypes) (k n : ℕ) → k < n → AreDenoted k ds ts → type_within types n (Record ds) ≡ Some (type.Record ts)
   record_found ds ts k zero lt x = absurd (omega (arith, lt))
   record_found ds ts k (suc m) lt x = ap record_type (all_found k m ds ts lt x)
 

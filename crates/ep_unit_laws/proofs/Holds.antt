@@ -40,7 +40,7 @@ use Rattle.ep_scope.specs.declared.thing.Declaration.TheVariants as declaration
 use Rattle.ep_scope.specs.declared.thing.Declared.{Declared}
 use Rattle.ep_scope.specs.declared.thing.Thing.{Thing}
 use Rattle.ep_scope.specs.declared.thing.Thing.TheVariants as thing
-use Rattle.ep_check_expr.specs.Agreement.{Arrays, HasStructure, IsConstantOf, IsHost, IsKind, IsValueMadeOf, Records, Structure, TypeValues}
+use Rattle.ep_check_expr.specs.Agreement.{AreFields, Arrays, HasStructure, IsConstantOf, IsHost, IsKind, IsValueMadeOf, Records, Structure, TypeValues}
 use Rattle.ep_check_expr.specs.Hosts.{typed_host}
 use Rattle.ep_check_expr.specs.Origins.{IsKnownHost, IsKnownKind, IsRequiredHost, HasHost, DeclaresHost, ThingHasHost, CompositionHasHost, FieldsHaveHost, StructuresHaveHost, EntriesHaveHost, InterfacesHaveHost, RecordsHaveHost, ScopesHaveHost}
 use Rattle.ep_check_unit.specs.Declarations.{host_denoter, scopes_of, type_denoter}
@@ -230,20 +230,18 @@ module _ (u : TypedUnit) where
     pub lists : ListsKind i a.kind
     pub denotes : HasTypeHere i parts.component a.component a.kind
 
-  -- a record has components of the kinds and types of its fields, one for one
+  -- the type value of each type
+  abbrev pub type_values : TypeValues
+  type_values t = type_of u.types (named_tree t)
+
+  -- a record has components of the kinds and types of its fields, whose hosts are listed
   abbrev pub HoldsFields : ℕ → List FieldType → tree.Denoters → Type 0
-  HoldsFields i [] tree.no_denoter = ⊤
-  HoldsFields i (f ∷ fs) (tree.next_denoter d ds) = ListsKind i f.kind × HasTypeHere i d f.of f.kind × HoldsFields i fs ds
-  HoldsFields i fs ds = ⊥
+  HoldsFields i fs ds = All (λ f. ListsKind i f.kind) fs × AreFields type_values u.types fs ds
 
   abbrev pub HoldsComposition : ℕ → Composition → Structure → Type 0
   HoldsComposition i (composition.Array a) (Arrays p) = HoldsElements i a p
   HoldsComposition i (composition.Record fs) (Records ds) = HoldsFields i fs ds
   HoldsComposition i c s = ⊥
-
-  -- the type value of each type
-  abbrev pub type_values : TypeValues
-  type_values t = type_of u.types (named_tree t)
 
   -- the structured type is made so under its number, and so is its type value
   pub record HoldsStructuredType (i : ℕ) (s : StructuredType) : Type 0 where
@@ -341,17 +339,16 @@ module _ (u : TypedUnit) where
     denotes = has_type_more i j p.component a.component a.kind le x.denotes;
   }
 
-  pub fields_more : (i j : ℕ) (fs : List FieldType) (ds : tree.Denoters) → i ≤ j → HoldsFields i fs ds → HoldsFields j fs ds
-  fields_more i j [] tree.no_denoter le x = tt
-  fields_more i j [] (tree.next_denoter d ds) le x = absurd x
-  fields_more i j (f ∷ fs) tree.no_denoter le x = absurd x
-  fields_more i j (f ∷ fs) (tree.next_denoter d ds) le x = (lists_kind_more i j f.kind le x.0, has_type_more i j d f.of f.kind le x.1, fields_more i j fs ds le x.2)
+  pub all_lists_more : (i j : ℕ) (fs : List FieldType) → i ≤ j → All (λ f. ListsKind i f.kind) fs → All (λ f. ListsKind j f.kind) fs
+  all_lists_more i j [] le x = All-nil (λ f. ListsKind j f.kind)
+  all_lists_more i j (f ∷ fs) le x =
+      All-cons (λ f. ListsKind j f.kind) f fs (lists_kind_more i j f.kind le (All-head (λ f. ListsKind i f.kind) f fs x)) (all_lists_more i j fs le (All-tail (λ f. ListsKind i f.kind) f fs x))
 
   components_more : (i j : ℕ) (c : Composition) (s : Structure) → i ≤ j → HoldsComposition i c s → HoldsComposition j c s
   components_more i j (composition.Array a) (Arrays p) le x = elements_more i j a p le x
   components_more i j (composition.Array a) (Records ds) le x = absurd x
   components_more i j (composition.Record fs) (Arrays p) le x = absurd x
-  components_more i j (composition.Record fs) (Records ds) le x = fields_more i j fs ds le x
+  components_more i j (composition.Record fs) (Records ds) le x = (all_lists_more i j fs le x.0, x.1)
 
   structure_more : (i j : ℕ) (s : StructuredType) → i ≤ j → HoldsStructuredType i s → HoldsStructuredType j s
   structure_more i j s le x = record { structure = x.structure; has_structure = x.has_structure; components = components_more i j s.composition x.structure le x.components; type_value = x.type_value; has_value = x.has_value; value_made = x.value_made }
@@ -478,17 +475,16 @@ module _ (u : TypedUnit) where
   kind_listed i kind.Text h l e = absurd e
   kind_listed i kind.File h l e = absurd e
 
-  fields_listed : (i : ℕ) (fs : List FieldType) (ds : tree.Denoters) (h : Host) → HoldsFields i fs ds → FieldsHaveHost fs h → Lists i h
-  fields_listed i [] ds h x e = absurd e
-  fields_listed i (f ∷ fs) tree.no_denoter h x e = absurd x
-  fields_listed i (f ∷ fs) (tree.next_denoter d ds) h x (inl e) = kind_listed i f.kind h x.0 e
-  fields_listed i (f ∷ fs) (tree.next_denoter d ds) h x (inr e) = fields_listed i fs ds h x.2 e
+  fields_listed : (i : ℕ) (fs : List FieldType) (h : Host) → All (λ f. ListsKind i f.kind) fs → FieldsHaveHost fs h → Lists i h
+  fields_listed i [] h x e = absurd e
+  fields_listed i (f ∷ fs) h x (inl e) = kind_listed i f.kind h (All-head (λ f. ListsKind i f.kind) f fs x) e
+  fields_listed i (f ∷ fs) h x (inr e) = fields_listed i fs h (All-tail (λ f. ListsKind i f.kind) f fs x) e
 
   components_listed : (i : ℕ) (c : Composition) (s : Structure) (h : Host) → HoldsComposition i c s → CompositionHasHost c h → Lists i h
   components_listed i (composition.Array a) (Arrays p) h x e = kind_listed i a.kind h x.lists e
   components_listed i (composition.Array a) (Records ds) h x e = absurd x
   components_listed i (composition.Record fs) (Arrays p) h x e = absurd x
-  components_listed i (composition.Record fs) (Records ds) h x e = fields_listed i fs ds h x e
+  components_listed i (composition.Record fs) (Records ds) h x e = fields_listed i fs h x.0 e
 
   structures_listed : (i : ℕ) (all : List StructuredType) (h : Host) → All (HoldsStructuredType i) all → StructuresHaveHost all h → Lists i h
   structures_listed i [] h x e = absurd e

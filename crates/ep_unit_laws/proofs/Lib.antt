@@ -10,6 +10,8 @@ pub mod Structures
 pub mod Arrays
 pub mod Records
 pub mod Sets
+pub mod Ranges
+pub mod Variants
 pub mod Denoters
 pub mod Items
 pub mod Auxiliaries

@@ -442,9 +442,9 @@ module _ (u : TypedUnit) (few : length u.constants ≤ maxint) (statements : Sta
               subst (λ es. AreStmts (within u es) ss) inside.grows.enclosing
               (statements (context_of c compound) compound ss pass (within u c.own.enclosing) (holds_agrees u (length c.types) c c_open few_types c_held) (holds_results u (length c.types) c c_open few_types c_held)
               (for_auxiliaries (within u c.own.enclosing) u.types (locals_of c) ss auxiliaries)
-              (for_in_auxiliaries (within u c.own.enclosing) u.types (locals_of c) ss auxiliaries compound (bounded_there (context_of c compound) compound ss pass))
+              (for_in_auxiliaries (within u c.own.enclosing) u.types (locals_of c) ss auxiliaries (scopes_of c) compound (bounded_there (context_of c compound) compound ss pass))
               (with_auxiliaries (within u c.own.enclosing) u.types (locals_of c) ss auxiliaries (type_values u) (structures_of (scopes_of c)) (λ of. refl)
-              (structures_in_view u c.own.enclosing (length c.types) (scopes_of c) few_types (holds_scopes u (length c.types) c c_held)) unmade compound
+              (structures_in_view u c.own.enclosing (length c.types) (scopes_of c) few_types (holds_scopes u (length c.types) c c_held)) unmade (scopes_of c) compound
               (bounded_there (context_of c compound) compound ss pass) (members_there (context_of c compound) compound ss pass)))
 
           routine_valid : (o : Option RoutineForm) → slice_get c.routines h.number ≡ o → HoldsRoutines u (set_to c.routines h.number Given o)

@@ -34,7 +34,7 @@ use Rattle.ep_unit_laws.proofs.Types.{IsNext, Settles, Stood, Wrote, Writes, nex
 -- ---- the values of a type that may be members
 
 -- what a list has, a longer one has
-front_there : {A : Type 0} (xs ys : List A) (n : ℕ) (x : A) → slice_get xs n ≡ Some x → slice_get (xs ++ ys) n ≡ Some x
+pub front_there : {A : Type 0} (xs ys : List A) (n : ℕ) (x : A) → slice_get xs n ≡ Some x → slice_get (xs ++ ys) n ≡ Some x
 front_there [] ys n x e = cc
 front_there (y ∷ xs) ys zero x e = e
 front_there (y ∷ xs) ys (suc n) x e = front_there xs ys n x e

@@ -158,10 +158,10 @@ module _ (statements : StatementsAreSound) (constants : ConstantsAreSound) (boun
                   (block_agrees u (length t.form.block.types) t.form.block (block_open p u t.form made few) le held),
             ) (no_result p u t.form made few)
             (for_auxiliaries (own u) u.types (locals_of t.form.block) t.form.statements auxiliaries)
-            (for_in_auxiliaries (own u) u.types (locals_of t.form.block) t.form.statements auxiliaries p.body (bounded_there (context_of t.form.block p.body) p.body t.form.statements made.statements))
+            (for_in_auxiliaries (own u) u.types (locals_of t.form.block) t.form.statements auxiliaries (scopes_of t.form.block) p.body (bounded_there (context_of t.form.block p.body) p.body t.form.statements made.statements))
             (with_auxiliaries (own u) u.types (locals_of t.form.block) t.form.statements auxiliaries (type_values u) (structures_of (scopes_of t.form.block)) (λ of. refl)
             (structures_in_view u t.form.block.own.enclosing (length t.form.block.types) (scopes_of t.form.block) le (holds_scopes u (length t.form.block.types) t.form.block held))
-            (unit_unmade u t.form.block t.form.statements held.unit t.unit.variables t.unit.start (none_under_way p u t.form made few)) p.body
+            (unit_unmade u t.form.block t.form.statements held.unit t.unit.variables t.unit.start (none_under_way p u t.form made few)) (scopes_of t.form.block) p.body
             (bounded_there (context_of t.form.block p.body) p.body t.form.statements made.statements) (members_there (context_of t.form.block p.body) p.body t.form.statements made.statements)));
         stop = t.unit.stop;
       }

@@ -4,11 +4,12 @@
 ghost use Rattle.std.specs.Prelude.{◌≡◌, map};
 ghost use Rattle.std.specs.List.{list_all};
 ghost use Rattle.ep_tree.specs.Shapes.{bare};
-ghost use Rattle.ep_built.specs.Built.{built_component, built_program, built_import, built_type_name, built_heading, built_start, built_routine, built_type_definition, built_type_denoter, built_plain, built_formal_type, built_section, built_core, variants_are_built, selector_form, is_component, behind_call, is_call, built_target, built_control, built_call, behind_arguments, built_statement, built_relation, built_adding, built_multiplying, is_character, built_factor, built_access, form_told, selector_belonging, brackets_are_built, is_bare_text};
+ghost use Rattle.ep_built.specs.Built.{built_component, built_program, built_import, built_type_name, built_heading, built_start, built_routine, built_type_definition, built_type_denoter, built_plain, built_formal_type, built_section, built_core, built_selector, built_variant_part, selector_form, is_component, behind_call, is_call, built_target, built_control, built_call, behind_arguments, built_statement, built_relation, built_adding, built_multiplying, is_character, built_factor, built_access, form_told, selector_belonging, brackets_are_built, is_bare_text};
 ghost use Rattle.ep_tree.specs.declared.expression.Factor.{out-Factor};
 ghost use Rattle.ep_tree.specs.declared.types.Core.{out-Core};
 ghost use Rattle.ep_tree.specs.declared.types.Plain.{out-Plain};
 ghost use Rattle.ep_tree.specs.declared.types.TypeDenoter.{out-TypeDenoter};
+ghost use Rattle.ep_tree.specs.declared.types.VariantPart.{out-VariantPart};
 ghost use Rattle.ep_tree.specs.declared.statement.Statement.{out-Statement};
 ghost use Rattle.ep_tree.specs.declared.routine.Routine.{out-Routine};
 
@@ -18,6 +19,7 @@ use ep_tree::{
     Access, AddingOperator, Component, Core, Expression, Factor, FormalSection, FormalType, Import,
     MultiplyingOperator, Plain, Program, QualifiedName, RelationalOperator, Routine,
     RoutineHeading, RoutineStart, Selector, Statement, TypeDefinition, TypeDenoter, VariantPart,
+    VariantSelector,
 };
 
 /// A component is a program.
@@ -133,11 +135,21 @@ pub(super) fn core_is_built(c: &Core) -> bool
     }
 }
 
-/// The variants of a record are not built yet.
-pub(super) fn variants_are_built(_variants: &VariantPart) -> bool
-    ensures { result ≡ variants_are_built }
+/// Variants are selected by a tag of a type whose name is built.
+fn selector_is_built(selector: &VariantSelector) -> bool
+    ensures { result ≡ built_selector selector.now }
 {
-    false
+    match selector {
+        VariantSelector::Tag(_, _, of) => type_name_is_built(of),
+        VariantSelector::Discriminant(_, _) => false,
+    }
+}
+
+/// A variant part has such a selector.
+pub(super) fn variant_part_is_built(part: &VariantPart) -> bool
+    ensures { result ≡ built_variant_part (out-VariantPart part.now) }
+{
+    selector_is_built(&part.selector)
 }
 
 /// Whether a selector is one of components: indexes, or a field.

@@ -1,12 +1,12 @@
 //! The first node of a type denoter that is not built.
 
 ghost use Rattle.std.specs.Prelude.{◌≡◌, map};
-ghost use Rattle.ep_built.specs.Built.{core_unbuilt, field_section_unbuilt, fields_unbuilt, first_in, plain_unbuilt, structure_unbuilt, type_denoter_unbuilt, variant_part_unbuilt};
+ghost use Rattle.ep_built.specs.Built.{core_unbuilt, field_section_unbuilt, fields_unbuilt, first_in, plain_unbuilt, structure_unbuilt, type_denoter_unbuilt, variant_part_unbuilt, variant_unbuilt};
 
-use crate::built::expressions::expression;
+use crate::built::expressions::{expression, labels};
 use crate::built::{at_node, forms};
 use ep_base::Line;
-use ep_tree::{Core, FieldSection, Fields, Plain, Structure, TypeDenoter, VariantPart};
+use ep_tree::{Core, FieldSection, Fields, Plain, Structure, TypeDenoter, Variant, VariantPart};
 
 #[cycle(lines)]
 pub(super) fn type_denoter(t: &TypeDenoter) -> Option<Line>
@@ -95,8 +95,27 @@ fn sections(all: &[FieldSection]) -> Option<Line>
     None
 }
 
-fn variant_part(v: &VariantPart) -> Option<Line>
-    ensures { result ≡ variant_part_unbuilt v.now }
+#[cycle(lines)]
+fn variant_part(p: &VariantPart) -> Option<Line>
+    ensures { result ≡ variant_part_unbuilt p.now }
 {
-    at_node(forms::variants_are_built(v), v.line, None)
+    let rest = match &p.otherwise {
+        None => None,
+        Some(other) => fields(other.get()),
+    };
+    let inner = variants(p.variants.items()).or(rest);
+    at_node(forms::variant_part_is_built(p), p.line, inner)
+}
+
+#[cycle(lines)]
+fn variants(all: &[Variant]) -> Option<Line>
+    ensures { result ≡ first_in (map variant_unbuilt all.now) }
+{
+    for v in all {
+        let line = labels(v.labels.items()).or(fields(&v.fields));
+        if line.is_some() {
+            return line;
+        }
+    }
+    None
 }

@@ -1,8 +1,9 @@
 -- Which auxiliary variables the typed statements of a block need is what the text of the block says.
-use Rattle.std.proofs.Common.{◌≡◌, ℕ, Bool, false, ◌||◌, List, [], ◌∷◌, map, Option, Some, None, refl, sym, ap, ◌∙◌, subst}
+use Rattle.std.proofs.Common.{◌≡◌, ℕ, Bool, true, false, ◌||◌, List, [], ◌∷◌, map, Option, Some, None, refl, sym, ap, ◌∙◌, subst}
 use Rattle.std.specs.Prelude.{is_some}
 use Rattle.std.specs.Option.{option_or}
-use Rattle.ep_tree.specs.declared.expression.Access.{out-Access}
+use Rattle.ep_tree.specs.declared.expression.Access.{Access, out-Access}
+use Rattle.ep_tree.specs.declared.expression.ComponentValue.{ComponentValue}
 use Rattle.ep_tree.specs.declared.expression.Expression.{Expression}
 use Rattle.ep_tree.specs.declared.statement.Arm.{Arm, map-Arm, roll-Arm}
 use Rattle.ep_tree.specs.declared.statement.Compound.{Compound, map-Compound, roll-Compound}
@@ -14,17 +15,22 @@ use Rattle.ep_typed.specs.Auxiliaries.{first_for, first_for_arms, first_for_in, 
 use Rattle.ep_typed.specs.Trees as tree
 use Rattle.ep_typed.specs.Trees.{Arms, Control, Entire, Expr, MemberControl, Other, Stmt, Stmts}
 use Rattle.ep_typed.specs.declared.tree.CaseRange.{CaseRange}
+use Rattle.ep_scope.specs.Scopes.{Region}
 use Rattle.ep_scope.specs.declared.kind.Host.{Host}
-use Rattle.ep_check_expr.specs.Judgements.{Judged, Accepts, Breaks}
+use Rattle.ep_check_expr.specs.Expressions.{judged_value}
+use Rattle.ep_check_expr.specs.Judgements.{Judged, Accepts, Breaks, both}
 use Rattle.ep_check_expr.proofs.Passing.{IfForm}
 use Rattle.ep_check_stmt.specs.Auxiliaries.{arm_has, compound_has, has_for, has_for_in, in_arm, in_compound, in_otherwise, in_statement, is_bounded, is_over_members, otherwise_has, statement_has}
 use Rattle.ep_check_stmt.specs.Cases.{CaseSelector, own_ranges}
-use Rattle.ep_check_stmt.specs.Statements.{ArmJudged, Context, Counted, Judgement, Passes, Waits, Fails, Under, after, arm_judged, arm_row, arms_in_order, at_arm, at_compound, at_item, at_otherwise, at_statement, call_arguments, case_judged, compound_judged, compound_under, condition_judged, control_judged, expr_item, falls_by, for_in_judged, for_judged, formed, if_judged, in_order, otherwise_judged, statement_judged, stmt_item, stmt_threat, unless_threatening, Opened, WithHead, behind, inside, none_opened, records_opened, with_form, with_judged}
+use Rattle.ep_check_stmt.specs.Statements.{ArmJudged, Context, Counted, Judgement, Passes, Waits, Fails, Under, after, arm_judged, arm_row, arms_in_order, at_arm, at_compound, at_item, at_otherwise, at_statement, call_arguments, case_judged, compound_judged, compound_under, condition_judged, control_judged, expr_item, falls_by, for_in_judged, for_judged, formed, if_judged, in_order, otherwise_judged, statement_judged, stmt_item, stmt_threat, target_judged, unless_threatening, assigned, Opened, WithHead, behind, inside, none_opened, records_opened, with_form, with_judged}
+use Rattle.ep_check_stmt.specs.Tags as tags
 use Rattle.ep_check_stmt.specs.Threats.{any_true}
 use Rattle.ep_check_stmt.specs.declared.auxiliaries.ForForm.{ForForm}
 use Rattle.ep_check_stmt.specs.declared.auxiliaries.ForForm.TheVariants as form
+use Rattle.ep_check_stmt.proofs.judged.Alike.{Alike, opened_alike, same_tag}
+use Rattle.ep_check_stmt.proofs.judged.Assigned.{AssignsTag, assignment_assigns}
 use Rattle.ep_check_stmt.proofs.judged.Fits.{Any, Fits, fits_weaker}
-use Rattle.ep_check_stmt.proofs.judged.Simple.{IsSimple, assignment_simple, called_simple}
+use Rattle.ep_check_stmt.proofs.judged.Simple.{IsSimple, called_simple}
 use Rattle.ep_check_stmt.proofs.valid.Passing.{FitsRow, after_fits, behind_fits, formed_fits, item_fits, unthreatening_fits}
 
 row_any : {A : Type 0} (j : Judgement A) → FitsRow Any j
@@ -53,6 +59,30 @@ first_other form.Members o = first_for_in_other o
 or_some : (a b : Option ℕ) (x y : Bool) → is_some a ≡ x → is_some b ≡ y → is_some (option_or a b) ≡ (x || y)
 or_some None b x y p q = q ∙ ap (λ z. z || y) p
 or_some (Some line) b x y p q = ap (λ z. z || y) p
+
+-- what the text says of one of a form: a `for` with bounds shares its auxiliary variables with assignments to tags
+abbrev told : ForForm → Bool → Bool → Bool
+told form.Bounds has assigns = has || assigns
+told form.Members has assigns = has
+
+told_none : (asked : ForForm) → told asked false false ≡ false
+told_none form.Bounds = refl
+told_none form.Members = refl
+
+told_both : (asked : ForForm) (h k t u : Bool) → told asked (h || k) (t || u) ≡ (told asked h t || told asked k u)
+told_both form.Bounds true k t u = refl
+told_both form.Bounds false true true u = refl
+told_both form.Bounds false true false u = refl
+told_both form.Bounds false false t u = refl
+told_both form.Members h k t u = refl
+
+told_for : (asked : ForForm) (h t : Bool) → told asked (is_bounded asked || h) t ≡ (is_bounded asked || told asked h t)
+told_for form.Bounds h t = refl
+told_for form.Members h t = refl
+
+told_for_in : (asked : ForForm) (h t : Bool) → told asked (is_over_members asked || h) t ≡ (is_over_members asked || told asked h t)
+told_for_in form.Bounds h t = refl
+told_for_in form.Members h t = refl
 
 -- there is one, or there is none
 abbrev Has : ForForm → Bool → Stmt → Type 0
@@ -105,6 +135,10 @@ simple_has asked (tree.ForIn line control x s) h = absurd h
 simple_has asked (tree.With line variable of place s) h = absurd h
 simple_has asked (tree.Case line x arms other) h = absurd h
 
+assigned_has : (asked : ForForm) (b d : Bool) (s : Stmt) → AssignsTag b s → b ≡ d → Has asked (told asked false d) s
+assigned_has form.Bounds b d s p e = p.0 ∙ e
+assigned_has form.Members b d s p e = p.1
+
 compound_form_has : (asked : ForForm) (b : Bool) (ss : Stmts) → HasOf asked b ss → Has asked b (tree.Compound ss)
 compound_form_has form.Bounds b ss h = h
 compound_form_has form.Members b ss h = h
@@ -153,49 +187,93 @@ nested_has form.Members line (h ∷ hs) s x p = nested_has form.Members line hs 
 -- ---- what the rules judge
 
 module _ (asked : ForForm) where
-  abbrev Row : Bool → Judgement Stmt → Type 0
-  Row b = FitsRow (Has asked b)
+  -- of scopes that are alike but for what stands for open records
+  abbrev Row : Context → List Region → Bool → Judgement Stmt → Type 0
+  Row c scopes b = FitsRow (λ s. Alike scopes c.scopes → Has asked b s)
 
-  abbrev Rows : Bool → Judgement Stmts → Type 0
-  Rows b = FitsRow (HasOf asked b)
+  abbrev Rows : Context → List Region → Bool → Judgement Stmts → Type 0
+  Rows c scopes b = FitsRow (λ ss. Alike scopes c.scopes → HasOf asked b ss)
 
-  simple_row : (c : Context) (controls : List Entire) (line : ℕ) (j : Judged (Option Stmt)) → Fits (IfForm IsSimple) j → Row false (stmt_item c controls line j)
-  simple_row c controls line j h =
-      item_fits (Has asked false) line (unless_threatening (stmt_threat c.routines) controls j)
-      (unthreatening_fits (Has asked false) (stmt_threat c.routines) controls j (fits_weaker (IfForm IsSimple) (IfForm (Has asked false)) j weaker h))
-    where
-      weaker : (o : Option Stmt) → IfForm IsSimple o → IfForm (Has asked false) o
-      weaker None p = tt
-      weaker (Some s) p = simple_has asked s p
+  -- one of neither form, where the text says so
+  none_told : (P : Bool → Type 0) → P false → P (told asked false false)
+  none_told P h = subst P (sym (told_none asked)) h
 
-  if_row : (c : Context) (line : ℕ) (x : Judgement Expr) (y : Judgement Stmt) (z : Context → Judgement Stmt) (p q : Bool) → Row p y → ((d : Context) → Row q (z d)) → Row (p || q) (if_judged line x y (z (behind with_variables c y)))
-  if_row c line x y z p q k l =
-      after_fits Any (λ (b : Stmt × Stmt). Has asked p b.0 × Has asked q b.1) (Has asked (p || q)) _ x (after (λ a b. (a, b)) y (z (behind with_variables c y))) (row_any x)
-      (behind_fits (Has asked p) (λ d. Has asked q) (λ (b : Stmt × Stmt). Has asked p b.0 × Has asked q b.1) (λ a b. (a, b)) with_variables c y z k l (λ a b m n. (m, n)))
-      (λ e b f g. if_has asked line e b.0 b.1 p q g.0 g.1)
+  module _ (c : Context) (scopes : List Region) (controls : List Entire) where
+    simple_row : (line : ℕ) (j : Judged (Option Stmt)) → Fits (IfForm IsSimple) j → Row c scopes (told asked false false) (stmt_item c controls line j)
+    simple_row line j h = item_fits HasNone line (unless_threatening (stmt_threat c.routines) controls j) (unthreatening_fits HasNone (stmt_threat c.routines) controls j (fits_weaker (IfForm IsSimple) (IfForm HasNone) j weaker h))
+      where
+        HasNone : Stmt → Type 0
+        HasNone s = Alike scopes c.scopes → Has asked (told asked false false) s
 
-  for_row_has : (c : Context) (controls : List Entire) (line : ℕ) (j : Judged Counted) (falls : Bool) (start end : Expression) (body : Under Stmt) (x : Bool) → ((d : Context) (inner : List Entire) → Row x (body d inner)) → Row (is_bounded asked || x) (for_judged c controls line j falls start end body)
-  for_row_has c controls line (Breaks rules) falls start end body x h = tt
-  for_row_has c controls line (Accepts k) falls start end body x h =
-      after_fits Any (Has asked x) (Has asked (is_bounded asked || x)) _ _ (body c (k.variable ∷ controls)) (row_any _) (h c (k.variable ∷ controls)) (λ head s p q. for_has asked line head.control head.initial head.last s x q)
+        weaker : (o : Option Stmt) → IfForm IsSimple o → IfForm HasNone o
+        weaker None p = tt
+        weaker (Some s) p = λ alike. none_told (λ b. Has asked b s) (simple_has asked s p)
 
-  for_in_row_has : (c : Context) (controls : List Entire) (line : ℕ) (j : Judged Counted) (set : Expression) (body : Under Stmt) (x : Bool) → ((d : Context) (inner : List Entire) → Row x (body d inner)) → Row (is_over_members asked || x) (for_in_judged c controls line j set body)
-  for_in_row_has c controls line (Breaks rules) set body x h = tt
-  for_in_row_has c controls line (Accepts k) set body x h =
-      after_fits Any (Has asked x) (Has asked (is_over_members asked || x)) _ _ (body c (k.variable ∷ controls)) (row_any _) (h c (k.variable ∷ controls)) (λ head s p q. for_in_has asked line head.control head.set s x q)
+    assigned_row : (line : ℕ) (a : Access) (v : ComponentValue) → Row c scopes (told asked false (tags.is_tag scopes a)) (stmt_item c controls line (both (assigned c.locals line) (target_judged c a) (judged_value c.scopes v)))
+    assigned_row line a v =
+        let j : Judged (Option Stmt) = both (assigned c.locals line) (target_judged c a) (judged_value c.scopes v) in
+        item_fits HasTag line (unless_threatening (stmt_threat c.routines) controls j)
+        (unthreatening_fits HasTag (stmt_threat c.routines) controls j (fits_weaker (IfForm (AssignsTag (tags.is_tag c.scopes a))) (IfForm HasTag) j weaker (assignment_assigns c line a v)))
+      where
+        HasTag : Stmt → Type 0
+        HasTag s = Alike scopes c.scopes → Has asked (told asked false (tags.is_tag scopes a)) s
+
+        weaker : (o : Option Stmt) → IfForm (AssignsTag (tags.is_tag c.scopes a)) o → IfForm HasTag o
+        weaker None p = tt
+        weaker (Some s) p = λ alike. assigned_has asked (tags.is_tag c.scopes a) (tags.is_tag scopes a) s p (sym (same_tag scopes c.scopes alike a))
+
+    if_row : (line : ℕ) (x : Judgement Expr) (y : Judgement Stmt) (z : Context → Judgement Stmt) (h k t u : Bool) → Row c scopes (told asked h t) y → ((d : Context) → Row d scopes (told asked k u) (z d))
+        → Row c scopes (told asked (h || k) (t || u)) (if_judged line x y (z (behind with_variables c y)))
+    if_row line x y z h k t u f g =
+        let p : Bool = told asked h t in
+        let q : Bool = told asked k u in
+        subst (λ b. Row c scopes b (if_judged line x y (z (behind with_variables c y)))) (sym (told_both asked h k t u))
+        (after_fits Any (λ (b : Stmt × Stmt). Alike scopes c.scopes → Has asked p b.0 × Has asked q b.1) (λ s. Alike scopes c.scopes → Has asked (p || q) s) _ x (after (λ a b. (a, b)) y (z (behind with_variables c y))) (row_any x)
+        (behind_fits (λ s. Alike scopes c.scopes → Has asked p s) (λ d s. Alike scopes d.scopes → Has asked q s) (λ (b : Stmt × Stmt). Alike scopes c.scopes → Has asked p b.0 × Has asked q b.1) (λ a b. (a, b)) with_variables c y z f g (λ a b m n. λ alike. (m alike, n alike)))
+        (λ e b m n. λ alike. if_has asked line e b.0 b.1 p q (n alike).0 (n alike).1))
+
+    for_row_has : (line : ℕ) (j : Judged Counted) (falls : Bool) (start end : Expression) (body : Under Stmt) (h t : Bool) → ((inner : List Entire) → Row c scopes (told asked h t) (body c inner))
+        → Row c scopes (told asked (is_bounded asked || h) t) (for_judged c controls line j falls start end body)
+    for_row_has line (Breaks rules) falls start end body h t f = tt
+    for_row_has line (Accepts k) falls start end body h t f =
+        let x : Bool = told asked h t in
+        subst (λ b. Row c scopes b (for_judged c controls line (Accepts k) falls start end body)) (sym (told_for asked h t))
+        (after_fits Any (λ s. Alike scopes c.scopes → Has asked x s) (λ s. Alike scopes c.scopes → Has asked (is_bounded asked || x) s) _ _ (body c (k.variable ∷ controls)) (row_any _) (f (k.variable ∷ controls))
+        (λ head s p q. λ alike. for_has asked line head.control head.initial head.last s x (q alike)))
+
+    for_in_row_has : (line : ℕ) (j : Judged Counted) (set : Expression) (body : Under Stmt) (h t : Bool) → ((inner : List Entire) → Row c scopes (told asked h t) (body c inner)) → Row c scopes (told asked (is_over_members asked || h) t) (for_in_judged c controls line j set body)
+    for_in_row_has line (Breaks rules) set body h t f = tt
+    for_in_row_has line (Accepts k) set body h t f =
+        let x : Bool = told asked h t in
+        subst (λ b. Row c scopes b (for_in_judged c controls line (Accepts k) set body)) (sym (told_for_in asked h t))
+        (after_fits Any (λ s. Alike scopes c.scopes → Has asked x s) (λ s. Alike scopes c.scopes → Has asked (is_over_members asked || x) s) _ _ (body c (k.variable ∷ controls)) (row_any _) (f (k.variable ∷ controls))
+        (λ head s p q. λ alike. for_in_has asked line head.control head.set s x (q alike)))
+
+  -- what the text says of a statement and of others, in view of scopes
+  abbrev statement_told : Statement → List Region → Bool
+  statement_told s scopes = told asked (statement_has asked s) (tags.statement_assigns s scopes)
+
+  abbrev statements_told : List Statement → List Region → Bool
+  statements_told ss scopes = told asked (any_true (map (statement_has asked) ss)) (tags.any_assigns (map tags.statement_assigns ss) scopes)
+
+  abbrev arms_told : List Arm → List Region → Bool
+  arms_told all scopes = told asked (any_true (map (arm_has asked) all)) (tags.any_assigns (map tags.arm_assigns all) scopes)
+
+  abbrev otherwise_told : Otherwise → List Region → Bool
+  otherwise_told o scopes = told asked (otherwise_has asked o) (tags.otherwise_assigns o scopes)
 
   -- inside of any `for` statements
   abbrev IsStatement : Statement → Type 0
-  IsStatement s = (c : Context) (controls : List Entire) → Row (statement_has asked s) (statement_judged s c controls)
+  IsStatement s = (c : Context) (scopes : List Region) (controls : List Entire) → Row c scopes (statement_told s scopes) (statement_judged s c controls)
 
   abbrev IsCompound : Compound → Type 0
-  IsCompound s = (c : Context) (controls : List Entire) → Rows (compound_has asked s) (compound_under s c controls)
+  IsCompound s = (c : Context) (scopes : List Region) (controls : List Entire) → Rows c scopes (told asked (compound_has asked s) (tags.compound_assigns s scopes)) (compound_under s c controls)
 
   abbrev IsArm : Arm → Type 0
-  IsArm a = (c : Context) (controls : List Entire) → Row (arm_has asked a) ((arm_judged a).1 c controls)
+  IsArm a = (c : Context) (scopes : List Region) (controls : List Entire) → Row c scopes (told asked (arm_has asked a) (tags.arm_assigns a scopes)) ((arm_judged a).1 c controls)
 
   abbrev IsOtherwise : Otherwise → Type 0
-  IsOtherwise o = (c : Context) (controls : List Entire) → Rows (otherwise_has asked o) (otherwise_judged o c controls)
+  IsOtherwise o = (c : Context) (scopes : List Region) (controls : List Entire) → Rows c scopes (otherwise_told o scopes) (otherwise_judged o c controls)
 
   abbrev ItsStatement : Type 0
   ItsStatement = (s : Statement) × IsStatement s
@@ -222,110 +300,164 @@ module _ (asked : ForForm) where
   abbrev otherwise_layer : Otherwise-F ItsStatement ItsArm ItsCompound ItsOtherwise → Otherwise-F Statement Arm Compound Otherwise
   otherwise_layer = map-Otherwise ItsStatement ItsArm ItsCompound ItsOtherwise Statement Arm Compound Otherwise (λ s. s.0) (λ a. a.0) (λ s. s.0) (λ o. o.0)
 
+  -- what the text says of a layer
+  abbrev layer_has : Statement-F Statement Arm Compound Otherwise → Bool
+  layer_has x = in_statement asked (map-Statement Statement Arm Compound Otherwise Bool Bool Bool Bool (statement_has asked) (arm_has asked) (compound_has asked) (otherwise_has asked) x)
+
+  abbrev layer_assigns : Statement-F Statement Arm Compound Otherwise → tags.Assigning
+  layer_assigns x = tags.in_statement (map-Statement Statement Arm Compound Otherwise tags.Assigning tags.Assigning tags.Assigning tags.Assigning tags.statement_assigns tags.arm_assigns tags.compound_assigns tags.otherwise_assigns x)
+
   -- a layer that is rolled up
   rolled : (x : Statement-F Statement Arm Compound Otherwise)
-      → ((c : Context) (controls : List Entire) → Row (in_statement asked (map-Statement Statement Arm Compound Otherwise Bool Bool Bool Bool (statement_has asked) (arm_has asked) (compound_has asked) (otherwise_has asked) x)) (at_statement (map-Statement Statement Arm Compound Otherwise (Under Stmt) ArmJudged (Under Stmts) (Under Stmts) statement_judged arm_judged compound_under otherwise_judged x) c controls))
+      → ((c : Context) (scopes : List Region) (controls : List Entire) → Row c scopes (told asked (layer_has x) (layer_assigns x scopes)) (at_statement (map-Statement Statement Arm Compound Otherwise (Under Stmt) ArmJudged (Under Stmts) (Under Stmts) statement_judged arm_judged compound_under otherwise_judged x) c controls))
       → IsStatement (roll-Statement x)
-  rolled x h c controls =
-      subst (λ b. Row b (statement_judged (roll-Statement x) c controls)) (sym (fold-roll-Statement Bool Bool Bool Bool (in_statement asked) (in_arm asked) (in_compound asked) (in_otherwise asked) x))
-      (subst (λ (judge : Under Stmt). Row (in_statement asked (map-Statement Statement Arm Compound Otherwise Bool Bool Bool Bool (statement_has asked) (arm_has asked) (compound_has asked) (otherwise_has asked) x)) (judge c controls))
-      (sym (fold-roll-Statement (Under Stmt) ArmJudged (Under Stmts) (Under Stmts) at_statement at_arm at_compound at_otherwise x)) (h c controls))
+  rolled x h c scopes controls =
+      subst (λ b. Row c scopes (told asked b (tags.statement_assigns (roll-Statement x) scopes)) (statement_judged (roll-Statement x) c controls)) (sym (fold-roll-Statement Bool Bool Bool Bool (in_statement asked) (in_arm asked) (in_compound asked) (in_otherwise asked) x))
+      (subst (λ (g : tags.Assigning). Row c scopes (told asked (layer_has x) (g scopes)) (statement_judged (roll-Statement x) c controls)) (sym (fold-roll-Statement tags.Assigning tags.Assigning tags.Assigning tags.Assigning tags.in_statement tags.in_arm tags.in_compound tags.in_otherwise x))
+      (subst (λ (judge : Under Stmt). Row c scopes (told asked (layer_has x) (layer_assigns x scopes)) (judge c controls)) (sym (fold-roll-Statement (Under Stmt) ArmJudged (Under Stmts) (Under Stmts) at_statement at_arm at_compound at_otherwise x)) (h c scopes controls)))
 
   rolled_arm : (x : Arm-F Statement Arm Compound Otherwise) → IsStatement x.body → IsArm (roll-Arm x)
-  rolled_arm x h c controls =
-      subst (λ b. Row b ((arm_judged (roll-Arm x)).1 c controls)) (sym (fold-roll-Arm Bool Bool Bool Bool (in_statement asked) (in_arm asked) (in_compound asked) (in_otherwise asked) x))
-      (subst (λ (a : ArmJudged). Row (statement_has asked x.body) (a.1 c controls)) (sym (fold-roll-Arm (Under Stmt) ArmJudged (Under Stmts) (Under Stmts) at_statement at_arm at_compound at_otherwise x)) (h c controls))
+  rolled_arm x h c scopes controls =
+      subst (λ b. Row c scopes (told asked b (tags.arm_assigns (roll-Arm x) scopes)) ((arm_judged (roll-Arm x)).1 c controls)) (sym (fold-roll-Arm Bool Bool Bool Bool (in_statement asked) (in_arm asked) (in_compound asked) (in_otherwise asked) x))
+      (subst (λ (g : tags.Assigning). Row c scopes (told asked (statement_has asked x.body) (g scopes)) ((arm_judged (roll-Arm x)).1 c controls)) (sym (fold-roll-Arm tags.Assigning tags.Assigning tags.Assigning tags.Assigning tags.in_statement tags.in_arm tags.in_compound tags.in_otherwise x))
+      (subst (λ (a : ArmJudged). Row c scopes (statement_told x.body scopes) (a.1 c controls)) (sym (fold-roll-Arm (Under Stmt) ArmJudged (Under Stmts) (Under Stmts) at_statement at_arm at_compound at_otherwise x)) (h c scopes controls)))
 
-  rolled_compound : (x : Compound-F Statement Arm Compound Otherwise) → ((c : Context) (controls : List Entire) → Rows (any_true (map (statement_has asked) x.statements)) (in_order (map statement_judged x.statements) c controls)) → IsCompound (roll-Compound x)
-  rolled_compound x h c controls =
-      subst (λ b. Rows b (compound_under (roll-Compound x) c controls)) (sym (fold-roll-Compound Bool Bool Bool Bool (in_statement asked) (in_arm asked) (in_compound asked) (in_otherwise asked) x))
-      (subst (λ (judge : Under Stmts). Rows (any_true (map (statement_has asked) x.statements)) (judge c controls)) (sym (fold-roll-Compound (Under Stmt) ArmJudged (Under Stmts) (Under Stmts) at_statement at_arm at_compound at_otherwise x)) (h c controls))
+  abbrev AreJudged : List Statement → Type 0
+  AreJudged ss = (c : Context) (scopes : List Region) (controls : List Entire) → Rows c scopes (statements_told ss scopes) (in_order (map statement_judged ss) c controls)
 
-  rolled_otherwise : (x : Otherwise-F Statement Arm Compound Otherwise) → ((c : Context) (controls : List Entire) → Rows (any_true (map (statement_has asked) x.statements)) (in_order (map statement_judged x.statements) c controls)) → IsOtherwise (roll-Otherwise x)
-  rolled_otherwise x h c controls =
-      subst (λ b. Rows b (otherwise_judged (roll-Otherwise x) c controls)) (sym (fold-roll-Otherwise Bool Bool Bool Bool (in_statement asked) (in_arm asked) (in_compound asked) (in_otherwise asked) x))
-      (subst (λ (judge : Under Stmts). Rows (any_true (map (statement_has asked) x.statements)) (judge c controls)) (sym (fold-roll-Otherwise (Under Stmt) ArmJudged (Under Stmts) (Under Stmts) at_statement at_arm at_compound at_otherwise x)) (h c controls))
+  rolled_compound : (x : Compound-F Statement Arm Compound Otherwise) → AreJudged x.statements → IsCompound (roll-Compound x)
+  rolled_compound x h c scopes controls =
+      subst (λ b. Rows c scopes (told asked b (tags.compound_assigns (roll-Compound x) scopes)) (compound_under (roll-Compound x) c controls)) (sym (fold-roll-Compound Bool Bool Bool Bool (in_statement asked) (in_arm asked) (in_compound asked) (in_otherwise asked) x))
+      (subst (λ (g : tags.Assigning). Rows c scopes (told asked (any_true (map (statement_has asked) x.statements)) (g scopes)) (compound_under (roll-Compound x) c controls)) (sym (fold-roll-Compound tags.Assigning tags.Assigning tags.Assigning tags.Assigning tags.in_statement tags.in_arm tags.in_compound tags.in_otherwise x))
+      (subst (λ (judge : Under Stmts). Rows c scopes (statements_told x.statements scopes) (judge c controls)) (sym (fold-roll-Compound (Under Stmt) ArmJudged (Under Stmts) (Under Stmts) at_statement at_arm at_compound at_otherwise x)) (h c scopes controls)))
+
+  rolled_otherwise : (x : Otherwise-F Statement Arm Compound Otherwise) → AreJudged x.statements → IsOtherwise (roll-Otherwise x)
+  rolled_otherwise x h c scopes controls =
+      subst (λ b. Rows c scopes (told asked b (tags.otherwise_assigns (roll-Otherwise x) scopes)) (otherwise_judged (roll-Otherwise x) c controls)) (sym (fold-roll-Otherwise Bool Bool Bool Bool (in_statement asked) (in_arm asked) (in_compound asked) (in_otherwise asked) x))
+      (subst (λ (g : tags.Assigning). Rows c scopes (told asked (any_true (map (statement_has asked) x.statements)) (g scopes)) (otherwise_judged (roll-Otherwise x) c controls)) (sym (fold-roll-Otherwise tags.Assigning tags.Assigning tags.Assigning tags.Assigning tags.in_statement tags.in_arm tags.in_compound tags.in_otherwise x))
+      (subst (λ (judge : Under Stmts). Rows c scopes (statements_told x.statements scopes) (judge c controls)) (sym (fold-roll-Otherwise (Under Stmt) ArmJudged (Under Stmts) (Under Stmts) at_statement at_arm at_compound at_otherwise x)) (h c scopes controls)))
 
   -- statements in order
-  rows_have : (ss : List ItsStatement) (c : Context) (controls : List Entire) → Rows (any_true (map (statement_has asked) (map (λ s. s.0) ss))) (in_order (map statement_judged (map (λ s. s.0) ss)) c controls)
-  rows_have [] c controls = none_has asked
-  rows_have (s ∷ ss) c controls =
-      let more : Bool = any_true (map (statement_has asked) (map (λ t. t.0) ss)) in
-      behind_fits (Has asked (statement_has asked s.0)) (λ d. HasOf asked more) (HasOf asked (statement_has asked s.0 || more)) tree.next with_variables c (statement_judged s.0 c controls) (λ d. in_order (map statement_judged (map (λ t. t.0) ss)) d controls) (s.1 c controls) (λ d. rows_have ss d controls)
-      (λ x xs p q. next_has asked x xs (statement_has asked s.0) more p q)
+  rows_have : (ss : List ItsStatement) → AreJudged (map (λ s. s.0) ss)
+  rows_have [] c scopes controls = λ alike. none_told (λ b. HasOf asked b tree.none) (none_has asked)
+  rows_have (s ∷ ss) c scopes controls =
+      let others : List Statement = map (λ t. t.0) ss in
+      let own : Bool = statement_told s.0 scopes in
+      let more : Bool = statements_told others scopes in
+      subst (λ b. Rows c scopes b (in_order (map statement_judged (s.0 ∷ others)) c controls)) (sym (told_both asked (statement_has asked s.0) (any_true (map (statement_has asked) others)) (tags.statement_assigns s.0 scopes) (tags.any_assigns (map tags.statement_assigns others) scopes)))
+      (behind_fits (λ x. Alike scopes c.scopes → Has asked own x) (λ d xs. Alike scopes d.scopes → HasOf asked more xs) (λ xs. Alike scopes c.scopes → HasOf asked (own || more) xs) tree.next with_variables c (statement_judged s.0 c controls) (λ d. in_order (map statement_judged others) d controls)
+      (s.1 c scopes controls) (λ d. rows_have ss d scopes controls) (λ x xs p q. λ alike. next_has asked x xs own more (p alike) (q alike)))
 
   -- ---- `case`
 
-  arms_have : (line : ℕ) (h : Host) (controls : List Entire) (all : List ItsArm) (c : Context) → FitsRow (HasArms asked (any_true (map (arm_has asked) (map (λ a. a.0) all)))) (arms_in_order line h (map arm_judged (map (λ a. a.0) all)) c controls)
-  arms_have line h controls [] c = no_arm_has asked
-  arms_have line h controls (a ∷ all) c =
-      let own : Bool = arm_has asked a.0 in
-      let more : Bool = any_true (map (arm_has asked) (map (λ b. b.0) all)) in
-      behind_fits (λ (x : tree.Arm). Has asked own x.1) (λ d. HasArms asked more) (HasArms asked (own || more)) (λ x xs. tree.next_arm x.0 x.1 xs) (λ (x : tree.Arm). with_variables x.1) c (arm_row line h (arm_judged a.0) c controls) (λ d. arms_in_order line h (map arm_judged (map (λ b. b.0) all)) d controls)
-      (after_fits Any (Has asked own) (λ (x : tree.Arm). Has asked own x.1) (λ ranges s. (ranges, s)) (at_item line (own_ranges c.scopes h (arm_judged a.0).0)) ((arm_judged a.0).1 c controls) (row_any _) (a.1 c controls) (λ ranges s p q. q))
-      (λ d. arms_have line h controls all d) (λ x xs p q. next_arm_has asked x.0 x.1 xs own more p q)
+  arms_have : (line : ℕ) (h : Host) (controls : List Entire) (scopes : List Region) (all : List ItsArm) (c : Context)
+      → FitsRow (λ xs. Alike scopes c.scopes → HasArms asked (arms_told (map (λ a. a.0) all) scopes) xs) (arms_in_order line h (map arm_judged (map (λ a. a.0) all)) c controls)
+  arms_have line h controls scopes [] c = λ alike. none_told (λ b. HasArms asked b tree.no_arm) (no_arm_has asked)
+  arms_have line h controls scopes (a ∷ all) c =
+      let others : List Arm = map (λ b. b.0) all in
+      let own : Bool = told asked (arm_has asked a.0) (tags.arm_assigns a.0 scopes) in
+      let more : Bool = arms_told others scopes in
+      subst (λ b. FitsRow (λ xs. Alike scopes c.scopes → HasArms asked b xs) (arms_in_order line h (map arm_judged (a.0 ∷ others)) c controls))
+      (sym (told_both asked (arm_has asked a.0) (any_true (map (arm_has asked) others)) (tags.arm_assigns a.0 scopes) (tags.any_assigns (map tags.arm_assigns others) scopes)))
+      (behind_fits (λ (x : tree.Arm). Alike scopes c.scopes → Has asked own x.1) (λ d xs. Alike scopes d.scopes → HasArms asked more xs) (λ xs. Alike scopes c.scopes → HasArms asked (own || more) xs) (λ x xs. tree.next_arm x.0 x.1 xs) (λ (x : tree.Arm). with_variables x.1) c (arm_row line h (arm_judged a.0) c controls)
+      (λ d. arms_in_order line h (map arm_judged others) d controls)
+      (after_fits Any (λ s. Alike scopes c.scopes → Has asked own s) (λ (x : tree.Arm). Alike scopes c.scopes → Has asked own x.1) (λ ranges s. (ranges, s)) (at_item line (own_ranges c.scopes h (arm_judged a.0).0)) ((arm_judged a.0).1 c controls) (row_any _) (a.1 c scopes controls) (λ ranges s p q. q))
+      (λ d. arms_have line h controls scopes all d) (λ x xs p q. λ alike. next_arm_has asked x.0 x.1 xs own more (p alike) (q alike)))
 
-  case_row_has : (c : Context) (controls : List Entire) (line : ℕ) (j : Judged CaseSelector) (all : List ItsArm) (other : Context → Judgement Other) (y : Bool) → ((d : Context) → FitsRow (HasOther asked y) (other d))
-      → Row (any_true (map (arm_has asked) (map (λ a. a.0) all)) || y) (case_judged line (λ x. expr_item c controls (Accepts x)) j (λ h. arms_in_order line h (map arm_judged (map (λ a. a.0) all)) c controls) (λ arms. other (behind with_variables_in c arms)))
-  case_row_has c controls line (Breaks rules) all other y h = tt
-  case_row_has c controls line (Accepts s) all other y h =
-      let own : Bool = any_true (map (arm_has asked) (map (λ a. a.0) all)) in
+  case_row_has : (c : Context) (scopes : List Region) (controls : List Entire) (line : ℕ) (j : Judged CaseSelector) (all : List ItsArm) (other : Context → Judgement Other) (k u : Bool) → ((d : Context) → FitsRow (λ o. Alike scopes d.scopes → HasOther asked (told asked k u) o) (other d))
+      → Row c scopes (told asked (any_true (map (arm_has asked) (map (λ a. a.0) all)) || k) (tags.any_assigns (map tags.arm_assigns (map (λ a. a.0) all)) scopes || u))
+      (case_judged line (λ x. expr_item c controls (Accepts x)) j (λ h. arms_in_order line h (map arm_judged (map (λ a. a.0) all)) c controls) (λ arms. other (behind with_variables_in c arms)))
+  case_row_has c scopes controls line (Breaks rules) all other k u h = tt
+  case_row_has c scopes controls line (Accepts s) all other k u h =
+      let own : Bool = arms_told (map (λ a. a.0) all) scopes in
+      let y : Bool = told asked k u in
       let arms : Judgement Arms = arms_in_order line s.host (map arm_judged (map (λ a. a.0) all)) c controls in
-      after_fits Any (λ (x : Arms × Other). HasArms asked own x.0 × HasOther asked y x.1) (Has asked (own || y)) _ _ (after (λ a b. (a, b)) arms (other (behind with_variables_in c arms))) (row_any _)
-      (behind_fits (HasArms asked own) (λ d. HasOther asked y) (λ (x : Arms × Other). HasArms asked own x.0 × HasOther asked y x.1) (λ a b. (a, b)) with_variables_in c arms other (arms_have line s.host controls all c) h (λ a b p q. (p, q)))
-      (λ e x p q. case_has asked line e x.0 x.1 own y q.0 q.1)
+      subst (λ b. Row c scopes b (case_judged line (λ x. expr_item c controls (Accepts x)) (Accepts s) (λ h. arms_in_order line h (map arm_judged (map (λ a. a.0) all)) c controls) (λ arms. other (behind with_variables_in c arms))))
+      (sym (told_both asked (any_true (map (arm_has asked) (map (λ a. a.0) all))) k (tags.any_assigns (map tags.arm_assigns (map (λ a. a.0) all)) scopes) u))
+      (after_fits Any (λ (x : Arms × Other). Alike scopes c.scopes → HasArms asked own x.0 × HasOther asked y x.1) (λ t. Alike scopes c.scopes → Has asked (own || y) t) _ _ (after (λ a b. (a, b)) arms (other (behind with_variables_in c arms))) (row_any _)
+      (behind_fits (λ xs. Alike scopes c.scopes → HasArms asked own xs) (λ d o. Alike scopes d.scopes → HasOther asked y o) (λ (x : Arms × Other). Alike scopes c.scopes → HasArms asked own x.0 × HasOther asked y x.1) (λ a b. (a, b)) with_variables_in c arms other (arms_have line s.host controls scopes all c) h (λ a b p q. λ alike. (p alike, q alike)))
+      (λ e x p q. λ alike. case_has asked line e x.0 x.1 own y (q alike).0 (q alike).1))
 
   -- ---- `with`
 
-  with_row_has : (c : Context) (controls : List Entire) (line : ℕ) (j : Judged Opened) (body : Under Stmt) (x : Bool) → ((d : Context) (inner : List Entire) → Row x (body d inner)) → Row x (with_judged c controls line j body)
-  with_row_has c controls line (Breaks rules) body x h = tt
-  with_row_has c controls line (Accepts o) body x h = after_fits Any (Has asked x) (Has asked x) (with_form line) _ (body (inside c o) controls) (row_any _) (h (inside c o) controls) (λ hs s p q. nested_has asked line hs s x q)
+  with_row_has : (c : Context) (scopes : List Region) (controls : List Entire) (line : ℕ) (accesses : List Access) (body : Statement) → IsStatement body
+      → Row c scopes (statement_told body (tags.records_within scopes accesses scopes)) (with_judged c controls line (records_opened c accesses (none_opened c)) (statement_judged body))
+  with_row_has c scopes controls line accesses body h = go (records_opened c accesses (none_opened c)) (λ alike. opened_alike c scopes alike accesses)
+    where
+      inner : List Region
+      inner = tags.records_within scopes accesses scopes
+
+      x : Bool
+      x = statement_told body inner
+
+      go : (j : Judged Opened) → (Alike scopes c.scopes → Fits (λ o. Alike inner o.scopes) j) → Row c scopes x (with_judged c controls line j (statement_judged body))
+      go (Breaks rules) f = tt
+      go (Accepts o) f =
+          after_fits Any (λ s. Alike inner o.scopes → Has asked x s) (λ s. Alike scopes c.scopes → Has asked x s) (with_form line) _ (statement_judged body (inside c o) controls) (row_any _) (h (inside c o) inner controls) (λ hs s p q. λ alike. nested_has asked line hs s x (q (f alike)))
+
+  -- an empty statement, and no `otherwise` part
+  nothing_has : (d : Context) (scopes : List Region) → Row d scopes (told asked false false) (Passes tree.Empty)
+  nothing_has d scopes alike = none_told (λ b. Has asked b tree.Empty) (empty_has asked)
+
+  no_other : (d : Context) (scopes : List Region) → Alike scopes d.scopes → HasOther asked (told asked false false) tree.no_other
+  no_other d scopes alike = none_told (λ b. HasOther asked b tree.no_other) (no_other_has asked)
 
   -- each statement, by those in it
   statement_step : (y : Statement-F ItsStatement ItsArm ItsCompound ItsOtherwise) → IsStatement (roll-Statement (statement_layer y))
-  statement_step (Statement-F.Empty line) = rolled (Statement-F.Empty line) (λ c controls. empty_has asked)
-  statement_step (Statement-F.Assignment line access v) = rolled (Statement-F.Assignment line access v) (λ c controls. simple_row c controls line _ (assignment_simple c line access v))
-  statement_step (Statement-F.Call line access) = rolled (Statement-F.Call line access) (λ c controls. simple_row c controls line _ (called_simple c line (out-Access access).name (call_arguments (out-Access access).selectors)))
+  statement_step (Statement-F.Empty line) = rolled (Statement-F.Empty line) (λ c scopes controls. nothing_has c scopes)
+  statement_step (Statement-F.Assignment line access v) = rolled (Statement-F.Assignment line access v) (λ c scopes controls. assigned_row c scopes controls line access v)
+  statement_step (Statement-F.Call line access) = rolled (Statement-F.Call line access) (λ c scopes controls. simple_row c scopes controls line _ (called_simple c line (out-Access access).name (call_arguments (out-Access access).selectors)))
   statement_step (Statement-F.Compound s) =
-      rolled (Statement-F.Compound s.0) (λ c controls. formed_fits (HasOf asked (compound_has asked s.0)) (Has asked (compound_has asked s.0)) tree.Compound (compound_under s.0 c controls) (s.1 c controls) (λ ss p. compound_form_has asked (compound_has asked s.0) ss p))
+      rolled (Statement-F.Compound s.0)
+      (λ c scopes controls. let own : Bool = told asked (compound_has asked s.0) (tags.compound_assigns s.0 scopes) in
+      formed_fits (λ ss. Alike scopes c.scopes → HasOf asked own ss) (λ t. Alike scopes c.scopes → Has asked own t) tree.Compound (compound_under s.0 c controls) (s.1 c scopes controls) (λ ss p. λ alike. compound_form_has asked own ss (p alike)))
   statement_step (Statement-F.If line e then_part None) =
       rolled (statement_layer (Statement-F.If line e then_part None))
-      (λ c controls. if_row c line (condition_judged c controls line e) (statement_judged then_part.0 c controls) (λ d. Passes tree.Empty) (statement_has asked then_part.0) false (then_part.1 c controls) (λ d. empty_has asked))
+      (λ c scopes controls. if_row c scopes controls line (condition_judged c controls line e) (statement_judged then_part.0 c controls) (λ d. Passes tree.Empty) (statement_has asked then_part.0) false (tags.statement_assigns then_part.0 scopes) false (then_part.1 c scopes controls) (λ d. nothing_has d scopes))
   statement_step (Statement-F.If line e then_part (Some other)) =
       rolled (statement_layer (Statement-F.If line e then_part (Some other)))
-      (λ c controls. if_row c line (condition_judged c controls line e) (statement_judged then_part.0 c controls) (λ d. statement_judged other.0 d controls) (statement_has asked then_part.0) (statement_has asked other.0) (then_part.1 c controls) (λ d. other.1 d controls))
+      (λ c scopes controls. if_row c scopes controls line (condition_judged c controls line e) (statement_judged then_part.0 c controls) (λ d. statement_judged other.0 d controls) (statement_has asked then_part.0) (statement_has asked other.0) (tags.statement_assigns then_part.0 scopes) (tags.statement_assigns other.0 scopes)
+      (then_part.1 c scopes controls) (λ d. other.1 d scopes controls))
   statement_step (Statement-F.While line e body) =
       rolled (Statement-F.While line e body.0)
-      (λ c controls. after_fits Any (Has asked (statement_has asked body.0)) (Has asked (statement_has asked body.0)) (tree.While line) (condition_judged c controls line e) (statement_judged body.0 c controls) (row_any _) (body.1 c controls) (λ x s p q. while_has asked line x s (statement_has asked body.0) q))
+      (λ c scopes controls. let own : Bool = statement_told body.0 scopes in
+      after_fits Any (λ s. Alike scopes c.scopes → Has asked own s) (λ s. Alike scopes c.scopes → Has asked own s) (tree.While line) (condition_judged c controls line e) (statement_judged body.0 c controls) (row_any _) (body.1 c scopes controls) (λ x s p q. λ alike. while_has asked line x s own (q alike)))
   statement_step (Statement-F.Case line e arms None) =
-      rolled (statement_layer (Statement-F.Case line e arms None)) (λ c controls. case_row_has c controls line _ arms (λ d. Passes tree.no_other) false (λ d. no_other_has asked))
+      rolled (statement_layer (Statement-F.Case line e arms None)) (λ c scopes controls. case_row_has c scopes controls line _ arms (λ d. Passes tree.no_other) false false (λ d. no_other d scopes))
   statement_step (Statement-F.Case line e arms (Some o)) =
       rolled (statement_layer (Statement-F.Case line e arms (Some o)))
-      (λ c controls. case_row_has c controls line _ arms (λ d. formed tree.otherwise_do (otherwise_judged o.0 d controls)) (otherwise_has asked o.0)
-      (λ d. formed_fits (HasOf asked (otherwise_has asked o.0)) (HasOther asked (otherwise_has asked o.0)) tree.otherwise_do (otherwise_judged o.0 d controls) (o.1 d controls) (λ ss p. otherwise_form_has asked ss (otherwise_has asked o.0) p)))
+      (λ c scopes controls. let own : Bool = otherwise_told o.0 scopes in
+      case_row_has c scopes controls line _ arms (λ d. formed tree.otherwise_do (otherwise_judged o.0 d controls)) (otherwise_has asked o.0) (tags.otherwise_assigns o.0 scopes)
+      (λ d. formed_fits (λ ss. Alike scopes d.scopes → HasOf asked own ss) (λ t. Alike scopes d.scopes → HasOther asked own t) tree.otherwise_do (otherwise_judged o.0 d controls) (o.1 d scopes controls) (λ ss p. λ alike. otherwise_form_has asked ss own (p alike))))
   statement_step (Statement-F.Repeat line statements e) =
       rolled (statement_layer (Statement-F.Repeat line statements e))
-      (λ c controls. let own : Bool = any_true (map (statement_has asked) (map (λ s. s.0) statements)) in
-      after_fits Any (HasOf asked own) (Has asked own) (λ x body. tree.Repeat line body x) (condition_judged c controls line e) (in_order (map statement_judged (map (λ s. s.0) statements)) c controls) (row_any _) (rows_have statements c controls) (λ x ss p q. repeat_has asked line x ss own q))
+      (λ c scopes controls. let own : Bool = statements_told (map (λ s. s.0) statements) scopes in
+      after_fits Any (λ ss. Alike scopes c.scopes → HasOf asked own ss) (λ t. Alike scopes c.scopes → Has asked own t) (λ x body. tree.Repeat line body x) (condition_judged c controls line e) (in_order (map statement_judged (map (λ s. s.0) statements)) c controls) (row_any _) (rows_have statements c scopes controls)
+      (λ x ss p q. λ alike. repeat_has asked line x ss own (q alike)))
   statement_step (Statement-F.For line variable start toward end body) =
-      rolled (statement_layer (Statement-F.For line variable start toward end body)) (λ c controls. for_row_has c controls line (control_judged c variable) (falls_by toward) start end (statement_judged body.0) (statement_has asked body.0) body.1)
+      rolled (statement_layer (Statement-F.For line variable start toward end body))
+      (λ c scopes controls. for_row_has c scopes controls line (control_judged c variable) (falls_by toward) start end (statement_judged body.0) (statement_has asked body.0) (tags.statement_assigns body.0 scopes) (body.1 c scopes))
   statement_step (Statement-F.ForIn line variable set body) =
-      rolled (statement_layer (Statement-F.ForIn line variable set body)) (λ c controls. for_in_row_has c controls line (control_judged c variable) set (statement_judged body.0) (statement_has asked body.0) body.1)
-  statement_step (Statement-F.With line accesses body) =
-      rolled (statement_layer (Statement-F.With line accesses body)) (λ c controls. with_row_has c controls line (records_opened c accesses (none_opened c)) (statement_judged body.0) (statement_has asked body.0) body.1)
+      rolled (statement_layer (Statement-F.ForIn line variable set body))
+      (λ c scopes controls. for_in_row_has c scopes controls line (control_judged c variable) set (statement_judged body.0) (statement_has asked body.0) (tags.statement_assigns body.0 scopes) (body.1 c scopes))
+  statement_step (Statement-F.With line accesses body) = rolled (statement_layer (Statement-F.With line accesses body)) (λ c scopes controls. with_row_has c scopes controls line accesses body.0 body.1)
 
   compound_step : (s : Compound) → IsCompound s
   compound_step =
       ind-Compound IsStatement IsArm IsCompound IsOtherwise
       (λ x y e. subst (λ z. IsStatement (roll-Statement z)) e (statement_step y))
       (λ x y e. subst (λ z. IsArm (roll-Arm z)) e (rolled_arm (arm_layer y) y.body.1))
-      (λ x y e. subst (λ z. IsCompound (roll-Compound z)) e (rolled_compound (compound_layer y) (λ c controls. rows_have y.statements c controls)))
-      (λ x y e. subst (λ z. IsOtherwise (roll-Otherwise z)) e (rolled_otherwise (otherwise_layer y) (λ c controls. rows_have y.statements c controls)))
+      (λ x y e. subst (λ z. IsCompound (roll-Compound z)) e (rolled_compound (compound_layer y) (rows_have y.statements)))
+      (λ x y e. subst (λ z. IsOtherwise (roll-Otherwise z)) e (rolled_otherwise (otherwise_layer y) (rows_have y.statements)))
 
--- the typed statements of a block have a first `for` with bounds exactly where the text has one
-pub bounded_there : (context : Context) (c : Compound) (ss : Stmts) → compound_judged context c ≡ Passes ss → is_some (first_for_of ss) ≡ has_for c
-bounded_there context c ss is = subst (FitsRow (HasOf form.Bounds (has_for c))) is (compound_step form.Bounds c context [])
+-- the typed statements of a block have a first `for` with bounds, or assignment to a tag, exactly where the text has one
+pub bounded_there : (context : Context) (c : Compound) (ss : Stmts) → compound_judged context c ≡ Passes ss → is_some (first_for_of ss) ≡ (has_for c || tags.assigns_tag context.scopes c)
+bounded_there context c ss is =
+    let had = subst (FitsRow (λ xs. Alike context.scopes context.scopes → HasOf form.Bounds (has_for c || tags.assigns_tag context.scopes c) xs)) is (compound_step form.Bounds c context context.scopes []) in
+    had refl
 
 -- and so one over members
 pub members_there : (context : Context) (c : Compound) (ss : Stmts) → compound_judged context c ≡ Passes ss → is_some (first_for_in_of ss) ≡ has_for_in c
-members_there context c ss is = subst (FitsRow (HasOf form.Members (has_for_in c))) is (compound_step form.Members c context [])
+members_there context c ss is =
+    let had = subst (FitsRow (λ xs. Alike context.scopes context.scopes → HasOf form.Members (has_for_in c) xs)) is (compound_step form.Members c context context.scopes []) in
+    had refl

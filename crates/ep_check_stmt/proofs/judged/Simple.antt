@@ -1,12 +1,10 @@
--- A statement that is judged on its own is an assignment, a procedure statement, `halt` or a `write`.
+-- A call is judged to be a procedure statement, `halt` or a `write`.
 use Rattle.std.proofs.Common.{ℕ, Bool, true, false, List, [], ◌∷◌, map, Option, Some, None}
 use Rattle.std.specs.Prelude.{⊤}
 use Rattle.std.specs.Option.{option_map}
-use Rattle.ep_tree.specs.declared.expression.Access.{Access}
 use Rattle.ep_tree.specs.declared.expression.Argument.{Argument}
-use Rattle.ep_tree.specs.declared.expression.ComponentValue.{ComponentValue}
 use Rattle.ep_typed.specs.Trees as tree
-use Rattle.ep_typed.specs.Trees.{Actual, Callee, Expr, Item, Place, Stmt}
+use Rattle.ep_typed.specs.Trees.{Actual, Callee, Item, Stmt}
 use Rattle.ep_typed.specs.declared.tree.StandardFile.{StandardFile}
 use Rattle.ep_typed.specs.declared.tree.StandardFile.TheVariants as file
 use Rattle.ep_scope.specs.Scopes.{Meant, Declares, Standard, Requires, FieldOf, Nothing, depth_in, meant}
@@ -18,13 +16,12 @@ use Rattle.ep_scope.specs.declared.required.Required.TheVariants as required
 use Rattle.ep_scope.specs.declared.thing.Declaration.{Declaration}
 use Rattle.ep_scope.specs.declared.thing.Declaration.TheVariants as declaration
 use Rattle.ep_scope.specs.declared.thing.Declared.{Declared}
-use Rattle.ep_check_expr.specs.Arguments.{arguments_judged, callee_at, given_to}
-use Rattle.ep_check_expr.specs.Expressions.{given, judged_value}
+use Rattle.ep_check_expr.specs.Arguments.{arguments_judged, callee_at}
+use Rattle.ep_check_expr.specs.Expressions.{given}
 use Rattle.ep_check_expr.specs.Functions.{Given}
-use Rattle.ep_check_expr.specs.Judgements.{Accepts, both}
-use Rattle.ep_check_expr.specs.Operators.{map_both}
+use Rattle.ep_check_expr.specs.Judgements.{Accepts}
 use Rattle.ep_check_expr.proofs.Passing.{IfForm}
-use Rattle.ep_check_stmt.specs.Statements.{Context, assigned, available, call_judged, declared_called, file_given, items_judged, name_called, own_called, procedure_called, required_called, something, target_judged, to_file, usually_written, write_judged, written, written_or}
+use Rattle.ep_check_stmt.specs.Statements.{Context, available, call_judged, declared_called, file_given, items_judged, name_called, own_called, procedure_called, required_called, something, to_file, usually_written, write_judged, written, written_or}
 use Rattle.ep_check_stmt.proofs.judged.Fits.{Any, Fits, fits_any, fits_both, fits_then}
 
 -- the statement is one of these
@@ -43,18 +40,6 @@ IsSimple (tree.Procedure line callee given) = ⊤
 IsSimple (tree.Case line x arms other) = ⊥
 IsSimple (tree.Halt line) = ⊤
 IsSimple (tree.Write line items ends_line) = ⊤
-
--- ---- assignments
-
-placed_simple : (line : ℕ) (place : Option Place) (x : Option Expr) → IfForm IsSimple (map_both (tree.Assign line) place x)
-placed_simple line None x = tt
-placed_simple line (Some place) None = tt
-placed_simple line (Some place) (Some x) = tt
-
-pub assignment_simple : (c : Context) (line : ℕ) (a : Access) (v : ComponentValue) → Fits (IfForm IsSimple) (both (assigned line) (target_judged c a) (judged_value c.scopes v))
-assignment_simple c line a v =
-    fits_both Any Any (IfForm IsSimple) (assigned line) (target_judged c a) (judged_value c.scopes v) (fits_any (target_judged c a)) (fits_any (judged_value c.scopes v))
-    (λ t x p q. fits_then Any (IfForm IsSimple) (λ form. Accepts (map_both (tree.Assign line) t.place form)) (given_to (λ form. form) t.kind x.kind x.form) (fits_any (given_to (λ form. form) t.kind x.kind x.form)) (λ form r. placed_simple line t.place form))
 
 -- ---- `write` and `writeln`
 

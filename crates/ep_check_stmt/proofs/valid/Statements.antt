@@ -1,14 +1,12 @@
 -- Statements that the rules accept are valid under declarations that hold what the scopes declare.
-use Rattle.std.proofs.Common.{◌≡◌, ℕ, ◌-◌, Bool, true, false, List, [], ◌∷◌, map, Option, Some, None, refl, sym, ap, ◌∙◌, subst}
-use Rattle.std.specs.Prelude.{⊤, if◌then◌else◌}
+use Rattle.std.proofs.Common.{◌≡◌, ℕ, Bool, true, false, List, [], ◌∷◌, map, Option, Some, None, refl, sym, ap, ◌∙◌, subst}
+use Rattle.std.specs.Prelude.{⊤}
 use Rattle.std.specs.Option.{option_map}
 use Rattle.ep_tree.specs.Nodes.{argument_node}
 use Rattle.ep_tree.specs.declared.expression.Access.{out-Access}
 use Rattle.ep_tree.specs.declared.expression.Access as syntax
 use Rattle.ep_tree.specs.declared.expression.Argument.{Argument, out-Argument, roll-out-Argument}
-use Rattle.ep_tree.specs.declared.expression.ComponentValue.{ComponentValue}
 use Rattle.ep_tree.specs.declared.expression.Expression.{Expression}
-use Rattle.ep_tree.specs.declared.expression.Selector.{Selector}
 use Rattle.ep_tree.specs.declared.expression.Label.{Label}
 use Rattle.ep_tree.specs.declared.statement.Arm.{Arm, map-Arm, roll-Arm}
 use Rattle.ep_tree.specs.declared.statement.Compound.{Compound, map-Compound, roll-Compound}
@@ -20,7 +18,6 @@ use Rattle.ep_typed.specs.Auxiliaries.{first_for, first_for_in, first_for_in_of,
 use Rattle.ep_typed.specs.Hosts as typed
 use Rattle.ep_typed.specs.Trees as tree
 use Rattle.ep_typed.specs.Trees.{Entire, Actual, Callee, Place, Expr, Item, Other, Stmt, Stmts}
-use Rattle.ep_typed.specs.TypeValues.{TypeValue}
 use Rattle.ep_typed.specs.Valid as valid
 use Rattle.ep_typed.specs.Valid.{AreItems, Declarations, IsExpr, IsItem, IsOfKind, IsPlace, IsPlaceWhere, IsStmt, WritesSomething, printed_kind}
 use Rattle.ep_typed.specs.declared.operations.Print.{Print}
@@ -40,26 +37,22 @@ use Rattle.ep_scope.specs.declared.required.Required.TheVariants as required
 use Rattle.ep_scope.specs.declared.thing.Declaration.{Declaration}
 use Rattle.ep_scope.specs.declared.thing.Declaration.TheVariants as declaration
 use Rattle.ep_scope.specs.declared.thing.Declared.{Declared}
-use Rattle.ep_check_expr.specs.declared.access.Access.{Access}
-use Rattle.ep_check_expr.specs.declared.access.Access.TheVariants as access
-use Rattle.ep_check_expr.specs.Agreement.{Agrees, AreActuals, IsDeclaration, IsFormOf, IsProcedureOf, IsStoredIn, IsValueOf, TypeValues, structures_of}
-use Rattle.ep_check_expr.specs.Arguments.{Taken, arguments_judged, callee_at, given_to, own_place, place_read, unless_protected}
-use Rattle.ep_check_expr.specs.Expressions.{given, judged, judged_value, name_judged}
+use Rattle.ep_check_expr.specs.Agreement.{Agrees, AreActuals, IsDeclaration, IsFormOf, IsProcedureOf, TypeValues, structures_of}
+use Rattle.ep_check_expr.specs.Arguments.{Taken, arguments_judged, callee_at}
+use Rattle.ep_check_expr.specs.Expressions.{given, judged}
 use Rattle.ep_check_expr.specs.Functions.{Given}
 use Rattle.ep_check_expr.specs.Hosts.{typed_host}
-use Rattle.ep_check_expr.specs.Names.{field_place}
-use Rattle.ep_check_expr.specs.Judgements.{Judged, Accepts, Breaks, Typed, both, when_accepted}
+use Rattle.ep_check_expr.specs.Judgements.{Judged, Accepts, Breaks, Typed, when_accepted}
 use Rattle.ep_check_expr.specs.Laws.{ArgumentsAreSound, ExpressionsAreSound, LabelsAreSound, ValuesAreSound, VariablesAreSound}
-use Rattle.ep_check_expr.specs.Operators.{map_both}
 use Rattle.ep_check_expr.proofs.Meant.{IsMeant, meant-declared}
 use Rattle.ep_check_expr.proofs.Nodes.{argument-judged, wide-judged}
-use Rattle.ep_check_expr.proofs.Passing.{IfForm, given-fits, set-fits, structured-fits}
-use Rattle.ep_check_expr.proofs.Places.{structured-place}
+use Rattle.ep_check_expr.proofs.Passing.{IfForm}
 use Rattle.ep_check_stmt.specs.Cases.{CaseSelector, labelled, selecting, selector_judged}
-use Rattle.ep_check_stmt.specs.Laws.{IsResultAt, ResultsAreThere, StatementsAreSound}
-use Rattle.ep_check_stmt.specs.Statements.{ArmJudged, Context, FunctionResult, Judgement, Passes, Shown, Target, Under, after, arm_judged, arms_in_order, assigned, at_arm, at_compound, at_item, at_otherwise, at_statement, available, call_arguments, call_judged, case_judged, compound_under, condition, condition_judged, declared_called, declared_target, expr_item, expr_threat, falls_by, file_given, formed, function_target, has_result, if_judged, in_order, item_form, item_judged, items_judged, measured, name_called, one_more, own_called, otherwise_judged, place_named, procedure_called, required_called, shown, something, statement_judged, stmt_item, stmt_threat, target_judged, target_of_selectors, tested, to_file, unless_threatening, usually_written, variable_target, width_judged, write_judged, written, written_or, Waits, Fails, Opened, WithHead, behind, heads_threat, inside, none_opened, records_opened, with_form, with_judged}
+use Rattle.ep_check_stmt.specs.Laws.{ResultsAreThere, StatementsAreSound}
+use Rattle.ep_check_stmt.specs.Statements.{ArmJudged, Context, Judgement, Passes, Shown, Under, after, arm_judged, arms_in_order, at_arm, at_compound, at_item, at_otherwise, at_statement, available, call_arguments, call_judged, case_judged, compound_under, condition, condition_judged, declared_called, expr_item, expr_threat, falls_by, file_given, formed, if_judged, in_order, item_form, item_judged, items_judged, measured, name_called, one_more, own_called, otherwise_judged, procedure_called, required_called, shown, something, statement_judged, stmt_item, stmt_threat, tested, to_file, unless_threatening, usually_written, width_judged, write_judged, written, written_or, Waits, Fails, Opened, WithHead, behind, heads_threat, inside, none_opened, records_opened, with_form, with_judged}
 use Rattle.ep_check_stmt.proofs.judged.Fits.{Any, Fits, fits_any, fits_both, fits_is, fits_pair, fits_then, fits_weaker}
 use Rattle.ep_check_stmt.proofs.valid.Passing.{FitsRow, after_fits, behind_fits, fits_if, form_if, formed_fits, item_fits, unthreatening_fits}
+use Rattle.ep_check_stmt.proofs.valid.Assignments.{IsAssigned, assignment_fits}
 use Rattle.ep_check_stmt.proofs.valid.Loops.{for_fits, for_in_fits}
 use Rattle.ep_check_stmt.proofs.valid.Sound.{Agreed, AreSound, IsSound, OtherIsSound, agrees_in, behind_withs, first_part, second_part}
 use Rattle.ep_check_stmt.proofs.valid.Cases.{BodiesFit, IsSelected, labelled_fits, labels_in, row_fits as arms_row_fits}
@@ -89,13 +82,6 @@ module _ (declared : Declarations) (expressions : ExpressionsAreSound) (passed :
       go (Accepts t) is = expressions scopes e t is declared agrees.0 agrees.1
       go (Breaks rules) is = tt
 
-  value_fits : (v : ComponentValue) → Fits IsSoundForm (judged_value scopes v)
-  value_fits v = go (judged_value scopes v) refl
-    where
-      go : (j : Judged Typed) → judged_value scopes v ≡ j → Fits IsSoundForm j
-      go (Accepts t) is = values scopes v t is declared agrees.0 agrees.1
-      go (Breaks rules) is = tt
-
   -- ---- conditions
 
   tested_fits : (k : Kind) (form : Option Expr) → IsFormOf declared agrees.0 structures k form → Fits (IfForm (IsExpr declared (valid.Ordinal typed.Boolean))) (tested k form)
@@ -123,220 +109,9 @@ module _ (declared : Declarations) (expressions : ExpressionsAreSound) (passed :
   stmt_fits : (c : Context) (controls : List Entire) (line : ℕ) (j : Judged (Option Stmt)) → Fits (IfForm (IsStmt declared)) j → FitsRow (IsStmt declared) (stmt_item c controls line j)
   stmt_fits c controls line j h = item_fits (IsStmt declared) line (unless_threatening (stmt_threat c.routines) controls j) (unthreatening_fits (IsStmt declared) (stmt_threat c.routines) controls j h)
 
-  -- ---- assignments
-
-  -- the place is that of a variable of the structured type of this number
-  abbrev IsStructure : ℕ → Place → Type 0
-  IsStructure n place = (t : TypeValue) × IsValueOf agrees.0 n t × IsPlaceWhere declared (IsOfKind (valid.Structured t)) place
-
-  -- a variable of an ordinal, a structured or a set type has a place, where it is built; to no other one is anything given that is built
-  abbrev IsTarget : Kind → Option Place → Type 0
-  IsTarget (kind.Ordinal h) place = IfForm (IsPlace declared (typed_host h)) place
-  IsTarget (kind.Structured n) place = IfForm (IsStructure n) place
-  IsTarget (kind.Set h) place = IfForm (IsPlaceWhere declared (IsOfKind (valid.Set (typed_host h)))) place
-  IsTarget kind.EmptySet place = ⊤
-  IsTarget kind.Text place = ⊤
-  IsTarget kind.File place = ⊤
-
-  -- a variable that is declared is such a place
-  variable_fits : (place : Place) (k : Kind) → IsStoredIn declared agrees.0 structures place k → IsTarget k (Some place)
-  variable_fits place (kind.Ordinal h) x = x.1
-  variable_fits place (kind.Structured n) x = structured-place declared agrees.0 structures n place x
-  variable_fits place (kind.Set h) x = x.1
-  variable_fits place kind.EmptySet x = tt
-  variable_fits place kind.Text x = tt
-  variable_fits place kind.File x = tt
-
-  -- so is what is read of a variable
-  read_fits : (k : Kind) (form : Option Expr) → IsFormOf declared agrees.0 structures k form → IsTarget k (place_read form)
-  read_fits (kind.Ordinal h) None f = tt
-  read_fits (kind.Ordinal h) (Some (tree.Read place)) f = f.1
-  read_fits (kind.Ordinal h) (Some (tree.Constant z)) f = tt
-  read_fits (kind.Ordinal h) (Some (tree.Text bytes)) f = tt
-  read_fits (kind.Ordinal h) (Some (tree.One operation x)) f = tt
-  read_fits (kind.Ordinal h) (Some (tree.Two operation x y)) f = tt
-  read_fits (kind.Ordinal h) (Some (tree.Short operation x y)) f = tt
-  read_fits (kind.Ordinal h) (Some (tree.Step down low high x y)) f = tt
-  read_fits (kind.Ordinal h) (Some (tree.Function callee given)) f = tt
-  read_fits (kind.Ordinal h) (Some (tree.IndexedValue array index)) f = tt
-  read_fits (kind.Ordinal h) (Some (tree.FieldValue whole number)) f = tt
-  read_fits (kind.Ordinal h) (Some (tree.SetConstant members)) f = tt
-  read_fits (kind.Ordinal h) (Some (tree.SetOf members)) f = tt
-  read_fits (kind.Ordinal h) (Some (tree.OnSets operation x y)) f = tt
-  read_fits (kind.Ordinal h) (Some (tree.Card x)) f = tt
-  read_fits (kind.Structured n) None f = tt
-  read_fits (kind.Structured n) (Some (tree.Read place)) f = structured-place declared agrees.0 structures n place f
-  read_fits (kind.Structured n) (Some (tree.Function callee given)) f = tt
-  read_fits (kind.Structured n) (Some (tree.IndexedValue array index)) f = tt
-  read_fits (kind.Structured n) (Some (tree.FieldValue whole number)) f = tt
-  read_fits (kind.Structured n) (Some (tree.Constant z)) f = tt
-  read_fits (kind.Structured n) (Some (tree.Text bytes)) f = tt
-  read_fits (kind.Structured n) (Some (tree.One operation x)) f = tt
-  read_fits (kind.Structured n) (Some (tree.Two operation x y)) f = tt
-  read_fits (kind.Structured n) (Some (tree.Short operation x y)) f = tt
-  read_fits (kind.Structured n) (Some (tree.Step down low high x y)) f = tt
-  read_fits (kind.Structured n) (Some (tree.SetConstant members)) f = tt
-  read_fits (kind.Structured n) (Some (tree.SetOf members)) f = tt
-  read_fits (kind.Structured n) (Some (tree.OnSets operation x y)) f = tt
-  read_fits (kind.Structured n) (Some (tree.Card x)) f = tt
-  read_fits (kind.Set h) None f = tt
-  read_fits (kind.Set h) (Some (tree.Read place)) f = f.1
-  read_fits (kind.Set h) (Some (tree.Constant z)) f = tt
-  read_fits (kind.Set h) (Some (tree.Text bytes)) f = tt
-  read_fits (kind.Set h) (Some (tree.One operation x)) f = tt
-  read_fits (kind.Set h) (Some (tree.Two operation x y)) f = tt
-  read_fits (kind.Set h) (Some (tree.Short operation x y)) f = tt
-  read_fits (kind.Set h) (Some (tree.Step down low high x y)) f = tt
-  read_fits (kind.Set h) (Some (tree.Function callee given)) f = tt
-  read_fits (kind.Set h) (Some (tree.IndexedValue array index)) f = tt
-  read_fits (kind.Set h) (Some (tree.FieldValue whole number)) f = tt
-  read_fits (kind.Set h) (Some (tree.SetConstant members)) f = tt
-  read_fits (kind.Set h) (Some (tree.SetOf members)) f = tt
-  read_fits (kind.Set h) (Some (tree.OnSets operation x y)) f = tt
-  read_fits (kind.Set h) (Some (tree.Card x)) f = tt
-  read_fits kind.EmptySet form f = tt
-  read_fits kind.Text form f = tt
-  read_fits kind.File form f = tt
-
-  -- the variable that an access denotes
-  accessed_fits : (a : Access) (k : Kind) (form : Option Expr) → IsFormOf declared agrees.0 structures k form → Fits (λ t. IsTarget t.kind t.place) (variable_target a form k)
-  accessed_fits (access.Variable of guarded) k form f =
-      fits_then Any (λ t. IsTarget t.kind t.place) (λ done. Accepts (record { place = place_read form; kind = k })) (unless_protected guarded) (fits_any (unless_protected guarded)) (λ a i. read_fits k form f)
-  accessed_fits access.File k form f = tt
-  accessed_fits access.Constant k form f = tt
-  accessed_fits access.Value k form f = tt
-
   -- how many routines are around the statements
   abbrev depth : ℕ
   depth = depth_in scopes
-
-  -- the variables of results are there
-  abbrev Results : Context → Type 0
-  Results c = ResultsAreThere declared agrees.0 depth c.results
-
-  -- so is the variable of a result
-  result_fits : (k : Kind) (place : Place) → IsResultAt declared agrees.0 k place → IsTarget k (Some place)
-  result_fits (kind.Ordinal h) place x = x.1
-  result_fits (kind.Structured n) place x = x
-  result_fits (kind.Set h) place x = x.1
-  result_fits kind.EmptySet place x = tt
-  result_fits kind.Text place x = tt
-  result_fits kind.File place x = tt
-
-  function_fits : (unit : List ℕ) (d : Declared) (results : List FunctionResult) → ResultsAreThere declared agrees.0 depth results → Fits (λ t. IsTarget t.kind t.place) (function_target depth unit d results)
-  function_fits unit d [] there = tt
-  function_fits unit d (r ∷ rs) there = go (has_result unit d r) (function_fits unit d rs there.1)
-    where
-      go : (own : Bool) → Fits (λ (t : Target). IsTarget t.kind t.place) (function_target depth unit d rs) → Fits (λ (t : Target). IsTarget t.kind t.place) (if own then Accepts (record { place = Some (tree.Own (depth - r.level) r.variable); kind = r.kind }) else function_target depth unit d rs)
-      go true others = result_fits r.kind (tree.Own (depth - r.level) r.variable) there.0
-      go false others = others
-
-  module _ (unit : List ℕ) (results : List FunctionResult) (there : ResultsAreThere declared agrees.0 depth results) where
-    declared_fits : (d : Declared) (what : Declaration) → IsDeclaration declared agrees.0 structures depth d what → Fits (λ t. IsTarget t.kind t.place) (declared_target depth unit results d what)
-    declared_fits d (declaration.Variable of k) x = variable_fits (tree.Variable d.unit d.number) k x.0
-    declared_fits d (declaration.Own of k guarded) x =
-        fits_then Any (λ t. IsTarget t.kind t.place) (λ done. Accepts (record { place = Some (own_place depth d); kind = k })) (unless_protected guarded) (fits_any (unless_protected guarded)) (λ a i. variable_fits (own_place depth d) k x.0)
-    declared_fits d (declaration.Constant k v) x = tt
-    declared_fits d (declaration.«Type» of h nodes) x = tt
-    declared_fits d (declaration.Procedure parameters) x = tt
-    declared_fits d (declaration.Function parameters of h) x = function_fits unit d results there
-
-    place_fits : (name : List ℕ) (m : Meant) → IsMeant declared agrees.0 structures depth m → Fits (λ t. IsTarget t.kind t.place) (place_named depth unit results name m)
-    place_fits name (Declares d) x = declared_fits d d.what x
-    place_fits name (Standard f) x = tt
-    place_fits name (Requires r) x = tt
-    place_fits name (FieldOf f) x =
-        fits_then Any (λ t. IsTarget t.kind t.place) (λ done. Accepts (record { place = Some (field_place f); kind = f.kind })) (unless_protected f.guarded) (fits_any (unless_protected f.guarded)) (λ a i. variable_fits (field_place f) f.kind x.0)
-    place_fits name Nothing x = tt
-
-  access_fits : (a : syntax.Access) → Fits (λ t. IsTarget t.kind t.place) (when_accepted (λ t. variable_target t.access t.form t.kind) (name_judged scopes a))
-  access_fits a = go (name_judged scopes a) refl
-    where
-      go : (j : Judged Typed) → name_judged scopes a ≡ j → Fits (λ t. IsTarget t.kind t.place) (when_accepted (λ t. variable_target t.access t.form t.kind) j)
-      go (Accepts t) is = accessed_fits t.access t.kind t.form ((variables scopes a t is).0 declared agrees.0 agrees.1)
-      go (Breaks rules) is = tt
-
-  target_fits : (c : Context) → c.scopes ≡ scopes → Results c → (a : syntax.Access) (selectors : List Selector) → Fits (λ t. IsTarget t.kind t.place) (target_of_selectors c a selectors)
-  target_fits c is there a [] =
-      let name = (out-Access a).name in
-      subst (λ s. Fits (λ t. IsTarget t.kind t.place) (place_named (depth_in s) c.unit c.results name (meant s name))) (sym is) (place_fits c.unit c.results there name (meant scopes name) (meant-declared declared agrees.0 structures depth scopes name agrees.1))
-  target_fits c is there a (s ∷ ss) =
-      subst (λ r. Fits (λ t. IsTarget t.kind t.place) (when_accepted (λ t. variable_target t.access t.form t.kind) (name_judged r a))) (sym is) (access_fits a)
-
-  -- a value that is given to a variable of an ordinal type
-  placed_fits : (h : Host) (line : ℕ) (place : Option Place) (x : Option Expr) → IfForm (IsPlace declared (typed_host h)) place → IfForm (IsExpr declared (valid.Ordinal (typed_host h))) x → IfForm (IsStmt declared) (map_both (tree.Assign line) place x)
-  placed_fits h line None x p q = tt
-  placed_fits h line (Some place) None p q = tt
-  placed_fits h line (Some place) (Some x) p q = (valid.Ordinal (typed_host h), p, q)
-
-  -- and to one of a structured type
-  whole_fits : (line : ℕ) (place : Place) (t : TypeValue) → IsPlaceWhere declared (IsOfKind (valid.Structured t)) place → (x : Option Expr) → IfForm (IsExpr declared (valid.Structured t)) x → IfForm (IsStmt declared) (map_both (tree.Assign line) (Some place) x)
-  whole_fits line place t p None q = tt
-  whole_fits line place t p (Some x) q = (valid.Structured t, p, q)
-
-  -- and to one of a set type
-  set_placed : (h : Host) (line : ℕ) (place : Option Place) (x : Option Expr) → IfForm (IsPlaceWhere declared (IsOfKind (valid.Set (typed_host h)))) place → IfForm (IsExpr declared (valid.Set (typed_host h))) x → IfForm (IsStmt declared) (map_both (tree.Assign line) place x)
-  set_placed h line None None p q = tt
-  set_placed h line None (Some x) p q = tt
-  set_placed h line (Some place) None p q = tt
-  set_placed h line (Some place) (Some x) p q = (valid.Set (typed_host h), p, q)
-
-  -- nothing that is built is given to another one
-  abbrev IsNone : Option Expr → Type 0
-  IsNone x = x ≡ None
-
-  to_text : (from : Kind) (form : Option Expr) → Fits IsNone (given_to (λ x. x) kind.Text from form)
-  to_text (kind.Ordinal g) form = tt
-  to_text (kind.Structured n) form = tt
-  to_text (kind.Set base) form = tt
-  to_text kind.EmptySet form = tt
-  to_text kind.Text form = tt
-  to_text kind.File form = tt
-
-  to_empty : (from : Kind) (form : Option Expr) → Fits IsNone (given_to (λ x. x) kind.EmptySet from form)
-  to_empty (kind.Ordinal g) form = tt
-  to_empty (kind.Structured n) form = tt
-  to_empty (kind.Set base) form = tt
-  to_empty kind.EmptySet form = tt
-  to_empty kind.Text form = tt
-  to_empty kind.File form = tt
-
-  to_file_fits : (from : Kind) (form : Option Expr) → Fits IsNone (given_to (λ x. x) kind.File from form)
-  to_file_fits (kind.Ordinal g) form = tt
-  to_file_fits (kind.Structured n) form = tt
-  to_file_fits (kind.Set base) form = tt
-  to_file_fits kind.EmptySet form = tt
-  to_file_fits kind.Text form = tt
-  to_file_fits kind.File form = tt
-
-  unplaced_fits : (line : ℕ) (place : Option Place) (j : Judged (Option Expr)) → Fits IsNone j → Fits (IfForm (IsStmt declared)) (when_accepted (λ x. Accepts (map_both (tree.Assign line) place x)) j)
-  unplaced_fits line place j p = fits_then IsNone (IfForm (IsStmt declared)) (λ x. Accepts (map_both (tree.Assign line) place x)) j p (λ x e. subst (λ y. IfForm (IsStmt declared) (map_both (tree.Assign line) place y)) (sym e) (nothing place))
-    where
-      nothing : (place : Option Place) → IfForm (IsStmt declared) (map_both (tree.Assign line) place None)
-      nothing None = tt
-      nothing (Some p) = tt
-
-  assign_fits : (to from : Kind) (line : ℕ) (place : Option Place) (form : Option Expr) → IsTarget to place → IsFormOf declared agrees.0 structures from form
-      → Fits (IfForm (IsStmt declared)) (when_accepted (λ x. Accepts (map_both (tree.Assign line) place x)) (given_to (λ x. x) to from form))
-  assign_fits (kind.Ordinal h) from line place form p f =
-      fits_then (IfForm (IsExpr declared (valid.Ordinal (typed_host h)))) (IfForm (IsStmt declared)) (λ x. Accepts (map_both (tree.Assign line) place x)) (given_to (λ x. x) (kind.Ordinal h) from form)
-      (given-fits declared agrees.0 structures (IsExpr declared (valid.Ordinal (typed_host h))) (λ x. x) h (λ x q. q) from form f) (λ x q. placed_fits h line place x p q)
-  assign_fits (kind.Structured m) from line None form p f =
-      fits_then Any (IfForm (IsStmt declared)) (λ x. Accepts (map_both (tree.Assign line) None x)) (given_to (λ x. x) (kind.Structured m) from form) (fits_any (given_to (λ x. x) (kind.Structured m) from form)) (λ x a. tt)
-  assign_fits (kind.Structured m) from line (Some place) form p f =
-      fits_then (IfForm (IsExpr declared (valid.Structured p.0))) (IfForm (IsStmt declared)) (λ x. Accepts (map_both (tree.Assign line) (Some place) x)) (given_to (λ x. x) (kind.Structured m) from form)
-      (structured-fits declared agrees.0 structures (IsExpr declared (valid.Structured p.0)) (λ x. x) m p.0 p.1 (λ x q. q) from form f) (λ x q. whole_fits line place p.0 p.2 x q)
-  assign_fits (kind.Set h) from line place form p f =
-      fits_then (IfForm (IsExpr declared (valid.Set (typed_host h)))) (IfForm (IsStmt declared)) (λ x. Accepts (map_both (tree.Assign line) place x)) (given_to (λ x. x) (kind.Set h) from form)
-      (set-fits declared agrees.0 structures (IsExpr declared (valid.Set (typed_host h))) (λ x. x) h (λ x q. q) from form f) (λ x q. set_placed h line place x p q)
-  assign_fits kind.EmptySet from line place form p f = unplaced_fits line place (given_to (λ x. x) kind.EmptySet from form) (to_empty from form)
-  assign_fits kind.Text from line place form p f = unplaced_fits line place (given_to (λ x. x) kind.Text from form) (to_text from form)
-  assign_fits kind.File from line place form p f = unplaced_fits line place (given_to (λ x. x) kind.File from form) (to_file_fits from form)
-
-  assignment_fits : (c : Context) → c.scopes ≡ scopes → Results c → (line : ℕ) (a : syntax.Access) (v : ComponentValue) → Fits (IfForm (IsStmt declared)) (both (assigned line) (target_judged c a) (judged_value c.scopes v))
-  assignment_fits c is there line a v =
-      fits_both (λ t. IsTarget t.kind t.place) IsSoundForm (IfForm (IsStmt declared)) (assigned line) (target_judged c a) (judged_value c.scopes v) (target_fits c is there a (out-Access a).selectors)
-      (subst (λ s. Fits IsSoundForm (judged_value s v)) (sym is) (value_fits v)) (λ t x p f. assign_fits t.kind x.kind line t.place x.form p f)
 
   -- ---- `write` and `writeln`
 
@@ -569,6 +344,18 @@ module _ (declared : Declarations) (expressions : ExpressionsAreSound) (passed :
       weaker (Waits line) p = tt
       weaker (Fails line rules) p = tt
 
+  -- an assignment
+  assigned_row : (c : Context) (controls : List Entire) (line : ℕ) (j : Judged (Option Stmt)) → (Agrees_with c → Fits (IfForm (IsAssigned declared c.locals)) j) → Sound c (stmt_item c controls line j)
+  assigned_row c controls line j h =
+      weaker (stmt_item c controls line j)
+      (fits_if (Agrees_with c) (IsAssigned declared c.locals) (stmt_item c controls line j)
+      (λ agreed. item_fits (IsAssigned declared c.locals) line (unless_threatening (stmt_threat c.routines) controls j) (unthreatening_fits (IsAssigned declared c.locals) (stmt_threat c.routines) controls j (h agreed))))
+    where
+      weaker : (x : Judgement Stmt) → FitsRow (λ s. Agrees_with c → IsAssigned declared c.locals s) x → Sound c x
+      weaker (Passes s) p = λ agreed there. p agreed there.0
+      weaker (Waits line) p = tt
+      weaker (Fails line rules) p = tt
+
   -- a condition
   abbrev IsTested : Context → Expr → Type 0
   IsTested c x = Agrees_with c → IsExpr declared (valid.Ordinal typed.Boolean) x
@@ -706,7 +493,7 @@ module _ (declared : Declarations) (expressions : ExpressionsAreSound) (passed :
   statement_step : (y : Statement-F ValidStatement ValidArm ValidCompound ValidOtherwise) → IsStatement (roll-Statement (statement_layer y))
   statement_step (Statement-F.Empty line) = rolled (Statement-F.Empty line) (λ c controls. nothing_there c)
   statement_step (Statement-F.Assignment line access v) =
-      rolled (Statement-F.Assignment line access v) (λ c controls. simple_fits c controls line _ (λ agreed. assignment_fits declared expressions passed values labels variables c.scopes (agreement c agreed) c refl (results_there c agreed) line access v))
+      rolled (Statement-F.Assignment line access v) (λ c controls. assigned_row c controls line _ (λ agreed. assignment_fits declared values variables c.scopes (agreement c agreed) c refl (results_there c agreed) line access v))
   statement_step (Statement-F.Call line access) =
       rolled (Statement-F.Call line access) (λ c controls. simple_fits c controls line _ (λ agreed. called_fits declared expressions passed values labels variables c.scopes (agreement c agreed) c refl line (out-Access access).name (call_arguments (out-Access access).selectors)))
   statement_step (Statement-F.Compound s) =

@@ -9,29 +9,27 @@ use Rattle.ep_typed.specs.Auxiliaries.{first_for, first_for_in, with_variables}
 use Rattle.ep_typed.specs.Trees.{Denoter, Entire, Expr, Named, Place, Stmt, entire}
 use Rattle.ep_typed.specs.TypeValues.{TypeValue}
 use Rattle.ep_typed.specs.TypeValues as type
-use Rattle.ep_typed.specs.Valid.{Declarations, IsPlaceWhere, IsStmt, IsStructured, IsWith}
+use Rattle.ep_typed.specs.Valid.{Declarations, IsStmt, IsStructured, IsWith}
 use Rattle.ep_typed.specs.declared.unit.UnitType.{UnitType}
 use Rattle.ep_scope.specs.Scopes.{OpenRecord, Region, structure_in, within}
 use Rattle.ep_scope.specs.declared.kind.Kind.{Kind}
 use Rattle.ep_scope.specs.declared.kind.Kind.TheVariants as kind
 use Rattle.ep_scope.specs.declared.parameter.Protection.{Protection}
-use Rattle.ep_scope.specs.declared.parameter.Protection.TheVariants as protection
-use Rattle.ep_scope.specs.declared.parameter.TypeName.{TypeName}
 use Rattle.ep_scope.specs.declared.parameter.TypeName.TheVariants as type_name
 use Rattle.ep_scope.specs.declared.structure.Composition.{Composition}
 use Rattle.ep_scope.specs.declared.structure.Composition.TheVariants as composition
 use Rattle.ep_scope.specs.declared.structure.FieldType.{FieldType}
 use Rattle.ep_scope.specs.declared.structure.StructuredType.{StructuredType}
-use Rattle.ep_check_expr.specs.Agreement.{HasKind, HasStructure, HoldsStructure, IsFieldAt, IsFormOf, IsOpen, IsStoredIn, IsStructuredAt, TypeValues}
+use Rattle.ep_check_expr.specs.Agreement.{HasKind, HasStructure, HoldsStructure, IsFormOf, IsOpen, IsStructuredAt, TypeValues}
 use Rattle.ep_check_expr.specs.Arguments.{place_read}
 use Rattle.ep_check_expr.specs.Expressions.{name_judged}
 use Rattle.ep_check_expr.specs.Judgements.{Judged, Accepts, Breaks, Typed, when_accepted}
 use Rattle.ep_check_expr.specs.Laws.{VariablesAreSound}
 use Rattle.ep_check_expr.specs.declared.access.Access.{Access}
 use Rattle.ep_check_expr.specs.declared.access.Access.TheVariants as access
-use Rattle.ep_check_expr.proofs.Components.{built-component}
+use Rattle.ep_check_expr.proofs.Components.{fields-at}
 use Rattle.ep_check_expr.proofs.Passing.{IfForm}
-use Rattle.ep_check_expr.proofs.Places.{IsComponent, IsComponentAt, field-place, made_so, place_at, place_wider, structure_in-holds}
+use Rattle.ep_check_expr.proofs.Places.{made_so, place_at, place_wider, structure_in-holds}
 use Rattle.ep_check_stmt.specs.Laws.{WithIsThere, WithsAreThere}
 use Rattle.ep_check_stmt.specs.Statements.{Context, Opened, RecordNamed, WithHead, block_variable, inside, none_opened, one_after, one_opened, record_accessed, record_made, record_of_kind, record_opened, records_opened, with_form, with_head}
 use Rattle.ep_check_stmt.proofs.judged.Fits.{Fits, fits_then}
@@ -63,27 +61,6 @@ module _ (declared : Declarations) (types : TypeValues) (structures : List Struc
   one_valid (g ∷ hs) h p q = (p.0, one_valid hs h p.1 q)
 
   module _ (depth : ℕ) where
-    -- ---- fields of a record
-
-    stored : (of : TypeName) (place : Place) (k : Kind) → IsComponentAt declared types structures of k place → IsStoredIn declared types structures place k
-    stored of place (kind.Ordinal h) at = (built-component declared types structures of (kind.Ordinal h) place at access.File).0
-    stored of place (kind.Structured n) at = (built-component declared types structures of (kind.Structured n) place at access.File).0
-    stored of place (kind.Set h) at = (built-component declared types structures of (kind.Set h) place at access.File).0
-    stored of place kind.EmptySet at = absurd (place_at declared (IsComponent declared types structures of kind.EmptySet) place at).2.0.0
-    stored of place kind.Text at = absurd (place_at declared (IsComponent declared types structures of kind.Text) place at).2.0.0
-    stored of place kind.File at = tt
-
-    field_at : (of : TypeName) (place : Place) (k : Kind) → IsComponentAt declared types structures of k place → IsFieldAt declared types structures depth place of k
-    field_at of place k at =
-        let form = (built-component declared types structures of k place at (access.Variable of protection.Unprotected)).1 in
-        (stored of place k at, subst (λ x. type_at x) (same_place form.1) form.2)
-      where
-        type_at : Place → Type 0
-        type_at p = (v : TypeValue) × (types of ≡ Some v) × IsPlaceWhere declared (λ list d. type_of list d ≡ Some v) p
-
-        same_place : {p q : Place} → tree.Read p ≡ tree.Read q → q ≡ p
-        same_place e = cc
-
     module _ (n : ℕ) (fs : List FieldType) (in_view : (list : List UnitType) → All (HoldsStructure types list) structures → HoldsStructure types list (made_so n (composition.Record fs))) (v : Entire) (there : WithIsThere declared types structures v n) where
       abbrev Denotes : List UnitType → Denoter → Type 0
       Denotes list d = (d ≡ Named n []) × (type_of list d ≡ types (type_name.Entry n)) × All (HoldsStructure types list) structures
@@ -102,7 +79,7 @@ module _ (declared : Declarations) (types : TypeValues) (structures : List Struc
 
       -- so it is open with its fields
       pub opens : (guarded : Protection) → IsOpen declared types structures depth (record { variable = v; guarded = guarded; fields = fs })
-      opens guarded number f e = field_at f.of (tree.Field (entire v) number) f.kind (field-place declared types structures n (composition.Record fs) in_view fs refl number f e (entire v) stands_at)
+      opens guarded = fields-at declared types structures depth n fs in_view (entire v) stands_at
 
       -- and stands for a place of that type
       pub stands : (place : Place) → IsStructuredAt declared types structures n place → IsWith declared v n place
@@ -182,6 +159,7 @@ module _ (declared : Declarations) (types : TypeValues) (structures : List Struc
 
         accessed_fits : (a : Access) (form : Option Expr) (k : Kind) → (AgreedIn declared types structures depth o.scopes → IsFormOf declared types structures k form) → Fits IsRecord (record_accessed c.scopes a form k)
         accessed_fits (access.Variable of guarded) form k f = kind_fits guarded form k f
+        accessed_fits (access.Tag of guarded tag) form k f = tt
         accessed_fits access.File form k f = tt
         accessed_fits access.Constant form k f = tt
         accessed_fits access.Value form k f = tt

@@ -1,12 +1,15 @@
-use Rattle.std.proofs.Common.{◌∙◌}
+use Rattle.std.proofs.Common.{◌≡◌, Some, map, sym, ap, ◌∙◌}
+use Rattle.std.specs.Option.{option_map}
 use Rattle.std.proofs.lemmas.Result.{err_from_is_err_and}
 use Rattle.ep_built.specs.Built.{field_section_unbuilt, plain_unbuilt}
 use Rattle.ep_check_stmt.proofs.judged.Rounds.{rest_built}
-use Rattle.ep_check_unit.specs.Answers.{named_in, written_in}
+use Rattle.ep_check_expr.specs.Judgements.{Accepts, when_accepted}
+use Rattle.ep_check_unit.specs.Answers.{fields_in, gathered_in, labelled_in, listed_in, named_in, tag_in, written_in}
 use Rattle.ep_check_unit.specs.Blocks.{block_of}
-use Rattle.ep_check_unit.specs.Declarations.{core_part}
+use Rattle.ep_check_unit.specs.Declarations.{completing_added, completing_written, core_part, fields_judged, variant_judged, variants_written}
 use Rattle.ep_check_unit.proofs.FieldSections.{names_refused, next_section}
 use Rattle.ep_check_unit.proofs.Indexes.{array_accepted, component_refused, index_refused, next_index, other_settled, unnamed, without_index}
+use Rattle.ep_check_unit.proofs.VariantParts.{part_taken, variant_taken}
 use Rattle.ep_check_unit.proofs.block.Block.+denoters.Goals as goal
 
 pub index_types-loop-plain-preserved : goal.index_types-loop-plain-preserved
@@ -55,4 +58,30 @@ pub sections-loop-section-preserved : goal.sections-loop-section-preserved
 sections-loop-section-preserved t c = record {
   built = rest_built field_section_unbuilt c.args.sections.now c.loop-section.section-index c.section-item.result c.loop-section-test.true c.section-item.is c.loop-section.invariant.built;
   same = next_section c.args.line c.args.sections.now c.loop-section.section-index c.section-item.result c.loop-section-test.true c.section-item.is (block_of c.loop-section.self) c.loop-section.all c.in_ok-of.of (block_of c.settled_plain.new.self) (rw c.get.ensures at c.in_ok-of.ensures) c.add_fields.new.fields (rw c.items.ensures at c.in_ok-add_fields.ensures) ∙ c.loop-section.invariant.same;
+}
+
+pub completing-returns : goal.completing-returns
+completing-returns t c =
+    let there : c.args.other.now ≡ Some c.get.result.now = cc in
+    let before = gathered_in (block_of c.args.self.now) c.args.before in
+    ap (λ o. completing_written c.args.line (option_map fields_judged o) before) there
+    ∙ (ap (when_accepted (λ l. Accepts (completing_added l before))) c.in_ok-listing.ensures
+    ∙ sym (ap Accepts (c.in_ok-complete.ensures (block_of c.fields.new.self))))
+
+pub variant-returns : goal.variant-returns
+variant-returns t c =
+    variant_taken c.args.line c.args.values c.args.variant.now (gathered_in (block_of c.args.self.now) c.args.before) (labelled_in (block_of c.variant_labels.new.self) c.in_ok-ranges.ranges c.variant_labels.new.found) (listed_in (block_of c.fields.new.self) c.in_ok-listing.listing)
+    (rw c.items-labels.ensures at c.in_ok-ranges.ensures) c.in_ok-listing.ensures
+    ∙ sym (ap Accepts (c.in_ok-add.ensures (block_of c.fields.new.self)))
+
+pub variant_part-returns : goal.variant_part-returns
+variant_part-returns t c =
+    rw (part_taken c.args.line c.args.part.now (fields_in (block_of c.args.self.now) c.args.own.now) (tag_in c.in_ok-tag.tag) (gathered_in (block_of c.variants.new.self) c.in_ok-gathered.gathered) (gathered_in (block_of c.completing.new.self) c.in_ok-gathered-2.gathered) (gathered_in (block_of c.completing.new.self) c.in_ok-gathered-3.gathered)
+    c.in_ok-tag.ensures (rw c.items.ensures at c.in_ok-gathered.ensures) c.in_ok-gathered-2.ensures (c.in_ok-gathered-3.ensures (block_of c.completing.new.self)))
+    (c.variant_list.ensures (block_of c.completing.new.self) (block_of c.args.self.now))
+
+pub variants-loop-variant-init : goal.variants-loop-variant-init
+variants-loop-variant-init t c = record {
+  built = c.requires;
+  same = ap (variants_written c.args.line c.args.values (map variant_judged c.args.variants.now)) (c.new-gathered.ensures (block_of c.args.self.now));
 }
