@@ -8,7 +8,6 @@
 -- - the routine, for a function whose result has a type with a name that is not built
 -- - the formal section, for `type of`, and for the name of a type that is not built
 -- - the type definition, for discriminants
--- - the type denoter, for an initial state
 -- - the type denoter without its initial state, for `bindable`
 -- - the type itself, for `packed`, for what is no name, no subrange, no enumeration and no structure, for a name with a tuple, and for a name that is not built
 -- - the variant part of a record, for a discriminant as its selector, and for a tag whose type has a name that is not built
@@ -18,7 +17,7 @@
 -- - the access, for a name that is not built, and for other selectors than indexes and fields, alone or behind one pair of parentheses.
 --
 -- An identifier that is spelled as a required one counts as the required one, also where the text declares it anew. Only uses of names count, and not their declarations.
-use Rattle.std.specs.Prelude.{ℕ, pos, int_le, Bool, true, false, if◌then◌else◌, ◌&&◌, ◌||◌, not, is_none, is_some, length, ◌==◌, List, [], ◌∷◌, map, codes, Option, Some, None}
+use Rattle.std.specs.Prelude.{ℕ, pos, int_le, Bool, true, false, if◌then◌else◌, ◌&&◌, ◌||◌, not, is_some, length, ◌==◌, List, [], ◌∷◌, map, codes, Option, Some, None}
 use Rattle.std.specs.List.{list_any, list_all}
 use Rattle.std.specs.Option.{option_map, option_or}
 use Rattle.std.specs.Str.{bytes_eq}
@@ -147,11 +146,7 @@ built_routine r = built_start r.start
 abbrev pub built_type_definition : TypeDefinition → Bool
 built_type_definition d = length d.discriminants == 0
 
--- a type denoter has no initial state
-abbrev pub built_type_denoter : {A B C D E F G H : Type 0} → TypeDenoter-F A B C D E F G H → Bool
-built_type_denoter t = is_none t.initial
-
--- nor is it `bindable`
+-- a type denoter without its initial state is not `bindable`
 abbrev pub built_plain : {A B C D E F G H : Type 0} → Plain-F A B C D E F G H → Bool
 built_plain p = not p.bindable
 
@@ -530,9 +525,9 @@ at_fields f = option_or (first_in f.sections) (first_if f.variants)
 abbrev pub at_plain : Plain-F Found Found Found Found Found Found Found Found → Found
 at_plain p = at_node (built_plain p) p.line p.core
 
--- a type denoter before what stands in it
+-- a type denoter before its initial state
 abbrev pub at_type_denoter : TypeDenoter-F Found Found Found Found Found Found Found Found → Found
-at_type_denoter t = at_node (built_type_denoter t) t.line t.plain
+at_type_denoter t = option_or t.plain (first_if (option_map component_value_unbuilt t.initial))
 
 -- the labels of a variant before its fields
 abbrev pub at_variant : Variant-F Found Found Found Found Found Found Found Found → Found

@@ -2,7 +2,7 @@
 use Rattle.std.proofs.Common.{◌≡◌, ◌∙◌, ℕ, List, [], ◌∷◌, slice_get, Option, Some, None, refl, sym, subst}
 use Rattle.std.proofs.lemmas.Option.{same_Some}
 use Rattle.std.specs.Prelude.{All}
-use Rattle.ep_typed.specs.Denoters.{host_of, type_of}
+use Rattle.ep_typed.specs.Denoters.{host_of, bare_type_of}
 use Rattle.ep_typed.specs.Trees.{Denoter, Expr, Field, FieldValue, IndexedValue, Place, Read}
 use Rattle.ep_typed.specs.TypeValues as type
 use Rattle.ep_typed.specs.TypeValues.{ComponentTypes, TypeValue}
@@ -63,7 +63,7 @@ module _ (declared : Declarations) (types : TypeValues) (structures : List Struc
     pub component-type : (k : Kind) → IsComponentAt declared types structures of k place → IsOfType declared types place of
     component-type k at =
         let t = (place_at declared (IsComponent declared types structures of k) place at).2.0.1 in
-        (t.0, t.1, place_wider declared (IsComponent declared types structures of k) (λ list d. type_of list d ≡ Some t.0) place (λ list d c. c.0.1.2 ∙ (sym c.0.1.1 ∙ t.1)) at)
+        (t.0, t.1, place_wider declared (IsComponent declared types structures of k) (λ list d. bare_type_of list d ≡ Some t.0) place (λ list d c. c.0.1.2 ∙ (sym c.0.1.1 ∙ t.1)) at)
 
     -- and it is read of a variable of that type where the whole is a variable
     built-access : (k : Kind) → IsComponentAt declared types structures of k place → (whole : Access) → IsAccessOf declared types (component_access of whole) (Some (Read place))

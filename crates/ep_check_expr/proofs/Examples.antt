@@ -30,6 +30,7 @@ use Rattle.ep_scope.specs.declared.parameter.FormalParameter.{FormalParameter}
 use Rattle.ep_scope.specs.declared.parameter.Protection.TheVariants as protection
 use Rattle.ep_scope.specs.declared.parameter.TypeName.{TypeName}
 use Rattle.ep_scope.specs.declared.parameter.TypeName.TheVariants as type_name
+use Rattle.ep_scope.specs.declared.parameter.WrittenType.{WrittenType}
 use Rattle.ep_scope.specs.declared.thing.Declaration.{Declaration}
 use Rattle.ep_scope.specs.declared.thing.Declaration.TheVariants as declaration
 use Rattle.ep_scope.specs.declared.thing.Thing.{Thing}
@@ -97,13 +98,17 @@ declares_at level number what = thing.Declared (record { unit = codes "p"; numbe
 abbrev pub declares : ℕ → Declaration → Thing
 declares number what = declares_at 0 number what
 
+-- a type by its own name
+abbrev pub written : TypeName → WrittenType
+written t = record { name = t; is = t }
+
 -- a formal parameter of type integer
 abbrev integer_parameter : FormalMode → FormalParameter
-integer_parameter how = record { name = codes "n"; mode = how; section = 0; of = type_name.Required simple.Integer; kind = integer }
+integer_parameter how = record { name = codes "n"; mode = how; section = 0; of = written (type_name.Required simple.Integer); kind = integer }
 
 -- a function of an integer, whose result is a color
 abbrev pub function_of : FormalMode → Declaration
-function_of how = declaration.Function (integer_parameter how ∷ []) (type_name.Entry 0) (kind.Ordinal color)
+function_of how = declaration.Function (integer_parameter how ∷ []) (written (type_name.Entry 0)) (kind.Ordinal color)
 
 -- an array of integers by colors, and one of such arrays by Booleans
 abbrev row : StructuredType
@@ -114,21 +119,21 @@ table = record { number = 4; composition = composition.Array (record { index = h
 
 -- a function of such an array, whose result is a color
 abbrev row_parameter : FormalMode → FormalParameter
-row_parameter how = record { name = codes "n"; mode = how; section = 0; of = type_name.Entry 3; kind = kind.Structured 3 }
+row_parameter how = record { name = codes "n"; mode = how; section = 0; of = written (type_name.Entry 3); kind = kind.Structured 3 }
 
 abbrev function_of_row : FormalMode → Declaration
-function_of_row how = declaration.Function (row_parameter how ∷ []) (type_name.Entry 0) (kind.Ordinal color)
+function_of_row how = declaration.Function (row_parameter how ∷ []) (written (type_name.Entry 0)) (kind.Ordinal color)
 
 -- a function with these formal parameters, whose result is such an array
 abbrev giving_row : List FormalParameter → Declaration
-giving_row parameters = declaration.Function parameters (type_name.Entry 3) (kind.Structured 3)
+giving_row parameters = declaration.Function parameters (written (type_name.Entry 3)) (kind.Structured 3)
 
 -- red, of the colors, the integer x, f with a value parameter, g with a variable parameter, h without any, the arrays a and b,
 -- r with a value parameter and s without any, which give arrays, and k and l, which take one as f and g take an integer
 abbrev scope : List Region
 scope = record {
   entries = (codes "red", declares 0 (declaration.Constant (kind.Ordinal color) (value.Word (pos 0)))) ∷ (codes "x", declares 0 (declaration.Variable (type_name.Required simple.Integer) integer))
-      ∷ (codes "f", declares 0 (function_of mode.Value)) ∷ (codes "g", declares 1 (function_of mode.Variable)) ∷ (codes "h", declares 2 (declaration.Function [] (type_name.Required simple.Integer) integer))
+      ∷ (codes "f", declares 0 (function_of mode.Value)) ∷ (codes "g", declares 1 (function_of mode.Variable)) ∷ (codes "h", declares 2 (declaration.Function [] (written (type_name.Required simple.Integer)) integer))
       ∷ (codes "a", declares 6 (declaration.Variable (type_name.Entry 3) (kind.Structured 3))) ∷ (codes "b", declares 7 (declaration.Variable (type_name.Entry 4) (kind.Structured 4)))
       ∷ (codes "r", declares 3 (giving_row (integer_parameter mode.Value ∷ []))) ∷ (codes "s", declares 4 (giving_row [])) ∷ (codes "k", declares 5 (function_of_row mode.Value)) ∷ (codes "l", declares 6 (function_of_row mode.Variable)) ∷ [];
   qualified = [];
@@ -147,7 +152,7 @@ integer_variable = declaration.Own (type_name.Required simple.Integer) integer p
 -- In the block of a routine in a routine, of which the outer one has the integer y and the function i, and the inner one the integer z.
 abbrev inside : List Region
 inside = record { entries = (codes "z", declares_at 2 4 integer_variable) ∷ []; qualified = []; structures = []; records = [] }
-    ∷ record { entries = (codes "y", declares_at 1 3 integer_variable) ∷ (codes "i", declares_at 1 5 (declaration.Function [] (type_name.Required simple.Integer) integer)) ∷ []; qualified = []; structures = []; records = [] } ∷ scope
+    ∷ record { entries = (codes "y", declares_at 1 3 integer_variable) ∷ (codes "i", declares_at 1 5 (declaration.Function [] (written (type_name.Required simple.Integer)) integer)) ∷ []; qualified = []; structures = []; records = [] } ∷ scope
 
 -- y + z, by the levels between
 levels_between : judged inside (sum (name (codes "y")) (name (codes "z"))) ≡ Accepts (record { form = Some (Two binary.Add (Read (Own 1 3)) (Read (Own 0 4))); kind = integer; depth = 3; access = access.Value })
@@ -375,7 +380,7 @@ points = record { number = 6; composition = composition.Array (record { index = 
 abbrev with_records : List Region
 with_records = record {
   entries = (codes "c", declares 8 (declaration.Variable (type_name.Entry 5) (kind.Structured 5))) ∷ (codes "d", declares 9 (declaration.Variable (type_name.Entry 6) (kind.Structured 6)))
-      ∷ (codes "e", declares 2 (declaration.Function [] (type_name.Entry 6) (kind.Structured 6)))
+      ∷ (codes "e", declares 2 (declaration.Function [] (written (type_name.Entry 6)) (kind.Structured 6)))
       ∷ (codes "x", declares 0 (declaration.Variable (type_name.Required simple.Integer) integer)) ∷ (codes "red", declares 0 (declaration.Constant (kind.Ordinal color) (value.Word (pos 0)))) ∷ [];
   qualified = (codes "shades", (codes "x", declares 1 (declaration.Constant (kind.Ordinal color) (value.Word (pos 1)))) ∷ []) ∷ [];
   structures = point ∷ points ∷ [];

@@ -2,7 +2,7 @@
 use Rattle.std.proofs.Common.{◌≡◌, ◌∙◌, ℕ, zero, suc, List, [], ◌∷◌, slice_get, Option, Some, None, ap, refl, subst}
 use Rattle.std.specs.Prelude.{All}
 use Rattle.std.proofs.lemmas.List.Elements.{All-cons, All-head, All-nil, All-tail}
-use Rattle.ep_typed.specs.Denoters.{record_of, type_of}
+use Rattle.ep_typed.specs.Denoters.{bare_type_of, record_of}
 use Rattle.ep_typed.specs.Trees.{Denoter, Denoters, Field, Place, Read, Record, Variant, next_denoter, no_denoter}
 use Rattle.ep_typed.specs.Valid.{Declarations, IsPlaceWhere, IsTagged}
 use Rattle.ep_typed.specs.declared.unit.UnitType.{UnitType}
@@ -82,7 +82,7 @@ module _ (declared : Declarations) (types : TypeValues) where
     part-tagged (Some tag) place h = place_wider declared (IsRecordWhere (HasPart (Some tag))) (IsTagged declared (typed_host tag.host) tag.low tag.high tag.selection) place within h
       where
         within : (list : List UnitType) (d : Denoter) → IsRecordWhere (HasPart (Some tag)) list d → IsTagged declared (typed_host tag.host) tag.low tag.high tag.selection list d
-        within list d q = let s = q.2.0.4 declared in (q.0, q.1, (s.0, s.2, ap (type_of list) s.1 ∙ s.3))
+        within list d q = let s = q.2.0.4 declared in (q.0, q.1, (s.0, s.2, ap (bare_type_of list) s.1 ∙ s.3))
 
   -- what is read of a field is a variable, or a tag
   pub read-access : (of : TypeName) (guarded : Protection) (tag : Option TagType) (number : ℕ) (whole : Place) → IsOfType declared types (component_place tag number whole) of → IsTaggedIf declared types tag whole

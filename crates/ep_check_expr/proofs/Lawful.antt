@@ -17,11 +17,11 @@ use Rattle.ep_scope.specs.declared.kind.Kind.{Kind}
 use Rattle.ep_scope.specs.declared.kind.Kind.TheVariants as kind
 use Rattle.ep_scope.specs.declared.rule.TheConstants as rule
 use Rattle.ep_check_expr.specs.Agreement.{AgreesBy, AreActuals, IsAccessOf, IsFormOf, IsHost, TypeValues, structures_of}
-use Rattle.ep_check_expr.specs.Constants.{IsSoundConstant, as_constant, as_bound, as_label, constant_expression, constant_folded, constant_of, known, stand_in, unbuilt_constant, value_of, varies}
+use Rattle.ep_check_expr.specs.Constants.{IsSoundConstant, as_constant, as_bound, as_initial_state, as_label, constant_expression, constant_folded, constant_of, known, stand_in, unbuilt_constant, value_of, varies}
 use Rattle.ep_check_expr.specs.Expressions.{given, judged, judged_value, name_judged, spelled}
 use Rattle.ep_check_expr.specs.Hosts.{typed_host}
 use Rattle.ep_check_expr.specs.Judgements.{Judged, Accepts, Breaks, Typed, unbuilt, when_accepted}
-use Rattle.ep_check_expr.specs.Laws.{ExpressionsAreSound, AccessesAreSound, VariablesAreSound, ArgumentsAreSound, ValuesAreSound, ConstantsAreSound, BoundsAreSound, LabelsAreSound, ExpressionsAreKnown, ConstantsAreKnown, BoundsAreKnown}
+use Rattle.ep_check_expr.specs.Laws.{ExpressionsAreSound, AccessesAreSound, VariablesAreSound, ArgumentsAreSound, ValuesAreSound, ConstantsAreSound, BoundsAreSound, LabelsAreSound, InitialStatesAreSound, ExpressionsAreKnown, ConstantsAreKnown, BoundsAreKnown}
 use Rattle.ep_check_expr.specs.Origins.{IsKnownKind}
 use Rattle.ep_check_expr.specs.Folding.{folded}
 use Rattle.ep_check_expr.specs.declared.folding.Folded.{Folded}
@@ -155,7 +155,7 @@ module _ (declared : Declarations) (types : TypeValues) (scopes : List Region) w
       bound-fits false C q = q
   as_bound-fits (Breaks rules) p = tt
 
-  -- and an end of a label
+  -- an end of a label
   as_label-fits : (J : Judged Typed) → HasForm declared types scopes J → IsJudgedConstant (when_accepted as_label J)
   as_label-fits (Accepts t) p = label-fits (varies t) (as_constant t) (constant-fits declared types (structures_of scopes) t.kind t.form p)
     where
@@ -163,6 +163,15 @@ module _ (declared : Declarations) (types : TypeValues) (scopes : List Region) w
       label-fits true C q = tt
       label-fits false C q = q
   as_label-fits (Breaks rules) p = tt
+
+  -- and an initial state
+  as_initial_state-fits : (J : Judged Typed) → HasForm declared types scopes J → IsJudgedConstant (when_accepted as_initial_state J)
+  as_initial_state-fits (Accepts t) p = initial-fits (varies t) (as_constant t) (constant-fits declared types (structures_of scopes) t.kind t.form p)
+    where
+      initial-fits : (b : Bool) (C : Judged ConstantForm) → IsJudgedConstant C → IsJudgedConstant (if b then Breaks (rule.INITIAL_STATE ∷ rule.CONSTANT ∷ []) else C)
+      initial-fits true C q = tt
+      initial-fits false C q = q
+  as_initial_state-fits (Breaks rules) p = tt
 
 pub constants_are_sound : ConstantsAreSound
 constants_are_sound scopes v c accepted declared agrees =
@@ -180,6 +189,10 @@ bounds_are_sound scopes e c accepted declared agrees =
 pub labels_are_sound : LabelsAreSound
 labels_are_sound scopes e c accepted declared agrees =
     subst IsJudgedConstant accepted (as_label-fits declared agrees.0 scopes (judged scopes e) (expression-fits declared agrees.0 scopes agrees.1 e))
+
+pub initial_states_are_sound : InitialStatesAreSound
+initial_states_are_sound scopes v c accepted declared agrees =
+    subst IsJudgedConstant accepted (as_initial_state-fits declared agrees.0 scopes (judged_value scopes v) (value-fits declared agrees.0 scopes agrees.1 v))
 
 -- ---- hosts
 

@@ -182,17 +182,17 @@ module _ (declared : Declarations) (types : TypeValues) (structures : List Struc
 
       -- ---- variables that are given
 
-      taken_form : (of : TypeName) (guarded : Protection) (form : Option Expr) → same_type p.of of ≡ true → IsAccessOf declared types (access.Variable of guarded) form → IfForm IsVariable (accessed form)
+      taken_form : (of : TypeName) (guarded : Protection) (form : Option Expr) → same_type p.of.is of ≡ true → IsAccessOf declared types (access.Variable of guarded) form → IfForm IsVariable (accessed form)
       taken_form of guarded None s x = tt
-      taken_form of guarded (Some e) s x = subst (λ z. IfForm IsVariable (accessed (Some z))) (sym x.1) (x.2.0, is.has_type ∙ (ap types (type_same p.of of s) ∙ x.2.1), x.2.2)
+      taken_form of guarded (Some e) s x = subst (λ z. IfForm IsVariable (accessed (Some z))) (sym x.1) (x.2.0, is.has_type ∙ (ap types (type_same p.of.is of s) ∙ x.2.1), x.2.2)
 
-      taken_if : (same : Bool) (of : TypeName) (guarded : Protection) (form : Option Expr) → same_type p.of of ≡ same → IsAccessOf declared types (access.Variable of guarded) form
+      taken_if : (same : Bool) (of : TypeName) (guarded : Protection) (form : Option Expr) → same_type p.of.is of ≡ same → IsAccessOf declared types (access.Variable of guarded) form
           → Satisfies (IfForm IsVariable) (if same then Accepts (accessed form) else Breaks (rule.VARIABLE_ARGUMENT ∷ []))
       taken_if true of guarded form s x = taken_form of guarded form s x
       taken_if false of guarded form s x = tt
 
-      variable-fits : (a : Access) (form : Option Expr) → IsAccessOf declared types a form → Satisfies (IfForm IsVariable) (variable_taken p.of a form)
-      variable-fits (access.Variable of guarded) form x = taken_if (same_type p.of of) of guarded form refl x
+      variable-fits : (a : Access) (form : Option Expr) → IsAccessOf declared types a form → Satisfies (IfForm IsVariable) (variable_taken p.of.is a form)
+      variable-fits (access.Variable of guarded) form x = taken_if (same_type p.of.is of) of guarded form refl x
       variable-fits (access.Tag of guarded tag) form x = tt
       variable-fits access.File form x = tt
       variable-fits access.Constant form x = tt
@@ -227,8 +227,8 @@ module _ (declared : Declarations) (types : TypeValues) (structures : List Struc
       actual-fits mode.Value v x = value-fits v x
       actual-fits mode.ProtectedValue v x = weaker-satisfies (IfForm (IsGiven declared list mode.Value f)) (IfForm (IsGiven declared list mode.ProtectedValue f)) (value_taken p.kind v) protected_value (value-fits v x)
       actual-fits mode.Variable v x =
-          both-satisfies (IfForm IsVariable) Any (IfForm IsVariable) (λ actual done. Accepts actual) (variable_taken p.of v.access v.form) (threatened v.access) (variable-fits v.access v.form x.1) (any-satisfies (threatened v.access)) (λ a done y z. y)
-      actual-fits mode.ProtectedVariable v x = weaker-satisfies (IfForm IsVariable) (IfForm (IsGiven declared list mode.ProtectedVariable f)) (variable_taken p.of v.access v.form) protected_variable (variable-fits v.access v.form x.1)
+          both-satisfies (IfForm IsVariable) Any (IfForm IsVariable) (λ actual done. Accepts actual) (variable_taken p.of.is v.access v.form) (threatened v.access) (variable-fits v.access v.form x.1) (any-satisfies (threatened v.access)) (λ a done y z. y)
+      actual-fits mode.ProtectedVariable v x = weaker-satisfies (IfForm IsVariable) (IfForm (IsGiven declared list mode.ProtectedVariable f)) (variable_taken p.of.is v.access v.form) protected_variable (variable-fits v.access v.form x.1)
 
     -- what is given for these formal parameters
     abbrev IsTaken : List Formal → Taken → Type 0

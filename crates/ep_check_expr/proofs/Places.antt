@@ -6,7 +6,7 @@ use Rattle.std.proofs.lemmas.List.Elements.{All-head, All-tail}
 use Rattle.ep_typed.specs.Denoters.{ArrayParts, array_of, array_within, definition_of, denoter_at, found_of, host_of, record_of, record_within}
 use Rattle.ep_typed.specs.Hosts as hosts
 use Rattle.ep_typed.specs.Steps.{variant_number}
-use Rattle.ep_typed.specs.Trees.{Array, Denoter, Denoters, Enumeration, Expr, Field, Indexed, Named, Own, Place, Record, Required, Set, Standard, Subrange, Variable, Variant}
+use Rattle.ep_typed.specs.Trees.{Array, Denoter, Denoters, Enumeration, Expr, Field, Indexed, Initial, Named, Own, Place, Record, Required, Set, Standard, Subrange, Variable, Variant}
 use Rattle.ep_typed.specs.Valid as valid
 use Rattle.ep_typed.specs.TypeValues.{TypeValue}
 use Rattle.ep_typed.specs.Valid.{Declarations, IsExpr, IsOfKind, IsPlaceWhere, IsSelection}
@@ -114,6 +114,7 @@ module _ (list : List UnitType) where
   apart (suc n) (Array index component) p ds e f = cc
   apart (suc n) (Record more) p ds e f = cc
   apart (suc n) (Set base) p ds e f = cc
+  apart (suc n) (Initial of value) p ds e f = apart (suc n) of p ds e f
 
   -- a denoter of a number is made like the definition of that number
   alike : (d : Denoter) (n : ℕ) (s m : Structure) → HasStructure list d s → HasStructure list (Named n []) s → HasStructure list (Named n []) m → HasStructure list d m

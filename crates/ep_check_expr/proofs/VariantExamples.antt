@@ -17,7 +17,7 @@ use Rattle.ep_check_expr.specs.declared.access.Access.TheVariants as access
 use Rattle.ep_check_expr.specs.Expressions.{judged}
 use Rattle.ep_check_expr.specs.Judgements.{Accepts, Breaks}
 use Rattle.ep_check_expr.specs.Operators.{integer}
-use Rattle.ep_check_expr.proofs.Examples.{bare, call, color, declares, field, function_of, of_program, plain, plain_field}
+use Rattle.ep_check_expr.proofs.Examples.{bare, call, color, declares, field, function_of, of_program, plain, plain_field, written}
 use Rattle.ep_check_expr.proofs.Nodes.{argument-judged, arguments-judged, expression-judged, field-judged, name-judged, simple-judged, term-judged}
 
 -- a tag of a color, behind one component, which selects a variant for red and one for all others
@@ -41,7 +41,7 @@ shape = record {
 -- a variable v of this type, a function w that gives such a record, and g with a variable parameter
 abbrev with_variants : List Region
 with_variants = record {
-  entries = (codes "v", declares 8 (declaration.Variable (type_name.Entry 5) (kind.Structured 5))) ∷ (codes "w", declares 2 (declaration.Function [] (type_name.Entry 5) (kind.Structured 5)))
+  entries = (codes "v", declares 8 (declaration.Variable (type_name.Entry 5) (kind.Structured 5))) ∷ (codes "w", declares 2 (declaration.Function [] (written (type_name.Entry 5)) (kind.Structured 5)))
       ∷ (codes "g", declares 1 (function_of mode.Variable)) ∷ [];
   qualified = [];
   structures = shape ∷ [];

@@ -1,6 +1,6 @@
 -- Declarations that hold what scopes declare, under which typed forms are valid.
 use Rattle.std.specs.Prelude.{◌≡◌, ℕ, ℤ, pos, All, List, [], ◌∷◌, ◌++◌, Option, Some, None, IsTrue, int_le, ⊤}
-use Rattle.ep_typed.specs.Denoters.{ArrayParts, array_of, base_of, denoter_at, host_of, record_of, type_of}
+use Rattle.ep_typed.specs.Denoters.{ArrayParts, array_of, base_of, denoter_at, host_of, record_of, bare_type_of}
 use Rattle.ep_typed.specs.Hosts.{greatest, is_of_host, least}
 use Rattle.ep_typed.specs.Hosts as typed
 use Rattle.ep_typed.specs.Operations.{maxint}
@@ -113,7 +113,7 @@ IsValueOf types n t = (types (type_name.Entry n) ≡ Some t) × IsStructured t
 -- the denoter is one of the kind; none is of a string type or of a file type so far
 abbrev pub HasKind : TypeValues → List UnitType → Denoter → Kind → Type 0
 HasKind types list d (kind.Ordinal h) = IsHost h × (host_of list d ≡ Some (typed_host h))
-HasKind types list d (kind.Structured n) = IsStructuredDenoter list d n × ((t : TypeValue) × IsValueOf types n t × (type_of list d ≡ Some t))
+HasKind types list d (kind.Structured n) = IsStructuredDenoter list d n × ((t : TypeValue) × IsValueOf types n t × (bare_type_of list d ≡ Some t))
 HasKind types list d (kind.Set h) = IsHost h × ((base : Denoter) × (base_of list d ≡ Some base) × (host_of list base ≡ Some (typed_host h)))
 HasKind types list d kind.EmptySet = ⊥
 HasKind types list d kind.Text = ⊥
@@ -157,7 +157,7 @@ module _ (types : TypeValues) where
 module _ (types : TypeValues) (list : List UnitType) where
   -- the denoter is one of this type and kind
   abbrev pub IsDenoterOf : TypeName → Kind → Denoter → Type 0
-  IsDenoterOf of k d = HasKind types list d k × ((v : TypeValue) × (types of ≡ Some v) × (type_of list d ≡ Some v))
+  IsDenoterOf of k d = HasKind types list d k × ((v : TypeValue) × (types of ≡ Some v) × (bare_type_of list d ≡ Some v))
 
   -- an array has an index type of its host, and components of their type and kind
   abbrev pub IsArrayOf : ArrayType → ArrayParts → Type 0
@@ -167,7 +167,7 @@ module _ (types : TypeValues) (list : List UnitType) where
   -- host, and has these bounds (ISO 10206, 6.4.3.4).
   abbrev pub Selects : TagType → Denoter → Denoters → Type 0
   Selects tag d ds =
-      (declared : Declarations) → (s : IsSelection declared list ds tag.selection) × (s.tag ≡ d) × (s.host ≡ typed_host tag.host) × (type_of list d ≡ Some (type.Ordinal tag.low tag.high))
+      (declared : Declarations) → (s : IsSelection declared list ds tag.selection) × (s.tag ≡ d) × (s.host ≡ typed_host tag.host) × (bare_type_of list d ≡ Some (type.Ordinal tag.low tag.high))
 
   -- The component of this number is of the type and kind. A tag is the one component of a record that has the number, and
   -- selects the variants behind it.
@@ -219,7 +219,7 @@ structures_of (r ∷ rs) = r.structures ++ structures_of rs
 pub record IsParameter (types : TypeValues) (list : List UnitType) (p : FormalParameter) (f : Formal) : Type 0 where
   pub mode : f.mode ≡ p.mode
   pub has_kind : HasKind types list (denoter_of f.denoter) p.kind
-  pub has_type : type_of list (denoter_of f.denoter) ≡ types p.of
+  pub has_type : bare_type_of list (denoter_of f.denoter) ≡ types p.of.is
 
 -- one for each, in order
 abbrev pub AreParameters : TypeValues → List UnitType → List FormalParameter → List Formal → Type 0

@@ -136,8 +136,8 @@ joined x y = record { actuals = map_both (λ xs ys. xs ++ ys) x.actuals y.actual
 abbrev pub actual_taken : FormalMode → FormalParameter → Typed → Judged (Option Actual)
 actual_taken mode.Value p v = value_taken p.kind v
 actual_taken mode.ProtectedValue p v = value_taken p.kind v
-actual_taken mode.Variable p v = both (λ actual done. Accepts actual) (variable_taken p.of v.access v.form) (threatened v.access)
-actual_taken mode.ProtectedVariable p v = variable_taken p.of v.access v.form
+actual_taken mode.Variable p v = both (λ actual done. Accepts actual) (variable_taken p.of.is v.access v.form) (threatened v.access)
+actual_taken mode.ProtectedVariable p v = variable_taken p.of.is v.access v.form
 
 -- a value that is accepted for a formal parameter
 abbrev pub argument_taken : FormalParameter → Typed → Judged Taken

@@ -80,6 +80,10 @@ as_bound t = if varies t then Breaks (rule.BOUND_CONSTANT ∷ rule.CONSTANT ∷ 
 abbrev pub as_label : Typed → Judged ConstantForm
 as_label t = if varies t then Breaks (rule.CASE_LABELS ∷ rule.CONSTANT ∷ []) else as_constant t
 
+-- an initial state that varies breaks the rule of initial states too (ISO 10206, 6.6)
+abbrev pub as_initial_state : Typed → Judged ConstantForm
+as_initial_state t = if varies t then Breaks (rule.INITIAL_STATE ∷ rule.CONSTANT ∷ []) else as_constant t
+
 module _ (scopes : List Region) where
   -- the value of a constant definition
   abbrev pub constant_judged : ComponentValue → Judged ConstantForm
@@ -96,6 +100,10 @@ module _ (scopes : List Region) where
   -- an end of a label of a `case`
   abbrev pub label_judged : Expression → Judged ConstantForm
   label_judged e = when_accepted as_label (judged scopes e)
+
+  -- an initial state
+  abbrev pub initial_state_judged : ComponentValue → Judged ConstantForm
+  initial_state_judged v = when_accepted as_initial_state (judged_value scopes v)
 
 -- under all declarations that hold what the scopes declare, the constant is of its kind
 abbrev pub IsSoundConstant : List Region → ConstantForm → Type 0

@@ -135,8 +135,8 @@ fn actual_taken(parameter: &FormalParameter, value: Typed) -> Result<Option<Actu
     match parameter.mode {
         FormalMode::Value => value_taken(parameter.kind, value),
         FormalMode::ProtectedValue => value_taken(parameter.kind, value),
-        FormalMode::Variable => unprotected_taken(parameter.of, value),
-        FormalMode::ProtectedVariable => variable_taken(parameter.of, value),
+        FormalMode::Variable => unprotected_taken(parameter.of.is, value),
+        FormalMode::ProtectedVariable => variable_taken(parameter.of.is, value),
     }
 }
 

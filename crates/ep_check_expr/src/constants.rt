@@ -3,10 +3,10 @@
 ghost use Rattle.std.specs.Prelude.{◌≡◌, IfOk, None, false};
 ghost use Rattle.ep_built.specs.Built.{component_value_unbuilt, expression_unbuilt};
 ghost use Rattle.ep_check_expr.specs.Answers.{typed_of, AnswersJudged};
-ghost use Rattle.ep_check_expr.specs.Constants.{as_constant, constant_folded, constant_judged, constant_expression, bound_judged, is_varying, label_judged, known, unbuilt_constant, unbuilt_of, varies};
+ghost use Rattle.ep_check_expr.specs.Constants.{as_constant, constant_folded, constant_judged, constant_expression, bound_judged, initial_state_judged, is_varying, label_judged, known, unbuilt_constant, unbuilt_of, varies};
 ghost use Rattle.ep_check_expr.specs.Judgements.{Accepts};
 
-use crate::expressions::typed_expression;
+use crate::expressions::{typed_expression, typed_value};
 use crate::folding::{Folded, KnownValue, folded_form};
 use crate::forms::{Refusal, Typed};
 use ep_base::{Bytes, NoMemory};
@@ -106,6 +106,22 @@ pub fn label_value(
     let typed = typed_expression(alloc, tree, scopes)?;
     if varies(alloc, &typed)? {
         return Err(Refusal::Rule(rule::CASE_LABELS));
+    }
+    as_constant(alloc, &typed)
+}
+
+/// The value of an initial state, alike.
+pub fn initial_state_value(
+    alloc: Global,
+    tree: &ComponentValue,
+    scopes: &View<'_>,
+) -> Result<ConstantForm, Refusal>
+    requires { component_value_unbuilt tree.now ≡ None }
+    ensures form { AnswersJudged (λ c. c) result (initial_state_judged scopes.now tree.now) }
+{
+    let typed = typed_value(alloc, tree, scopes)?;
+    if varies(alloc, &typed)? {
+        return Err(Refusal::Rule(rule::INITIAL_STATE));
     }
     as_constant(alloc, &typed)
 }

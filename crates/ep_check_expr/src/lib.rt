@@ -30,7 +30,8 @@ pub use access::Access;
 pub use answers::{Broken, ExpressionRefusal, constant, expression};
 pub use arguments::{Taken, given_value, unless_protected};
 pub use constants::{
-    ConstantForm, bound_value, constant_expression_value, constant_value, label_value,
+    ConstantForm, bound_value, constant_expression_value, constant_value, initial_state_value,
+    label_value,
 };
 pub use expressions::{
     typed_access, typed_arguments, typed_expression, typed_value, written_expression,

@@ -55,7 +55,7 @@ number n = argument_node 1 (number_alone n) None
 
 -- a parameter, of a section of its own
 abbrev parameter : List ℕ → FormalMode → ℕ → RequiredType → Host → FormalParameter
-parameter n mode section type h = record { name = n; mode = mode; section = section; of = type_name.Required type; kind = kind.Ordinal h }
+parameter n mode section type h = record { name = n; mode = mode; section = section; of = record { name = type_name.Required type; is = type_name.Required type }; kind = kind.Ordinal h }
 
 -- procedure p(a: integer; var b: integer)
 abbrev parameters : List FormalParameter

@@ -2,7 +2,7 @@
 use Rattle.std.specs.Prelude.{◌≡◌, ℕ, ◌+◌, ◌-◌, All, List, [], ◌∷◌, Some, slice_get, ⊤}
 use Rattle.ep_tree.specs.declared.statement.Compound.{Compound}
 use Rattle.ep_typed.specs.Auxiliaries.{first_for_in_of, first_for_of, with_variable, with_variables_of}
-use Rattle.ep_typed.specs.Denoters.{type_of}
+use Rattle.ep_typed.specs.Denoters.{bare_type_of}
 use Rattle.ep_typed.specs.Hosts as host
 use Rattle.ep_typed.specs.Trees.{Entire, Named, Place, Stmts, Own, entire}
 use Rattle.ep_typed.specs.TypeValues.{TypeValue}
@@ -46,7 +46,7 @@ MembersAreThere declared locals number = IsPlaceWhere declared (IsOfKind (valid.
 -- The variable stands for a record of the type of this number, under a list of types that holds the structured types: no code makes it, its denoter is the name of that type, and its type value is the one that the type has wherever it is named.
 abbrev pub WithIsThere : Declarations → TypeValues → List StructuredType → Entire → ℕ → Type 0
 WithIsThere declared types structures v of =
-    IsUnmade declared v × IsPlaceWhere declared (λ list d. (d ≡ Named of []) × (type_of list d ≡ types (type_name.Entry of)) × All (HoldsStructure types list) structures) (entire v)
+    IsUnmade declared v × IsPlaceWhere declared (λ list d. (d ≡ Named of []) × (bare_type_of list d ≡ types (type_name.Entry of)) × All (HoldsStructure types list) structures) (entire v)
 
 -- so do the variables of `with` statements, from this number on
 abbrev pub WithsAreThere : Declarations → TypeValues → List StructuredType → Locals → ℕ → List UnitVariable → Type 0

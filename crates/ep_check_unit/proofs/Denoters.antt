@@ -1,26 +1,23 @@
 -- What the rules of each denoter keep holds of all denoters, by the tree.
 use Rattle.std.proofs.Common.{ℕ, true, false, List, [], ◌∷◌, map, Option, Some, None, sym, subst}
 use Rattle.std.specs.Prelude.{⊤}
+use Rattle.ep_tree.specs.declared.expression.ComponentValue.{ComponentValue}
 use Rattle.ep_tree.specs.declared.expression.Expression.{Expression}
 use Rattle.ep_tree.specs.declared.operator.QualifiedName.{QualifiedName}
-use Rattle.ep_tree.specs.declared.types.Core.TheFolds.{fold-roll-Core, fold-roll-FieldSection, fold-roll-Fields, fold-roll-Plain, fold-roll-Structure, fold-roll-TypeDenoter, fold-roll-Variant, fold-roll-VariantPart, ind-Core}
+use Rattle.ep_tree.specs.declared.types.Core.TheFolds.{fold-roll-Core, fold-roll-FieldSection, fold-roll-Fields, fold-roll-Plain, fold-roll-Structure, fold-roll-TypeDenoter, fold-roll-Variant, fold-roll-VariantPart, fold_out-Plain, fold_out-TypeDenoter, ind-Core}
 use Rattle.ep_tree.specs.declared.types.Core.TheOpen.{Core-F, FieldSection-F, Fields-F, Plain-F, Structure-F, TypeDenoter-F, Variant-F, VariantPart-F}
 use Rattle.ep_tree.specs.declared.types.Core.{Core, map-Core, roll-Core}
 use Rattle.ep_tree.specs.declared.types.FieldSection.{FieldSection, map-FieldSection, roll-FieldSection}
 use Rattle.ep_tree.specs.declared.types.Fields.{Fields, map-Fields, roll-Fields}
-use Rattle.ep_tree.specs.declared.types.Plain.{Plain, map-Plain, roll-Plain}
+use Rattle.ep_tree.specs.declared.types.Plain.{Plain, map-Plain, out-Plain, roll-Plain}
 use Rattle.ep_tree.specs.declared.types.Structure.{Structure, map-Structure, roll-Structure}
-use Rattle.ep_tree.specs.declared.types.TypeDenoter.{TypeDenoter, fold-TypeDenoter, map-TypeDenoter, roll-TypeDenoter}
+use Rattle.ep_tree.specs.declared.types.TypeDenoter.{TypeDenoter, map-TypeDenoter, out-TypeDenoter, roll-TypeDenoter}
 use Rattle.ep_tree.specs.declared.types.Variant.{Variant, map-Variant, roll-Variant}
 use Rattle.ep_tree.specs.declared.types.VariantPart.{VariantPart, map-VariantPart, roll-VariantPart}
 use Rattle.ep_tree.specs.declared.types.VariantSelector.{VariantSelector}
 use Rattle.ep_check_expr.specs.Constants.{bound_judged}
 use Rattle.ep_check_expr.specs.Judgements.{both}
-use Rattle.ep_check_unit.specs.Declarations.{ListJudged, Part, PartJudged, Section, VariantJudged, array_part, array_written, at_core, at_field_section, at_fields, at_plain, at_structure, at_type_denoter, at_variant, at_variant_part, core_part, enumeration, fields_judged, list_written, plain_part, range, record_written, scopes_of, set_written, section_part, structure_part, structured, type_named, unbuilt_part, variant_judged, variant_part_written, variants_judged}
-
--- the part of a denoter with or without an initial state
-abbrev pub denoter_part : TypeDenoter → Part
-denoter_part = fold-TypeDenoter Part Part Section ListJudged Part Part VariantJudged PartJudged at_core at_structure at_field_section at_fields at_plain at_type_denoter at_variant at_variant_part
+use Rattle.ep_check_unit.specs.Declarations.{ListJudged, Part, PartJudged, Section, VariantJudged, array_part, array_written, at_core, at_field_section, at_fields, at_plain, at_structure, at_type_denoter, at_variant, at_variant_part, begun, core_part, denoter_part, enumeration, fields_judged, list_written, plain_part, range, record_written, scopes_of, set_written, section_part, structure_part, structured, type_named, unbuilt_part, variant_judged, variant_part_written, variants_judged}
 
 -- the parts of denoters
 abbrev pub name_part : QualifiedName → Part
@@ -68,6 +65,7 @@ pub record KeptByDenoters (P : Part → Type 0) (L : ListJudged → Type 0) (Q :
   pub records : (fields : ListJudged) → L fields → P (record_part fields)
   pub sets : (base : Part) → P base → P (set_part base)
   pub structures : (p : Part) → P p → P (structured p)
+  pub initial_states : (p : Part) (v : ComponentValue) → P p → P (begun p (Some v))
 
 module _ (P : Part → Type 0) (L : ListJudged → Type 0) (Q : PartJudged → Type 0) (kept : KeptByDenoters P L Q) where
   abbrev OfCore : Core → Type 0
@@ -187,8 +185,9 @@ module _ (P : Part → Type 0) (L : ListJudged → Type 0) (Q : PartJudged → T
   variant_part_kept at s vs None = subst Q (sym (fold-roll-VariantPart Part Part Section ListJudged Part Part VariantJudged PartJudged at_core at_structure at_field_section at_fields at_plain at_type_denoter at_variant at_variant_part (variants_layer (record { line = at; selector = s; variants = vs; otherwise = None })))) (kept.variants s (map variant_judged (map (λ v. v.0) vs)) None (variants_kept vs) tt)
   variant_part_kept at s vs (Some f) = subst Q (sym (fold-roll-VariantPart Part Part Section ListJudged Part Part VariantJudged PartJudged at_core at_structure at_field_section at_fields at_plain at_type_denoter at_variant at_variant_part (variants_layer (record { line = at; selector = s; variants = vs; otherwise = Some f })))) (kept.variants s (map variant_judged (map (λ v. v.0) vs)) (Some (fields_judged f.0)) (variants_kept vs) f.1)
 
-  denoter_kept : (y : TypeDenoter-F KeptCore KeptStructure KeptSection KeptFields KeptPlain KeptDenoter KeptVariant KeptVariants) → OfDenoter (roll-TypeDenoter (denoter_layer y))
-  denoter_kept y = subst P (sym (fold-roll-TypeDenoter Part Part Section ListJudged Part Part VariantJudged PartJudged at_core at_structure at_field_section at_fields at_plain at_type_denoter at_variant at_variant_part (denoter_layer y))) y.plain.1
+  denoter_kept : (at : ℕ) (p : KeptPlain) (v : Option ComponentValue) → OfDenoter (roll-TypeDenoter (denoter_layer (record { line = at; plain = p; initial = v })))
+  denoter_kept at p None = subst P (sym (fold-roll-TypeDenoter Part Part Section ListJudged Part Part VariantJudged PartJudged at_core at_structure at_field_section at_fields at_plain at_type_denoter at_variant at_variant_part (denoter_layer (record { line = at; plain = p; initial = None })))) p.1
+  denoter_kept at p (Some v) = subst P (sym (fold-roll-TypeDenoter Part Part Section ListJudged Part Part VariantJudged PartJudged at_core at_structure at_field_section at_fields at_plain at_type_denoter at_variant at_variant_part (denoter_layer (record { line = at; plain = p; initial = Some v })))) (kept.initial_states (plain_part p.0) v p.1)
 
   plain_kept : (y : Plain-F KeptCore KeptStructure KeptSection KeptFields KeptPlain KeptDenoter KeptVariant KeptVariants) → OfPlain (roll-Plain (plain_layer y))
   plain_kept y = subst P (sym (fold-roll-Plain Part Part Section ListJudged Part Part VariantJudged PartJudged at_core at_structure at_field_section at_fields at_plain at_type_denoter at_variant at_variant_part (plain_layer y))) y.core.1
@@ -202,6 +201,18 @@ module _ (P : Part → Type 0) (L : ListJudged → Type 0) (Q : PartJudged → T
       (λ x y is. subst (λ z. OfSection (roll-FieldSection z)) is (section_kept y))
       (λ x y is. subst (λ z. OfFields (roll-Fields z)) is (fields_kept y.line y.sections y.variants))
       (λ x y is. subst (λ z. OfPlain (roll-Plain z)) is (plain_kept y))
-      (λ x y is. subst (λ z. OfDenoter (roll-TypeDenoter z)) is (denoter_kept y))
+      (λ x y is. subst (λ z. OfDenoter (roll-TypeDenoter z)) is (denoter_kept y.line y.plain y.initial))
       (λ x y is. subst (λ z. OfVariant (roll-Variant z)) is (variant_kept y))
       (λ x y is. subst (λ z. OfVariants (roll-VariantPart z)) is (variant_part_kept y.line y.selector y.variants y.otherwise))
+
+  -- and of each without its initial state
+  each_plain : (p : Plain) → P (plain_part p)
+  each_plain p = subst P (sym (fold_out-Plain Part Part Section ListJudged Part Part VariantJudged PartJudged at_core at_structure at_field_section at_fields at_plain at_type_denoter at_variant at_variant_part p)) (each_denoter (out-Plain p).core)
+
+  each_begun : (p : Part) (v : Option ComponentValue) → P p → P (begun p v)
+  each_begun p None h = h
+  each_begun p (Some v) h = kept.initial_states p v h
+
+  -- so it holds of all with one
+  pub each_type : (t : TypeDenoter) → P (denoter_part t)
+  each_type t = subst P (sym (fold_out-TypeDenoter Part Part Section ListJudged Part Part VariantJudged PartJudged at_core at_structure at_field_section at_fields at_plain at_type_denoter at_variant at_variant_part t)) (each_begun (plain_part (out-TypeDenoter t).plain) (out-TypeDenoter t).initial (each_plain (out-TypeDenoter t).plain))

@@ -23,6 +23,7 @@ use Rattle.ep_scope.specs.declared.parameter.FormalParameter.{FormalParameter}
 use Rattle.ep_scope.specs.declared.parameter.Protection.TheVariants as protection
 use Rattle.ep_scope.specs.declared.parameter.TypeName.{TypeName}
 use Rattle.ep_scope.specs.declared.parameter.TypeName.TheVariants as type_name
+use Rattle.ep_scope.specs.declared.parameter.WrittenType.{WrittenType}
 use Rattle.ep_scope.specs.declared.rule.TheConstants as rule
 use Rattle.ep_scope.specs.declared.thing.Declaration.TheVariants as declaration
 use Rattle.ep_scope.specs.declared.thing.Thing.TheVariants as thing
@@ -39,13 +40,16 @@ use Rattle.ep_check_unit.specs.declared.functions.HeadingResult.{HeadingResult}
 abbrev integer : TypeName
 integer = type_name.Required simple.Integer
 
+abbrev written : TypeName → WrittenType
+written t = record { name = t; is = t }
+
 -- a: integer
 abbrev parameters : List FormalParameter
-parameters = record { name = codes "a"; mode = mode.Value; section = 0; of = integer; kind = kind.Ordinal host.Integer } ∷ []
+parameters = record { name = codes "a"; mode = mode.Value; section = 0; of = written integer; kind = kind.Ordinal host.Integer } ∷ []
 
 -- a result of the type integer, with a name or without
 abbrev result : Option (List ℕ) → HeadingResult
-result name = record { name = name; of = integer; kind = kind.Ordinal host.Integer }
+result name = record { name = name; of = written integer; kind = kind.Ordinal host.Integer }
 
 -- only that an item is accepted, or which rules fail
 abbrev verdict : {A : Type 0} → Judged A → List ℕ
@@ -124,7 +128,7 @@ heading_renamed : again (Some (result (Some (codes "r")))) [] (codes "f") ≡ ru
 heading_renamed = refl
 
 -- function f: char; begin .. end
-heading_of_another_type : again (Some (record { name = None; of = type_name.Required simple.Char; kind = kind.Ordinal host.Char })) [] (codes "f") ≡ rule.REPEATED_HEADING ∷ []
+heading_of_another_type : again (Some (record { name = None; of = written (type_name.Required simple.Char); kind = kind.Ordinal host.Char })) [] (codes "f") ≡ rule.REPEATED_HEADING ∷ []
 heading_of_another_type = refl
 
 -- procedure f; begin .. end
@@ -191,7 +195,7 @@ around_h : option_map (λ r. r.around) (slice_get inside_h.routines 3) ≡ Some 
 around_h = refl
 
 -- the level of a name is how many routines are around its declaration
-level_of_unit : look_up before.scopes.inner.entries (codes "f") ≡ Some (thing.Declared (record { unit = codes "u"; number = 1; level = 0; what = declaration.Function parameters integer (kind.Ordinal host.Integer) }))
+level_of_unit : look_up before.scopes.inner.entries (codes "f") ≡ Some (thing.Declared (record { unit = codes "u"; number = 1; level = 0; what = declaration.Function parameters (written integer) (kind.Ordinal host.Integer) }))
 level_of_unit = refl
 
 level_in_f : look_up (block_in (headed_first (codes "h") 4 [] None inside_f)).scopes.inner.entries (codes "h") ≡ Some (thing.Declared (record { unit = codes "u"; number = 3; level = 1; what = declaration.Procedure [] }))

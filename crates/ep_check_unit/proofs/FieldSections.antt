@@ -1,11 +1,10 @@
 -- The fields of a record are written section by section, from left to right.
-use Rattle.std.proofs.Common.{◌≡◌, ℕ, ◌+◌, ◌<◌, Bool, true, false, List, map, length, drop, get_or, None, sym, ap, ◌∙◌, subst}
+use Rattle.std.proofs.Common.{◌≡◌, ℕ, ◌+◌, ◌<◌, List, map, length, drop, get_or, None, sym, ap, ◌∙◌, subst}
 use Rattle.ep_built.specs.Built as built
-use Rattle.ep_built.specs.Built.{Found, field_section_unbuilt, plain_unbuilt, type_denoter_unbuilt, at_node, built_type_denoter}
-use Rattle.ep_tree.specs.declared.types.Core.TheFolds.{fold_out-FieldSection, fold_out-TypeDenoter}
+use Rattle.ep_built.specs.Built.{Found, field_section_unbuilt, type_denoter_unbuilt}
+use Rattle.ep_tree.specs.declared.types.Core.TheFolds.{fold_out-FieldSection}
 use Rattle.ep_tree.specs.declared.types.FieldSection.{FieldSection, out-FieldSection}
-use Rattle.ep_tree.specs.declared.types.Plain.{Plain}
-use Rattle.ep_tree.specs.declared.types.TypeDenoter.{TypeDenoter, out-TypeDenoter}
+use Rattle.ep_tree.specs.declared.types.TypeDenoter.{TypeDenoter}
 use Rattle.ep_check_expr.specs.Judgements.{Judged, Accepts, when_accepted}
 use Rattle.ep_check_expr.specs.declared.forms.Refusal.{Refusal}
 use Rattle.ep_check_stmt.specs.Answers.{Refuses}
@@ -13,34 +12,21 @@ use Rattle.ep_check_stmt.proofs.judged.Refusing.{part_refused}
 use Rattle.ep_check_stmt.proofs.judged.Rounds.{next_item}
 use Rattle.ep_check_unit.specs.Answers.{field_in, field_named, fields_in, named_in}
 use Rattle.ep_check_unit.specs.Blocks.{Block}
-use Rattle.ep_check_unit.specs.Declarations.{Fielded, ListJudged, Part, PartJudged, Section, VariantJudged, Written, at_core, at_field_section, at_fields, at_plain, at_structure, at_type_denoter, at_variant, at_variant_part, field_of, fields_named, plain_part, section_part, section_written, sections_written, settled_part}
+use Rattle.ep_check_unit.specs.Declarations.{Fielded, ListJudged, Part, PartJudged, Section, VariantJudged, Written, at_core, at_field_section, at_fields, at_plain, at_structure, at_type_denoter, at_variant, at_variant_part, denoter_part, field_of, fields_named, section_part, section_written, sections_written, settled_part}
 use Rattle.ep_check_unit.specs.declared.records.WrittenField.{WrittenField}
 use Rattle.ep_check_unit.specs.declared.types.NamedType.{NamedType}
 
--- the type of a section, and its names
-abbrev pub plain_in : FieldSection → Plain
-plain_in s = (out-TypeDenoter (out-FieldSection s).of).plain
+-- the type of a section
+abbrev pub type_in : FieldSection → TypeDenoter
+type_in s = (out-FieldSection s).of
 
 -- a section by its parts
-section_is : (s : FieldSection) → section_part s ≡ record { names = (out-FieldSection s).names; of = plain_part (plain_in s) }
-section_is s =
-    fold_out-FieldSection Part Part Section ListJudged Part Part VariantJudged PartJudged at_core at_structure at_field_section at_fields at_plain at_type_denoter at_variant at_variant_part s
-    ∙ ap (λ (p : Part). record { names = (out-FieldSection s).names; of = p }) (fold_out-TypeDenoter Part Part Section ListJudged Part Part VariantJudged PartJudged at_core at_structure at_field_section at_fields at_plain at_type_denoter at_variant at_variant_part (out-FieldSection s).of)
+section_is : (s : FieldSection) → section_part s ≡ record { names = (out-FieldSection s).names; of = denoter_part (type_in s) }
+section_is s = fold_out-FieldSection Part Part Section ListJudged Part Part VariantJudged PartJudged at_core at_structure at_field_section at_fields at_plain at_type_denoter at_variant at_variant_part s
 
 -- where a section is built, its type is
-node_inner : (b : Bool) (line : ℕ) (inner : Found) → at_node b line inner ≡ None → inner ≡ None
-node_inner true line inner h = h
-node_inner false line inner h = cc
-
-denoter_built : (t : TypeDenoter) → type_denoter_unbuilt t ≡ None → plain_unbuilt (out-TypeDenoter t).plain ≡ None
-denoter_built t h =
-    node_inner _ _ _
-    (sym (fold_out-TypeDenoter Found Found Found Found Found Found Found Found built.at_core built.at_structure built.at_field_section built.at_fields built.at_plain built.at_type_denoter built.at_variant built.at_variant_part t) ∙ h)
-
-pub section_built : (s : FieldSection) → field_section_unbuilt s ≡ None → plain_unbuilt (plain_in s) ≡ None
-section_built s h =
-    denoter_built (out-FieldSection s).of
-    (sym (fold_out-FieldSection Found Found Found Found Found Found Found Found built.at_core built.at_structure built.at_field_section built.at_fields built.at_plain built.at_type_denoter built.at_variant built.at_variant_part s) ∙ h)
+pub section_built : (s : FieldSection) → field_section_unbuilt s ≡ None → type_denoter_unbuilt (type_in s) ≡ None
+section_built s h = sym (fold_out-FieldSection Found Found Found Found Found Found Found Found built.at_core built.at_structure built.at_field_section built.at_fields built.at_plain built.at_type_denoter built.at_variant built.at_variant_part s) ∙ h
 
 module _ (line : ℕ) (sections : List FieldSection) (n : ℕ) (s : FieldSection) (within : n < length sections) (is : s ≡ get_or sections n s) (b : Block) (all : List WrittenField) where
   -- the sections behind
@@ -52,25 +38,25 @@ module _ (line : ℕ) (sections : List FieldSection) (n : ℕ) (s : FieldSection
   fields_with w = when_accepted (λ fields. Accepts (record { fields = fields; block = w.block })) (fields_named (field_of w) (out-FieldSection s).names (map field_in all))
 
   -- the next section, and those behind it
-  next : sections_written line (map section_part (drop n sections)) (fields_in b all) ≡ when_accepted (sections_written line rest) (when_accepted fields_with (settled_part (plain_part (plain_in s)) line b))
+  next : sections_written line (map section_part (drop n sections)) (fields_in b all) ≡ when_accepted (sections_written line rest) (when_accepted fields_with (settled_part (denoter_part (type_in s)) line b))
   next =
       ap (λ xs. sections_written line (map section_part xs) (fields_in b all)) (next_item sections n s within is)
       ∙ ap (λ x. when_accepted (sections_written line rest) (section_written line x (fields_in b all))) (section_is s)
 
   -- its type is refused
-  pub type_refused : (e : Refusal) → Refuses e (settled_part (plain_part (plain_in s)) line b) → Refuses e (sections_written line (map section_part (drop n sections)) (fields_in b all))
+  pub type_refused : (e : Refusal) → Refuses e (settled_part (denoter_part (type_in s)) line b) → Refuses e (sections_written line (map section_part (drop n sections)) (fields_in b all))
   type_refused e h =
-      subst (Refuses e) (sym next) (part_refused (sections_written line rest) e (when_accepted fields_with (settled_part (plain_part (plain_in s)) line b)) (part_refused fields_with e (settled_part (plain_part (plain_in s)) line b) h))
+      subst (Refuses e) (sym next) (part_refused (sections_written line rest) e (when_accepted fields_with (settled_part (denoter_part (type_in s)) line b)) (part_refused fields_with e (settled_part (denoter_part (type_in s)) line b) h))
 
-  module _ (of : NamedType) (new : Block) (settles : settled_part (plain_part (plain_in s)) line b ≡ Accepts (named_in new of)) where
-    named : when_accepted fields_with (settled_part (plain_part (plain_in s)) line b) ≡ when_accepted (λ fields. Accepts (record { fields = fields; block = new })) (fields_named (field_named of) (out-FieldSection s).names (map field_in all))
+  module _ (of : NamedType) (new : Block) (settles : settled_part (denoter_part (type_in s)) line b ≡ Accepts (named_in new of)) where
+    named : when_accepted fields_with (settled_part (denoter_part (type_in s)) line b) ≡ when_accepted (λ fields. Accepts (record { fields = fields; block = new })) (fields_named (field_named of) (out-FieldSection s).names (map field_in all))
     named = ap (when_accepted fields_with) settles
 
     -- a name of it is
     pub names_refused : (e : Refusal) → Refuses e (fields_named (field_named of) (out-FieldSection s).names (map field_in all)) → Refuses e (sections_written line (map section_part (drop n sections)) (fields_in b all))
     names_refused e h =
         subst (Refuses e) (sym next)
-        (part_refused (sections_written line rest) e (when_accepted fields_with (settled_part (plain_part (plain_in s)) line b))
+        (part_refused (sections_written line rest) e (when_accepted fields_with (settled_part (denoter_part (type_in s)) line b))
         (subst (Refuses e) (sym named) (part_refused (λ fields. Accepts (record { fields = fields; block = new })) e (fields_named (field_named of) (out-FieldSection s).names (map field_in all)) h)))
 
     -- it is accepted

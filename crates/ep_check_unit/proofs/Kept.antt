@@ -13,8 +13,9 @@ use Rattle.ep_tree.specs.declared.routine.RoutineBody.{RoutineBody, map-RoutineB
 use Rattle.ep_tree.specs.declared.routine.RoutineStart.{RoutineStart}
 use Rattle.ep_tree.specs.declared.routine.RoutineStart.TheVariants as start
 use Rattle.ep_tree.specs.declared.statement.Compound.{Compound}
+use Rattle.ep_tree.specs.declared.expression.ComponentValue.{ComponentValue}
 use Rattle.ep_tree.specs.declared.expression.Label.{Label}
-use Rattle.ep_tree.specs.declared.types.Core.{Core}
+use Rattle.ep_tree.specs.declared.types.TypeDenoter.{TypeDenoter}
 use Rattle.ep_tree.specs.declared.types.VariantSelector.{VariantSelector}
 use Rattle.ep_typed.specs.Trees.{Stmts}
 use Rattle.ep_typed.specs.declared.denoter.Denoter.{Denoter}
@@ -39,12 +40,12 @@ use Rattle.ep_scope.specs.declared.thing.Declared.{Declared}
 use Rattle.ep_scope.specs.declared.thing.Thing.{Thing}
 use Rattle.ep_scope.specs.declared.thing.Thing.TheVariants as thing
 use Rattle.ep_check_expr.specs.Judgements.{Judged, Accepts, Breaks, when_accepted}
-use Rattle.ep_check_expr.specs.Constants.{constant_judged, bound_judged}
+use Rattle.ep_check_expr.specs.Constants.{constant_judged, bound_judged, initial_state_judged}
 use Rattle.ep_check_expr.specs.Names.{undeclared}
 use Rattle.ep_check_expr.specs.declared.constants.ConstantForm.{ConstantForm}
 use Rattle.ep_check_stmt.proofs.judged.Fits.{Any, Fits, fits_then, fits_both, fits_any}
 use Rattle.ep_check_stmt.specs.Statements.{Judgement, Passes, Waits, Fails}
-use Rattle.ep_check_unit.specs.Declarations.{unless_large, Fielded, Gathered, Labelled, ListJudged, Listed, Part as DenoterPart, PartJudged as VariantsJudged, Section, Tag, VariantJudged, all_fields, completing_added, completing_written, field_of, fields_named, labels_noted, list_ended, list_written, record_over, selection_of, tag_written, unless_left_out, variant_added, variant_list, variant_listing, variant_part_written, variant_written, variants_after, variants_written, none_gathered, section_written, sections_written, set_on, set_over, unless_wide, all_variables_declared, and_then, array_over, at_line, common_host, constant_definition, constant_entered, constants_declared, core_of, core_part, core_written, declaration_ended, declared_type, entered, enumerated, enumeration, index_host, next_enumeration, noted, ordered, range, scopes_of, settled, settled_part, settled_type, Standing, Stands, Falls, subrange, type_definition, type_definitions, type_entered, type_meant, type_named, type_written, unused, variable_declaration, variable_entered, variables_declared, variables_entered, with_constant, with_name, with_type, is_outermost, with_own_variable, with_unit_variable, with_variable, own_thing, Written}
+use Rattle.ep_check_unit.specs.Declarations.{unless_large, Fielded, Gathered, Labelled, ListJudged, Listed, Part as DenoterPart, PartJudged as VariantsJudged, Section, Tag, VariantJudged, all_fields, completing_added, completing_written, field_of, fields_named, labels_noted, list_ended, list_written, record_over, selection_of, tag_written, unless_left_out, variant_added, variant_list, variant_listing, variant_part_written, variant_written, variants_after, variants_written, none_gathered, section_written, sections_written, set_on, set_over, unless_wide, all_variables_declared, and_then, array_over, at_line, common_host, constant_definition, constant_entered, begun, begun_with, constants_declared, denoter_part, fitting_state, may_begin, with_initial_state, declaration_ended, declared_type, entered, enumerated, enumeration, index_host, next_enumeration, noted, ordered, range, scopes_of, settled, settled_part, settled_type, Standing, Stands, Falls, subrange, type_definition, type_definitions, type_entered, type_meant, type_named, type_written, unused, variable_declaration, variable_entered, variables_declared, variables_entered, with_constant, with_name, with_type, is_outermost, with_own_variable, with_unit_variable, with_variable, own_thing, Written}
 use Rattle.ep_check_unit.specs.Functions.{if_given, in_block, is_assigned, is_in_view, own_name_entered, result_entered, routine_declaration, row_gives, same_result}
 use Rattle.ep_check_unit.specs.Routines.{BodyJudged, Headed, PartJudged, all_declared, assigns_among, block_declared, body_closed, body_declared, body_ended, declared_routine, formals_entered, forwarded, has_body, headed_again, headed_first, headed_over, headed_then, heading_entered, identified_again, identified_over, inside_declared, is_repeated, of_body, of_part, of_routine, part_judged, parts_declared, result_headed, result_judged, routine_body_judged, routine_judged, routine_there, scope_opened, sections_judged, start_headed, start_name, statements_judged, with_routine}
 use Rattle.ep_check_unit.specs.declared.functions.HeadingResult.{HeadingResult}
@@ -54,7 +55,7 @@ use Rattle.ep_check_unit.specs.declared.labels.TagValues.{TagValues}
 use Rattle.ep_check_unit.specs.Units.{parameter_entered, parameters_entered, standard_file}
 use Rattle.ep_check_unit.specs.Blocks.{Block}
 use Rattle.ep_check_unit.specs.declared.types.TheConstants as limit
-use Rattle.ep_check_unit.proofs.Denoters.{AreKept, AreVariantsKept, IsKeptIf, KeptByDenoters, each_denoter, over_part, record_part, set_part}
+use Rattle.ep_check_unit.proofs.Denoters.{AreKept, AreVariantsKept, IsKeptIf, KeptByDenoters, each_type, over_part, record_part, set_part}
 use Rattle.ep_check_unit.specs.declared.block.OwnResult.{OwnResult}
 use Rattle.ep_check_unit.specs.declared.block.OwnVariables.{OwnVariables}
 
@@ -217,6 +218,18 @@ module _ (n : List ℕ) where
   record_written-kept : (fields : ListJudged) → IsKeptList fields → IsKeptPart (record_part fields)
   record_written-kept fields h line b i = fits_then IsInList IsIn (λ l. Accepts (record_over l)) (fields line b) (h line b i) (λ l j. j)
 
+  fitting-kept : (line : ℕ) (w : Written) (c : ConstantForm) → IsIn w → Fits IsIn (fitting_state line w c)
+  fitting-kept line w c i = chosen (may_begin c.kind w.kind)
+    where
+      chosen : (fits : Bool) → Fits IsIn (if fits then Accepts (with_initial_state line w c) else Breaks (rule.INITIAL_STATE ∷ []))
+      chosen true = noted-kept c.built line w.block i
+      chosen false = tt
+
+  begun-kept : (p : DenoterPart) (v : ComponentValue) → IsKeptPart p → IsKeptPart (begun p (Some v))
+  begun-kept p v h line b i =
+      fits_then IsIn IsIn (begun_with line v) (settled_part p line b) (settled_part-kept p h line b i)
+      (λ w j. fits_then Any IsIn (fitting_state line w) (initial_state_judged (scopes_of w.block) v) (fits_any (initial_state_judged (scopes_of w.block) v)) (λ c k. fitting-kept line w c j))
+
   parts_kept : KeptByDenoters IsKeptPart IsKeptList IsKeptVariants
   parts_kept = record {
     names = λ name line b i. type_named-kept name.first name.second b i;
@@ -231,13 +244,14 @@ module _ (n : List ℕ) where
     records = record_written-kept;
     sets = set_written-kept;
     structures = λ p h line b i. h line b i;
+    initial_states = begun-kept;
   }
 
-  core_written-kept : (line : ℕ) (c : Core) (b : Block) → IsOf b → Fits IsIn (core_written line c b)
-  core_written-kept line c b i = each_denoter IsKeptPart IsKeptList IsKeptVariants parts_kept c line b i
+  type_written-kept : (line : ℕ) (t : TypeDenoter) (b : Block) → IsOf b → Fits IsIn (type_written line t b)
+  type_written-kept line t b i = each_type IsKeptPart IsKeptList IsKeptVariants parts_kept t line b i
 
-  settled_type-kept : (line : ℕ) (c : Core) (b : Block) → IsOf b → Fits IsIn (settled_type line c b)
-  settled_type-kept line c b i = settled_part-kept (core_part c) (each_denoter IsKeptPart IsKeptList IsKeptVariants parts_kept c) line b i
+  settled_type-kept : (line : ℕ) (t : TypeDenoter) (b : Block) → IsOf b → Fits IsIn (settled_type line t b)
+  settled_type-kept line t b i = settled_part-kept (denoter_part t) (each_type IsKeptPart IsKeptList IsKeptVariants parts_kept t) line b i
 
   large_kept : (w : Written) → IsIn w → Fits IsIn (unless_large w)
   large_kept w i = chosen (nat_le w.nodes limit.TYPE_NODES)
@@ -258,7 +272,7 @@ module _ (n : List ℕ) where
 
   type_definition-kept : (line : ℕ) (d : TypeDefinition) (b : Block) → IsOf b → Fits IsOf (type_definition line d b)
   type_definition-kept line d b i =
-      fits_then IsIn IsOf (type_entered d) (when_accepted unless_large (type_written line d.of b)) (few_kept (type_written line d.of b) (core_written-kept line (core_of d.of) b i))
+      fits_then IsIn IsOf (type_entered d) (when_accepted unless_large (type_written line d.of b)) (few_kept (type_written line d.of b) (type_written-kept line d.of b i))
       (λ w j. entered-kept d.name (own_thing w.block (length w.block.types) (declaration.«Type» w.of w.kind w.nodes)) (with_type (Some d.name) d.line w.denoter w.block) j)
 
   type_definitions-kept : (line : ℕ) (ds : List TypeDefinition) (b : Block) → IsOf b → Fits IsOf (type_definitions line ds b)
@@ -277,7 +291,7 @@ module _ (n : List ℕ) where
 
   variable_declaration-kept : (d : VariableDeclaration) (b : Block) → IsOf b → Fits IsOf (variable_declaration d b)
   variable_declaration-kept d b i =
-      fits_then IsIn IsOf (variables_declared d) (when_accepted unless_large (settled_type d.line (core_of d.of) b)) (few_kept (settled_type d.line (core_of d.of) b) (settled_type-kept d.line (core_of d.of) b i))
+      fits_then IsIn IsOf (variables_declared d) (when_accepted unless_large (settled_type d.line d.of b)) (few_kept (settled_type d.line d.of b) (settled_type-kept d.line d.of b i))
       (λ w j. fits_then IsOf IsOf (λ c. Accepts (declaration_ended c)) (variables_entered d.line w.denoter w.of w.kind d.names w.block) (variables_entered-kept d.line w.denoter w.of w.kind d.names w.block j) (λ c l. l))
 
   -- ---- parts
@@ -366,12 +380,12 @@ module _ (n : List ℕ) where
   formals-kept : (number : ℕ) (ps : List FormalParameter) (b : Block) → IsOf b → Fits IsOf (formals_entered number ps b)
   formals-kept number [] b i = i
   formals-kept number (p ∷ ps) b i =
-      let t = own_thing b number (declaration.Own p.of p.kind (protection_of p.mode)) in
+      let t = own_thing b number (declaration.Own p.of.is p.kind (protection_of p.mode)) in
       fits_then IsOf IsOf (formals_entered (suc number) ps) (entered p.name t b) (entered-kept p.name t b i) (λ c j. formals-kept (suc number) ps c j)
 
   own_name-kept : (own : OwnResult) (name : Option (List ℕ)) (b : Block) → IsOf b → Fits IsOf (own_name_entered own name b)
   own_name-kept own None b i = i
-  own_name-kept own (Some name) b i = entered-kept name (own_thing b own.variable (declaration.Own own.of own.kind protection.Unprotected)) b i
+  own_name-kept own (Some name) b i = entered-kept name (own_thing b own.variable (declaration.Own own.of.is own.kind protection.Unprotected)) b i
 
   result-kept : (number variable : ℕ) (r : Option HeadingResult) (b : Block) → IsOf b → Fits IsOf (result_entered number variable r b)
   result-kept number variable None b i = i

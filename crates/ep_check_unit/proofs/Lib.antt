@@ -4,6 +4,7 @@ pub mod Denoters
 pub mod Examples
 pub mod Forms
 pub mod Indexes
+pub mod InitialStates
 pub mod Kept
 pub mod OwnFields
 pub mod Parameters

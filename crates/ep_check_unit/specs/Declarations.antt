@@ -5,14 +5,15 @@ use Rattle.std.specs.List.{list_any}
 use Rattle.std.specs.Prelude.{ℕ, nat_eq, nat_le, ◌==◌, ◌+◌, ℤ, pos, suc, int_le, Bool, true, false, ◌&&◌, ◌||◌, List, [], ◌∷◌, ◌++◌, length, slice_get, map, Option, Some, None, is_some, if◌then◌else◌}
 use Rattle.std.specs.Option.{option_or}
 use Rattle.std.specs.Str.{bytes_eq}
+use Rattle.ep_tree.specs.declared.expression.ComponentValue.{ComponentValue}
 use Rattle.ep_tree.specs.declared.expression.Label.{Label}
 use Rattle.ep_tree.specs.declared.types.Core.TheOpen.{Core-F, FieldSection-F, Fields-F, Plain-F, Structure-F, TypeDenoter-F, Variant-F, VariantPart-F}
 use Rattle.ep_tree.specs.declared.types.Core.{Core, fold-Core}
 use Rattle.ep_tree.specs.declared.types.FieldSection.{FieldSection, fold-FieldSection}
 use Rattle.ep_tree.specs.declared.types.Fields.{Fields, fold-Fields}
-use Rattle.ep_tree.specs.declared.types.Plain.{Plain, fold-Plain, out-Plain}
+use Rattle.ep_tree.specs.declared.types.Plain.{Plain, fold-Plain}
 use Rattle.ep_tree.specs.declared.types.Structure.{Structure, fold-Structure}
-use Rattle.ep_tree.specs.declared.types.TypeDenoter.{TypeDenoter, out-TypeDenoter}
+use Rattle.ep_tree.specs.declared.types.TypeDenoter.{TypeDenoter, fold-TypeDenoter}
 use Rattle.ep_tree.specs.declared.types.Variant.{Variant as VariantTree, fold-Variant}
 use Rattle.ep_tree.specs.declared.types.VariantPart.{VariantPart as VariantPartTree, fold-VariantPart}
 use Rattle.ep_tree.specs.declared.types.VariantSelector.{VariantSelector}
@@ -52,6 +53,7 @@ use Rattle.ep_scope.specs.declared.kind.Kind.TheVariants as kind
 use Rattle.ep_scope.specs.declared.parameter.Protection.TheVariants as protection
 use Rattle.ep_scope.specs.declared.parameter.TypeName.{TypeName}
 use Rattle.ep_scope.specs.declared.parameter.TypeName.TheVariants as type_name
+use Rattle.ep_scope.specs.declared.parameter.WrittenType.{WrittenType}
 use Rattle.ep_scope.specs.declared.required.Required.TheVariants as required
 use Rattle.ep_scope.specs.declared.rule.TheConstants as rule
 use Rattle.ep_scope.specs.declared.structure.Composition.TheVariants as composition
@@ -63,7 +65,7 @@ use Rattle.ep_scope.specs.declared.thing.Declared.{Declared}
 use Rattle.ep_scope.specs.declared.thing.Thing.{Thing}
 use Rattle.ep_scope.specs.declared.thing.Thing.TheVariants as thing
 use Rattle.ep_check_expr.specs.Judgements.{Judged, Accepts, Breaks, unbuilt, when_accepted, both}
-use Rattle.ep_check_expr.specs.Constants.{constant_judged, bound_judged}
+use Rattle.ep_check_expr.specs.Constants.{constant_judged, bound_judged, initial_state_judged}
 use Rattle.ep_check_expr.specs.declared.constants.ConstantForm.{ConstantForm}
 use Rattle.ep_check_expr.specs.Names.{undeclared}
 use Rattle.ep_check_unit.specs.Blocks.{Block, own_count}
@@ -206,6 +208,19 @@ abbrev pub type_named : List ℕ → Option (List ℕ) → Block → Judged Writ
 type_named name None b = type_meant (undeclared name) (meant (scopes_of b) name) b
 type_named interface (Some name) b = type_meant (rule.UNDECLARED ∷ []) (meant_in (scopes_of b) interface name) b
 
+-- The type name that a denoter is. What is denoted otherwise has no name, and would be the type itself.
+abbrev pub name_in : TypeName → Denoter → TypeName
+name_in of (denoter.Required r) = type_name.Required r
+name_in of (denoter.Named number bounds) = type_name.Entry number
+name_in of _ = of
+
+-- a type by the name that is written for it
+abbrev pub written_by : TypeName → Denoter → WrittenType
+written_by of d = record { name = name_in of d; is = of }
+
+abbrev pub written_type : Written → WrittenType
+written_type w = written_by w.of w.denoter
+
 -- the number of a value
 abbrev pub number_in : Value → ℤ
 number_in (value.Word z) = z
@@ -325,10 +340,11 @@ abbrev pub array_part : Part → List Part → Part
 array_part of [] = of
 array_part of (i ∷ is) = record { is_name = false; written = array_written i (array_part of is) }
 
--- the type value of a subrange or an enumeration, by its own denoter
+-- the type value of a subrange or an enumeration, by its own denoter, whatever it begins with
 abbrev pub ordinal_value : tree.Denoter → Option TypeValue
 ordinal_value (tree.Subrange host low high) = subrange_type low high
 ordinal_value (tree.Enumeration names) = enumeration_type names
+ordinal_value (tree.Initial of value) = ordinal_value of
 ordinal_value _ = None
 
 -- that of an ordinal type, which is required or has an entry in the list of types
@@ -609,6 +625,35 @@ record_over l =
 abbrev pub record_written : ListJudged → ℕ → Block → Judged Written
 record_written fields line b = when_accepted (λ l. Accepts (record_over l)) (fields line b)
 
+-- ---- initial states (ISO 10206, 6.6)
+
+-- whether a constant of the one kind may be the initial state of a type of the other: a value of its host, or a set over it, of which the empty set is one over each host
+abbrev pub may_begin : Kind → Kind → Bool
+may_begin (kind.Ordinal g) (kind.Ordinal h) = same_host h g
+may_begin (kind.Set g) (kind.Set h) = same_host h g
+may_begin kind.EmptySet (kind.Set h) = true
+may_begin _ _ = false
+
+-- the type with this initial state
+abbrev pub with_initial_state : ℕ → Written → ConstantForm → Written
+with_initial_state line w c = record { denoter = denoter.Initial w.denoter c.value; of = w.of; kind = w.kind; nodes = counted 1 w.nodes; block = noted c.built line w.block }
+
+-- An initial state fits its type, whose values it may lie outside of: that is an error where the type is elaborated (own).
+abbrev pub fitting_state : ℕ → Written → ConstantForm → Judged Written
+fitting_state line w c = if may_begin c.kind w.kind then Accepts (with_initial_state line w c) else Breaks (rule.INITIAL_STATE ∷ [])
+
+-- a type, by its name, with an initial state, in which the constants may stand that are declared with the type
+abbrev pub begun_with : ℕ → ComponentValue → Written → Judged Written
+begun_with line v w = when_accepted (fitting_state line w) (initial_state_judged (scopes_of w.block) v)
+
+abbrev pub initial_written : Part → ComponentValue → ℕ → Block → Judged Written
+initial_written p v line b = when_accepted (begun_with line v) (settled_part p line b)
+
+-- a type with the initial state that may be given to it
+abbrev pub begun : Part → Option ComponentValue → Part
+begun p None = p
+begun p (Some v) = record { is_name = false; written = initial_written p v }
+
 -- ---- denoters, node by node
 
 -- a structure is no name
@@ -635,7 +680,7 @@ abbrev pub at_plain : Plain-F Part Part Section ListJudged Part Part VariantJudg
 at_plain p = p.core
 
 abbrev pub at_type_denoter : TypeDenoter-F Part Part Section ListJudged Part Part VariantJudged PartJudged → Part
-at_type_denoter t = t.plain
+at_type_denoter t = begun t.plain t.initial
 
 -- a structure, which is an array, a record or a set
 abbrev pub at_structure : Structure-F Part Part Section ListJudged Part Part VariantJudged PartJudged → Part
@@ -673,14 +718,15 @@ variant_judged = fold-Variant Part Part Section ListJudged Part Part VariantJudg
 abbrev pub plain_part : Plain → Part
 plain_part = fold-Plain Part Part Section ListJudged Part Part VariantJudged PartJudged at_core at_structure at_field_section at_fields at_plain at_type_denoter at_variant at_variant_part
 
+-- that of a denoter with or without an initial state
+abbrev pub denoter_part : TypeDenoter → Part
+denoter_part = fold-TypeDenoter Part Part Section ListJudged Part Part VariantJudged PartJudged at_core at_structure at_field_section at_fields at_plain at_type_denoter at_variant at_variant_part
+
 abbrev pub core_written : ℕ → Core → Block → Judged Written
 core_written line c b = (core_part c).written line b
 
-abbrev pub core_of : TypeDenoter → Core
-core_of t = (out-Plain (out-TypeDenoter t).plain).core
-
 abbrev pub type_written : ℕ → TypeDenoter → Block → Judged Written
-type_written line t b = core_written line (core_of t) b
+type_written line t b = (denoter_part t).written line b
 
 -- ---- constant definitions (ISO 10206, 6.3.1)
 
@@ -706,8 +752,8 @@ type_definitions line (d ∷ ds) b = when_accepted (type_definitions line ds) (t
 -- ---- variable declarations (ISO 10206, 6.5.1)
 
 -- the type of the declaration
-abbrev pub settled_type : ℕ → Core → Block → Judged Written
-settled_type line core b = settled_part (core_part core) line b
+abbrev pub settled_type : ℕ → TypeDenoter → Block → Judged Written
+settled_type line t b = settled_part (denoter_part t) line b
 
 -- a variable of the declaration that is under way
 abbrev pub new_variable : ℕ → Denoter → List ℕ → Block → UnitVariable
@@ -753,7 +799,7 @@ abbrev pub variables_declared : VariableDeclaration → Written → Judged Block
 variables_declared d w = when_accepted (λ b. Accepts (declaration_ended b)) (variables_entered d.line w.denoter w.of w.kind d.names w.block)
 
 abbrev pub variable_declaration : VariableDeclaration → Block → Judged Block
-variable_declaration d b = when_accepted (variables_declared d) (when_accepted unless_large (settled_type d.line (core_of d.of) b))
+variable_declaration d b = when_accepted (variables_declared d) (when_accepted unless_large (settled_type d.line d.of b))
 
 -- ---- parts of a block (ISO 10206, 6.2.1)
 

@@ -28,7 +28,7 @@ use Rattle.ep_check_unit.specs.declared.functions.HeadingResult.{HeadingResult}
 -- the result of a typed routine
 abbrev pub typed_result : Option HeadingResult → Option RoutineResult
 typed_result None = None
-typed_result (Some r) = Some (record { name = r.name; denoter = type_denoter r.of })
+typed_result (Some r) = Some (record { name = r.name; denoter = type_denoter r.of.name })
 
 -- what the name of a routine with these formal parameters and this result stands for
 abbrev pub routine_declaration : List FormalParameter → Option HeadingResult → Declaration
@@ -54,7 +54,7 @@ same_own_name _ _ = false
 -- a heading that is given again has the result of the first one, or none as the first one
 abbrev pub same_result : Option HeadingResult → Option HeadingResult → Bool
 same_result None None = true
-same_result (Some r) (Some s) = same_own_name r.name s.name && same_type r.of s.of
+same_result (Some r) (Some s) = same_own_name r.name s.name && same_type r.of.is s.of.is
 same_result _ _ = false
 
 -- ---- results in blocks
@@ -70,7 +70,7 @@ own_result number variable (Some r) = Some (in_block number variable r)
 -- a name of its own stands for the variable that has the result
 abbrev pub own_name_entered : OwnResult → Option (List ℕ) → Block → Judged Block
 own_name_entered own None b = Accepts b
-own_name_entered own (Some name) b = entered name (own_thing b own.variable (declaration.Own own.of own.kind protection.Unprotected)) b
+own_name_entered own (Some name) b = entered name (own_thing b own.variable (declaration.Own own.of.is own.kind protection.Unprotected)) b
 
 abbrev pub result_entered : ℕ → ℕ → Option HeadingResult → Block → Judged Block
 result_entered number variable None b = Accepts b

@@ -25,7 +25,7 @@ use Rattle.ep_scope.specs.Required.{look_up}
 use Rattle.ep_scope.specs.Scopes.{Region, opened, closed}
 use Rattle.ep_scope.specs.declared.kind.Kind.{Kind}
 use Rattle.ep_scope.specs.declared.parameter.FormalParameter.{FormalParameter}
-use Rattle.ep_scope.specs.declared.parameter.TypeName.{TypeName}
+use Rattle.ep_scope.specs.declared.parameter.WrittenType.{WrittenType}
 use Rattle.ep_scope.specs.declared.rule.TheConstants as rule
 use Rattle.ep_scope.specs.declared.thing.Declaration.{Declaration}
 use Rattle.ep_scope.specs.declared.thing.Declaration.TheVariants as declaration
@@ -41,7 +41,7 @@ pub use Rattle.ep_check_unit.specs.Blocks.{has_number}
 use Rattle.ep_check_unit.specs.declared.block.Enclosing.{Enclosing}
 use Rattle.ep_check_unit.specs.declared.block.OwnVariables.{OwnVariables}
 use Rattle.ep_tree.specs.declared.operator.QualifiedName.{QualifiedName}
-use Rattle.ep_check_unit.specs.Declarations.{Written, Standing, Stands, Falls, all_variables_declared, and_then, at_line, constants_declared, entered, misnamed, noted, own_thing, scopes_of, type_definitions, type_denoter, type_named}
+use Rattle.ep_check_unit.specs.Declarations.{Written, Standing, Stands, Falls, all_variables_declared, and_then, at_line, constants_declared, entered, misnamed, noted, own_thing, scopes_of, type_definitions, type_denoter, type_named, written_type}
 use Rattle.ep_check_unit.specs.Functions.{assigned_functions, if_given, is_assigned, is_in_view, own_name_at, own_result, result_entered, routine_declaration, row_gives, same_result, typed_result}
 use Rattle.ep_check_unit.specs.declared.functions.HeadingResult.{HeadingResult}
 
@@ -76,14 +76,14 @@ abbrev pub parameter_added : FormalParameter → List FormalParameter → Judged
 parameter_added p before = if is_parameter p.name before then Breaks (rule.TWICE ∷ []) else Accepts (before ++ p ∷ [])
 
 -- the parameters of these names, of a section with this number
-abbrev pub parameters_added : FormalMode → ℕ → TypeName → Kind → List (List ℕ) → List FormalParameter → Judged (List FormalParameter)
+abbrev pub parameters_added : FormalMode → ℕ → WrittenType → Kind → List (List ℕ) → List FormalParameter → Judged (List FormalParameter)
 parameters_added m section of k [] before = Accepts before
 parameters_added m section of k (name ∷ names) before =
     when_accepted (parameters_added m section of k names) (parameter_added (record { name = name; mode = m; section = section; of = of; kind = k }) before)
 
 abbrev pub section_judged : List ℕ → ℕ → FormalSection → Block → List FormalParameter → Judged (List FormalParameter)
 section_judged routine section s b before =
-    when_accepted (λ w. parameters_added (section_mode s.protected s.variable) section w.of w.kind s.names before) (section_type routine before s.of b)
+    when_accepted (λ w. parameters_added (section_mode s.protected s.variable) section (written_type w) w.kind s.names before) (section_type routine before s.of b)
 
 -- all sections from this number on
 abbrev pub sections_judged : List ℕ → ℕ → List FormalSection → Block → List FormalParameter → Judged (List FormalParameter)
@@ -94,7 +94,7 @@ sections_judged routine section (s ∷ ss) b before = when_accepted (sections_ju
 
 -- a formal parameter of a typed routine
 abbrev pub formal_of : FormalParameter → Formal
-formal_of p = record { name = p.name; mode = p.mode; section = p.section; denoter = type_denoter p.of }
+formal_of p = record { name = p.name; mode = p.mode; section = p.section; denoter = type_denoter p.of.name }
 
 -- a routine with these formal parameters and this result, in the blocks of these, which has no block so far and does nothing
 abbrev pub headed_form : List ℕ → ℕ → List FormalParameter → Option HeadingResult → List Enclosing → RoutineForm
@@ -156,7 +156,7 @@ procedure_headed is_forward line name sections b =
 
 -- the result of a function; in the heading the function's name hides what it means outside
 abbrev pub result_judged : List ℕ → Option (List ℕ) → QualifiedName → Block → Judged HeadingResult
-result_judged function own of b = when_accepted (λ w. Accepts (record { name = own; of = w.of; kind = w.kind })) (parameter_type function [] of.first of.second b)
+result_judged function own of b = when_accepted (λ w. Accepts (record { name = own; of = written_type w; kind = w.kind })) (parameter_type function [] of.first of.second b)
 
 -- a function by its formal parameters
 abbrev pub result_headed : Bool → ℕ → List ℕ → Option (List ℕ) → QualifiedName → Block → List FormalParameter → Judged Headed
@@ -218,7 +218,7 @@ scope_opened h b = record b { scopes = opened b.scopes; own = own_variables h.nu
 -- the formal parameters as variables, from this number on
 abbrev pub formals_entered : ℕ → List FormalParameter → Block → Judged Block
 formals_entered number [] b = Accepts b
-formals_entered number (p ∷ ps) b = when_accepted (formals_entered (suc number) ps) (entered p.name (own_thing b number (declaration.Own p.of p.kind (protection_of p.mode))) b)
+formals_entered number (p ∷ ps) b = when_accepted (formals_entered (suc number) ps) (entered p.name (own_thing b number (declaration.Own p.of.is p.kind (protection_of p.mode))) b)
 
 -- and a name of its own that the result has
 abbrev pub heading_entered : Headed → Block → Judged Block

@@ -13,7 +13,7 @@ use crate::types::{Written, host_type, type_denoter};
 use ep_base::{Line, List, Name, NoMemory};
 use ep_check_expr::Refusal;
 use ep_scope::{
-    Declaration, Declared, FormalParameters, Host, Kind, ScopeRefusal, Scopes, Thing, TypeName,
+    Declaration, Declared, FormalParameters, Host, Kind, ScopeRefusal, Scopes, Thing, WrittenType,
     rule,
 };
 use ep_typed::{
@@ -77,7 +77,7 @@ pub(crate) struct OwnResult {
     /// The number of the variable that has the result, among those of the function.
     pub(crate) variable: u32,
     /// Its type.
-    pub(crate) of: TypeName,
+    pub(crate) of: WrittenType,
     /// The kind of the type.
     pub(crate) kind: Kind,
     /// Whether it has a name of its own.

@@ -92,8 +92,7 @@ impl Block {
         ensures { AnswersBlock result (block_of self.new)
             (type_definition line definition.now (block_of self.old)) }
     {
-        let core = &definition.of.plain.get().core;
-        let written = self.defined_type(alloc, line, core)?;
+        let written = self.defined_type(alloc, line, &definition.of)?;
         let what = Declaration::Type(written.of, written.kind, written.nodes);
         let number = self.add_type(alloc, Some(&definition.name), definition.line, written)?;
         let thing = self.own_thing(alloc, number, what)?;
@@ -128,8 +127,7 @@ impl Block {
         ensures { AnswersBlock result (block_of self.new)
             (variable_declaration declaration.now (block_of self.old)) }
     {
-        let core = &declaration.of.plain.get().core;
-        let named = self.declared_type(alloc, declaration.line, core)?;
+        let named = self.declared_type(alloc, declaration.line, &declaration.of)?;
         for name in declaration.names.items() {
             self.declare_variable(alloc, declaration.line, named, name)?;
         }

@@ -13,7 +13,8 @@ use crate::types::{NamedType, type_denoter};
 use ep_base::{List, Name, NoMemory};
 use ep_check_expr::Refusal;
 use ep_scope::{
-    Declaration, FormalParameter, FormalParameters, protection_of, rule, same_parameters,
+    Declaration, FormalParameter, FormalParameters, Kind, WrittenType, protection_of, rule,
+    same_parameters,
 };
 use ep_tree::{FormalSection, FormalType, QualifiedName};
 use ep_typed::{Formal, FormalMode, Formals};
@@ -43,12 +44,13 @@ fn with_names(
     alloc: Global,
     mode: FormalMode,
     section: u32,
-    named: NamedType,
+    of: WrittenType,
+    kind: Kind,
     names: &[Name],
     before: FormalParameters,
 ) -> Result<FormalParameters, Refusal>
     ensures { AnswersForm (λ ps. ps) result
-        (parameters_added mode section named.of named.kind names.now before) }
+        (parameters_added mode section of kind names.now before) }
 {
     let mut all = before;
     for name in names {
@@ -59,8 +61,8 @@ fn with_names(
             name: name.copy(alloc)?,
             mode,
             section,
-            of: named.of,
-            kind: named.kind,
+            of,
+            kind,
         })?;
     }
     Ok(all)
@@ -83,7 +85,7 @@ pub(crate) fn formals(alloc: Global, parameters: &[FormalParameter]) -> Result<F
             name: parameter.name.copy(alloc)?,
             mode: parameter.mode,
             section: parameter.section,
-            denoter: type_denoter(alloc, parameter.of),
+            denoter: type_denoter(alloc, parameter.of.name),
         })?;
     }
     Ok(all)
@@ -126,7 +128,16 @@ impl Block {
         };
         let named = self.parameter_type(routine, before.items(), name)?;
         let mode = section_mode(section.protected, section.variable);
-        with_names(alloc, mode, number, named, section.names.items(), before)
+        let names = section.names.items();
+        with_names(
+            alloc,
+            mode,
+            number,
+            named.written(),
+            named.kind,
+            names,
+            before,
+        )
     }
 
     /// A type by its name, behind the name of the routine and these parameters.
@@ -160,7 +171,7 @@ impl Block {
     {
         for (place, parameter) in parameters.iter().enumerate() {
             let what = Declaration::Own(
-                parameter.of,
+                parameter.of.is,
                 parameter.kind,
                 protection_of(parameter.mode),
             );

@@ -19,7 +19,8 @@ use ep_check_stmt::{
     CheckRefusal, Entire, FunctionResult, Outcome, assigns, inner_threatens, refused_at, threatens,
 };
 use ep_scope::{
-    Declaration, FormalParameters, Kind, Meaning, Protection, TypeName, meaning_of, rule, same_type,
+    Declaration, FormalParameters, Kind, Meaning, Protection, WrittenType, meaning_of, rule,
+    same_type,
 };
 use ep_tree::{Compound, Part, QualifiedName, Routine, RoutineBody};
 use ep_typed::{RoutineResult, TypedStmt, TypedStmts, UnitRoutine};
@@ -30,7 +31,7 @@ pub(crate) struct HeadingResult {
     /// The name of its own, where it has one.
     pub(crate) name: Option<Name>,
     /// Its type.
-    pub(crate) of: TypeName,
+    pub(crate) of: WrittenType,
     /// The kind of the type.
     pub(crate) kind: Kind,
 }
@@ -73,7 +74,7 @@ pub(crate) fn same_result(given: &Option<HeadingResult>, first: &Option<HeadingR
     match (given, first) {
         (None, None) => true,
         (Some(left), Some(right)) => {
-            same_own_name(&left.name, &right.name) && same_type(left.of, right.of)
+            same_own_name(&left.name, &right.name) && same_type(left.of.is, right.of.is)
         }
         _ => false,
     }
@@ -90,7 +91,7 @@ pub(crate) fn typed_result(
         None => Ok(None),
         Some(given) => Ok(Some(RoutineResult {
             name: copied_name(alloc, &given.name)?,
-            denoter: type_denoter(alloc, given.of),
+            denoter: type_denoter(alloc, given.of.name),
         })),
     }
 }
@@ -206,7 +207,7 @@ impl Block {
         let named = self.parameter_type(function, &[], of)?;
         Ok(HeadingResult {
             name: copied_name(alloc, own)?,
-            of: named.of,
+            of: named.written(),
             kind: named.kind,
         })
     }
@@ -224,7 +225,7 @@ impl Block {
         let Some(name) = name else {
             return Ok(());
         };
-        let what = Declaration::Own(own.of, own.kind, Protection::Unprotected);
+        let what = Declaration::Own(own.of.is, own.kind, Protection::Unprotected);
         let thing = self.own_thing(alloc, own.variable, what)?;
         self.enter(alloc, name, thing)
     }

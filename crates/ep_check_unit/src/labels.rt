@@ -48,7 +48,7 @@ fn required_values(host: Host, required: RequiredType) -> TagValues
     TagValues { host, low, high }
 }
 
-/// Those of a tag of a subrange or an enumeration, by its own denoter.
+/// Those of a tag of a subrange or an enumeration, by its own denoter, whatever it begins with.
 fn denoted_values(host: Host, denoter: &Denoter) -> Result<TagValues, Refusal>
     ensures { AnswersForm (λ t. t) result (spec.tag_values host (ordinal_value (denoter_of denoter.now))) }
 {
@@ -65,6 +65,7 @@ fn denoted_values(host: Host, denoter: &Denoter) -> Result<TagValues, Refusal>
                 Ok(TagValues { host, low: 0, high })
             }
         },
+        Denoter::Initial(of, _) => denoted_values(host, of.get()),
         _ => Err(Refusal::Rule(rule::ORDINAL)),
     }
 }

@@ -14,6 +14,7 @@ mod declarations;
 mod formals;
 mod functions;
 mod headings;
+mod initial_states;
 mod labels;
 mod records;
 mod routines;

@@ -40,7 +40,7 @@ fn has_members(required: RequiredType) -> bool
     }
 }
 
-/// Whether they may have those of a subrange or an enumeration, by its own denoter.
+/// Whether they may have those of a subrange or an enumeration, by its own denoter, whatever it begins with.
 fn denotes_members(denoter: &Denoter) -> bool
     ensures { result ≡ are_members (ordinal_value (denoter_of denoter.now)) }
 {
@@ -52,6 +52,7 @@ fn denotes_members(denoter: &Denoter) -> bool
             None => false,
             Some((_, others)) => others.len() < MEMBER_LIMIT as usize,
         },
+        Denoter::Initial(of, _) => denotes_members(of.get()),
         _ => false,
     }
 }

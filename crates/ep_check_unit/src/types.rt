@@ -2,7 +2,7 @@
 
 ghost use Rattle.std.specs.Prelude.{◌≡◌, ◌&&◌, ℕ, List, [], None, IfOk, IsTrue, map};
 ghost use Rattle.std.specs.Option.{option_map};
-ghost use Rattle.ep_built.specs.Built.{core_unbuilt, expression_unbuilt, field_section_unbuilt, fields_unbuilt, first_if, first_in, plain_unbuilt, structure_unbuilt, variant_part_unbuilt, variant_unbuilt};
+ghost use Rattle.ep_built.specs.Built.{core_unbuilt, expression_unbuilt, field_section_unbuilt, fields_unbuilt, first_if, first_in, plain_unbuilt, structure_unbuilt, type_denoter_unbuilt, variant_part_unbuilt, variant_unbuilt};
 ghost use Rattle.ep_scope.specs.Meanings.{meant_by};
 ghost use Rattle.ep_check_expr.specs.Constants.{bound_judged};
 ghost use Rattle.ep_check_expr.specs.Judgements.{Accepts, both, when_accepted};
@@ -10,7 +10,7 @@ ghost use Rattle.ep_check_stmt.specs.Answers.{AnswersForm, fails_among};
 ghost use Rattle.ep_check_unit.specs.Answers.{AnswersBlock, arrays_below, fields_in, gathered_in, index_of, indexes_written, listed_in, named_in, written_in};
 ghost use Rattle.ep_check_unit.specs.Declarations as spec;
 ghost use Rattle.ep_check_unit.specs.Blocks.{Block as BlockNow, block_of};
-ghost use Rattle.ep_check_unit.specs.Declarations.{array_over, common_host, core_written, counted, unless_large, index_host, plain_part, settled, settled_part, settled_type, structure_part, completing_written, fields_judged, none_gathered, record_written, section_part, variant_judged, variant_written, variants_judged, variants_written, sections_written, enumerated, enumeration, host_denoter, next_type, number_in, ordered, range, required_host, scopes_of, subrange_denoter, type_denoter, type_meant};
+ghost use Rattle.ep_check_unit.specs.Declarations.{array_over, common_host, core_part, core_written, counted, unless_large, index_host, plain_part, settled, settled_part, settled_type, structure_part, type_written, completing_written, fields_judged, none_gathered, record_written, section_part, variant_judged, variant_written, variants_judged, variants_written, sections_written, enumerated, enumeration, host_denoter, next_type, number_in, ordered, range, required_host, scopes_of, subrange_denoter, type_denoter, type_meant, written_by};
 
 use crate::block::{Block, number};
 use crate::labels::TagValues;
@@ -20,10 +20,11 @@ use ep_base::{Boxed, Line, List, Name, Names, NoMemory};
 use ep_check_expr::{ConstantForm, Refusal, bound_value, undeclared};
 use ep_scope::{
     ArrayType, Composition, Declaration, Enumeration, Host, Kind, Meaning, Required,
-    StructuredType, TypeName, meaning_in, meaning_of, rule, same_host,
+    StructuredType, TypeName, WrittenType, meaning_in, meaning_of, rule, same_host,
 };
 use ep_tree::{
-    Core, Expression, FieldSection, Fields, Plain, QualifiedName, Structure, Variant, VariantPart,
+    Core, Expression, FieldSection, Fields, Plain, QualifiedName, Structure, TypeDenoter, Variant,
+    VariantPart,
 };
 use ep_typed::{Bound, Denoter, RequiredType, Value};
 use std::alloc::Global;
@@ -68,6 +69,18 @@ pub(crate) struct NamedType {
     pub(crate) kind: Kind,
     /// How many nodes it has.
     pub(crate) nodes: u32,
+}
+
+impl NamedType {
+    /// The name, and which type it is.
+    pub(crate) fn written(self) -> WrittenType
+        ensures { result ≡ written_by self.of (type_denoter self.name) }
+    {
+        WrittenType {
+            name: self.name,
+            is: self.of,
+        }
+    }
 }
 
 /// An index type of an array (ISO 10206, 6.4.3.2).
@@ -530,7 +543,7 @@ impl Block {
     {
         let mut all = List::new(alloc);
         for section in sections {
-            let of = self.settled_plain(alloc, line, section.of.plain.get())?;
+            let of = self.settled_denoter(alloc, line, &section.of)?;
             add_fields(alloc, section.names.items(), of, &mut all)?;
         }
         Ok(all)
@@ -573,20 +586,15 @@ impl Block {
         ensures { AnswersForm (named_in (block_of self.new)) result
             (settled_part (plain_part plain.now) line (block_of self.old)) }
     {
-        self.settled_type(alloc, line, &plain.core)
+        self.settled_core(alloc, line, &plain.core)
     }
 
     /// A type by its name in an item on this line, for which a type that has none gets an entry.
     #[cycle(denoters)]
-    pub(crate) fn settled_type(
-        &mut self,
-        alloc: Global,
-        line: Line,
-        core: &Core,
-    ) -> Result<NamedType, Refusal>
+    fn settled_core(&mut self, alloc: Global, line: Line, core: &Core) -> Result<NamedType, Refusal>
         requires { core_unbuilt core.now ≡ None }
         ensures { AnswersForm (named_in (block_of self.new)) result
-            (settled_type line core.now (block_of self.old)) }
+            (settled_part (core_part core.now) line (block_of self.old)) }
     {
         if let Core::Named(_, name, _) = core {
             return self.named_type(name);
@@ -595,18 +603,58 @@ impl Block {
         self.settle(alloc, line, written)
     }
 
+    /// `type` in an item on this line.
+    #[cycle(denoters)]
+    fn written_denoter(
+        &mut self,
+        alloc: Global,
+        line: Line,
+        denoter: &TypeDenoter,
+    ) -> Result<Written, Refusal>
+        requires { type_denoter_unbuilt denoter.now ≡ None }
+        ensures { AnswersForm (written_in (block_of self.new)) result
+            (type_written line denoter.now (block_of self.old)) }
+    {
+        match &denoter.initial {
+            None => self.written_plain(alloc, line, denoter.plain.get()),
+            Some(value) => {
+                let of = self.settled_plain(alloc, line, denoter.plain.get())?;
+                self.begun_with(alloc, line, of, value)
+            }
+        }
+    }
+
+    /// `type` by its name in an item on this line, for which a type that has none gets an entry.
+    #[cycle(denoters)]
+    fn settled_denoter(
+        &mut self,
+        alloc: Global,
+        line: Line,
+        denoter: &TypeDenoter,
+    ) -> Result<NamedType, Refusal>
+        requires { type_denoter_unbuilt denoter.now ≡ None }
+        ensures { AnswersForm (named_in (block_of self.new)) result
+            (settled_type line denoter.now (block_of self.old)) }
+    {
+        if denoter.initial.is_none() {
+            return self.settled_plain(alloc, line, denoter.plain.get());
+        }
+        let written = self.written_denoter(alloc, line, denoter)?;
+        self.settle(alloc, line, written)
+    }
+
     /// The type of a definition in an item on this line.
     pub(crate) fn defined_type(
         &mut self,
         alloc: Global,
         line: Line,
-        core: &Core,
+        denoter: &TypeDenoter,
     ) -> Result<Written, Refusal>
-        requires { core_unbuilt core.now ≡ None }
+        requires { type_denoter_unbuilt denoter.now ≡ None }
         ensures { AnswersForm (written_in (block_of self.new)) result
-            (when_accepted unless_large (core_written line core.now (block_of self.old))) }
+            (when_accepted unless_large (type_written line denoter.now (block_of self.old))) }
     {
-        let written = self.written_type(alloc, line, core)?;
+        let written = self.written_denoter(alloc, line, denoter)?;
         unless_large(written)
     }
 
@@ -615,13 +663,13 @@ impl Block {
         &mut self,
         alloc: Global,
         line: Line,
-        core: &Core,
+        denoter: &TypeDenoter,
     ) -> Result<NamedType, Refusal>
-        requires { core_unbuilt core.now ≡ None }
+        requires { type_denoter_unbuilt denoter.now ≡ None }
         ensures { AnswersForm (named_in (block_of self.new)) result
-            (when_accepted unless_large (settled_type line core.now (block_of self.old))) }
+            (when_accepted unless_large (settled_type line denoter.now (block_of self.old))) }
     {
-        let named = self.settled_type(alloc, line, core)?;
+        let named = self.settled_denoter(alloc, line, denoter)?;
         if named.nodes <= TYPE_NODES {
             Ok(named)
         } else {

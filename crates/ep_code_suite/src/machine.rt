@@ -647,6 +647,32 @@ fn each_row_comes_to_what_the_table_of_instructions_says(rt: HostRuntime) -> Res
     Ok(())
 }
 
+/// Types with initial states, and variables of them and of types that are made of them.
+const INITIAL_STATES: &str = "\
+Unit:-1:1 Push:0 Push:3 TInit Form Put Return=5|normal|10\n\
+Unit:-1:1 Push:0 Push:3 TInit Drop Push:0 Push:3 TInit Form Put Return=5|normal|15\n\
+Unit:-1:1 Push:0 Push:3 TInit Drop Push:0 Push:4 TInit Form Put Return=6|normal|15\n\
+Push:0 Push:3 TInit Make:0 Unit:-1:1 Slot:0 Load Form Put Return=3|normal|14\n\
+Push:2 Push:2 TInit=|error 2 at 3|3\n\
+Push:2 TSet SetNone Push:1 SetAdd TInit Make:0 Unit:-1:1 Slot:0 Load Card Form Put Return=1|normal|32\n\
+Push:2 TSet SetNone Push:2 SetAdd TInit=|error 23 at 6|6\n\
+Unit:-1:1 Push:2 Push:0 Push:7 TInit TArr Form Put Return=7|normal|12\n\
+Push:2 Push:0 Push:7 TInit TArr Make:0 Unit:-1:1 Slot:0 Push:1 Index Load Form Put Return=7|normal|19\n\
+Push:0 Push:7 TInit Push:0 TRec:2 Make:0 Unit:-1:1 Slot:0 Field:0 Load Form Put Return=7|normal|20\n\
+Push:0 Push:7 TInit Push:0 TRec:2 Make:0 Slot:0 Field:1 Load=|error 1 at 9|14\n\
+Push:2 Push:0 Push:7 TInit TArr Push:2 Push:0 TArr TRec:2 Make:0 Slot:0 Field:1 Slot:0 Field:0 Load Store \
+Unit:-1:1 Slot:0 Field:1 Push:1 Index Load Form Put Return=7|normal|38\n\
+Push:3 Push:1 TInit=|broken at 2|3\n\
+Push:0 SetNone TInit=|broken at 2|3\n\
+Push:0 TInit=|broken at 1|2";
+
+#[test]
+fn variables_begin_in_their_initial_states(rt: HostRuntime) -> Result<(), Fail> {
+    let differing = differing(rt.alloc(), INITIAL_STATES)?;
+    assert_eq!(rt; differing.as_str(), "");
+    Ok(())
+}
+
 /// Budgets of two runs, after the second one of which this is told.
 const BUDGETS: &str = "\
 Unit:-1:1 Text:0 Put Return=|budget|0=0=0\n\

@@ -9,7 +9,7 @@ use ep_gen_unit::{laws_of_programs, laws_of_statements, program_code, statement_
 use ep_object::{Instr, Object, op};
 use ep_typed::{
     Binary, Bound, Denoter, Print, RequiredType, TypeEntry, TypedStmt, Unary, Unit, UnitType,
-    UnitTypes, UnitVariable, UnitVariables, laws_of_denoters, run_error, unit_nodes,
+    UnitTypes, UnitVariable, UnitVariables, Value, laws_of_denoters, run_error, unit_nodes,
 };
 use std::alloc::Global;
 use std::test::Fail;
@@ -510,5 +510,66 @@ fn a_program_has_its_object(rt: HostRuntime) -> Result<(), Fail> {
 fn the_nodes_of_a_program_are_counted(rt: HostRuntime) -> Result<(), Fail> {
     let unit = program(rt.alloc())?;
     assert_eq!(rt; unit_nodes(&unit), 4 + 2 + 5 + 1 + 4 + 1);
+    Ok(())
+}
+
+/// The variables `x: 0..9 value 3` and `s: set of 0..9 value [1, 4]`, on lines 1 and 2.
+fn two_started(alloc: Global) -> Result<UnitVariables, Unbuilt> {
+    let mut variables = List::new(alloc);
+    let digit = Boxed::new(alloc, digits(alloc)?)?;
+    let three = Denoter::Initial(digit, Value::Word(3));
+    variables.push(variable(alloc, b"x", 1, three)?)?;
+    let set = Denoter::Set(Boxed::new(alloc, digits(alloc)?)?);
+    let members = List::from_slice(alloc, &[1, 4])?;
+    let two = Denoter::Initial(Boxed::new(alloc, set)?, Value::Set(members));
+    variables.push(variable(alloc, b"s", 2, two)?)?;
+    Ok(variables)
+}
+
+/// A program with these variables, whose block is empty.
+fn started_program(alloc: Global) -> Result<Unit, Unbuilt> {
+    let types = List::new(alloc);
+    let variables = two_started(alloc)?;
+    let statements = Builder::after(alloc, &[])?.into_statements();
+    unit_of(alloc, types, variables, statements)
+}
+
+/// The code of that program.
+const STARTED: &[Row] = &[
+    (op::PUSH, 0, 0, 1),
+    (op::PUSH, 9, 0, 1),
+    (op::T_ORD, 0, 0, 1),
+    (op::PUSH, 3, 0, 1),
+    (op::T_INIT, 0, 0, 1),
+    (op::MAKE, 0, 0, 1),
+    (op::PUSH, 0, 0, 2),
+    (op::PUSH, 9, 0, 2),
+    (op::T_ORD, 0, 0, 2),
+    (op::T_SET, 0, 0, 2),
+    (op::SET_NONE, 0, 0, 2),
+    (op::PUSH, 1, 0, 2),
+    (op::SET_ADD, 0, 0, 2),
+    (op::PUSH, 4, 0, 2),
+    (op::SET_ADD, 0, 0, 2),
+    (op::T_INIT, 0, 0, 2),
+    (op::MAKE, 1, 0, 2),
+    (op::RETURN, 0, 0, 0),
+    (op::RETURN, 0, 0, 0),
+];
+
+#[test]
+fn initial_states_have_their_code(rt: HostRuntime) -> Result<(), Fail> {
+    let unit = started_program(rt.alloc())?;
+    let object = program_code(rt.alloc(), &unit)?;
+    assert!(rt; are(object.instructions.items(), STARTED));
+    Ok(())
+}
+
+// A variable 1, its denoter 1, a subrange 4 and a value 1; and then one more for the set, and two for its members. The
+// statements: the compound one, and the empty one of the stop.
+#[test]
+fn the_nodes_of_initial_states_are_counted(rt: HostRuntime) -> Result<(), Fail> {
+    let unit = started_program(rt.alloc())?;
+    assert_eq!(rt; unit_nodes(&unit), 7 + 10 + 1 + 1);
     Ok(())
 }

@@ -1,9 +1,9 @@
 -- The machine follows the meaning of an expression through the code of the expression.
-use Rattle.std.proofs.Common.{◌≡◌, ℕ, ℤ, pos, zero, suc, Option, None, ◌+◌, ◌<◌, ◌≤◌, Bool, IsTrue, List, [], ◌∷◌, ◌++◌, length, Some, slice_get, refl, sym, ap, ◌∙◌, subst, arith, append_assoc, length-append, true, false}
+use Rattle.std.proofs.Common.{◌≡◌, ℕ, ℤ, pos, zero, suc, Option, None, ◌+◌, ◌<◌, ◌≤◌, Bool, List, [], ◌∷◌, ◌++◌, length, Some, slice_get, refl, sym, ap, ◌∙◌, subst, arith, append_assoc, length-append, true, false}
 use Rattle.std.specs.Bool.{⊤}
 use Rattle.ep_object.specs.Activations.{KnowsNames}
 use Rattle.ep_object.specs.Follows.{point, Facts, Follows, IsNotLeft, Lands, Lasts, Fragment, SameRoutine, Operands, OnTop, PlaceOnTop, Inside}
-use Rattle.ep_object.specs.Matching.{Slots, AreAmong, Grown, kept_slots, Memory, at, Injection, IsSpot, Describes, HasType, HasOwnType, Matches}
+use Rattle.ep_object.specs.Matching.{Slots, AreAmong, Grown, kept_slots, Memory, at, Injection, IsLike, IsSpot, HasType, HasOwnType, Matches}
 use Rattle.ep_object.specs.Matching.{at as standing}
 use Rattle.ep_object.specs.Operands.{Operand}
 use Rattle.ep_object.specs.Operands as operand
@@ -17,13 +17,12 @@ use Rattle.ep_object.specs.declared.code.Reference.{Reference}
 use Rattle.ep_object.specs.declared.state.Place.{Place as PlaceOf}
 use Rattle.ep_object.proofs.following.Bind.{follows_paid, follows_give}
 use Rattle.ep_object.proofs.following.Choices.{Reads, ReadsResult, fragment_fetch, follows_fetch, follows_read, fragment_using}
-use Rattle.ep_object.proofs.following.Fragments.{Does, FailsWith, landed, fragment_less, fragment_to, fragment_one, fragment_paid, fragment_give, fragment_credit, fragment_bind_place, fragment_bind_number}
+use Rattle.ep_object.proofs.following.Fragments.{Does, FailsWith, landed, fragment_less, fragment_post, fragment_to, fragment_paid, fragment_give, fragment_credit, fragment_bind_place, fragment_bind_number}
 use Rattle.ep_object.proofs.matching.Growing.{not_left-here, unit_in-same, inside_here, is_spot-grown, describes-grown}
 use Rattle.ep_object.proofs.rows.FieldRow.{IsAmong, among_there, field_does, field_fails}
 use Rattle.ep_object.proofs.rows.IndexRow.{index_fails, index_reads}
 use Rattle.ep_object.proofs.rows.OwnRows.{own_reads, level_reads}
 use Rattle.ep_object.proofs.rows.PlaceRows.{unit_reads, load_fails, load_reads}
-use Rattle.ep_object.proofs.rows.Rows.{push_pushes}
 use Rattle.ep_object.proofs.rows.TextRows.{text_pushes}
 use Rattle.ep_typed.specs.Steady.{Steady, IsSteadyHandler}
 use Rattle.ep_typed.specs.Calls.{Handler}
@@ -33,7 +32,7 @@ use Rattle.ep_typed.specs.Results.{result_of, weight_of}
 use Rattle.ep_typed.specs.Operations.{decides}
 use Rattle.ep_typed.specs.Printing.{Result, number_of}
 use Rattle.ep_typed.specs.Printing as result
-use Rattle.ep_typed.specs.Denoters.{type_of}
+use Rattle.ep_typed.specs.Denoters.{bare_type_of}
 use Rattle.ep_typed.specs.Steps.{Component, Computation, bind, give, spend, component, component_number, type_at, own_variable, has_ended, variant_number}
 use Rattle.ep_typed.specs.Steps as meaning
 use Rattle.ep_typed.specs.Trees.{Callee, Place, Variable, Own, Standard, Indexed, Field, Variant, Expr, Constant, Text, Read, One, Two, Short, Step, Function, IndexedValue, FieldValue, SetConstant, SetOf, OnSets, Card, Designator, Single, Range, Designators, no_member, next_member, Actual, Evaluated, Accessed, Actuals, no_actual, next_actual}
@@ -44,7 +43,7 @@ use Rattle.ep_typed.specs.declared.unit.UnitType.{UnitType}
 use Rattle.ep_typed.specs.declared.operations.Binary.{Binary}
 use Rattle.ep_typed.specs.declared.operations.ShortOperation.{ShortOperation}
 use Rattle.ep_typed.specs.declared.operations.Unary.{Unary}
-use Rattle.ep_typed.specs.Hosts.{Host, least, greatest, is_of_host}
+use Rattle.ep_typed.specs.Hosts.{Host, least, greatest}
 use Rattle.ep_typed.specs.Hosts as host
 use Rattle.ep_typed.specs.TypeValues.{ComponentTypes, TypeValue, type_among}
 use Rattle.ep_typed.specs.TypeValues as type
@@ -55,13 +54,14 @@ use Rattle.ep_gen_expr.specs.ExprCode.{IsPlaceCode, IsExprCode, IsActualCode, Ar
 use Rattle.ep_gen_expr.proofs.Answering.{Evaluates, IsFollowed, IsPlaceFollowed}
 use Rattle.ep_gen_expr.proofs.Arguments.{Fits, fits, IsArgumentFollowed, AreArgumentsFollowed, value_follows, accessed_follows, none_follows, next_follows}
 use Rattle.ep_gen_expr.proofs.Calls.{passed_then, function_follows}
+use Rattle.ep_gen_expr.proofs.Constants.{set_follows, word_follows}
 use Rattle.ep_gen_expr.proofs.ShortCircuit.{kept_follows}
 use Rattle.ep_gen_expr.proofs.OneOperand.{UnaryFollows, unary_follows}
 use Rattle.ep_gen_expr.proofs.Placed.{code_front, code_back, text_at, variable_at}
 use Rattle.ep_gen_expr.proofs.VariantMoves.{active_follows, bad_place, tag_record}
 use Rattle.ep_gen_expr.proofs.Stays.{variant_length}
 use Rattle.ep_gen_expr.proofs.PlaceTypes.{IsArrayWhere, IsRecordWhere, IsVariantWhere, valid_place, typed_place, kind_place, variable_type}
-use Rattle.ep_gen_expr.proofs.Sets.{IsDesignatorFollowed, AreDesignatorsFollowed, card_follows, constructor_follows, next_member_follows, no_member_follows, on_sets_follows, range_follows, set_constant_follows, single_follows}
+use Rattle.ep_gen_expr.proofs.Sets.{IsDesignatorFollowed, AreDesignatorsFollowed, card_follows, constructor_follows, next_member_follows, no_member_follows, on_sets_follows, range_follows, single_follows}
 use Rattle.ep_gen_expr.proofs.Stepping.{step_follows}
 use Rattle.ep_gen_expr.proofs.TwoOperands.{BinaryFollows, binary_follows}
 use Rattle.ep_gen_expr.proofs.ValueParts.{field_value_follows, indexed_value_follows}
@@ -72,7 +72,7 @@ use Rattle.ep_typed.specs.declared.run_error.TheConstants as run_error
 load_ends : (declared : Declarations) (G : Image) (unit : List ℕ) (at_place line : ℕ) (kind : Kind) (t : TypeValue) → IsTypeOfKind kind t
     → slice_get G.instructions at_place ≡ Some (instr op.LOAD (pos 0) 0 line)
     → (injection : Injection) (memory : Memory) (below : List Operand) (a : Component) (q : PlaceOf)
-    → IsSpot injection memory.types a q → Describes memory.types q.type_number t
+    → IsSpot injection memory.types a q → IsLike memory.types q.type_number t
     → unit_in G memory.frames ≡ unit → (s : meaning.State) → Matches declared G injection s memory
     → has_ended a.allocation s ≡ true
     → FailsWith G (at at_place (operand.Place q ∷ below) memory s.trace) 0 11 unit line s
@@ -83,7 +83,7 @@ load_ends declared G unit at_place line kind t of_kind has injection memory belo
 field_ends : (declared : Declarations) (G : Image) (unit : List ℕ) (at_place line : ℕ) (ts : ComponentTypes) (k : ℕ) (of : TypeValue) → IsAmong 0 ts k of
     → slice_get G.instructions at_place ≡ Some (instr op.FIELD (pos k) 0 line)
     → (injection : Injection) (memory : Memory) (below : List Operand) (a : Component) (q : PlaceOf)
-    → IsSpot injection memory.types a q → Describes memory.types q.type_number (type.Record ts)
+    → IsSpot injection memory.types a q → IsLike memory.types q.type_number (type.Record ts)
     → unit_in G memory.frames ≡ unit → (s : meaning.State) → Matches declared G injection s memory
     → has_ended a.allocation s ≡ true
     → FailsWith G (at at_place (operand.Place q ∷ below) memory s.trace) 0 run_error.DISPOSED unit line s
@@ -94,7 +94,7 @@ field_ends declared G unit at_place line ts k of among has injection memory belo
 index_ends : (declared : Declarations) (G : Image) (unit : List ℕ) (at_place line : ℕ) (low high : ℤ) (of : TypeValue) (z : ℤ)
     → slice_get G.instructions at_place ≡ Some (instr op.INDEX (pos 0) 0 line)
     → (injection : Injection) (memory : Memory) (below : List Operand) (a : Component) (q : PlaceOf)
-    → IsSpot injection memory.types a q → Describes memory.types q.type_number (type.Array low high of)
+    → IsSpot injection memory.types a q → IsLike memory.types q.type_number (type.Array low high of)
     → unit_in G memory.frames ≡ unit → (s : meaning.State) → Matches declared G injection s memory
     → has_ended a.allocation s ≡ true
     → FailsWith G (at at_place (operand.Word z ∷ operand.Place q ∷ below) memory s.trace) 0 run_error.DISPOSED unit line s
@@ -102,12 +102,6 @@ index_ends declared G unit at_place line low high of z has injection memory belo
     subst (λ u. FailsWith G (at at_place (operand.Word z ∷ operand.Place q ∷ below) memory s.trace) 0 run_error.DISPOSED u line s) unit_is (index_fails declared G at_place line below low high of z a q has injection memory spot described s matches ended)
 
 module _ {declared : Declarations} {G : Image} {untouched : Slots} {Here : Facts} (ps : List Placement) (p : Placement) (texts : List (List ℕ)) (references : List Reference) (scene : Scene declared G ps p texts) (knows : KnowsNames declared Here) (call : Handler) (steady_call : IsSteadyHandler call) (g : ℕ) (unit : List ℕ) where
-  -- a constant, by `Push`
-  constant_follows : (n : ℕ) (host : Host) (z : ℤ) → IsTrue (is_of_host host z) → (line at : ℕ) → CodeStands G ps p references at (push line z ∷ []) → (injection : Injection) (memory : Memory) (below : List Operand) (d : ℕ) → Fragment declared G Here n (point injection memory (p.instructions.before + at) below) (eval call g unit line (Constant z)) (p.instructions.before + (at + 1)) (λ r. Inside untouched injection memory (OnTop (Ordinal host) below r)) d (λ r. d + 8 + weight_of r)
-  constant_follows n host z of_host line at stands injection memory below d =
-      fragment_less {n = suc n} (omega arith) (fragment_to (omega arith) (fragment_one {n = n} {d1 = d + 8} (λ s matches. push_pushes G (p.instructions.before + at) line below z stands.0 memory s.trace) (omega arith)
-      (fragment_give (omega arith) (inside_here (record { number = z; is_number = refl; of_host = of_host; is = refl })))))
-
   -- a text, by `Text`, which spends its length
   text_follows : (n k : ℕ) (bytes : List ℕ) → slice_get texts k ≡ Some bytes → (line at : ℕ) → CodeStands G ps p references at (instr op.TEXT (pos k) 0 line ∷ []) → (injection : Injection) (memory : Memory) (below : List Operand) (d : ℕ) → Fragment declared G Here n (point injection memory (p.instructions.before + at) below) (eval call g unit line (Text bytes)) (p.instructions.before + (at + 1)) (λ r. Inside untouched injection memory (OnTop Bytes below r)) d (λ r. d + 8 + weight_of r)
   text_follows n k bytes there line at stands injection memory below d =
@@ -156,7 +150,7 @@ module _ {declared : Declarations} {G : Image} {untouched : Slots} {Here : Facts
   -- what `Index` finds of a variable of an array type
   index_finds : (at_place line : ℕ) (low high : ℤ) (of : TypeValue) (z : ℤ) → slice_get G.instructions at_place ≡ Some (instr op.INDEX (pos 0) 0 line)
       → (injection : Injection) (memory : Memory) (below : List Operand) (a : Component) (q : PlaceOf)
-      → IsSpot injection memory.types a q → Describes memory.types q.type_number (type.Array low high of)
+      → IsSpot injection memory.types a q → IsLike memory.types q.type_number (type.Array low high of)
       → unit_in G memory.frames ≡ unit → (s : meaning.State) → Matches declared G injection s memory → Here injection s memory → has_ended a.allocation s ≡ false
       → Reads declared G Here (standing at_place (operand.Word z ∷ operand.Place q ∷ below) memory s.trace) run_error.INDEX unit line (at_place + 1) (λ k. Inside untouched injection memory (PlaceOnTop of below (component a k))) s (component_number (type_at a s) z)
   index_finds at_place line low high of z has injection memory below a q spot described unit_is s matches here living =
@@ -175,7 +169,7 @@ module _ {declared : Declarations} {G : Image} {untouched : Slots} {Here : Facts
       fragment_bind_number {host = h} {e = λ r. d + 8 + 8 + weight_of r} (λ r. steady_indexed call steady_call g unit line a (number_of r)) (index v1 m1 (operand.Place b ∷ below) (d + 8) (omega (arith, le)) (unit_in-same G routine1 ∙ unit_is)) (λ z v2 m2 of_z grown2 routine2.
       let home : unit_in G m2.frames ≡ unit = unit_in-same G routine2 ∙ (unit_in-same G routine1 ∙ unit_is) in
       let spot2 : IsSpot v2 m2.types a b = is_spot-grown grown2 spot in
-      let described2 : Describes m2.types b.type_number (type.Array low high t) = describes-grown b.type_number (type.Array low high t) grown2 described in
+      let described2 : IsLike m2.types b.type_number (type.Array low high t) = describes-grown b.type_number (type.Array low high t) grown2 described in
       fragment_less {n = suc n} (omega arith) (fragment_to (omega (arith, length-append xs (ys ++ bare line op.INDEX ∷ []), length-append ys (bare line op.INDEX ∷ []))) (fragment_using {n = suc n} {e = λ c. d + 8} a.allocation
       (λ s matches ended. index_ends declared G unit last line low high t z has.0 v2 m2 below a b spot2 described2 home s matches ended) (omega arith)
       (λ s matches here living. follows_fetch {e = λ c. d + 8} (point v2 m2 last (operand.Word z ∷ operand.Place b ∷ below)) (λ s. component_number (type_at a s) z) (λ k. component a k) s (index_finds last line low high t z has.0 v2 m2 below a b spot2 described2 home s matches here living) (omega arith) (λ k. omega arith))))))
@@ -205,7 +199,7 @@ module _ {declared : Declarations} {G : Image} {untouched : Slots} {Here : Facts
   load_finds : (place line : ℕ) (kind : Kind) (t : TypeValue) → IsTypeOfKind kind t
       → slice_get G.instructions place ≡ Some (instr op.LOAD (pos 0) 0 line)
       → (injection : Injection) (memory : Memory) (below : List Operand) (a : Component) (q : PlaceOf)
-      → IsSpot injection memory.types a q → Describes memory.types q.type_number t
+      → IsSpot injection memory.types a q → IsLike memory.types q.type_number t
       → unit_in G memory.frames ≡ unit → (s : meaning.State) → Matches declared G injection s memory
       → Here injection s memory → has_ended a.allocation s ≡ false
       → ReadsResult declared G Here (at place (operand.Place q ∷ below) memory s.trace) 0 1 unit line (place + 1) (λ r. Inside untouched injection memory (OnTop kind below r)) s (result_of a s)
@@ -325,7 +319,9 @@ module _ {declared : Declarations} {G : Image} {untouched : Slots} {Here : Facts
         -- What the machine does from the code of an expression follows the meaning of the expression.
         pub expression_follows : (kind : Kind) (x : Expr) → IsExpr declared kind x → (line at : ℕ) (code : List Instr) → IsExprCode texts references line at x code → CodeStands G ps p references at code → at + length code < p.instructions.own → (injection : Injection) (memory : Memory) (below : List Operand) (d : ℕ) → least_credit ≤ d → unit_in G memory.frames ≡ unit → Fragment declared G Here n (point injection memory (p.instructions.before + at) below) (eval call g unit line x) (p.instructions.before + (at + length code)) (λ r. Inside untouched injection memory (OnTop kind below r)) d (λ r. d + 8 + weight_of r)
         expression_follows kind (Constant z) (h, is_kind, of_host) line at code is stands inside =
-            followed_as n kind (Ordinal h) (Constant z) line at code (push line z ∷ []) is_kind is (λ injection memory below d le unit_is. constant_follows n h z of_host line at (subst (λ c. CodeStands G ps p references at c) is stands) injection memory below d)
+            followed_as n kind (Ordinal h) (Constant z) line at code (push line z ∷ []) is_kind is (λ injection memory below d le unit_is.
+            fragment_post (λ r longer after pushed i. record { grown = i.grown; routine = i.routine; operands_are = record { number = z; is_number = (i.operands_are).0; of_host = of_host; is = (i.operands_are).1 } })
+            (word_follows ps p references call g unit line n z at (subst (λ c. CodeStands G ps p references at c) is stands) injection memory below d))
         expression_follows kind (Text bytes) is_kind line at code (k, there, is) stands inside =
             followed_as n kind Bytes (Text bytes) line at code (instr op.TEXT (pos k) 0 line ∷ []) is_kind is (λ injection memory below d le unit_is. text_follows n k bytes there line at (subst (λ c. CodeStands G ps p references at c) is stands) injection memory below d)
         expression_follows kind (Read q) is_place line at code (xs, q_code, is) stands inside =
@@ -402,7 +398,9 @@ module _ {declared : Declarations} {G : Image} {untouched : Slots} {Here : Facts
             (code_back G ps p references at xs (field ∷ []) all))
         expression_follows kind (SetConstant ms) (h, is_kind, is_set, of_host) line at code is stands inside =
             followed_as n kind (Set h) (SetConstant ms) line at code (bare line op.SET_NONE ∷ members_code line ms) is_kind is
-            (set_constant_follows ps p references call steady_call g unit line n h ms is_set at (subst (λ c. CodeStands G ps p references at c) is stands))
+            (λ injection memory below d le unit_is.
+            fragment_post (λ r longer after pushed i. record { grown = i.grown; routine = i.routine; operands_are = record { members = ms; is_members = (i.operands_are).0; is_set = is_set; is = (i.operands_are).1 } })
+            (fragment_to (omega arith) (set_follows ps p references call g unit line n ms is_set at (subst (λ c. CodeStands G ps p references at c) is stands) injection memory below d)))
         expression_follows kind (SetOf ds) (h, is_kind, are) line at code (xs, members, is) stands inside =
             let none : Instr = bare line op.SET_NONE in
             let all : CodeStands G ps p references at (none ∷ xs) = subst (λ c. CodeStands G ps p references at c) is stands in
@@ -469,7 +467,7 @@ module _ {declared : Declarations} {G : Image} {untouched : Slots} {Here : Facts
         argument_follows (ByValue k) (Evaluated x) fit line at is h stands inside =
             value_follows p call steady_call g unit n k x line at is (expression_follows k x fit line at is h stands inside)
         argument_follows (ByReference t) (Accessed q) fit line at is h stands inside =
-            accessed_follows p call steady_call g unit n t q line at is (place_follows q (valid_place declared (λ types d. type_of types d ≡ Some t) q fit) t (variable_type declared scene.types_valid scene.own_types_valid t q fit) line at is h stands inside)
+            accessed_follows p call steady_call g unit n t q line at is (place_follows q (valid_place declared (λ types d. bare_type_of types d ≡ Some t) q fit) t (variable_type declared scene.types_valid scene.own_types_valid t q fit) line at is h stands inside)
 
         -- Actual parameters, from left to right: the machine leaves what the formal ones take on the operands below.
         pub arguments_follow : (types : List UnitType) (fs : List Formal) (formals : List Passing) (given : Actuals) → ArePassed types fs formals → AreGiven declared types fs given → (line at : ℕ) (is : List Instr) → AreActualsCode texts references line at given is → CodeStands G ps p references at is → at + length is < p.instructions.own

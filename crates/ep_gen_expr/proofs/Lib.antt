@@ -12,6 +12,7 @@ pub mod Sets
 pub mod PlaceTypes
 pub mod Arguments
 pub mod Calls
+pub mod Constants
 pub mod Following
 pub mod Hosts
 pub mod Answering

@@ -1,7 +1,7 @@
 -- The machine follows set constructors and the operations on sets.
-use Rattle.std.proofs.Common.{◌≡◌, ℕ, ℤ, pos, zero, suc, ◌+◌, ◌*◌, ◌-◌, ◌≤◌, not, IsTrue, List, [], ◌∷◌, ◌++◌, length, length-append, Bool, Some, slice_get, refl, sym, ap, ◌∙◌, subst, arith}
+use Rattle.std.proofs.Common.{◌≡◌, ℕ, ℤ, pos, suc, ◌+◌, ◌≤◌, not, IsTrue, List, [], ◌∷◌, ◌++◌, length, length-append, Bool, Some, slice_get, refl, sym, ap, ◌∙◌, subst, arith}
 use Rattle.std.proofs.lemmas.Bool.Decides.{nat_tests}
-use Rattle.ep_object.specs.Follows.{After, Facts, Fragment, Inside, IsNotLeft, Lands, OnTop, Point, point, state_at}
+use Rattle.ep_object.specs.Follows.{Facts, Fragment, Inside, OnTop, point}
 use Rattle.ep_object.specs.Matching.{Injection, Memory, Slots, at as standing}
 use Rattle.ep_object.specs.Operands.{Operand, Set, Word}
 use Rattle.ep_object.specs.Placing.{Placement, CodeStands, placed}
@@ -11,14 +11,13 @@ use Rattle.ep_object.specs.Sets.{IsSet, member_limit}
 use Rattle.ep_object.specs.declared.code.Image.{Image}
 use Rattle.ep_object.specs.declared.code.Instr.{Instr}
 use Rattle.ep_object.specs.declared.code.Reference.{Reference}
-use Rattle.ep_object.proofs.SetWords.{AreOrdinals, all_members, few_members, members_set, none_set, set_ordinals, with_members}
-use Rattle.ep_object.proofs.following.Bind.{Met}
+use Rattle.ep_object.proofs.SetWords.{few_members, members_set, none_set}
 use Rattle.ep_object.proofs.following.Choices.{Reads, fragment_fetched}
-use Rattle.ep_object.proofs.following.Fragments.{fragment_bind_number, fragment_credit, fragment_from, fragment_give, fragment_less, fragment_moves, fragment_one, fragment_to, inside_bind}
+use Rattle.ep_object.proofs.following.Fragments.{fragment_bind_number, fragment_credit, fragment_from, fragment_give, fragment_less, fragment_one, fragment_to, inside_bind}
 use Rattle.ep_object.proofs.matching.Awaiting.{on_top, value-grown, value_on_top}
 use Rattle.ep_object.proofs.matching.Growing.{inside_here, unit_in-same}
-use Rattle.ep_object.proofs.rows.Rows.{RowPushes, push_pushes}
-use Rattle.ep_object.proofs.rows.SetRows.{MembersOnTop, add_pushes, add_reads, card_pushes, difference_pushes, in_pushes, intersection_pushes, none_pushes, other_pushes, same_pushes, span_reads, subset_pushes, superset_pushes, symmetric_difference_pushes, union_pushes}
+use Rattle.ep_object.proofs.rows.Rows.{RowPushes}
+use Rattle.ep_object.proofs.rows.SetRows.{MembersOnTop, add_reads, card_pushes, difference_pushes, in_pushes, intersection_pushes, none_pushes, other_pushes, same_pushes, span_reads, subset_pushes, superset_pushes, symmetric_difference_pushes, union_pushes}
 use Rattle.ep_typed.specs.Calls.{Handler}
 use Rattle.ep_typed.specs.Hosts.{Host, is_of_host}
 use Rattle.ep_typed.specs.Hosts as host
@@ -28,20 +27,18 @@ use Rattle.ep_typed.specs.Printing.{Result, members_of, number_of}
 use Rattle.ep_typed.specs.Printing as result
 use Rattle.ep_typed.specs.Results.{weight_of}
 use Rattle.ep_typed.specs.SetOperations.{set_answer}
-use Rattle.ep_typed.specs.Sets.{difference, intersection, is_member, is_same_set, is_subset, symmetric_difference, union, with_member, with_number, with_numbers}
+use Rattle.ep_typed.specs.Sets.{difference, intersection, is_member, is_same_set, is_subset, symmetric_difference, union, with_number, with_numbers}
 use Rattle.ep_typed.specs.Steady.{IsSteadyHandler}
-use Rattle.ep_typed.specs.Steps.{Computation, bind, give, spend}
-use Rattle.ep_typed.specs.Steps as meaning
-use Rattle.ep_typed.specs.TypeValues.{set_size}
-use Rattle.ep_typed.specs.Trees.{Expr, SetConstant, SetOf, OnSets, Card, Designator, Single, Range, Designators, no_member, next_member}
+use Rattle.ep_typed.specs.Steps.{bind, give, spend}
+use Rattle.ep_typed.specs.Trees.{Expr, SetOf, OnSets, Card, Designator, Single, Range, Designators, no_member, next_member}
 use Rattle.ep_typed.specs.Valid as kind
 use Rattle.ep_typed.specs.Valid.{Declarations, Kind, Ordinal, IsCombination, IsSetComparison, IsMembership, IsOnSets}
 use Rattle.ep_typed.specs.declared.operations.SetOperation.{SetOperation}
 use Rattle.ep_typed.specs.declared.operations.SetOperation.TheVariants as set
 use Rattle.ep_typed.proofs.Steady.{steady_bind, steady_collected, steady_eval, steady_fetch, steady_give, steady_spend}
 use Rattle.ep_gen_expr.specs.Following.{least_credit}
-use Rattle.ep_gen_expr.specs.ExprCode.{bare, members_code, set_code}
-use Rattle.ep_gen_expr.proofs.Answering.{Evaluates, IsFollowed, row_waits}
+use Rattle.ep_gen_expr.specs.ExprCode.{bare, set_code}
+use Rattle.ep_gen_expr.proofs.Answering.{Evaluates, IsFollowed}
 use Rattle.ep_gen_expr.proofs.Hosts.{ordinal_boolean}
 use Rattle.ep_object.specs.declared.op.TheConstants as op
 use Rattle.ep_typed.specs.declared.run_error.TheConstants as run_error
@@ -137,23 +134,6 @@ module _ (G : Image) (place : ℕ) (below : List Operand) (injection : Injection
   operates ps p references line set.Superset left right k kinds has vx vy = comparison (λ ms ns. is_subset ns ms) (λ ms ns. superset_pushes G place line below ms ns has) kinds vx vy
   operates ps p references line set.In left right k kinds has vx vy = membership (λ z ns. in_pushes G place line below z ns has) kinds vx vy
 
--- ---- steps that are spent one by one
-
--- so many steps are one, and then the others
-one_by_one : {A : Type 0} (steps : ℕ) (c : Computation A) (m : ℕ) (s : meaning.State) → spend 1 (spend steps c) m s ≡ spend (suc steps) c m s
-one_by_one steps c zero s = refl
-one_by_one steps c (suc m) s = refl
-
--- what is followed of a computation is followed of one that does the same
-fragment_same : {A : Type 0} {declared : Declarations} {G : Image} {Here : Facts} {n : ℕ} {from : Point} {c other : Computation A} {to d : ℕ} {P : A → After} {e : A → ℕ}
-    → ((m : ℕ) (s : meaning.State) → c m s ≡ other m s) → Fragment declared G Here n from c to P d e → Fragment declared G Here n from other to P d e
-fragment_same {declared = declared} {G = G} {Here = Here} {from = from} {to = to} {d = d} {P = P} {e = e} same h =
-    record {
-      by = λ s matches here.
-          let z = h.by s matches here in
-          record { by = λ m l. subst (λ o. Met (λ k. IsNotLeft from.memory.frames k.frames) G (state_at from s.trace) m (λ a. Lands declared G Here to (P a)) d e o) (same m s) (z.by m l) };
-    }
-
 -- ---- member designators that are followed
 
 module _ (declared : Declarations) (G : Image) (untouched : Slots) (Here : Facts) (p : Placement) (call : Handler) (g : ℕ) (unit : List ℕ) (line n : ℕ) where
@@ -190,39 +170,6 @@ module _ {declared : Declarations} {G : Image} {untouched : Slots} {Here : Facts
       (fragment_less {n = suc n} (omega arith) (fragment_to (omega (arith, length-append xs (ys ++ set_code line operation ∷ []), length-append ys (set_code line operation ∷ [])))
       (fragment_one {n = n} {d1 = d + 8} (λ s matches. o.pushes m2 s.trace) (omega arith)
       (fragment_give (omega (arith, answer_light operation a b)) (inside_here (on_top kind below (set_answer operation a b) o.left v2 m2 (o.left ∷ below) o.value refl)))))))))
-
-  -- Members that are added one after another. The first ones spend the steps that are left, one with each tick of `Push`,
-  -- and what is left of these behind the last member costs credit.
-  members_follow : (h : Host) (all ms ns : List ℕ) (steps at : ℕ) → AreOrdinals ms → with_members ms ns ≡ all → IsSet all → CodeStands G ps p references at (members_code line ms)
-      → (injection : Injection) (memory : Memory) (below : List Operand) (c e : ℕ) → e + 2 * length ms ≤ c + 63 * steps → e + steps ≤ c
-      → Fragment declared G Here (steps + n) (point injection memory (p.instructions.before + at) (Set ns ∷ below)) (spend steps (give (result.Members all))) (p.instructions.before + (at + length (members_code line ms))) (λ r. Inside untouched injection memory (OnTop (kind.Set h) below r)) c (λ r. e + weight_of r)
-  members_follow h all [] ns steps at ordinals is is_set stands injection memory below c e spent left =
-      fragment_to {to = p.instructions.before + at} (omega arith)
-      (fragment_moves {n = n} steps {d1 = e} (omega (arith, left)) (fragment_give (omega arith) (inside_here (record { members = all; is_members = refl; is_set = is_set; is = ap (λ l. Set l ∷ below) is }))))
-  members_follow h all (m ∷ ms) ns zero at ordinals is is_set stands injection memory below c e spent left =
-      let second : p.instructions.before + at + 1 ≡ p.instructions.before + (at + 1) = omega arith in
-      let third : p.instructions.before + (at + 1) + 1 ≡ p.instructions.before + (at + 1 + 1) = omega arith in
-      fragment_to {to = p.instructions.before + (at + 1 + 1 + length (members_code line ms))} (omega arith)
-      (row_waits {d1 = c - 1} (push_pushes G (p.instructions.before + at) line (Set ns ∷ below) (pos m) stands.0) (omega (arith, spent))
-      (fragment_from second (row_waits {d1 = c - 2} (add_pushes G (p.instructions.before + (at + 1)) line below m ns ordinals.0 stands.1.0) (omega (arith, spent))
-      (fragment_from third (members_follow h all ms (with_member m ns) 0 (at + 1 + 1) ordinals.1 is is_set stands.1.1 injection memory below (c - 2) e (omega (arith, spent)) (omega (arith, spent)))))))
-  members_follow h all (m ∷ ms) ns (suc steps) at ordinals is is_set stands injection memory below c e spent left =
-      let second : p.instructions.before + at + 1 ≡ p.instructions.before + (at + 1) = omega arith in
-      let third : p.instructions.before + (at + 1) + 1 ≡ p.instructions.before + (at + 1 + 1) = omega arith in
-      fragment_to {to = p.instructions.before + (at + 1 + 1 + length (members_code line ms))} (omega arith)
-      (fragment_less {n = suc (steps + n)} (omega arith) (fragment_same (one_by_one steps (give (result.Members all))) (fragment_one {n = steps + n} {d1 = c + 63} (λ s matches. push_pushes G (p.instructions.before + at) line (Set ns ∷ below) (pos m) stands.0 memory s.trace) (omega arith)
-      (fragment_from second (row_waits {d1 = c + 62} (add_pushes G (p.instructions.before + (at + 1)) line below m ns ordinals.0 stands.1.0) (omega arith)
-      (fragment_from third (members_follow h all ms (with_member m ns) steps (at + 1 + 1) ordinals.1 is is_set stands.1.1 injection memory below (c + 62) e (omega (arith, spent)) (omega (arith, left)))))))))
-
-  -- a constant that is a set
-  pub set_constant_follows : (h : Host) (ms : List ℕ) → IsSet ms → (at : ℕ) → CodeStands G ps p references at (bare line op.SET_NONE ∷ members_code line ms)
-      → IsFollowed declared G untouched Here p call g unit n (kind.Set h) (SetConstant ms) line at (bare line op.SET_NONE ∷ members_code line ms)
-  set_constant_follows h ms is_set at stands injection memory below d le unit_is =
-      let second : p.instructions.before + at + 1 ≡ p.instructions.before + (at + 1) = omega arith in
-      let many : length ms ≤ member_limit = few_members ms is_set in
-      fragment_less {n = suc (set_size + n)} (omega arith) (fragment_to {to = p.instructions.before + (at + 1 + length (members_code line ms))} (omega arith)
-      (fragment_same (one_by_one set_size (give (result.Members ms))) (fragment_one {n = set_size + n} {d1 = d + 63} (λ s matches. none_pushes G (p.instructions.before + at) line below stands.0 memory s.trace) (omega arith)
-      (fragment_from second (members_follow h ms ms [] set_size (at + 1) (set_ordinals ms is_set) (all_members ms is_set) is_set stands.1 injection memory below (d + 63) (d + 8) (omega (arith, many)) (omega arith))))))
 
   -- how many members a set has
   pub card_follows : (h : Host) (x : Expr) (at : ℕ) (xs : List Instr) → IsFollowed declared G untouched Here p call g unit n (kind.Set h) x line at xs

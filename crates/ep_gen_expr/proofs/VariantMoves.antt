@@ -2,7 +2,7 @@
 use Rattle.std.proofs.Common.{◌≡◌, ℕ, ℤ, pos, suc, ◌+◌, ◌*◌, ◌-◌, ◌≤◌, ◌<◌, Bool, true, false, ◌&&◌, List, ◌∷◌, ◌++◌, length, Option, Some, None, slice_get, refl, sym, ap, ◌∙◌, subst, arith}
 use Rattle.std.specs.Prelude.{if◌then◌else◌, is_some}
 use Rattle.ep_object.specs.Follows.{point, Facts, Follows, Fragment, Inside, IsNotLeft, Lands, PlaceOnTop}
-use Rattle.ep_object.specs.Matching.{Memory, Injection, IsSpot, Describes, Matches, Slots, at as standing}
+use Rattle.ep_object.specs.Matching.{Memory, Injection, IsLike, IsSpot, Matches, Slots, at as standing}
 use Rattle.ep_object.specs.Operands.{Operand, Word}
 use Rattle.ep_object.specs.Operands as operand
 use Rattle.ep_object.specs.Placing.{Placement, CodeStands}
@@ -79,7 +79,7 @@ module _ (declared : Declarations) (G : Image) (untouched : Slots) (Here : Facts
   within_one true = omega (arith, within)
   within_one false = omega (arith, within)
 
-  module _ (n : ℕ) (injection : Injection) (memory : Memory) (below : List Operand) (c : Component) (b : PlaceOf) (spot : IsSpot injection memory.types c b) (described : Describes memory.types b.type_number (type.Record ts)) (home : unit_in G memory.frames ≡ unit) where
+  module _ (n : ℕ) (injection : Injection) (memory : Memory) (below : List Operand) (c : Component) (b : PlaceOf) (spot : IsSpot injection memory.types c b) (described : IsLike memory.types b.type_number (type.Record ts)) (home : unit_in G memory.frames ≡ unit) where
     -- over the value of the tag: the variant, without that value, or the error
     chosen_follows : (z : ℤ) (x : Bool) (d : ℕ) → 8 ≤ d
         → Fragment declared G Here n (point injection memory (p.instructions.before + (if x then bad_place at s + 1 else bad_place at s)) (Word z ∷ operand.Place b ∷ below)) (if x then selected call g unit line c (variant_number s number) else stop (meaning.Error run_error.INACTIVE_VARIANT unit line)) (p.instructions.before + (bad_place at s + 3)) (λ a. Inside untouched injection memory (PlaceOnTop t below a)) d (λ a. d + 8)

@@ -6,7 +6,7 @@ use Rattle.ep_gen_expr.proofs.PlaceTypes.{kind_place}
 use Rattle.ep_gen_expr.proofs.Placed.{jump_has, jump_false_has}
 use Rattle.ep_gen_unit.proofs.Parts.{code_stands-parts, Moves, ExpressionsFollow, PlacesFollow, statement_credit, ordinal_of_host}
 use Rattle.ep_object.specs.Follows.{point, Facts, Lasts, Fragment, Follows, Lands, Inside, Bare, IsNotLeft}
-use Rattle.ep_object.specs.Matching.{Slots, Memory, Injection, IsSpot, Describes, at as standing}
+use Rattle.ep_object.specs.Matching.{Slots, Memory, Injection, IsLike, IsSpot, at as standing}
 use Rattle.ep_object.specs.Operands.{Operand, Word}
 use Rattle.ep_object.specs.Operands as operand
 use Rattle.ep_object.specs.Placing.{Placement, CodeStands}
@@ -141,7 +141,7 @@ module _ {declared : Declarations} {G : Image} {untouched : Slots} {Here : Facts
   -- ---- the end
 
   -- the instruction that makes a variable undefined
-  pub undefine_moves : (low high : ℤ) (a : Component) (q : PlaceOf) (line at : ℕ) → CodeStands G ps p references at (bare line op.UNDEFINE ∷ []) → (injection : Injection) (memory : Memory) (below : List Operand) (d : ℕ) → 2 ≤ d → unit_in G memory.frames ≡ unit → IsSpot injection memory.types a q → Describes memory.types q.type_number (type.Ordinal low high)
+  pub undefine_moves : (low high : ℤ) (a : Component) (q : PlaceOf) (line at : ℕ) → CodeStands G ps p references at (bare line op.UNDEFINE ∷ []) → (injection : Injection) (memory : Memory) (below : List Operand) (d : ℕ) → 2 ≤ d → unit_in G memory.frames ≡ unit → IsSpot injection memory.types a q → IsLike memory.types q.type_number (type.Ordinal low high)
       → Fragment declared G Here n (point injection memory (p.instructions.before + at) (operand.Place q ∷ below)) (using (meaning.Error run_error.DISPOSED unit line) a.allocation (spend 1 (change (assigned a Undefined)))) (p.instructions.before + at + 1) (λ b. Inside untouched injection memory (Bare below b)) d (λ b. d)
   undefine_moves low high a q line at stands injection memory below d enough home spot described =
       fragment_less {n = suc n} (omega arith) (fragment_using {n = suc n} {e = λ b. d} a.allocation
@@ -163,7 +163,7 @@ module _ {declared : Declarations} {G : Image} {untouched : Slots} {Here : Facts
       let ends : p.instructions.before + (at + length code.0) + 1 ≡ p.instructions.before + (at + length is) = omega (arith, ap length code.2, length-append code.0 (bare line op.UNDEFINE ∷ [])) in
       fragment_bind_bare {e = λ b. d + 8} (λ b. steady_spend 1 (steady_give tt))
       (fragment_bind_place {type = v.type_value} {e = λ a. d + 8} (λ a. steady_using (meaning.Error run_error.DISPOSED unit line) a.allocation (steady_undefined call steady_call n unit a)) (places (entire q) v.valid v.type_value v.has_type line at code.0 code.1 parts.0 (omega (arith, ends, inside)) injection memory below d (omega arith) home) (λ a place_here longer after grown routine spot described.
-      fragment_to ends (undefine_moves t.0 t.1 a place_here line (at + length code.0) parts.1 longer after below (d + 8) (omega (arith, enough)) (unit_in-same G routine ∙ home) spot (subst (λ w. Describes after.types place_here.type_number w) t.2 described))))
+      fragment_to ends (undefine_moves t.0 t.1 a place_here line (at + length code.0) parts.1 longer after below (d + 8) (omega (arith, enough)) (unit_in-same G routine ∙ home) spot (subst (λ w. IsLike after.types place_here.type_number w) t.2 described))))
       (λ b last final grown routine. fragment_less {n = suc n} (omega arith) (fragment_move {d1 = d} (omega arith) (fragment_give (omega arith) (inside_here refl))))
 
   -- ---- the turns

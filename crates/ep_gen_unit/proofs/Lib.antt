@@ -7,6 +7,7 @@ pub mod Elaborating
 pub mod Following
 pub mod ForForms
 pub mod ForMoves
+pub mod InitialStates
 pub mod ItemForms
 pub mod Makes
 pub mod MemberForms

@@ -13,12 +13,14 @@ use Rattle.ep_object.specs.Follows.{point, Facts, Lasts, Fragment, Inside, Bare,
 use Rattle.ep_object.specs.Matching.{Slots, Memory, Injection, Describes, HasType}
 use Rattle.ep_object.specs.Operands.{Operand, Word}
 use Rattle.ep_object.specs.Placing.{Placement, CodeStands, HasDistinctNames}
+use Rattle.ep_object.specs.Runs.{unit_in}
 use Rattle.ep_object.specs.State.{Frames}
 use Rattle.ep_object.specs.declared.code.Image.{Image}
 use Rattle.ep_object.specs.declared.code.ImageUnit.{ImageUnit}
 use Rattle.ep_object.specs.declared.code.Reference.{Reference}
 use Rattle.ep_object.proofs.following.Fragments.{inside_bind, fragment_bind_bare, fragment_credit, fragment_give, fragment_to}
-use Rattle.ep_object.proofs.matching.Growing.{inside_here, no_calls}
+use Rattle.ep_object.proofs.matching.Growing.{inside_here, no_calls, unit_in-same}
+use Rattle.ep_object.proofs.matching.Starting.{AreStarts}
 use Rattle.ep_object.proofs.rows.MakeRow.{RunsInUnit, make_does}
 use Rattle.ep_object.specs.Scene.{HaveValidTypes}
 use Rattle.ep_object.proofs.rows.NewTypes.{TypeOnTop}
@@ -32,7 +34,7 @@ use Rattle.ep_typed.specs.Meaning.{make, make_all}
 use Rattle.ep_typed.specs.Steps.{Computation, counted, made, allocate, size_of}
 use Rattle.ep_typed.specs.Valid.{Declarations, IsDenoter, IsTypeValue}
 use Rattle.ep_typed.specs.Viewed.{denoter_of}
-use Rattle.ep_typed.specs.TypeValues.{TypeValue}
+use Rattle.ep_typed.specs.TypeValues.{TypeValue, bare_of}
 use Rattle.ep_typed.specs.declared.unit.UnitType.{UnitType}
 use Rattle.ep_typed.specs.declared.unit.UnitVariable.{UnitVariable}
 use Rattle.ep_object.specs.declared.op.TheConstants as op
@@ -53,26 +55,26 @@ abbrev pub MovesIn : Declarations → Image → Slots → Facts → Placement �
     → Computation (Unit {0}) → Type 0
 MovesIn declared G untouched Here p n x at to c =
     (injection : Injection) (memory : Memory) (below : List Operand) (d : ℕ) → least_credit ≤ d
-    → RunsInUnit G memory.frames x
+    → RunsInUnit G memory.frames x → unit_in G memory.frames ≡ x.name
     → Fragment declared G Here n (point injection memory (p.instructions.before + at) below) c (p.instructions.before + to) (λ a. Inside untouched injection memory (Bare below a)) d (λ a. d)
 
 module _ (declared : Declarations) (G : Image) (untouched : Slots) (Here : Facts) (lasts : Lasts untouched Here) (ps : List Placement) (p : Placement) (references : List Reference) (call : Handler) (steady_call : IsSteadyHandler call) (n : ℕ) (x : ImageUnit) (free : VariablesAreFree declared G untouched x) (distinct : HasDistinctNames G) (types_valid : HaveValidTypes declared) where
   module _ (number line at : ℕ) (v : UnitVariable) (is_declared : declared.variables x.name number ≡ Some v) (within : number < x.slots) where
     -- `Make`, over the number of the type
-    make_row_moves : (t : TypeValue) (type_number : ℕ) → IsTypeValue t
-        → ((v : UnitVariable) → declared.variables x.name number ≡ Some v → HasType declared x.name v t)
+    make_row_moves : (t : TypeValue) (type_number : ℕ) → IsTypeValue t → AreStarts t
+        → ((v : UnitVariable) → declared.variables x.name number ≡ Some v → HasType declared x.name v (bare_of t))
         → (place : ℕ) → slice_get G.instructions place ≡ Some (instr op.MAKE (pos number) 0 line)
         → (injection : Injection) (memory : Memory) (below : List Operand) (d left : ℕ) → 1 ≤ d → left ≤ d → (size_of t ≡ 0 → suc left ≤ d)
         → RunsInUnit G memory.frames x → Describes memory.types type_number t
         → Fragment declared G Here n (point injection memory place (Word (pos type_number) ∷ below)) (allocate x.name number t) (place + 1) (λ a. Inside untouched injection memory (Bare below a)) d (λ a. left)
-    make_row_moves t type_number valid declared_so place has injection memory below d left enough less empty home described =
-        fragment_sized (counted t) (made x.name number t) (λ s. refl) (grows_made x.name number t) enough (size_of t) (sized_gains d left (size_of t) less empty) (λ s matches here. make_does declared G place line below t type_number number x has distinct valid declared_so injection memory s home within (free memory.frames.unit home.unit number v is_declared) described lasts matches here)
+    make_row_moves t type_number valid starts declared_so place has injection memory below d left enough less empty home described =
+        fragment_sized (counted t) (made x.name number t) (λ s. refl) (grows_made x.name number t) enough (size_of t) (sized_gains d left (size_of t) less empty) (λ s matches here. make_does declared G place line below t type_number number x has distinct valid starts declared_so injection memory s home within (free memory.frames.unit home.unit number v is_declared) described lasts matches here)
 
   -- a variable is made in its slot
   one_moves : (g number at : ℕ) (v : UnitVariable) → declared.variables x.name number ≡ Some v
       → number < x.slots → CodeStands G ps p references at (make_code (declared.types x.name) number v)
       → MovesIn declared G untouched Here p n x at (at + length (make_code (declared.types x.name) number v)) (make call g x.name (declared.types x.name) number v)
-  one_moves g number at v is_declared within stands injection memory below d enough home =
+  one_moves g number at v is_declared within stands injection memory below d enough home named =
       let types = declared.types x.name in
       let valid : IsDenoter types (denoter_of v.denoter) = types_valid x.name number v is_declared in
       let t : TypeValue = valid.type_value in
@@ -80,29 +82,29 @@ module _ (declared : Declarations) (G : Image) (untouched : Slots) (Here : Facts
       let is_type : IsTypeValue t = typed_value types (denoter_of v.denoter) t valid.typed in
       let parts = code_stands-parts G ps p references at code (instr op.MAKE (pos number) 0 v.line ∷ []) stands in
       let ends : p.instructions.before + (at + length code) + 1 ≡ p.instructions.before + (at + length (code ++ instr op.MAKE (pos number) 0 v.line ∷ [])) = omega (arith, length-append code (instr op.MAKE (pos number) 0 v.line ∷ [])) in
-      let has_type : ((w : UnitVariable) → declared.variables x.name number ≡ Some w → HasType declared x.name w t) = λ w e. subst (λ (u : UnitVariable). HasType declared x.name u t) (same_Some v w (sym is_declared ∙ e)) (types_are_instances types (denoter_of v.denoter) t valid.has_type) in
+      let has_type : ((w : UnitVariable) → declared.variables x.name number ≡ Some w → HasType declared x.name w (bare_of t)) = λ w e. subst (λ (u : UnitVariable). HasType declared x.name u (bare_of t)) (same_Some v w (sym is_declared ∙ e)) (t, types_are_instances types (denoter_of v.denoter) t valid.has_type, refl) in
       inside_bind {First = TypeOnTop t below} {e = λ a. d + 4} (λ a. steady_allocate x.name number a)
-      (elaborates declared G untouched Here lasts ps p references call steady_call n g x.name v.line types at (denoter_of v.denoter) t valid.has_type is_type parts.0 injection memory below d enough)
+      (elaborates declared G untouched Here lasts ps p references call steady_call n g x.name v.line types at (denoter_of v.denoter) t valid.has_type valid.typed parts.0 injection memory below d enough named)
       (λ a longer after pushed grown routine top.
       subst (λ u. Fragment declared G Here n (point longer after (p.instructions.before + (at + length code)) pushed) (allocate x.name number u) (p.instructions.before + (at + length (code ++ instr op.MAKE (pos number) 0 v.line ∷ []))) (λ b. Inside untouched longer after (Bare below b)) (d + 4) (λ b. d)) (sym top.type_is)
       (subst (λ o. Fragment declared G Here n (point longer after (p.instructions.before + (at + length code)) o) (allocate x.name number t) (p.instructions.before + (at + length (code ++ instr op.MAKE (pos number) 0 v.line ∷ []))) (λ b. Inside untouched longer after (Bare below b)) (d + 4) (λ b. d)) (sym top.is)
       (fragment_to ends (fragment_credit {d = d + 4} {e = λ b. d} (omega arith) (λ b. omega arith)
-      (make_row_moves number v.line at v is_declared within t top.number is_type has_type (p.instructions.before + (at + length code)) parts.1.0 longer after below (d + 4) d (omega (arith, enough)) (omega arith) (λ e. omega arith) (same_frame G x memory.frames after.frames routine home) top.described)))))
+      (make_row_moves number v.line at v is_declared within t top.number is_type top.starts has_type (p.instructions.before + (at + length code)) parts.1.0 longer after below (d + 4) d (omega (arith, enough)) (omega arith) (λ e. omega arith) (same_frame G x memory.frames after.frames routine home) top.described)))))
 
   -- and so are the variables from this number on
   all_moves : (g number at : ℕ) (vs : List UnitVariable) → AreDeclared declared x.name number vs
       → number + length vs ≤ x.slots
       → CodeStands G ps p references at (make_all_code (declared.types x.name) number vs)
       → MovesIn declared G untouched Here p n x at (at + length (make_all_code (declared.types x.name) number vs)) (make_all call g x.name (declared.types x.name) number vs)
-  all_moves g number at [] are_declared within stands injection memory below d enough home = fragment_to (omega arith) (fragment_give (omega arith) (inside_here refl))
-  all_moves g number at (v ∷ vs) are_declared within stands injection memory below d enough home =
+  all_moves g number at [] are_declared within stands injection memory below d enough home named = fragment_to (omega arith) (fragment_give (omega arith) (inside_here refl))
+  all_moves g number at (v ∷ vs) are_declared within stands injection memory below d enough home named =
       let types = declared.types x.name in
       let parts = code_stands-parts G ps p references at (make_code types number v) (make_all_code types (suc number) vs) stands in
       let ends : at + length (make_code types number v) + length (make_all_code types (suc number) vs) ≡ at + length (make_code types number v ++ make_all_code types (suc number) vs) = omega (arith, length-append (make_code types number v) (make_all_code types (suc number) vs)) in
       let first : declared.variables x.name number ≡ Some v = subst (λ k. declared.variables x.name k ≡ Some v) (omega arith) (are_declared 0 v refl) in
       fragment_to (ap (λ k. p.instructions.before + k) ends)
-      (fragment_bind_bare {e = λ a. d} (λ a. steady_make_all call steady_call g x.name types (suc number) vs) (one_moves g number at v first (omega (arith, within)) parts.0 injection memory below d enough home) (λ a longer after grown routine.
-      all_moves g (suc number) (at + length (make_code types number v)) vs (λ i w e. subst (λ k. declared.variables x.name k ≡ Some w) (omega arith) (are_declared (suc i) w e)) (omega (arith, within)) parts.1 longer after below d enough (same_frame G x memory.frames after.frames routine home)))
+      (fragment_bind_bare {e = λ a. d} (λ a. steady_make_all call steady_call g x.name types (suc number) vs) (one_moves g number at v first (omega (arith, within)) parts.0 injection memory below d enough home named) (λ a longer after grown routine.
+      all_moves g (suc number) (at + length (make_code types number v)) vs (λ i w e. subst (λ k. declared.variables x.name k ≡ Some w) (omega arith) (are_declared (suc i) w e)) (omega (arith, within)) parts.1 longer after below d enough (same_frame G x memory.frames after.frames routine home) (unit_in-same G routine ∙ named)))
 
   -- the machine follows the making of the variables of a unit with these types, from this number on
   pub make_all_moves : (unit : List ℕ) → x.name ≡ unit → (types : List UnitType) → declared.types unit ≡ types

@@ -10,7 +10,7 @@ use Rattle.ep_gen_unit.proofs.Parts.{code_stands-parts, Moves, ExpressionsFollow
 use Rattle.ep_gen_unit.proofs.Simple.{assigned_moves, store_moves}
 use Rattle.ep_gen_unit.proofs.StmtStays.{for_in_length}
 use Rattle.ep_object.specs.Follows.{point, Facts, Lasts, Fragment, Inside, Bare, OnTop}
-use Rattle.ep_object.specs.Matching.{Slots, Describes}
+use Rattle.ep_object.specs.Matching.{Slots, IsLike}
 use Rattle.ep_object.specs.Operands.{Operand, Word, Set}
 use Rattle.ep_object.specs.Operands as operand
 use Rattle.ep_object.specs.Placing.{Placement, CodeStands}
@@ -150,7 +150,7 @@ module _ {declared : Declarations} {G : Image} {untouched : Slots} {Here : Facts
       let parts = code_stands-parts G ps p references at code.0 (bare line op.UNDEFINE ∷ []) (subst (λ w. CodeStands G ps p references at w) code.2 stands) in
       let ends : p.instructions.before + (at + length code.0) + 1 ≡ p.instructions.before + (at + length is) = omega (arith, ap length code.2, length-append code.0 (bare line op.UNDEFINE ∷ [])) in
       fragment_bind_place {type = v.type_value} {e = λ a. d + 8} (λ a. steady_using (meaning.Error run_error.DISPOSED unit line) a.allocation (steady_undefined call steady_call n unit a)) (places (entire q) v.valid v.type_value v.has_type line at code.0 code.1 parts.0 (omega (arith, ends, inside)) injection memory below d (omega arith) home) (λ a place_here longer after grown routine spot described.
-      fragment_to ends (fragment_credit {d = d + 8} {e = λ b. d + 8} (omega arith) (λ b. omega arith) (undefine_moves lasts ps p texts references call steady_call n unit room scene expressions places t.0 t.1 a place_here line (at + length code.0) parts.1 longer after below (d + 8) (omega (arith, enough)) (unit_in-same G routine ∙ home) spot (subst (λ w. Describes after.types place_here.type_number w) t.2 described))))
+      fragment_to ends (fragment_credit {d = d + 8} {e = λ b. d + 8} (omega arith) (λ b. omega arith) (undefine_moves lasts ps p texts references call steady_call n unit room scene expressions places t.0 t.1 a place_here line (at + length code.0) parts.1 longer after below (d + 8) (omega (arith, enough)) (unit_in-same G routine ∙ home) spot (subst (λ w. IsLike after.types place_here.type_number w) t.2 described))))
 
   -- the control variable gets the least member
   least_moves : (line at : ℕ) (c : MemberControl) (h : Host) (is : List Instr) → IsMemberControl declared h c → IsLeastCode texts references line at c is → CodeStands G ps p references at is → at + length is < p.instructions.own

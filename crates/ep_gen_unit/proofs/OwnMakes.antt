@@ -4,6 +4,7 @@ use Rattle.std.proofs.lemmas.Option.{same_Some}
 use Rattle.ep_gen_expr.specs.Following.{least_credit}
 use Rattle.ep_gen_expr.specs.ExprCode.{instr, bare}
 use Rattle.ep_gen_expr.proofs.Placed.{instr_at}
+use Rattle.ep_gen_expr.proofs.PlaceTypes.{has_bare_type}
 use Rattle.ep_gen_unit.specs.StmtCode.{make_code, make_all_code, value_code, place_taken, take_code, take_all_code}
 use Rattle.ep_gen_unit.specs.TypeCode.{type_code}
 use Rattle.ep_gen_unit.proofs.Elaborating.{elaborates}
@@ -11,7 +12,7 @@ use Rattle.ep_gen_unit.proofs.Sized.{fragment_sized}
 use Rattle.ep_gen_unit.proofs.Parts.{code_stands-parts}
 use Rattle.ep_object.specs.Activations.{InActivation}
 use Rattle.ep_object.specs.Follows.{point, Fragment, Lasts, StillRuns, Inside}
-use Rattle.ep_object.specs.Matching.{Slots, Memory, Injection, IsSpot, Describes, HasOwnType}
+use Rattle.ep_object.specs.Matching.{Slots, Memory, Injection, IsSpot, Describes, IsLike, HasOwnType}
 use Rattle.ep_object.specs.Calls.{argument_at}
 use Rattle.ep_object.specs.Operands.{Operand, Word}
 use Rattle.ep_object.specs.Operands as operand
@@ -26,6 +27,7 @@ use Rattle.ep_object.specs.declared.code.Image.{Image}
 use Rattle.ep_object.specs.declared.code.Reference.{Reference}
 use Rattle.ep_object.proofs.following.Fragments.{fragment_bind, fragment_credit, fragment_weaken, fragment_post, fragment_give, fragment_from, fragment_to, fragment_less}
 use Rattle.ep_object.proofs.matching.Growing.{same_routine-refl, still_routine, still_runs-trans, unit_in-still}
+use Rattle.ep_object.proofs.matching.Starting.{AreStarts}
 use Rattle.ep_object.proofs.matching.Awaiting.{arguments_in, AreAwaited, awaited-grown, awaited-taken, value-grown, without_argument}
 use Rattle.ep_object.proofs.rows.NewTypes.{TypeOnTop}
 use Rattle.ep_object.proofs.rows.ArgumentRows.{Taken, taken-later, same_arguments, value_taken, variable_taken}
@@ -33,7 +35,8 @@ use Rattle.ep_object.proofs.rows.OwnRows.{StillBare, MadeOwn, in_frame, make_own
 use Rattle.ep_typed.specs.Steady.{IsSteadyHandler}
 use Rattle.ep_typed.specs.Calls.{Argument, Value, Handler}
 use Rattle.ep_typed.specs.Calls as argument_is
-use Rattle.ep_typed.specs.Denoters.{type_of}
+use Rattle.ep_typed.proofs.Bares.{bare_size}
+use Rattle.ep_typed.specs.Denoters.{bare_type_of, type_of}
 use Rattle.ep_typed.specs.Printing.{Result}
 use Rattle.ep_typed.specs.Results.{weight_of}
 use Rattle.ep_typed.proofs.ValueKinds.{typed_of_kind}
@@ -48,23 +51,23 @@ use Rattle.ep_typed.specs.Steps.{Component, Computation, bind, spend, change, wi
 use Rattle.ep_typed.specs.Valid.{variables_up, Declarations, IsOfKind, IsTypeOfKind, Kind, IsTypeValue, IsDenoter, formal_variable}
 use Rattle.ep_typed.specs.Valid as kind
 use Rattle.ep_typed.specs.Viewed.{denoter_of}
-use Rattle.ep_typed.specs.TypeValues.{TypeValue}
+use Rattle.ep_typed.specs.TypeValues.{TypeValue, bare_of}
 use Rattle.ep_typed.specs.declared.unit.UnitVariable.{UnitVariable}
 use Rattle.ep_object.specs.declared.op.TheConstants as op
 
--- From a place of the object to another one, the machine follows the computation in the activation, and leaves the operands
--- as they were.
-abbrev pub MovesOwn : Declarations → Image → Slots → Injection → Memory → Placement → ℕ → ℕ → ℕ → Computation (Unit {0}) → Type 0
-MovesOwn declared G untouched first start p n at to c =
-    (injection : Injection) (memory : Memory) (below : List Operand) (d : ℕ) → least_credit ≤ d
+-- From a place of the object to another one, the machine follows the computation in the activation of a routine of the unit,
+-- and leaves the operands as they were.
+abbrev pub MovesOwn : Declarations → Image → Slots → Injection → Memory → Placement → ℕ → List ℕ → ℕ → ℕ → Computation (Unit {0}) → Type 0
+MovesOwn declared G untouched first start p n unit at to c =
+    (injection : Injection) (memory : Memory) (below : List Operand) (d : ℕ) → least_credit ≤ d → unit_in G memory.frames ≡ unit
     → Fragment declared G (InActivation declared untouched first start) n (point injection memory (p.instructions.before + at) below) c (p.instructions.before + to) (λ a. StillBare memory below) d (λ a. d)
 
 -- a value has at most as much weight as a variable of its type has words
-value_fits : (injection : Injection) (memory : Memory) (k : Kind) (t : TypeValue) (r : Result) (o : Operand) → IsTypeOfKind k t → IsValueOf injection memory k r o → weight_of r ≤ size_of t
+value_fits : (injection : Injection) (memory : Memory) (k : Kind) (t : TypeValue) (r : Result) (o : Operand) → IsTypeOfKind k (bare_of t) → IsValueOf injection memory k r o → weight_of r ≤ size_of t
 value_fits injection memory (kind.Ordinal h) t r o of_kind (z, r_is, of_host, o_is) = let none : weight_of r ≡ 0 = ap weight_of r_is in omega (arith, none)
 value_fits injection memory kind.Bytes t r o of_kind v = absurd of_kind
 value_fits injection memory (kind.Set h) t r o of_kind (ms, r_is, is_set, o_is) = let none : weight_of r ≡ 0 = ap weight_of r_is in omega (arith, none)
-value_fits injection memory (kind.Structured u) t r o of_kind v = let same : weight_of r ≡ size_of t = ap weight_of v.is_structure ∙ ap size_of of_kind.0 in omega (arith, same)
+value_fits injection memory (kind.Structured u) t r o of_kind v = let same : weight_of r ≡ size_of t = ap weight_of v.is_structure ∙ (ap size_of of_kind.0 ∙ bare_size t) in omega (arith, same)
 
 credit_fits : (t : TypeValue) (w d : ℕ) → w ≤ size_of t → d + 3 + 2 * w ≤ d + 3 + 3 * size_of t
 credit_fits t w d le = omega (arith, le)
@@ -80,21 +83,21 @@ still_later runs longer after operands h = record { runs = still_runs-trans runs
 module _ (declared : Declarations) (G : Image) (untouched : Slots) (first : Injection) (start : Memory) (lasts : Lasts untouched (InActivation declared untouched first start)) (ps : List Placement) (p : Placement) (references : List Reference) (call : Handler) (steady_call : IsSteadyHandler call) (n : ℕ) (unit : List ℕ) (own_valid : HaveValidOwnTypes declared) where
   module _ (number line at : ℕ) (v : UnitVariable) (is_declared : slice_get (variables_up declared 0) number ≡ Some v) where
     -- `Make`, over the number of the type
-    make_row_moves : (t : TypeValue) (type_number : ℕ) → IsTypeValue t
-        → ((w : UnitVariable) → slice_get (variables_up declared 0) number ≡ Some w → HasOwnType declared w t)
+    make_row_moves : (t : TypeValue) (type_number : ℕ) → IsTypeValue t → AreStarts t
+        → ((w : UnitVariable) → slice_get (variables_up declared 0) number ≡ Some w → HasOwnType declared w (bare_of t))
         → (place : ℕ) → slice_get G.instructions place ≡ Some (instr op.MAKE (pos number) 0 line)
         → (injection : Injection) (memory : Memory) (below : List Operand) (d left : ℕ) → 1 ≤ d → suc left ≤ d + 63 * size_of t
         → Describes memory.types type_number t
         → Fragment declared G (InActivation declared untouched first start) n (point injection memory place (Word (pos type_number) ∷ below)) (allocate_own number t) (place + 1) (λ a. MadeOwn untouched number t injection memory below) d (λ a. left)
-    make_row_moves t type_number valid declared_so place has injection memory below d left enough gains described =
-        fragment_sized (counted t) (made_own number t) (λ s. refl) (grows_made_own number t) enough (size_of t) gains (λ s matches here. make_own_does declared G place line below t type_number number v has valid is_declared declared_so injection memory s described matches here)
+    make_row_moves t type_number valid starts declared_so place has injection memory below d left enough gains described =
+        fragment_sized (counted t) (made_own number t) (λ s. refl) (grows_made_own number t) enough (size_of t) gains (λ s matches here. make_own_does declared G place line below t type_number number v has valid starts is_declared declared_so injection memory s described matches here)
 
   -- A variable is made in its slot. Each of its words leaves a credit.
   pub sized_moves : (g number at : ℕ) (v : UnitVariable) (is_declared : slice_get (variables_up declared 0) number ≡ Some v)
       → CodeStands G ps p references at (make_code declared.routine_types number v)
-      → (injection : Injection) (memory : Memory) (below : List Operand) (d : ℕ) → least_credit ≤ d
+      → (injection : Injection) (memory : Memory) (below : List Operand) (d : ℕ) → least_credit ≤ d → unit_in G memory.frames ≡ unit
       → Fragment declared G (InActivation declared untouched first start) n (point injection memory (p.instructions.before + at) below) (make_own call g unit declared.routine_types number v) (p.instructions.before + (at + length (make_code declared.routine_types number v))) (λ a. StillBare memory below) d (λ a. d + 3 * size_of (own_valid 0 number v is_declared).type_value)
-  sized_moves g number at v is_declared stands injection memory below d enough =
+  sized_moves g number at v is_declared stands injection memory below d enough home =
       let types = declared.routine_types in
       let valid : IsDenoter types (denoter_of v.denoter) = own_valid 0 number v is_declared in
       let t : TypeValue = valid.type_value in
@@ -102,9 +105,9 @@ module _ (declared : Declarations) (G : Image) (untouched : Slots) (first : Inje
       let is_type : IsTypeValue t = typed_value types (denoter_of v.denoter) t valid.typed in
       let parts = code_stands-parts G ps p references at code (instr op.MAKE (pos number) 0 v.line ∷ []) stands in
       let ends : p.instructions.before + (at + length code) + 1 ≡ p.instructions.before + (at + length (code ++ instr op.MAKE (pos number) 0 v.line ∷ [])) = omega (arith, length-append code (instr op.MAKE (pos number) 0 v.line ∷ [])) in
-      let has_type : ((w : UnitVariable) → slice_get (variables_up declared 0) number ≡ Some w → HasOwnType declared w t) = λ w e. subst (λ (u : UnitVariable). HasOwnType declared u t) (same_Some v w (sym is_declared ∙ e)) (types_are_instances types (denoter_of v.denoter) t valid.has_type) in
+      let has_type : ((w : UnitVariable) → slice_get (variables_up declared 0) number ≡ Some w → HasOwnType declared w (bare_of t)) = λ w e. subst (λ (u : UnitVariable). HasOwnType declared u (bare_of t)) (same_Some v w (sym is_declared ∙ e)) (t, types_are_instances types (denoter_of v.denoter) t valid.has_type, refl) in
       fragment_bind {P = λ a. Inside untouched injection memory (TypeOnTop t below a)} {e = λ a. d + 4} (λ a. steady_allocate_own number a)
-      (elaborates declared G untouched (InActivation declared untouched first start) lasts ps p references call steady_call n g unit v.line types at (denoter_of v.denoter) t valid.has_type is_type parts.0 injection memory below d enough)
+      (elaborates declared G untouched (InActivation declared untouched first start) lasts ps p references call steady_call n g unit v.line types at (denoter_of v.denoter) t valid.has_type valid.typed parts.0 injection memory below d enough home)
       (λ a longer after pushed inside.
       let top = inside.operands_are in
       let runs : StillRuns memory.frames after.frames = still_routine inside.routine in (
@@ -112,40 +115,40 @@ module _ (declared : Declarations) (G : Image) (untouched : Slots) (first : Inje
         subst (λ u. Fragment declared G (InActivation declared untouched first start) n (point longer after (p.instructions.before + (at + length code)) pushed) (allocate_own number u) (p.instructions.before + (at + length (code ++ instr op.MAKE (pos number) 0 v.line ∷ []))) (λ b. StillBare memory below) (d + 4) (λ b. d + 3 * size_of t)) (sym top.type_is)
             (subst (λ o. Fragment declared G (InActivation declared untouched first start) n (point longer after (p.instructions.before + (at + length code)) o) (allocate_own number t) (p.instructions.before + (at + length (code ++ instr op.MAKE (pos number) 0 v.line ∷ []))) (λ b. StillBare memory below) (d + 4) (λ b. d + 3 * size_of t)) (sym top.is)
             (fragment_to ends (fragment_weaken {d = d + 4} {e = λ b. d + 3 * size_of t} (omega arith) (λ b. omega arith) (λ b last final operands made. record { runs = still_runs-trans runs made.runs; operands_are = made.operands_are })
-            (make_row_moves number v.line at v is_declared t top.number is_type has_type (p.instructions.before + (at + length code)) parts.1.0 longer after below (d + 4) (d + 3 * size_of t) (omega arith) (omega arith) top.described)))),
+            (make_row_moves number v.line at v is_declared t top.number is_type top.starts has_type (p.instructions.before + (at + length code)) parts.1.0 longer after below (d + 4) (d + 3 * size_of t) (omega arith) (omega arith) top.described)))),
       ))
 
   one_moves : (g number at : ℕ) (v : UnitVariable) → slice_get (variables_up declared 0) number ≡ Some v
       → CodeStands G ps p references at (make_code declared.routine_types number v)
-      → MovesOwn declared G untouched first start p n at (at + length (make_code declared.routine_types number v)) (make_own call g unit declared.routine_types number v)
-  one_moves g number at v is_declared stands injection memory below d enough =
-      fragment_credit {d = d} {e = λ a. d + 3 * size_of (own_valid 0 number v is_declared).type_value} (omega arith) (λ a. omega arith) (sized_moves g number at v is_declared stands injection memory below d enough)
+      → MovesOwn declared G untouched first start p n unit at (at + length (make_code declared.routine_types number v)) (make_own call g unit declared.routine_types number v)
+  one_moves g number at v is_declared stands injection memory below d enough home =
+      fragment_credit {d = d} {e = λ a. d + 3 * size_of (own_valid 0 number v is_declared).type_value} (omega arith) (λ a. omega arith) (sized_moves g number at v is_declared stands injection memory below d enough home)
 
   -- and so are the variables from this number on
   pub make_all_own_moves : (g number at : ℕ) (vs : List UnitVariable) → ((i : ℕ) (v : UnitVariable) → slice_get vs i ≡ Some v → slice_get (variables_up declared 0) (number + i) ≡ Some v)
       → CodeStands G ps p references at (make_all_code declared.routine_types number vs)
-      → MovesOwn declared G untouched first start p n at (at + length (make_all_code declared.routine_types number vs)) (make_all_own call g unit declared.routine_types number vs)
-  make_all_own_moves g number at [] are_declared stands injection memory below d enough =
+      → MovesOwn declared G untouched first start p n unit at (at + length (make_all_code declared.routine_types number vs)) (make_all_own call g unit declared.routine_types number vs)
+  make_all_own_moves g number at [] are_declared stands injection memory below d enough home =
       fragment_to (omega arith) (fragment_give (omega arith) (record { runs = still_routine (same_routine-refl {untouched = untouched} memory.frames); operands_are = refl }))
-  make_all_own_moves g number at (v ∷ vs) are_declared stands injection memory below d enough =
+  make_all_own_moves g number at (v ∷ vs) are_declared stands injection memory below d enough home =
       let types = declared.routine_types in
       let parts = code_stands-parts G ps p references at (make_code types number v) (make_all_code types (suc number) vs) stands in
       let ends : at + length (make_code types number v) + length (make_all_code types (suc number) vs) ≡ at + length (make_code types number v ++ make_all_code types (suc number) vs) = omega (arith, length-append (make_code types number v) (make_all_code types (suc number) vs)) in
       let this : slice_get (variables_up declared 0) number ≡ Some v = subst (λ k. slice_get (variables_up declared 0) k ≡ Some v) (omega arith) (are_declared 0 v refl) in
       fragment_to (ap (λ k. p.instructions.before + k) ends)
-      (fragment_bind {e = λ a. d} (λ a. steady_make_all_own call steady_call g unit types (suc number) vs) (one_moves g number at v this parts.0 injection memory below d enough) (λ a longer after pushed still. (
+      (fragment_bind {e = λ a. d} (λ a. steady_make_all_own call steady_call g unit types (suc number) vs) (one_moves g number at v this parts.0 injection memory below d enough home) (λ a longer after pushed still. (
         still.runs,
         subst (λ o. Fragment declared G (InActivation declared untouched first start) n (point longer after (p.instructions.before + (at + length (make_code types number v))) o) (make_all_own call g unit types (suc number) vs) (p.instructions.before + (at + length (make_code types number v) + length (make_all_code types (suc number) vs))) (λ b. StillBare memory below) d (λ b. d)) (sym still.operands_are)
-            (fragment_post (λ b. still_later still.runs) (make_all_own_moves g (suc number) (at + length (make_code types number v)) vs (λ i w e. subst (λ k. slice_get (variables_up declared 0) k ≡ Some w) (omega arith) (are_declared (suc i) w e)) parts.1 longer after below d enough)),
+            (fragment_post (λ b. still_later still.runs) (make_all_own_moves g (suc number) (at + length (make_code types number v)) vs (λ i w e. subst (λ k. slice_get (variables_up declared 0) k ≡ Some w) (omega arith) (are_declared (suc i) w e)) parts.1 longer after below d enough (unit_in-still G still.runs ∙ home))),
       )))
 
   -- The same, where the first one is of a type whose words leave a credit.
   pub make_sized_moves : (g number at : ℕ) (v : UnitVariable) (vs : List UnitVariable) (t : TypeValue) → type_of declared.routine_types (denoter_of v.denoter) ≡ Some t
       → ((i : ℕ) (w : UnitVariable) → slice_get (v ∷ vs) i ≡ Some w → slice_get (variables_up declared 0) (number + i) ≡ Some w)
       → CodeStands G ps p references at (make_all_code declared.routine_types number (v ∷ vs))
-      → (injection : Injection) (memory : Memory) (below : List Operand) (d : ℕ) → least_credit ≤ d
+      → (injection : Injection) (memory : Memory) (below : List Operand) (d : ℕ) → least_credit ≤ d → unit_in G memory.frames ≡ unit
       → Fragment declared G (InActivation declared untouched first start) n (point injection memory (p.instructions.before + at) below) (make_all_own call g unit declared.routine_types number (v ∷ vs)) (p.instructions.before + (at + length (make_all_code declared.routine_types number (v ∷ vs)))) (λ a. StillBare memory below) d (λ a. d + 3 * size_of t)
-  make_sized_moves g number at v vs t has_type are_declared stands injection memory below d enough =
+  make_sized_moves g number at v vs t has_type are_declared stands injection memory below d enough home =
       let types = declared.routine_types in
       let parts = code_stands-parts G ps p references at (make_code types number v) (make_all_code types (suc number) vs) stands in
       let ends : at + length (make_code types number v) + length (make_all_code types (suc number) vs) ≡ at + length (make_code types number v ++ make_all_code types (suc number) vs) = omega (arith, length-append (make_code types number v) (make_all_code types (suc number) vs)) in
@@ -154,10 +157,10 @@ module _ (declared : Declarations) (G : Image) (untouched : Slots) (first : Inje
       let same : size_of valid.type_value ≡ size_of t = ap size_of (same_Some valid.type_value t (sym valid.has_type ∙ has_type)) in
       fragment_to (ap (λ k. p.instructions.before + k) ends)
       (fragment_bind {e = λ a. d + 3 * size_of t} (λ a. steady_make_all_own call steady_call g unit types (suc number) vs)
-      (fragment_credit {d = d} {e = λ a. d + 3 * size_of valid.type_value} (omega arith) (λ a. omega (arith, same)) (sized_moves g number at v this parts.0 injection memory below d enough)) (λ a longer after pushed still. (
+      (fragment_credit {d = d} {e = λ a. d + 3 * size_of valid.type_value} (omega arith) (λ a. omega (arith, same)) (sized_moves g number at v this parts.0 injection memory below d enough home)) (λ a longer after pushed still. (
         still.runs,
         subst (λ o. Fragment declared G (InActivation declared untouched first start) n (point longer after (p.instructions.before + (at + length (make_code types number v))) o) (make_all_own call g unit types (suc number) vs) (p.instructions.before + (at + length (make_code types number v) + length (make_all_code types (suc number) vs))) (λ b. StillBare memory below) (d + 3 * size_of t) (λ b. d + 3 * size_of t)) (sym still.operands_are)
-            (fragment_post (λ b. still_later still.runs) (make_all_own_moves g (suc number) (at + length (make_code types number v)) vs (λ i w e. subst (λ k. slice_get (variables_up declared 0) k ≡ Some w) (omega arith) (are_declared (suc i) w e)) parts.1 longer after below (d + 3 * size_of t) (omega (arith, enough)))),
+            (fragment_post (λ b. still_later still.runs) (make_all_own_moves g (suc number) (at + length (make_code types number v)) vs (λ i w e. subst (λ k. slice_get (variables_up declared 0) k ≡ Some w) (omega arith) (are_declared (suc i) w e)) parts.1 longer after below (d + 3 * size_of t) (omega (arith, enough)) (unit_in-still G still.runs ∙ home))),
       )))
 
   -- ---- formal parameters
@@ -166,19 +169,19 @@ module _ (declared : Declarations) (G : Image) (untouched : Slots) (first : Inje
     its : IsDenoter declared.routine_types (denoter_of f.denoter)
     its = own_valid 0 number (formal_variable line f) is_declared
 
-    has_its_type : (w : UnitVariable) → slice_get (variables_up declared 0) number ≡ Some w → HasOwnType declared w its.type_value
-    has_its_type w e = subst (λ (u : UnitVariable). HasOwnType declared u its.type_value) (same_Some (formal_variable line f) w (sym is_declared ∙ e)) (types_are_instances declared.routine_types (denoter_of f.denoter) its.type_value its.has_type)
+    has_its_type : (w : UnitVariable) → slice_get (variables_up declared 0) number ≡ Some w → HasOwnType declared w (bare_of its.type_value)
+    has_its_type w e = subst (λ (u : UnitVariable). HasOwnType declared u (bare_of its.type_value)) (same_Some (formal_variable line f) w (sym is_declared ∙ e)) (its.type_value, types_are_instances declared.routine_types (denoter_of f.denoter) its.type_value its.has_type, refl)
 
     -- a value formal takes a value of its kind
     value_moves : (kind : Kind) (r : Result) (o : Operand) → IsOfKind kind declared.routine_types (denoter_of f.denoter)
         → CodeStands G ps p references at (value_code declared.routine_types line number f)
         → (injection : Injection) (memory : Memory) (below : List Operand) (d : ℕ) → least_credit ≤ d → unit_in G memory.frames ≡ unit
         → argument_at (arguments_in memory.frames.calls) number ≡ Some o → suc number ≤ length (arguments_in memory.frames.calls) → IsValueOf injection memory kind r o
-        → Fragment declared G (InActivation declared untouched first start) n (point injection memory (p.instructions.before + at) below) (bind (elaborate call g unit declared.routine_types (denoter_of f.denoter)) (λ a. bind (allocate_own number a) (λ _. initialized unit line a r))) (p.instructions.before + (at + length (value_code declared.routine_types line number f))) (λ a. Taken untouched injection memory (without_argument number (arguments_in memory.frames.calls)) below) d (λ a. d)
+        → Fragment declared G (InActivation declared untouched first start) n (point injection memory (p.instructions.before + at) below) (bind (elaborate call g unit line declared.routine_types (denoter_of f.denoter)) (λ a. bind (allocate_own number a) (λ _. initialized unit line a r))) (p.instructions.before + (at + length (value_code declared.routine_types line number f))) (λ a. Taken untouched injection memory (without_argument number (arguments_in memory.frames.calls)) below) d (λ a. d)
     value_moves kind r o is_kind stands injection memory below d enough home there within value =
         let types = declared.routine_types in
         let t : TypeValue = its.type_value in
-        let of_kind : IsTypeOfKind kind t = typed_of_kind types (denoter_of f.denoter) t kind its.typed is_kind in
+        let of_kind : IsTypeOfKind kind (bare_of t) = typed_of_kind types (denoter_of f.denoter) t kind its.typed is_kind in
         let valid : IsTypeValue t = typed_value types (denoter_of f.denoter) t its.typed in
         let weighs : weight_of r ≤ size_of t = value_fits injection memory kind t r o of_kind value in
         let code : List Instr = type_code types line (denoter_of f.denoter) in
@@ -189,7 +192,7 @@ module _ (declared : Declarations) (G : Image) (untouched : Slots) (first : Inje
         let parts = code_stands-parts G ps p references at code rest stands in
         fragment_to ends
         (fragment_bind {middle = p.instructions.before + k} {P = λ a. Inside untouched injection memory (TypeOnTop t below a)} {e = λ a. d + 4} (λ a. steady_bind (steady_allocate_own number a) (λ u. steady_initialized unit line a r))
-        (elaborates declared G untouched (InActivation declared untouched first start) lasts ps p references call steady_call n g unit line types at (denoter_of f.denoter) t its.has_type valid parts.0 injection memory below d enough)
+        (elaborates declared G untouched (InActivation declared untouched first start) lasts ps p references call steady_call n g unit line types at (denoter_of f.denoter) t its.has_type its.typed parts.0 injection memory below d enough home)
         (λ a longer after pushed inside.
         let top = inside.operands_are in
         let runs : StillRuns memory.frames after.frames = still_routine inside.routine in
@@ -199,7 +202,7 @@ module _ (declared : Declarations) (G : Image) (untouched : Slots) (first : Inje
           subst (λ t. Fragment declared G (InActivation declared untouched first start) n (point longer after (p.instructions.before + k) pushed) (bind (allocate_own number t) (λ _. initialized unit line t r)) (p.instructions.before + (k + 4)) (λ b. Taken untouched injection memory (without_argument number inside_args) below) (d + 4) (λ b. d)) (sym top.type_is)
               (subst (λ o. Fragment declared G (InActivation declared untouched first start) n (point longer after (p.instructions.before + k) o) (bind (allocate_own number t) (λ _. initialized unit line t r)) (p.instructions.before + (k + 4)) (λ b. Taken untouched injection memory (without_argument number inside_args) below) (d + 4) (λ b. d)) (sym top.is)
               (fragment_post (λ b. taken-later inside.grown runs) (fragment_bind {P = λ u. MadeOwn untouched number t longer after below} {e = λ u. d + 3 + 3 * size_of t} (λ u. steady_initialized unit line t r)
-              (make_row_moves number line at (formal_variable line f) is_declared t top.number valid has_its_type (p.instructions.before + k) parts.1.0 longer after below (d + 4) (d + 3 + 3 * size_of t) (omega arith) (omega arith) top.described)
+              (make_row_moves number line at (formal_variable line f) is_declared t top.number valid top.starts has_its_type (p.instructions.before + k) parts.1.0 longer after below (d + 4) (d + 3 + 3 * size_of t) (omega arith) (omega arith) top.described)
               (λ u last final above made.
               let x = in_frame final number (Some made.place) made.slot in
               let args : (x.frame).arguments ≡ inside_args = sym (ap arguments_in x.frames) ∙ (made.left_are ∙ same) in (
@@ -215,16 +218,16 @@ module _ (declared : Declarations) (G : Image) (untouched : Slots) (first : Inje
 
     -- a variable formal takes a variable
     reference_moves : CodeStands G ps p references at (place_taken line number)
-        → (m : Component) (t : TypeValue) (q : PlaceOf) → type_of declared.routine_types (denoter_of f.denoter) ≡ Some t
+        → (m : Component) (t : TypeValue) (q : PlaceOf) → bare_type_of declared.routine_types (denoter_of f.denoter) ≡ Some t
         → (injection : Injection) (memory : Memory) (below : List Operand) (d : ℕ) → least_credit ≤ d → unit_in G memory.frames ≡ unit
         → argument_at (arguments_in memory.frames.calls) number ≡ Some (operand.Place q) → suc number ≤ length (arguments_in memory.frames.calls)
-        → IsSpot injection memory.types m q → Describes memory.types q.type_number t
+        → IsSpot injection memory.types m q → IsLike memory.types q.type_number t
         → Fragment declared G (InActivation declared untouched first start) n (point injection memory (p.instructions.before + at) below) (spend 1 (change (with_own_bound number m))) (p.instructions.before + (at + 2)) (λ a. Taken untouched injection memory (without_argument number (arguments_in memory.frames.calls)) below) d (λ a. d)
     reference_moves stands m t q has_type injection memory below d enough home there within spot described =
         by_calls memory.frames.calls refl there within
       where
         typed : (w : UnitVariable) → slice_get (variables_up declared 0) number ≡ Some w → HasOwnType declared w t
-        typed w e = subst (λ (u : UnitVariable). HasOwnType declared u t) (same_Some (formal_variable line f) w (sym is_declared ∙ e)) (types_are_instances declared.routine_types (denoter_of f.denoter) t has_type)
+        typed w e = subst (λ (u : UnitVariable). HasOwnType declared u t) (same_Some (formal_variable line f) w (sym is_declared ∙ e)) (has_bare_type declared.routine_types (formal_variable line f) t has_type)
 
         by_calls : (calls : List Frame) → memory.frames.calls ≡ calls → argument_at (arguments_in calls) number ≡ Some (operand.Place q) → suc number ≤ length (arguments_in calls)
             → Fragment declared G (InActivation declared untouched first start) n (point injection memory (p.instructions.before + at) below) (spend 1 (change (with_own_bound number m))) (p.instructions.before + (at + 2)) (λ a. Taken untouched injection memory (without_argument number (arguments_in memory.frames.calls)) below) d (λ a. d)

@@ -37,6 +37,7 @@ ordinal_of_host h type.Text k = absurd k
 ordinal_of_host h (type.Array low high of) k = absurd k
 ordinal_of_host h (type.Record ts) k = absurd k
 ordinal_of_host h (type.Set low high) k = absurd k
+ordinal_of_host h (type.Initial of start) k = absurd k
 
 -- the credit that is there before each statement
 abbrev pub statement_credit : ℕ

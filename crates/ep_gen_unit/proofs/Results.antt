@@ -1,5 +1,5 @@
 -- The machine follows the end of a function: it leaves the value of the variable that has the result.
-use Rattle.std.proofs.Common.{◌≡◌, ℕ, ℤ, pos, suc, ◌+◌, ◌*◌, ◌-◌, ◌≤◌, ◌<◌, List, [], ◌∷◌, length, Some, None, slice_get, false, refl, sym, ap, ◌∙◌, subst, arith}
+use Rattle.std.proofs.Common.{◌≡◌, ℕ, ℤ, pos, suc, ◌+◌, ◌*◌, ◌-◌, ◌≤◌, ◌<◌, List, [], ◌∷◌, length, Option, Some, None, option_map, slice_get, false, refl, sym, ap, ◌∙◌, subst, arith}
 use Rattle.std.specs.Prelude.{if◌then◌else◌, is_some}
 use Rattle.ep_gen_expr.specs.ExprCode.{instr, bare}
 use Rattle.ep_gen_expr.proofs.Placed.{instr_at, jump_false_has}
@@ -17,7 +17,7 @@ use Rattle.ep_object.proofs.rows.PlaceRows.{defined_fails, defined_tells, load_f
 use Rattle.ep_object.proofs.rows.Rows.{fail_fails, jump_false_jumps}
 use Rattle.ep_object.specs.Activations.{KnowsNames}
 use Rattle.ep_object.specs.Follows.{Facts, Follows, Fragment, Lands, Inside, OnTop, PlaceOnTop, IsNotLeft, point}
-use Rattle.ep_object.specs.Matching.{Memory, Injection, Matches, Slots, HasOwnType, IsSpot, Describes, at as standing}
+use Rattle.ep_object.specs.Matching.{Memory, Injection, Matches, Slots, HasOwnType, IsLike, IsSpot, at as standing}
 use Rattle.ep_object.specs.Operands.{Operand, Word}
 use Rattle.ep_object.specs.Operands as operand
 use Rattle.ep_object.specs.Placing.{Placement, CodeStands}
@@ -29,6 +29,7 @@ use Rattle.ep_object.specs.declared.code.Image.{Image}
 use Rattle.ep_object.specs.declared.code.Reference.{Reference}
 use Rattle.ep_object.specs.declared.op.TheConstants as op
 use Rattle.ep_object.specs.declared.state.Place.{Place as PlaceOf}
+use Rattle.ep_typed.proofs.Bares.{bare_unresulting}
 use Rattle.ep_typed.proofs.Steady.{steady_bind, steady_fetch_or, steady_give, steady_using}
 use Rattle.ep_typed.specs.Hosts.{Host}
 use Rattle.ep_typed.specs.Meaning.{result_at}
@@ -42,17 +43,22 @@ use Rattle.ep_typed.specs.Valid as kind
 use Rattle.ep_typed.specs.Valid.{variables_up, Declarations, IsSetOf, IsStructured, IsTypeOf}
 use Rattle.ep_typed.specs.declared.run_error.TheConstants as run_error
 use Rattle.ep_typed.specs.declared.unit.UnitVariable.{UnitVariable}
-use Rattle.ep_typed.specs.TypeValues.{TypeValue, size_of}
+use Rattle.ep_typed.specs.TypeValues.{TypeValue, bare_of, size_of}
 use Rattle.ep_typed.specs.TypeValues as type
 
 -- the value of the variable that has the result, or the error where it has none
 abbrev gives_result : List ℕ → ℕ → Component → Computation (List Result)
 gives_result unit line a = bind (fetch_or (λ s. meaning.Error (unresulting (type_at a s)) unit line) (result_of a)) (λ r. give (r ∷ []))
 
+-- the error of a variable is that of its type without initial states
+ends_so : (unit : List ℕ) (line : ℕ) (o : Option TypeValue) (t : TypeValue) → option_map bare_of o ≡ Some t
+    → meaning.Error (unresulting o) unit line ≡ meaning.Error (unresulting (Some t)) unit line
+ends_so unit line o t is = ap (λ number. meaning.Error number unit line) (sym (bare_unresulting o) ∙ ap unresulting is)
+
 module _ {declared : Declarations} {G : Image} {Here : Facts} (untouched : Slots) (knows : KnowsNames declared Here) (ps : List Placement) (p : Placement) (references : List Reference) (n : ℕ) (unit : List ℕ) (room : p.instructions.before + p.instructions.own ≤ length G.instructions)
     (number line at : ℕ) (h : Host) (low high : ℤ) (of_host : IsTypeOf h (type.Ordinal low high)) (stands : CodeStands G ps p references at (result_code line number at)) (inside : at + 6 < p.instructions.own) where
   -- from the instruction that tells whether the variable has a value, where it lives
-  given_follows : (injection : Injection) (memory : Memory) (below : List Operand) (a : Component) (q : PlaceOf) → IsSpot injection memory.types a q → Describes memory.types q.type_number (type.Ordinal low high) → (d : ℕ) → 8 ≤ d → unit_in G memory.frames ≡ unit
+  given_follows : (injection : Injection) (memory : Memory) (below : List Operand) (a : Component) (q : PlaceOf) → IsSpot injection memory.types a q → IsLike memory.types q.type_number (type.Ordinal low high) → (d : ℕ) → 8 ≤ d → unit_in G memory.frames ≡ unit
       → (s : meaning.State) → Matches declared G injection s memory → Here injection s memory → has_ended a.allocation s ≡ false
       → Follows (λ k. IsNotLeft memory.frames k.frames) G n (standing ((p.instructions.before + at) + 2) (operand.Place q ∷ operand.Place q ∷ below) memory s.trace) s (gives_result unit line a) (λ rs. Lands declared G Here ((p.instructions.before + at) + 5) (ResultsOnTop (kind.Ordinal h ∷ []) below rs)) d (λ rs. 1 + credit_of rs)
   given_follows injection memory below a q spot described d enough home s matches here living =
@@ -62,7 +68,7 @@ module _ {declared : Declarations} {G : Image} {Here : Facts} (untouched : Slots
       In k = IsNotLeft memory.frames k.frames
 
       ends : meaning.Error (unresulting (type_at a s)) unit line ≡ meaning.Error run_error.RESULT_UNDEFINED unit line
-      ends = ap (λ t. meaning.Error (unresulting t) unit line) (variable_type declared G ((p.instructions.before + at) + 2) line below (type.Ordinal low high) a q injection memory spot described s matches living)
+      ends = ends_so unit line (type_at a s) (type.Ordinal low high) (variable_type declared G ((p.instructions.before + at) + 2) line below (type.Ordinal low high) a q injection memory spot described s matches living)
 
       -- whether it has a value, and on to what that is for
       asked : outcome G (standing ((p.instructions.before + at) + 2) (operand.Place q ∷ operand.Place q ∷ below) memory s.trace) ≡ record { weight = 0; to = Running 0 (standing ((p.instructions.before + at) + 2 + 1) (Word (bit (is_some (result_of a s))) ∷ operand.Place q ∷ below) memory s.trace) }
@@ -133,6 +139,7 @@ pub result_moves : {declared : Declarations} {G : Image} {Here : Facts} (untouch
 result_moves untouched knows ps p references n unit room number line at h type.Text of_host stands inside v is_declared has_type injection memory below d enough home = absurd of_host
 result_moves untouched knows ps p references n unit room number line at h (type.Array low high of) of_host stands inside v is_declared has_type injection memory below d enough home = absurd of_host
 result_moves untouched knows ps p references n unit room number line at h (type.Set low high) of_host stands inside v is_declared has_type injection memory below d enough home = absurd of_host
+result_moves untouched knows ps p references n unit room number line at h (type.Initial of start) of_host stands inside v is_declared has_type injection memory below d enough home = absurd of_host
 result_moves untouched knows ps p references n unit room number line at h (type.Record ts) of_host stands inside v is_declared has_type injection memory below d enough home = absurd of_host
 result_moves untouched knows ps p references n unit room number line at h (type.Ordinal low high) of_host stands inside v is_declared has_type injection memory below d enough home =
     ordinal_moves untouched knows ps p references n unit room number line at h low high of_host stands inside v is_declared has_type injection memory below d enough home
@@ -161,7 +168,7 @@ structure_moves {declared = declared} {G = G} {Here = Here} untouched knows ps p
           (λ s matches here living. gives longer after a top.place top.spot top.described s matches here living)),
     ))
   where
-    gives : (longer : Injection) (after : Memory) (a : Component) (q : PlaceOf) → IsSpot longer after.types a q → Describes after.types q.type_number t
+    gives : (longer : Injection) (after : Memory) (a : Component) (q : PlaceOf) → IsSpot longer after.types a q → IsLike after.types q.type_number t
         → (s : meaning.State) → Matches declared G longer s after → Here longer s after → has_ended a.allocation s ≡ false
         → Follows (λ k. IsNotLeft after.frames k.frames) G n (standing ((p.instructions.before + at) + 1) (operand.Place q ∷ below) after s.trace) s (gives_result unit line a) (λ rs. Lands declared G Here (p.instructions.before + at + 2) (ResultsOnTop (kind.Structured t ∷ []) below rs)) (d - 1 + 3 * size_of t) (λ rs. 1 + credit_of rs)
     gives longer after a q spot described s matches here living =
@@ -204,7 +211,7 @@ set_moves {declared = declared} {G = G} {Here = Here} untouched knows ps p refer
           (omega (arith, enough))
           (λ s matches here living.
           gives longer after a s
-          (ap (λ u. meaning.Error (unresulting u) unit line) (variable_type declared G ((p.instructions.before + at) + 1) line below t a top.place longer after top.spot top.described s matches living))
+          (ends_so unit line (type_at a s) t (variable_type declared G ((p.instructions.before + at) + 1) line below t a top.place longer after top.spot top.described s matches living))
           (subst (λ u. Reading longer after a top.place s u) at_home (load_reads declared G ((p.instructions.before + at) + 1) line below {untouched = untouched} (kind.Set h) t a top.place of_host (instr_at G (omega arith) stands.1.0) longer after top.spot top.described s matches here living)))),
     ))
   where

@@ -4,9 +4,10 @@ use Rattle.std.proofs.lemmas.Option.{same_Some, slice_get_within, slice_get-map,
 use Rattle.std.proofs.lemmas.List.{length-map}
 use Rattle.ep_gen_expr.specs.ExprCode.{bare}
 use Rattle.ep_gen_expr.proofs.Following.{place_follows, expression_follows, call_then}
+use Rattle.ep_gen_expr.proofs.PlaceTypes.{has_bare_type}
 use Rattle.ep_gen_expr.proofs.Placed.{instr_at}
 use Rattle.ep_typed.proofs.Auxiliaries.{withs_denoted}
-use Rattle.ep_typed.proofs.Denoters.{types_are_instances}
+use Rattle.ep_typed.proofs.Bares.{bare_size}
 use Rattle.ep_typed.proofs.Typed.{typed_of_host}
 use Rattle.ep_gen_unit.specs.StmtCode.{IsStmtCode, make_all_code, take_all_code, return_code, result_code, structure_code, function_end, end_code}
 use Rattle.ep_gen_unit.specs.UnitCode.{IsProgramCode, own_code, its_end, entry_of, plain_at}
@@ -51,10 +52,10 @@ use Rattle.ep_typed.specs.Meaning.{weights_of, exec, make_all_own, results_given
 use Rattle.ep_typed.specs.Printing.{Result}
 use Rattle.ep_typed.specs.Routines.{made_variables, result_name, result_variable}
 use Rattle.ep_typed.specs.Steps.{Computation, bind}
-use Rattle.ep_typed.specs.Denoters.{host_of, type_of}
+use Rattle.ep_typed.specs.Denoters.{bare_type_of, host_of}
 use Rattle.ep_typed.specs.Hosts.{Host}
 use Rattle.ep_typed.specs.TypeValues as type
-use Rattle.ep_typed.specs.TypeValues.{TypeValue, size_of}
+use Rattle.ep_typed.specs.TypeValues.{TypeValue, bare_of, size_of}
 use Rattle.ep_typed.proofs.ValueKinds.{kinds_are_one, typed_of_kind}
 use Rattle.ep_object.proofs.rows.OwnRows.{StillBare}
 use Rattle.ep_typed.specs.Steps as meaning
@@ -171,8 +172,8 @@ module _ (u : TypedUnit) (o : Object) (is : IsProgramCode u o) (valid : IsValid 
       by_mode : (w : FormalMode) → IsFormalBy w u.types (denoter_of f.denoter) → (q : Passing) × IsPassed u.types w f q
       by_mode mode.Value d = (ByValue d.kind, d.of_kind)
       by_mode mode.ProtectedValue d = (ByValue d.kind, d.of_kind)
-      by_mode mode.Variable d = (ByReference d.type_value, d.has_type)
-      by_mode mode.ProtectedVariable d = (ByReference d.type_value, d.has_type)
+      by_mode mode.Variable d = (ByReference (bare_of d.type_value), ap (option_map bare_of) d.has_type)
+      by_mode mode.ProtectedVariable d = (ByReference (bare_of d.type_value), ap (option_map bare_of) d.has_type)
 
   -- and how all of them do
   passings_of : (fs : List Formal) → ((k : ℕ) (f : Formal) → slice_get fs k ≡ Some f → IsFormal u.types f) → (qs : List Passing) × ArePassed u.types fs qs × (length qs ≡ length fs)
@@ -385,15 +386,15 @@ module _ (u : TypedUnit) (o : Object) (is : IsProgramCode u o) (valid : IsValid 
           second_field = refl;
           moves = λ knows longer after below home.
               fragment_credit {d = 63} {e = λ rs. 1 + credit_of rs} (omega arith) (λ rs. omega arith)
-              (result_moves untouched knows ps p o.references m u.name in_code (length formals) line_of end h d.type_value (typed_of_host u.types (denoter_of y.denoter) d.type_value h d.typed has_host) end_stands (omega (arith, room_for))
-              (result_of_name y) (result_is y is_some) (types_are_instances u.types (denoter_of y.denoter) d.type_value d.has_type) longer after below 63 (omega arith) home);
+              (result_moves untouched knows ps p o.references m u.name in_code (length formals) line_of end h (bare_of d.type_value) (typed_of_host u.types (denoter_of y.denoter) d.type_value h d.typed has_host) end_stands (omega (arith, room_for))
+              (result_of_name y) (result_is y is_some) (has_bare_type u.types (result_of_name y) (bare_of d.type_value) (ap (option_map bare_of) d.has_type)) longer after below 63 (omega arith) home);
         }
 
     -- of one whose result is an array or a record
-    structure_ends : (y : RoutineResult) (t : TypeValue) → type_of u.types (denoter_of y.denoter) ≡ Some t → IsStructured t → (d : IsDenoter u.types (denoter_of y.denoter)) → r.result ≡ Some y
+    structure_ends : (y : RoutineResult) (t : TypeValue) → bare_type_of u.types (denoter_of y.denoter) ≡ Some t → IsStructured t → (d : IsDenoter u.types (denoter_of y.denoter)) → r.result ≡ Some y
         → CodeStands G ps p o.references end (structure_code line_of (length formals)) → Ends (Some y) (kind.Structured t ∷ []) (3 * size_of d.type_value)
     structure_ends y t has_type structured d is_some end_stands =
-        let same : size_of t ≡ size_of d.type_value = ap size_of (same_Some t d.type_value (sym has_type ∙ d.has_type)) in
+        let same : size_of t ≡ size_of d.type_value = ap size_of (same_Some t (bare_of d.type_value) (sym has_type ∙ ap (option_map bare_of) d.has_type)) ∙ bare_size d.type_value in
         record {
           place = p.instructions.before + end + 2;
           instruction = bare line_of op.RETURN;
@@ -404,16 +405,17 @@ module _ (u : TypedUnit) (o : Object) (is : IsProgramCode u o) (valid : IsValid 
           moves = λ knows longer after below home.
               fragment_credit {d = 63 + 3 * size_of t} {e = λ rs. 1 + credit_of rs} (omega (arith, same)) (λ rs. omega (arith, same))
               (structure_moves untouched knows ps p o.references m u.name (length formals) line_of end t structured end_stands
-              (result_of_name y) (result_is y is_some) (types_are_instances u.types (denoter_of y.denoter) t has_type) longer after below 63 (omega arith) home);
+              (result_of_name y) (result_is y is_some) (has_bare_type u.types (result_of_name y) t has_type) longer after below 63 (omega arith) home);
         }
 
     -- of one whose result is a set
-    set_ends : (y : RoutineResult) (h : Host) (d : IsDenoter u.types (denoter_of y.denoter)) (t : TypeValue) → d.type_value ≡ t → IsSetOf h t → r.result ≡ Some y
+    set_ends : (y : RoutineResult) (h : Host) (d : IsDenoter u.types (denoter_of y.denoter)) (t : TypeValue) → bare_of d.type_value ≡ t → IsSetOf h t → r.result ≡ Some y
         → CodeStands G ps p o.references end (structure_code line_of (length formals)) → Ends (Some y) (kind.Set h ∷ []) (3 * size_of d.type_value)
     set_ends y h d (type.Ordinal low high) is of_host is_some end_stands = absurd of_host
     set_ends y h d type.Text is of_host is_some end_stands = absurd of_host
     set_ends y h d (type.Array low high of) is of_host is_some end_stands = absurd of_host
     set_ends y h d (type.Record ts) is of_host is_some end_stands = absurd of_host
+    set_ends y h d (type.Initial of start) is of_host is_some end_stands = absurd of_host
     set_ends y h d (type.Set low high) is of_host is_some end_stands =
         record {
           place = p.instructions.before + end + 2;
@@ -425,7 +427,7 @@ module _ (u : TypedUnit) (o : Object) (is : IsProgramCode u o) (valid : IsValid 
           moves = λ knows longer after below home.
               fragment_credit {d = 63} {e = λ rs. 1 + credit_of rs} (omega arith) (λ rs. omega arith)
               (set_moves untouched knows ps p o.references m u.name (length formals) line_of end h low high of_host end_stands
-              (result_of_name y) (result_is y is_some) (types_are_instances u.types (denoter_of y.denoter) (type.Set low high) (d.has_type ∙ ap Some is)) longer after below 63 (omega arith) home);
+              (result_of_name y) (result_is y is_some) (has_bare_type u.types (result_of_name y) (type.Set low high) (ap (option_map bare_of) d.has_type ∙ ap Some is)) longer after below 63 (omega arith) home);
         }
 
     function_ends : (y : RoutineResult) (k : Kind) → IsOfKind k u.types (denoter_of y.denoter) → (d : IsDenoter u.types (denoter_of y.denoter)) → r.result ≡ Some y → (w : Option Host) → host_of u.types (denoter_of y.denoter) ≡ w
@@ -434,7 +436,7 @@ module _ (u : TypedUnit) (o : Object) (is : IsProgramCode u o) (valid : IsValid 
     function_ends y (kind.Ordinal h) of_kind d is_some (Some i) has end_stands room_for = ordinal_ends y h of_kind d is_some end_stands (omega (arith, room_for))
     function_ends y kind.Bytes of_kind d is_some w has end_stands room_for = absurd of_kind
     function_ends y (kind.Set h) of_kind d is_some None has end_stands room_for =
-        set_ends y h d d.type_value refl (typed_of_kind u.types (denoter_of y.denoter) d.type_value (kind.Set h) d.typed of_kind) is_some end_stands
+        set_ends y h d (bare_of d.type_value) refl (typed_of_kind u.types (denoter_of y.denoter) d.type_value (kind.Set h) d.typed of_kind) is_some end_stands
     function_ends y (kind.Set h) of_kind d is_some (Some i) has end_stands room_for =
         absurd (let e : kind.Ordinal i ≡ kind.Set h = kinds_are_one u.types (denoter_of y.denoter) (kind.Ordinal i) (kind.Set h) has of_kind in cc)
     function_ends y (kind.Structured t) of_kind d is_some None has end_stands room_for = structure_ends y t of_kind.0 of_kind.1 d is_some end_stands
@@ -519,13 +521,13 @@ module _ (u : TypedUnit) (o : Object) (is : IsProgramCode u o) (valid : IsValid 
       -- the making of the variables, of which that of the result leaves a credit
       makes_all : (y : Option RoutineResult) (valid_result : IsResult u.types y) (at : ℕ) → ((i : ℕ) (v : UnitVariable) → slice_get (result_variable r.name line_of y ++ (r.variables ++ block_auxiliaries (stmt_of r.block))) i ≡ Some v → slice_get (variables_up within 0) (length formals + i) ≡ Some v)
           → CodeStands G ps p o.references at (make_all_code u.types (length formals) (result_variable r.name line_of y ++ (r.variables ++ block_auxiliaries (stmt_of r.block))))
-          → (longer : Injection) (after : Memory) (below : List Operand)
+          → (longer : Injection) (after : Memory) (below : List Operand) → unit_in G after.frames ≡ u.name
           → Fragment within G Here m (point longer after (p.instructions.before + at) below) (make_all_own call m u.name u.types (length formals) (result_variable r.name line_of y ++ (r.variables ++ block_auxiliaries (stmt_of r.block)))) (p.instructions.before + (at + length (make_all_code u.types (length formals) (result_variable r.name line_of y ++ (r.variables ++ block_auxiliaries (stmt_of r.block)))))) (λ a. StillBare after below) 63 (λ a. 63 + spare y valid_result)
-      makes_all None valid_result at are_declared at_stands longer after below =
+      makes_all None valid_result at are_declared at_stands longer after below at_home =
           fragment_credit {d = 63} {e = λ a. 63} (omega arith) (λ a. omega arith)
-          (make_all_own_moves within G untouched injection begun lasts ps p o.references call steady_call m u.name scene.own_types_valid m (length formals) at (r.variables ++ block_auxiliaries (stmt_of r.block)) are_declared at_stands longer after below 63 (omega arith))
-      makes_all (Some y) valid_result at are_declared at_stands longer after below =
-          make_sized_moves within G untouched injection begun lasts ps p o.references call steady_call m u.name scene.own_types_valid m (length formals) at (result_of_name y) (r.variables ++ block_auxiliaries (stmt_of r.block)) (valid_result.denoter).type_value (valid_result.denoter).has_type are_declared at_stands longer after below 63 (omega arith)
+          (make_all_own_moves within G untouched injection begun lasts ps p o.references call steady_call m u.name scene.own_types_valid m (length formals) at (r.variables ++ block_auxiliaries (stmt_of r.block)) are_declared at_stands longer after below 63 (omega arith) at_home)
+      makes_all (Some y) valid_result at are_declared at_stands longer after below at_home =
+          make_sized_moves within G untouched injection begun lasts ps p o.references call steady_call m u.name scene.own_types_valid m (length formals) at (result_of_name y) (r.variables ++ block_auxiliaries (stmt_of r.block)) (valid_result.denoter).type_value (valid_result.denoter).has_type are_declared at_stands longer after below 63 (omega arith) at_home
 
       -- the making of the variables, and then the block
       makes : (longer : Injection) (after : Memory) (pushed : List Operand) → unit_in G after.frames ≡ u.name → pushed ≡ below
@@ -535,7 +537,7 @@ module _ (u : TypedUnit) (o : Object) (is : IsProgramCode u o) (valid : IsValid 
           let size : x.entry.entry + length takes_code + length makes_code ≡ x.entry.entry + length (own_code u.types r) = omega (arith, length-append takes_code makes_code) in
           subst (λ st. Fragment within G Here m (point longer after (p.instructions.before + (x.entry.entry + length takes_code)) st) (bind (make_all_own call m u.name u.types (length formals) (made_variables r)) (λ a. bind (exec call m u.name (stmt_of r.block)) (λ b. gives))) ends.place (λ rs. ResultsOnTop results below rs) 63 (λ rs. 1 + credit_of rs)) (sym is_below)
           (fragment_bind {middle = p.instructions.before + (x.entry.entry + length (own_code u.types r))} {e = λ a. 63 + more} (λ a. steady_bind (steady_exec call steady_call m u.name (stmt_of r.block)) (λ b. steady_gives))
-          (fragment_to (ap (λ k. p.instructions.before + k) size) (makes_all r.result its.result (x.entry.entry + length takes_code) variable_is parts.1 longer after below))
+          (fragment_to (ap (λ k. p.instructions.before + k) size) (makes_all r.result its.result (x.entry.entry + length takes_code) variable_is parts.1 longer after below at_home))
           (λ a last final above still. (still.runs, blocks last final above (unit_in-still G still.runs ∙ at_home) still.operands_are)))
 
       -- the machine follows the routine, in any activation of it

@@ -1,9 +1,10 @@
 -- The machine follows assignments to tags.
-use Rattle.std.proofs.Common.{◌≡◌, ℕ, ℤ, pos, zero, suc, ◌+◌, ◌*◌, ◌-◌, ◌≤◌, ◌<◌, Bool, true, false, ◌&&◌, not, List, [], ◌∷◌, ◌++◌, length, length-append, Option, Some, None, slice_get, refl, sym, ap, ◌∙◌, subst, arith}
+use Rattle.std.proofs.Common.{◌≡◌, ℕ, ℤ, pos, zero, suc, ◌+◌, ◌*◌, ◌-◌, ◌≤◌, ◌<◌, Bool, true, false, ◌&&◌, not, List, [], ◌∷◌, ◌++◌, length, length-append, Option, Some, None, option_map, slice_get, refl, sym, ap, ◌∙◌, subst, arith}
+use Rattle.std.proofs.lemmas.Option.{same_Some}
 use Rattle.std.specs.Prelude.{All, if◌then◌else◌, is_some, int_le}
 use Rattle.ep_gen_expr.specs.ExprCode.{bare, instr, push, tests_code, two_code, IsPlaceCode}
 use Rattle.ep_gen_expr.proofs.Answering.{row_waits}
-use Rattle.ep_gen_expr.proofs.PlaceTypes.{IsTypedPlace, tag_alone, typed_place}
+use Rattle.ep_gen_expr.proofs.PlaceTypes.{IsTypedPlace, among_bare, bare_instance, tag_alone, typed_place}
 use Rattle.ep_gen_expr.proofs.Placed.{code_front, code_back, instr_at, jump_has, jump_false_has}
 use Rattle.ep_gen_expr.proofs.RangeMoves.{tests_follow, true_ordinal}
 use Rattle.ep_gen_expr.proofs.Stays.{tests_length}
@@ -14,7 +15,7 @@ use Rattle.ep_gen_unit.proofs.Parts.{code_stands-parts, Moves, ExpressionsFollow
 use Rattle.ep_gen_unit.proofs.Simple.{assigned_moves, store_moves}
 use Rattle.ep_gen_unit.proofs.TagLengths.{number_code_length, selected_code_length, selections_code_length}
 use Rattle.ep_object.specs.Follows.{point, Facts, After, Lasts, Follows, Fragment, Inside, Bare, IsNotLeft, Lands, Operands, PlaceOnTop}
-use Rattle.ep_object.specs.Matching.{Memory, Injection, IsSpot, Describes, Matches, Slots, at as standing}
+use Rattle.ep_object.specs.Matching.{Memory, Injection, IsLike, IsSpot, Matches, Slots, at as standing}
 use Rattle.ep_object.specs.Operands.{Operand, Word}
 use Rattle.ep_object.specs.Operands as operand
 use Rattle.ep_object.specs.Placing.{Placement, CodeStands}
@@ -36,8 +37,8 @@ use Rattle.ep_object.proofs.rows.FieldRow.{IsAmong, LeadsTo, among_there, field_
 use Rattle.ep_object.proofs.rows.PlaceRows.{defined_fails, defined_tells, load_leads}
 use Rattle.ep_object.proofs.rows.Rows.{check_answers, jump_false_jumps, jump_jumps, push_pushes, unequal_answers}
 use Rattle.ep_object.proofs.rows.TextRows.{drop_drops, dup_place}
-use Rattle.ep_typed.proofs.Denoters.{instances_are_one, types_are_instances}
-use Rattle.ep_typed.proofs.Typed.{HasComponents, typed_among, typed_components, typed_instance, typed_value}
+use Rattle.ep_typed.proofs.Bares.{bare_size, bare_value}
+use Rattle.ep_typed.proofs.Typed.{HasComponents, typed_among, typed_components, typed_value}
 use Rattle.ep_typed.specs.declared.unit.UnitType.{UnitType}
 use Rattle.ep_typed.proofs.Steady.{steady_assign, steady_assigns, steady_bind, steady_changes_variant, steady_clearing, steady_clears_all, steady_eval, steady_give, steady_if, steady_selected, steady_selected_by, steady_selected_now, steady_sets_tag, steady_stop, steady_tag_tested}
 use Rattle.ep_typed.specs.Calls.{Handler}
@@ -55,7 +56,7 @@ use Rattle.ep_typed.specs.Steps as meaning
 use Rattle.ep_typed.specs.Steps.{Component, Computation, Undefined, assigned, bind, change, component, fetch, give, has_ended, is_number, spend, stop, tag_of, type_at, variant_number, variants_count}
 use Rattle.ep_typed.specs.Trees.{Denoter, Denoters, Expr, Place, Read, Record, Tagging, AssignTag, entire, next_denoter, no_denoter}
 use Rattle.ep_typed.specs.TypeValues as type
-use Rattle.ep_typed.specs.TypeValues.{ComponentTypes, TypeValue, is_within, size_of, type_among}
+use Rattle.ep_typed.specs.TypeValues.{ComponentTypes, TypeValue, bare_each, bare_of, is_within, size_of, type_among}
 use Rattle.ep_typed.specs.Valid as kind
 use Rattle.ep_typed.specs.Valid.{AreTyped, Declarations, HasRange, IsExpr, IsPlace, IsTagged, IsTagging, IsTyped, IsTypeValue, next_typed, none_typed}
 use Rattle.ep_typed.specs.declared.operations.Binary.TheVariants as binary
@@ -133,6 +134,11 @@ module _ {A : Type 0} {declared : Declarations} {G : Image} {Here : Facts} (ps :
       rest true = finds (length s.labels)
       rest false = misses
 
+-- a variable whose type has a bare form has a type
+with_bare : (o : Option TypeValue) (t : TypeValue) → option_map bare_of o ≡ Some t → (u : TypeValue) × (o ≡ Some u) × (bare_of u ≡ t)
+with_bare None t e = cc
+with_bare (Some u) t e = (u, refl, same_Some (bare_of u) t e)
+
 -- a component of a record is of a type that variables may have
 abbrev IsCleared : ComponentTypes → ℕ → Type 0
 IsCleared ts k = (t : TypeValue) × (type_among ts k ≡ Some t) × IsTypeValue t
@@ -142,7 +148,7 @@ module _ (declared : Declarations) (G : Image) (untouched : Slots) (Here : Facts
 
   -- over the place of a record, `Field` leaves that of a component
   component_moves : (line at k : ℕ) (ts : ComponentTypes) (t : TypeValue) (r : Component) (b : PlaceOf) → type_among ts k ≡ Some t → slice_get G.instructions (p.instructions.before + at) ≡ Some (instr op.FIELD (pos k) 0 line)
-      → (injection : Injection) (memory : Memory) (below : List Operand) (d : ℕ) → 8 ≤ d → unit_in G memory.frames ≡ unit → IsSpot injection memory.types r b → Describes memory.types b.type_number (type.Record ts)
+      → (injection : Injection) (memory : Memory) (below : List Operand) (d : ℕ) → 8 ≤ d → unit_in G memory.frames ≡ unit → IsSpot injection memory.types r b → IsLike memory.types b.type_number (type.Record ts)
       → Fragment declared G Here n (point injection memory (p.instructions.before + at) (operand.Place b ∷ below)) (selected call n unit line r k) (p.instructions.before + at + 1) (λ a. Inside untouched injection memory (PlaceOnTop t below a)) d (λ a. d + 8)
   component_moves line at k ts t r b has_type has injection memory below d enough home spot described =
       let place : ℕ = p.instructions.before + at in
@@ -168,7 +174,7 @@ module _ (declared : Declarations) (G : Image) (untouched : Slots) (Here : Facts
 
   -- a component of a record becomes undefined
   clear_moves : (line at k : ℕ) (ts : ComponentTypes) (t : TypeValue) (r : Component) (b : PlaceOf) → type_among ts k ≡ Some t → IsTypeValue t → CodeStands G ps p references at (clear_code line k)
-      → (injection : Injection) (memory : Memory) (below : List Operand) (d : ℕ) → 8 ≤ d → unit_in G memory.frames ≡ unit → IsSpot injection memory.types r b → Describes memory.types b.type_number (type.Record ts)
+      → (injection : Injection) (memory : Memory) (below : List Operand) (d : ℕ) → 8 ≤ d → unit_in G memory.frames ≡ unit → IsSpot injection memory.types r b → IsLike memory.types b.type_number (type.Record ts)
       → Fragment declared G Here n (point injection memory (p.instructions.before + at) (operand.Place b ∷ below)) (clears call n unit line r k) (p.instructions.before + (at + 3)) (λ a. Inside untouched injection memory (Bare (operand.Place b ∷ below) a)) d (λ a. d)
   clear_moves line at k ts t r b has_type valid stands injection memory below d enough home spot described =
       let place : ℕ = p.instructions.before + at in
@@ -181,10 +187,12 @@ module _ (declared : Declarations) (G : Image) (untouched : Slots) (Here : Facts
       (λ st matches ended. subst (λ u. FailsWith G (standing (place + 1) (operand.Place b ∷ top) memory st.trace) 0 run_error.DISPOSED u line st) home (field_fails declared G (place + 1) line top ts k t r b has injection memory spot described among st matches ended)) (omega (arith, enough))
       (λ st matches here living.
       let does = undefine_does_any declared G (place + 1 + 1) line top {untouched = untouched} {Here = Here} t (component r k) leads.its_place valid (instr_at G (omega arith) stands.1.1.0) injection memory leads.spot leads.described st matches living lasts here in
-      let is_type : type_at (component r k) st ≡ Some t = variable_type declared G (place + 1 + 1) line top t (component r k) leads.its_place injection memory leads.spot leads.described st matches living in
+      let has_bare : option_map bare_of (type_at (component r k) st) ≡ Some t = variable_type declared G (place + 1 + 1) line top t (component r k) leads.its_place injection memory leads.spot leads.described st matches living in
+      let its = with_bare (type_at (component r k) st) t has_bare in
+      let same : size_of t ≡ size_of its.0 = ap size_of (sym its.2) ∙ bare_size its.0 in
       follows_paid {n = n} {v = 0} {w = 0} {d = d - 1} {d1 = d + 1} (not_left-here memory.frames) refl (leads.leads st matches living) (omega arith) (omega (arith, enough)) (omega arith)
-      (follows_found (λ u. meaning.Error run_error.UNDEFINED_VALUE unit line) (type_at (component r k)) (λ u. spend (size_of u) (change (assigned (component r k) Undefined))) (meaning.Error run_error.UNDEFINED_VALUE unit line) (Some t) refl is_type
-      (to_end (follows_sized (size_of t) memory (assigned (component r k) Undefined) d (not_left-here memory.frames) refl does))))))
+      (follows_found (λ u. meaning.Error run_error.UNDEFINED_VALUE unit line) (type_at (component r k)) (λ u. spend (size_of u) (change (assigned (component r k) Undefined))) (meaning.Error run_error.UNDEFINED_VALUE unit line) (Some its.0) refl its.1
+      (to_end (follows_sized (size_of its.0) memory (assigned (component r k) Undefined) d (not_left-here memory.frames) refl (subst (λ w. Does declared G Here (standing (place + 1 + 1) (operand.Place leads.its_place ∷ top) memory st.trace) w (place + 1 + 1 + 1) (Inside untouched injection memory (Bare top tt)) (assigned (component r k) Undefined st)) same does)))))))
     where
       to_end : {k1 : State} {s : meaning.State} {c : Computation (Unit {0})} {d1 : ℕ} {e : Unit {0} → ℕ}
           → Follows (λ j. IsNotLeft memory.frames j.frames) G n k1 s c (λ a. Lands declared G Here (p.instructions.before + at + 1 + 1 + 1) (Inside untouched injection memory (Bare (operand.Place b ∷ below) a))) d1 e
@@ -202,8 +210,8 @@ module _ (declared : Declarations) (G : Image) (untouched : Slots) (Here : Facts
 
     -- the variants with these labels become undefined, and then others
     clears_follow : (labels : List (List CaseRange)) (k m at to : ℕ) → All (HasRange declared) labels → CodeStands G ps p references at (clears_code line k labels) → ((i : ℕ) → i < length labels → IsCleared ts (k + i))
-        → (injection : Injection) (memory : Memory) (below : List Operand) (d : ℕ) → 8 ≤ d → unit_in G memory.frames ≡ unit → IsSpot injection memory.types r b → Describes memory.types b.type_number (type.Record ts)
-        → ((longer : Injection) (after : Memory) → unit_in G after.frames ≡ unit → IsSpot longer after.types r b → Describes after.types b.type_number (type.Record ts) → Clearing (at + length (clears_code line k labels)) to (k + length labels) m longer after below d)
+        → (injection : Injection) (memory : Memory) (below : List Operand) (d : ℕ) → 8 ≤ d → unit_in G memory.frames ≡ unit → IsSpot injection memory.types r b → IsLike memory.types b.type_number (type.Record ts)
+        → ((longer : Injection) (after : Memory) → unit_in G after.frames ≡ unit → IsSpot longer after.types r b → IsLike after.types b.type_number (type.Record ts) → Clearing (at + length (clears_code line k labels)) to (k + length labels) m longer after below d)
         → Clearing at to k (length labels + m) injection memory below d
     clears_follow [] k m at to each stands types injection memory below d enough home spot described rest =
         let same : k + 0 ≡ k = omega arith in
@@ -226,7 +234,7 @@ module _ (declared : Declarations) (G : Image) (untouched : Slots) (Here : Facts
 
     -- all of them
     variants_follow : (at : ℕ) → All (HasRange declared) s.labels → CodeStands G ps p references at (variants_code line s) → ((i : ℕ) → i < variants_count s → IsCleared ts (variant_number s i))
-        → (injection : Injection) (memory : Memory) (below : List Operand) (d : ℕ) → 8 ≤ d → unit_in G memory.frames ≡ unit → IsSpot injection memory.types r b → Describes memory.types b.type_number (type.Record ts)
+        → (injection : Injection) (memory : Memory) (below : List Operand) (d : ℕ) → 8 ≤ d → unit_in G memory.frames ≡ unit → IsSpot injection memory.types r b → IsLike memory.types b.type_number (type.Record ts)
         → Clearing at (at + length (variants_code line s)) (variant_number s 0) (variants_count s) injection memory below d
     variants_follow at each stands types injection memory below d enough home spot described =
         clears_follow s.labels (variant_number s 0) (if s.completed then 1 else 0) at (at + length (variants_code line s)) each parts.0 (λ i less. subst (λ j. IsCleared ts j) {x = variant_number s i} {y = variant_number s 0 + i} (omega arith) (types i (omega (arith, less)))) injection memory below d enough home spot described
@@ -249,7 +257,7 @@ module _ (declared : Declarations) (G : Image) (untouched : Slots) (Here : Facts
         counted false is = cc
 
         last : (c : Bool) → CodeStands G ps p references (at + length labelled) (completing c) → at + length (variants_code line s) ≡ at + length labelled + length (completing c) → (c ≡ true → IsCleared ts (variant_number s (length s.labels)))
-            → (longer : Injection) (after : Memory) → unit_in G after.frames ≡ unit → IsSpot longer after.types r b → Describes after.types b.type_number (type.Record ts) → Clearing (at + length labelled) (at + length (variants_code line s)) (variant_number s 0 + length s.labels) (if c then 1 else 0) longer after below d
+            → (longer : Injection) (after : Memory) → unit_in G after.frames ≡ unit → IsSpot longer after.types r b → IsLike after.types b.type_number (type.Record ts) → Clearing (at + length labelled) (at + length (variants_code line s)) (variant_number s 0 + length s.labels) (if c then 1 else 0) longer after below d
         last true code_stands ends there longer after home2 spot2 described2 =
             let one = there refl in
             let number : variant_number s (length s.labels) ≡ variant_number s 0 + length s.labels = omega arith in
@@ -273,7 +281,7 @@ module _ (declared : Declarations) (G : Image) (untouched : Slots) (Here : Facts
         let parts = code_stands-parts G ps p references (at + 4) number ends behind in
         (parts.0, subst (λ k. CodeStands G ps p references k ends) {x = at + 4 + length number} {y = at + 4 + number_length s} (omega (arith, number_code_length line (at + 4) s none_before)) parts.1)
 
-    pub selected_now_moves : (injection : Injection) (memory : Memory) (below : List Operand) (d : ℕ) → 8 ≤ d → unit_in G memory.frames ≡ unit → IsSpot injection memory.types v q → Describes memory.types q.type_number (type.Ordinal low high)
+    pub selected_now_moves : (injection : Injection) (memory : Memory) (below : List Operand) (d : ℕ) → 8 ≤ d → unit_in G memory.frames ≡ unit → IsSpot injection memory.types v q → IsLike memory.types q.type_number (type.Ordinal low high)
         → Fragment declared G Here n (point injection memory (p.instructions.before + at) (operand.Place q ∷ below)) (selected_now call n unit line v s) (p.instructions.before + (at + selected_length s)) (λ o. Inside untouched injection memory (Numbered none_before below o)) (d + 7) (λ o. d)
     selected_now_moves injection memory below d enough home spot described =
         row_waits {d1 = d + 6} (dup_place G place line below q stands.0) (omega arith)
@@ -351,7 +359,7 @@ module _ (declared : Declarations) (G : Image) (untouched : Slots) (Here : Facts
 
     tried_moves : (line at : ℕ) (c : Tagging) (s : Selection) (ts : ComponentTypes) (r : Component) (b : PlaceOf) (is : List Instr) → IsPlace declared host.Integer (entire c.value) → IsTriedCode texts references line at c s is → CodeStands G ps p references at is → at + length is < p.instructions.own
         → type_among ts s.tag ≡ Some (tag_record c.low c.high)
-        → (injection : Injection) (memory : Memory) (below : List Operand) (d : ℕ) → statement_credit ≤ d → unit_in G memory.frames ≡ unit → IsSpot injection memory.types r b → Describes memory.types b.type_number (type.Record ts)
+        → (injection : Injection) (memory : Memory) (below : List Operand) (d : ℕ) → statement_credit ≤ d → unit_in G memory.frames ≡ unit → IsSpot injection memory.types r b → IsLike memory.types b.type_number (type.Record ts)
         → Fragment declared G Here n (point injection memory (p.instructions.before + at) (operand.Place b ∷ below)) (tag_tested call n unit line c r s) (p.instructions.before + (at + length is)) (λ v. Inside untouched injection memory (PlaceOnTop (type.Ordinal c.low c.high) (operand.Place b ∷ below) v)) d (λ v. d + 8)
     tried_moves line at c s ts r b is value code stands_is inside has_tag injection memory below d enough home spot described =
         row_waits {d1 = d - 1} (dup_place G (p.instructions.before + at) line below b stands.0) (omega (arith, enough))
@@ -387,7 +395,7 @@ module _ (declared : Declarations) (G : Image) (untouched : Slots) (Here : Facts
         steady_checked : (v : Component) (z : Result) → Steady (if is_within (type.Ordinal c.low c.high) (number_of z) then give v else stop (meaning.Error run_error.OUTSIDE_TYPE unit line))
         steady_checked v z = steady_if (is_within (type.Ordinal c.low c.high) (number_of z)) (steady_give v) (steady_stop (meaning.Error run_error.OUTSIDE_TYPE unit line))
 
-        checks : (v : Component) (q : PlaceOf) (z : ℤ) (injection : Injection) (memory : Memory) → unit_in G memory.frames ≡ unit → IsSpot injection memory.types v q → Describes memory.types q.type_number (type.Ordinal c.low c.high) → (x : Bool) → (int_le c.low z && int_le z c.high) ≡ x
+        checks : (v : Component) (q : PlaceOf) (z : ℤ) (injection : Injection) (memory : Memory) → unit_in G memory.frames ≡ unit → IsSpot injection memory.types v q → IsLike memory.types q.type_number (type.Ordinal c.low c.high) → (x : Bool) → (int_le c.low z && int_le z c.high) ≡ x
             → Fragment declared G Here n (point injection memory (p.instructions.before + tests_at + 1 + 1) (Word c.high ∷ Word c.low ∷ Word z ∷ operand.Place q ∷ operand.Place b ∷ below)) (if x then give v else stop (meaning.Error run_error.OUTSIDE_TYPE unit line)) (p.instructions.before + (at + length is)) (λ v. Inside untouched injection memory (PlaceOnTop (type.Ordinal c.low c.high) (operand.Place b ∷ below) v)) (d + 21) (λ v. d + 8)
         checks v q z injection memory home spot described x is_x = by x is_x
           where
@@ -420,7 +428,7 @@ module _ (declared : Declarations) (G : Image) (untouched : Slots) (Here : Facts
 
     change_moves : (line at : ℕ) (c : Tagging) (s : Selection) (ts : ComponentTypes) (r : Component) (b : PlaceOf) (before : Option ℕ) (is : List Instr) → IsPlace declared host.Integer (entire c.value) → IsChangeCode texts references line at c s is → CodeStands G ps p references at is → at + length is < p.instructions.own
         → All (HasRange declared) s.labels → ((i : ℕ) → i < variants_count s → IsCleared ts (variant_number s i))
-        → (injection : Injection) (memory : Memory) (below : List Operand) (d : ℕ) → statement_credit ≤ d → unit_in G memory.frames ≡ unit → IsSpot injection memory.types r b → Describes memory.types b.type_number (type.Record ts)
+        → (injection : Injection) (memory : Memory) (below : List Operand) (d : ℕ) → statement_credit ≤ d → unit_in G memory.frames ≡ unit → IsSpot injection memory.types r b → IsLike memory.types b.type_number (type.Record ts)
         → Fragment declared G Here n (point injection memory (p.instructions.before + at) (Word (number_for none_before before) ∷ operand.Place b ∷ below)) (changes_variant call n unit line c r s before) (p.instructions.before + (at + length is)) (λ a. Inside untouched injection memory (Bare (operand.Place b ∷ below) a)) d (λ a. d)
     change_moves line at c s ts r b before is value code stands_is inside each types injection memory below d enough home spot described =
         fragment_bind_number {host = host.Integer} {e = λ x. d + 8 + weight_of x} (λ z. steady_bind (steady_selected_by call steady_call n unit s (Some z)) (λ now. steady_clearing call steady_call n unit line r s (is_another before now)))
@@ -479,7 +487,7 @@ module _ (declared : Declarations) (G : Image) (untouched : Slots) (Here : Facts
 
     taken_moves : (line at : ℕ) (c : Tagging) (s : Selection) (ts : ComponentTypes) (r : Component) (b : PlaceOf) (is : List Instr) → IsPlace declared host.Integer (entire c.value) → IsTakenCode texts references line at c s is → CodeStands G ps p references at is → at + length is < p.instructions.own
         → type_among ts s.tag ≡ Some (tag_record c.low c.high)
-        → (injection : Injection) (memory : Memory) (below : List Operand) (d : ℕ) → statement_credit ≤ d → unit_in G memory.frames ≡ unit → IsSpot injection memory.types r b → Describes memory.types b.type_number (type.Record ts)
+        → (injection : Injection) (memory : Memory) (below : List Operand) (d : ℕ) → statement_credit ≤ d → unit_in G memory.frames ≡ unit → IsSpot injection memory.types r b → IsLike memory.types b.type_number (type.Record ts)
         → Fragment declared G Here n (point injection memory (p.instructions.before + at) (operand.Place b ∷ below)) (sets_tag call n unit line c r s) (p.instructions.before + (at + length is)) (λ a. Inside untouched injection memory (Bare below a)) d (λ a. d)
     taken_moves line at c s ts r b is value code stands_is inside has_tag injection memory below d enough home spot described =
         fragment_bind_place {type = tag_record c.low c.high} {e = λ a. d + 8} (λ t. steady_bind (steady_selected call steady_call n unit line t 0) (λ v. steady_bind (steady_eval call steady_call n unit line (Read (entire c.value))) (λ z. steady_assign call steady_call n unit line v z)))
@@ -505,10 +513,10 @@ module _ (declared : Declarations) (G : Image) (untouched : Slots) (Here : Facts
 
 -- ---- what is known of the record
 
--- the type values of the record with variants
+-- the type values of the record with variants, but for initial states
 pub record IsTagRecord (c : Tagging) (s : Selection) (t : TypeValue) : Type 0 where
   pub types_of : ComponentTypes
-  pub is : t ≡ type.Record types_of
+  pub is : bare_of t ≡ type.Record types_of
   pub tag : type_among types_of s.tag ≡ Some (tag_record c.low c.high)
   pub variants : (i : ℕ) → i < variants_count s → (u : TypeValue) × (type_among types_of (variant_number s i) ≡ Some u) × IsTypeValue u
 
@@ -523,12 +531,14 @@ tag_record_is declared h c s types d t (ds, is_record, (selection, host_is, type
     let all : HasComponents types ds t = typed_components types d t ds typed is_record in
     let tag = typed_among types ds all.types_of s.tag (Record (next_denoter selection.tag no_denoter)) all.all selection.has_tag in
     let alone = tag_alone types selection.tag tag.0 tag.2 in
-    let same : alone.0 ≡ type.Ordinal c.low c.high = instances_are_one types selection.tag alone.0 (type.Ordinal c.low c.high) (typed_instance types selection.tag alone.0 alone.2) (types_are_instances types selection.tag (type.Ordinal c.low c.high) type_is) in
+    let same : bare_of alone.0 ≡ type.Ordinal c.low c.high = bare_instance types selection.tag alone.0 (type.Ordinal c.low c.high) alone.2 type_is in
     record {
-      types_of = all.types_of;
+      types_of = bare_each all.types_of;
       is = all.is;
-      tag = tag.1 ∙ ap Some (alone.1 ∙ ap (λ u. type.Record (type.next_component u type.no_component)) same);
-      variants = λ i less. component_there types ds all.types_of all.all (variant_number s i) (omega (arith, less, selection.all));
+      tag = among_bare all.types_of s.tag tag.0 tag.1 ∙ ap Some (alone.1 ∙ ap (λ u. type.Record (type.next_component u type.no_component)) same);
+      variants = λ i less.
+          let there = component_there types ds all.types_of all.all (variant_number s i) (omega (arith, less, selection.all)) in
+          (bare_of there.0, among_bare all.types_of (variant_number s i) there.0 there.1, bare_value there.0 there.2);
     }
 
 module _ {declared : Declarations} {G : Image} {untouched : Slots} {Here : Facts} (lasts : Lasts untouched Here) (ps : List Placement) (p : Placement) (texts : List (List ℕ)) (references : List Reference) (call : Handler) (steady_call : IsSteadyHandler call) (n : ℕ) (unit : List ℕ) (room : p.instructions.before + p.instructions.own ≤ length G.instructions)
@@ -539,9 +549,9 @@ module _ {declared : Declarations} {G : Image} {untouched : Slots} {Here : Facts
       → CodeStands G ps p references at (rs ++ (vs ++ (ts ++ (selected_code line (at + length rs + length vs + length ts) s ++ (cs ++ ls))))) → at + length rs + length vs + length ts + selected_length s + length cs + length ls < p.instructions.own
       → Moves declared G untouched Here ps p texts references call n unit at (at + length rs + length vs + length ts + selected_length s + length cs + length ls) (exec call n unit (AssignTag line c q s x))
   tag_parts line at c q s x h rs vs ts cs ls tagging valid is_place is_value is_tried is_change is_taken stands inside injection memory below d enough home =
-      fragment_bind_place {type = whole.type_value} {e = λ r. d + 8} (λ r. steady_bind (steady_assigns call steady_call n unit line (entire c.value) x) (λ a. steady_rest r))
-      (places q whole.valid whole.type_value whole.has_type line at rs is_place one.0 (omega (arith, inside)) injection memory below d (omega (arith, enough)) home) (λ r b v1 m1 grown1 routine1 spot1 described1.
-      let of : Describes m1.types b.type_number (type.Record known.types_of) = subst (λ t. Describes m1.types b.type_number t) known.is described1 in
+      fragment_bind_place {type = bare_of whole.type_value} {e = λ r. d + 8} (λ r. steady_bind (steady_assigns call steady_call n unit line (entire c.value) x) (λ a. steady_rest r))
+      (places q whole.valid (bare_of whole.type_value) whole.has_type line at rs is_place one.0 (omega (arith, inside)) injection memory below d (omega (arith, enough)) home) (λ r b v1 m1 grown1 routine1 spot1 described1.
+      let of : IsLike m1.types b.type_number (type.Record known.types_of) = subst (λ t. IsLike m1.types b.type_number t) known.is described1 in
       let home1 = unit_in-same G routine1 ∙ home in
       fragment_bind_bare {e = λ a. d + 8} (λ a. steady_rest r)
       (assigned_moves lasts ps p texts references call steady_call n unit scene expressions places line (at + length rs) (entire c.value) (kind.Ordinal host.Integer) (kind.Ordinal h) (ordinal_takes host.Integer h) x vs tagging.value valid is_value (omega (arith, inside)) two.0 v1 m1 (operand.Place b ∷ below) (d + 8) (omega (arith, enough)) home1) (λ a v2 m2 grown2 routine2.

@@ -3,13 +3,13 @@ use Rattle.std.proofs.Common.{◌≡◌, ◌∙◌, ℕ, pos, zero, suc, ◌+◌
 use Rattle.std.specs.Bool.{◌==◌}
 use Rattle.std.proofs.lemmas.List.{nil_from_length}
 use Rattle.std.proofs.lemmas.Option.{slice_get_past, slice_get_read}
-use Rattle.ep_gen_expr.specs.ExprCode.{bare, instr}
+use Rattle.ep_gen_expr.specs.ExprCode.{bare, instr, members_code, push}
 use Rattle.ep_gen_expr.specs.Growth.{Grows}
 use Rattle.ep_object.specs.declared.code.Instr.{Instr}
 use Rattle.ep_gen_expr.specs.declared.code.Code.{Code}
-use Rattle.std.proofs.lemmas.List.{map_more}
+use Rattle.std.proofs.lemmas.List.{map_more, take_more}
 use Rattle.ep_gen_expr.proofs.Forms.{grows_at, grows_none}
-use Rattle.ep_gen_unit.specs.TypeCode.{code_within, each_code, found_code, how_many, step_code}
+use Rattle.ep_gen_unit.specs.TypeCode.{code_within, each_code, found_code, how_many, start_code, step_code}
 use Rattle.std.specs.Prelude.{Bool, is_some}
 use Rattle.ep_typed.specs.Denoters.{found_of, host_within}
 use Rattle.ep_typed.specs.Trees as tree
@@ -19,6 +19,8 @@ use Rattle.ep_typed.specs.declared.denoter.FieldPart.{FieldPart, fold-FieldPart,
 use Rattle.ep_typed.specs.declared.denoter.VariantPart.{VariantPart, fold-VariantPart, out-VariantPart, roll-VariantPart, roll-out-VariantPart}
 use Rattle.ep_typed.specs.declared.denoter.Bound.{Bound}
 use Rattle.ep_typed.specs.declared.unit.UnitType.{UnitType}
+use Rattle.ep_typed.specs.declared.value.Value.{Value}
+use Rattle.ep_typed.specs.declared.value.Value.TheVariants as constant
 use Rattle.ep_object.specs.declared.op.TheConstants as op
 
 -- a test of `get` that was passed, and one that was not
@@ -60,6 +62,11 @@ module _ (types : List UnitType) (a : Code) where
   -- the base type of a set, and then the set
   pub by_base : {b c : Code} (left : ℕ) (base : tree.Denoter) → Grows a b (code_within types a.line (suc left) base) → Grows b c (bare b.line op.T_SET ∷ []) → Grows a c (code_within types a.line (suc left) (tree.Set base))
   by_base left base p q = grows_at (λ line. bare line op.T_SET ∷ []) p q
+
+  -- a type and its initial state, and then the type with it
+  pub by_start : {b c d : Code} (left : ℕ) (of : tree.Denoter) (value : Value) → Grows a b (code_within types a.line (suc left) of) → Grows b c (start_code b.line value) → Grows c d (bare c.line op.T_INIT ∷ []) → Grows a d (code_within types a.line (suc left) (tree.Initial of value))
+  by_start left of value p q r =
+      grows_at (λ line. start_code line value ++ bare line op.T_INIT ∷ []) p (grows_at (λ line. bare line op.T_INIT ∷ []) q r)
 
   -- the components of a record, and then the record
   pub by_components : {b c : Code} (left : ℕ) (ds : tree.Denoters) → Grows a b (each_code types a.line (code_within types a.line left) ds) → Grows b c (instr op.T_REC (pos (how_many ds)) 0 b.line ∷ []) → Grows a c (code_within types a.line (suc left) (tree.Record ds))
@@ -143,3 +150,19 @@ by_host types (suc left) k tuple t b le none is h =
   where
     one_less : suc left - 1 ≡ left
     one_less = omega arith
+
+-- ---- initial states that are sets
+
+starts_push : (line : ℕ) (ms : List ℕ) (m : ℕ) → start_code line (constant.Set (ms ++ m ∷ [])) ≡ start_code line (constant.Set ms) ++ push line (pos m) ∷ bare line op.SET_ADD ∷ []
+starts_push line ms m = ap (λ l. bare line op.SET_NONE ∷ l) (members_push line ms m)
+  where
+    members_push : (line : ℕ) (ms : List ℕ) (m : ℕ) → members_code line (ms ++ m ∷ []) ≡ members_code line ms ++ push line (pos m) ∷ bare line op.SET_ADD ∷ []
+    members_push line [] m = refl
+    members_push line (k ∷ ms) m = ap (λ l. push line (pos k) ∷ bare line op.SET_ADD ∷ l) (members_push line ms m)
+
+-- one more member of a slice, for `set_start_code`
+pub start_more : {a b c d : Code} (xs : List ℕ) (k : ℕ) → k < length xs → Grows a b (start_code a.line (constant.Set (take k xs))) → Grows b c (push b.line (pos (get_or xs k 0)) ∷ []) → Grows c d (bare c.line op.SET_ADD ∷ [])
+    → Grows a d (start_code a.line (constant.Set (take (k + 1) xs)))
+start_more {a = a} {d = d} xs k h p q r =
+    subst (λ l. Grows a d (start_code a.line (constant.Set l))) (sym (take_more xs k 0 h))
+    (subst (λ l. Grows a d l) (sym (starts_push a.line (take k xs) (get_or xs k 0))) (grows_at (λ line. push line (pos (get_or xs k 0)) ∷ bare line op.SET_ADD ∷ []) p (grows_at (λ line. bare line op.SET_ADD ∷ []) q r)))

@@ -184,7 +184,7 @@ module _ (u : TypedUnit) (o : Object) (is : IsProgramCode u o) (G : Image) (ps :
         → MakesFollow declared G (kept_slots declared G) Here p call n u
     makes {Here = Here} lasts injection memory below d enough home framed =
         let there : RunsInUnit G memory.frames (placed_object_unit p o) = record { calls = framed.calls; unit = ap (slice_get G.units) framed.unit ∙ stands.unit } in
-        fragment_to {to = p.instructions.before + (0 + begins_block)} (omega arith) (make_all_moves declared G (kept_slots declared G) Here lasts ps p o.references call steady_call n (placed_object_unit p o) free distinct scene.types_valid u.name is.name u.types types n 0 0 (made_by_unit u) (made_declared declared u.name (made_by_unit u) (with_variables (stmt_of u.start)) are_declared) (omega (arith, is.unit_slots, length-append (made_by_unit u) (with_variables (stmt_of u.start)))) makes_stand injection memory below d enough there)
+        fragment_to {to = p.instructions.before + (0 + begins_block)} (omega arith) (make_all_moves declared G (kept_slots declared G) Here lasts ps p o.references call steady_call n (placed_object_unit p o) free distinct scene.types_valid u.name is.name u.types types n 0 0 (made_by_unit u) (made_declared declared u.name (made_by_unit u) (with_variables (stmt_of u.start)) are_declared) (omega (arith, is.unit_slots, length-append (made_by_unit u) (with_variables (stmt_of u.start)))) makes_stand injection memory below d enough there (home ∙ sym is.name))
 
     -- each variable of the unit has a slot of its frame
     its_slot : (k : ℕ) (v : UnitVariable) → declared.variables (placed_object_unit p o).name k ≡ Some v → k < (placed_object_unit p o).slots

@@ -2,13 +2,13 @@
 use Rattle.std.proofs.Common.{◌≡◌, ℕ, pos, zero, suc, ◌+◌, ◌<◌, List, [], ◌∷◌, Some, Option, length, length-append, slice_get, sym, ap, ◌∙◌, subst, arith, IsTrue}
 use Rattle.std.proofs.lemmas.Option.{same_Some}
 use Rattle.ep_gen_expr.specs.ExprCode.{instr}
-use Rattle.ep_gen_expr.proofs.PlaceTypes.{valid_place, variable_type}
+use Rattle.ep_gen_expr.proofs.PlaceTypes.{has_bare_type, valid_place, variable_type}
 use Rattle.ep_gen_unit.specs.StmtCode.{IsBindCode, slot_of}
 use Rattle.ep_gen_unit.proofs.Makes.{VariablesAreFree}
 use Rattle.ep_gen_unit.proofs.Parts.{Moves, PlacesFollow, code_stands-parts}
 use Rattle.ep_object.specs.Activations.{InActivation}
 use Rattle.ep_object.specs.Follows.{point, Facts, Lasts, Fragment, Inside, Bare}
-use Rattle.ep_object.specs.Matching.{Slots, Memory, Injection, IsSpot, Describes, HasType, HasOwnType}
+use Rattle.ep_object.specs.Matching.{Slots, Memory, Injection, IsLike, IsSpot, HasType, HasOwnType, HasTypeUnder}
 use Rattle.ep_object.specs.Operands.{Operand}
 use Rattle.ep_object.specs.Operands as operand
 use Rattle.ep_object.specs.Placing.{Placement, CodeStands, HasDistinctNames}
@@ -24,10 +24,9 @@ use Rattle.ep_object.proofs.following.Fragments.{fragment_bind_bare, fragment_bi
 use Rattle.ep_object.proofs.matching.Growing.{unit_in-same}
 use Rattle.ep_object.proofs.rows.BindRow.{own_binds, unit_binds}
 use Rattle.ep_object.proofs.rows.MakeRow.{RunsInUnit}
-use Rattle.ep_typed.proofs.Denoters.{types_are_instances}
 use Rattle.ep_typed.proofs.Steady.{steady_bind, steady_exec, steady_names}
 use Rattle.ep_typed.specs.Calls.{Handler}
-use Rattle.ep_typed.specs.Denoters.{type_of}
+use Rattle.ep_typed.specs.Denoters.{bare_type_of}
 use Rattle.ep_typed.specs.Meaning.{exec, names}
 use Rattle.ep_typed.specs.Steady.{IsSteadyHandler}
 use Rattle.ep_typed.specs.Steps.{Component, change, spend, with_bound, with_own_bound}
@@ -46,12 +45,12 @@ module _ (declared : Declarations) (G : Image) (untouched : Slots) (Here : Facts
   BindsFollow =
       (v : Entire) (of : ℕ) (q : Place) (h : IsWith declared v of q) (line at : ℕ) → CodeStands G ps p references at (instr op.BIND (pos (slot_of v)) 0 line ∷ [])
       → (injection : Injection) (memory : Memory) (below : List Operand) (d : ℕ) → unit_in G memory.frames ≡ unit
-      → (c : Component) (x : PlaceOf) → IsSpot injection memory.types c x → Describes memory.types x.type_number (type.Record h.components)
+      → (c : Component) (x : PlaceOf) → IsSpot injection memory.types c x → IsLike memory.types x.type_number (type.Record h.components)
       → Fragment declared G Here n (point injection memory (p.instructions.before + at) (operand.Place x ∷ below)) (names call n unit v c) (p.instructions.before + at + 1) (λ a. Inside untouched injection memory (Bare below a)) d (λ a. d)
 
--- a variable of a denoter with this type value has the type value
-one_has : (ts : List UnitType) (w : UnitVariable) (t : TypeValue) → type_of ts (denoter_of w.denoter) ≡ Some t → (o : Option UnitVariable) → o ≡ Some w → (u : UnitVariable) → o ≡ Some u → type_of ts (denoter_of u.denoter) ≡ Some t
-one_has ts w t has o is u e = subst (λ (x : UnitVariable). type_of ts (denoter_of x.denoter) ≡ Some t) (same_Some w u (sym is ∙ e)) has
+-- a variable of a denoter with this type has the type
+one_has : (ts : List UnitType) (w : UnitVariable) (t : TypeValue) → bare_type_of ts (denoter_of w.denoter) ≡ Some t → (o : Option UnitVariable) → o ≡ Some w → (u : UnitVariable) → o ≡ Some u → HasTypeUnder ts u t
+one_has ts w t has o is u e = subst (λ (x : UnitVariable). HasTypeUnder ts x t) (same_Some w u (sym is ∙ e)) (has_bare_type ts w t has)
 
 module _ {declared : Declarations} {G : Image} {untouched kept : Slots} {first : Injection} {start : Memory} (ps : List Placement) (p : Placement) (references : List Reference) (call : Handler) (n : ℕ) (unit : List ℕ)
     (some_level : declared.levels ≡ [] → ⊥) (none_kept : (k : ℕ) → IsTrue (untouched.own k) → ⊥) where
@@ -62,7 +61,7 @@ module _ {declared : Declarations} {G : Image} {untouched kept : Slots} {first :
   own_binds_follow (OfRoutine zero k) of q h line at stands injection memory below d home c x spot described =
       let t : TypeValue = type.Record h.components in
       let w = h.variable in
-      let has : (u : UnitVariable) → slice_get (variables_up declared 0) k ≡ Some u → HasOwnType declared u t = λ u e. types_are_instances declared.routine_types (denoter_of u.denoter) t (one_has declared.routine_types w.0 t (w.2).1 (slice_get (variables_up declared 0) k) w.1 u e) in
+      let has : (u : UnitVariable) → slice_get (variables_up declared 0) k ≡ Some u → HasOwnType declared u t = λ u e. one_has declared.routine_types w.0 t (w.2).1 (slice_get (variables_up declared 0) k) w.1 u e in
       fragment_less {n = suc n} (omega arith) (fragment_effect {weight = 0} 0 (with_own_bound k c)
       (λ s matches here. own_binds declared G (p.instructions.before + at) line k below w.0 t stands.0 w.1 has (none_kept k) injection memory s matches here c x spot described)
       (omega arith) (omega arith) (omega arith))
@@ -81,8 +80,8 @@ module _ {declared : Declarations} {G : Image} {untouched : Slots} {Here : Facts
       let w = h.variable in
       let same : u ≡ x.name = (h.unmade).1 ∙ sym named in
       let there : declared.variables x.name k ≡ Some w.0 = subst (λ i. declared.variables i k ≡ Some w.0) same w.1 in
-      let typed : type_of (declared.types x.name) (denoter_of (w.0).denoter) ≡ Some t = subst (λ i. type_of (declared.types i) (denoter_of (w.0).denoter) ≡ Some t) same (w.2).1 in
-      let has : (v : UnitVariable) → declared.variables x.name k ≡ Some v → HasType declared x.name v t = λ v e. types_are_instances (declared.types x.name) (denoter_of v.denoter) t (one_has (declared.types x.name) w.0 t typed (declared.variables x.name k) there v e) in
+      let typed : bare_type_of (declared.types x.name) (denoter_of (w.0).denoter) ≡ Some t = subst (λ i. bare_type_of (declared.types i) (denoter_of (w.0).denoter) ≡ Some t) same (w.2).1 in
+      let has : (v : UnitVariable) → declared.variables x.name k ≡ Some v → HasType declared x.name v t = λ v e. one_has (declared.types x.name) w.0 t typed (declared.variables x.name k) there v e in
       subst (λ i. Fragment declared G Here n (point injection memory (p.instructions.before + at) (operand.Place y ∷ below)) (spend 1 (change (with_bound i k c))) (p.instructions.before + at + 1) (λ a. Inside untouched injection memory (Bare below a)) d (λ a. d)) (sym same)
       (fragment_less {n = suc n} (omega arith) (fragment_effect {weight = 0} 0 (with_bound x.name k c)
       (λ s matches here.
@@ -103,7 +102,7 @@ module _ {declared : Declarations} {G : Image} {untouched : Slots} {Here : Facts
       let size : length xs ≡ length code.0 + 1 = omega (arith, ap length code.2, length-append code.0 (bind ∷ [])) in
       let there : p.instructions.before + (at + length code.0) + 1 ≡ p.instructions.before + (at + length xs) = omega (arith, size) in
       fragment_bind_place {type = t} {e = λ c. d + 8} (λ c. steady_bind (steady_names call steady_call n unit v c) (λ a. steady_exec call steady_call n unit s))
-      (places q (valid_place declared (λ types e. type_of types e ≡ Some t) q h.place) t (variable_type declared scene.types_valid scene.own_types_valid t q h.place) line at code.0 code.1 parts.0 (omega (arith, size, inside)) injection memory below d (omega (arith, enough)) home)
+      (places q (valid_place declared (λ types e. bare_type_of types e ≡ Some t) q h.place) t (variable_type declared scene.types_valid scene.own_types_valid t q h.place) line at code.0 code.1 parts.0 (omega (arith, size, inside)) injection memory below d (omega (arith, enough)) home)
       (λ c x longer after grown routine spot described.
       fragment_bind_bare {e = λ a. d} (λ a. steady_exec call steady_call n unit s)
       (fragment_to there (fragment_credit {d = d} {e = λ a. d} (omega arith) (λ a. omega arith) (binds v of q h line (at + length code.0) parts.1 longer after below d (unit_in-same G routine ∙ home) c x spot described)))

@@ -1,13 +1,16 @@
 -- The code that elaborates types, which leaves the type's number. It has the order of the elaboration: the parts of an array
--- or a record in the order of the text, or the base type of a set, and then the array, the record or the set.
+-- or a record in the order of the text, the base type of a set, or a type and its initial state, and then the array, the record,
+-- the set or the type with the initial state.
 use Rattle.std.specs.Prelude.{ℕ, ℤ, pos, zero, suc, List, [], ◌∷◌, ◌++◌, length, slice_get, Option, Some, None}
-use Rattle.ep_gen_expr.specs.ExprCode.{bare, instr, push}
+use Rattle.ep_gen_expr.specs.ExprCode.{bare, instr, members_code, push}
 use Rattle.ep_object.specs.declared.code.Instr.{Instr}
 use Rattle.ep_typed.specs.Denoters.{definition_of, enumeration_type, required_type, subrange_type}
-use Rattle.ep_typed.specs.Trees.{Denoter, Required, Named, Subrange, Enumeration, Array, Record, Set, Denoters, no_denoter, next_denoter}
+use Rattle.ep_typed.specs.Trees.{Denoter, Required, Named, Subrange, Enumeration, Array, Record, Set, Initial, Denoters, no_denoter, next_denoter}
 use Rattle.ep_typed.specs.TypeValues as type
 use Rattle.ep_typed.specs.TypeValues.{TypeValue}
 use Rattle.ep_typed.specs.declared.unit.UnitType.{UnitType}
+use Rattle.ep_typed.specs.declared.value.Value.{Value}
+use Rattle.ep_typed.specs.declared.value.Value.TheVariants as constant
 use Rattle.ep_object.specs.declared.op.TheConstants as op
 
 -- the bounds of an ordinal type, and the type
@@ -22,6 +25,12 @@ simple_code line _ = []
 abbrev pub found_code : (Denoter → List Instr) → Option UnitType → List Instr
 found_code find None = []
 found_code find (Some t) = find (definition_of t)
+
+-- the code that leaves an initial state; a text is none so far
+abbrev pub start_code : ℕ → Value → List Instr
+start_code line (constant.Word z) = push line z ∷ []
+start_code line (constant.Text bytes) = []
+start_code line (constant.Set ms) = bare line op.SET_NONE ∷ members_code line ms
 
 -- how many denoters there are
 abbrev pub how_many : Denoters → ℕ
@@ -40,6 +49,7 @@ module _ (types : List UnitType) (line : ℕ) where
     step_code find (Array index component) = step_code find index ++ (step_code find component ++ bare line op.T_ARR ∷ [])
     step_code find (Record ds) = each_code find ds ++ instr op.T_REC (pos (how_many ds)) 0 line ∷ []
     step_code find (Set base) = step_code find base ++ bare line op.T_SET ∷ []
+    step_code find (Initial of value) = step_code find of ++ (start_code line value ++ bare line op.T_INIT ∷ [])
 
     -- one after another
     pub each_code : (Denoter → List Instr) → Denoters → List Instr

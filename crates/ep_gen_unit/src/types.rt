@@ -2,16 +2,18 @@
 
 ghost use Rattle.std.specs.Prelude.{◌≡◌, [], ◌∷◌, IfOk, OnOk, suc, is_some, length, map, Some};
 ghost use Rattle.ep_typed.specs.Denoters as denoters;
-ghost use Rattle.ep_typed.specs.Trees.{denoters as in_order, Array, Named, Record, Set};
+ghost use Rattle.ep_typed.specs.Trees.{denoters as in_order, Array, Initial, Named, Record, Set};
 ghost use Rattle.ep_typed.specs.Viewed.{bound_of, components_of, denoter_of, field_of, selector_of, variant_of, variants_of};
 ghost use Rattle.ep_gen_expr.specs.Growth.{Grows};
-ghost use Rattle.ep_gen_unit.specs.TypeCode.{code_within, each_code, ordinal_code, simple_code, type_code};
+ghost use Rattle.ep_gen_unit.specs.TypeCode.{code_within, each_code, ordinal_code, simple_code, start_code as code_of_start, type_code};
+ghost use Rattle.ep_typed.specs.declared.value.Value.TheVariants as constant;
 
 use ep_base::{Name, NoMemory};
 use ep_gen_expr::{Code, emit, field_number, place_number};
 use ep_object::op;
 use ep_typed::{
-    Bound, Denoter, FieldPart, RecordField, RequiredType, Selector, UnitType, Variant, VariantPart,
+    Bound, Denoter, FieldPart, RecordField, RequiredType, Selector, UnitType, Value, Variant,
+    VariantPart,
 };
 
 /// Appends the code that elaborates a denoter, in which names are those of this list of types, and leaves the type. What
@@ -47,6 +49,7 @@ fn elaborate_within(
         }
         Denoter::Record(part) => record_code(types, left, part, code),
         Denoter::Set(base) => set_code(types, left, base.get(), code),
+        Denoter::Initial(of, value) => initial_code(types, left, of.get(), value, code),
     }
 }
 
@@ -102,6 +105,23 @@ fn set_code(
 {
     elaborate_within(types, left, base, code)?;
     emit(code, op::T_SET, 0, 0)
+}
+
+/// Appends the code of a type with an initial state, behind those of the type and of the state.
+#[cycle(denoters)]
+fn initial_code(
+    types: &[UnitType],
+    left: usize,
+    of: &Denoter,
+    value: &Value,
+    code: &mut Code,
+) -> Result<(), NoMemory>
+    ensures { OnOk result (Grows code.old code.new
+        (code_within types.now code.old.line (suc left) (Initial (denoter_of of.now) value.now))) }
+{
+    elaborate_within(types, left, of, code)?;
+    start_code(value, code)?;
+    emit(code, op::T_INIT, 0, 0)
 }
 
 /// Appends the code of a record or a variant, behind that of its components.
@@ -245,6 +265,29 @@ fn variant_code(
     record_code(types, left, &variant.part, code)
 }
 
+/// Appends the code that leaves an initial state.
+fn start_code(value: &Value, code: &mut Code) -> Result<(), NoMemory>
+    ensures { OnOk result (Grows code.old code.new (code_of_start code.old.line value.now)) }
+{
+    match value {
+        Value::Word(number) => emit(code, op::PUSH, *number, 0),
+        Value::Text(_) => Ok(()),
+        Value::Set(members) => set_start_code(members.items(), code),
+    }
+}
+
+/// Appends the code that leaves a set: the empty set, to which each member is added.
+fn set_start_code(members: &[u8], code: &mut Code) -> Result<(), NoMemory>
+    ensures { OnOk result (Grows code.old code.new (code_of_start code.old.line (constant.Set members.now))) }
+{
+    emit(code, op::SET_NONE, 0, 0)?;
+    for member in members {
+        emit(code, op::PUSH, *member as i64, 0)?;
+        emit(code, op::SET_ADD, 0, 0)?;
+    }
+    Ok(())
+}
+
 /// How many components a field part gives. A number that a field cannot hold is refused.
 fn components_count(part: &FieldPart) -> Result<u32, NoMemory>
     ensures { IfOk result (λ k. k ≡ length (components_of part.now)) }
@@ -287,6 +330,7 @@ fn is_ordinal_within(types: &[UnitType], left: usize, denoter: &Denoter) -> bool
         Denoter::Subrange(host, _, _) => is_ordinal_within(types, left, host.get()),
         Denoter::Enumeration(names) => !names.items().is_empty(),
         Denoter::Array(_, _) | Denoter::Record(_) | Denoter::Set(_) => false,
+        Denoter::Initial(of, _) => is_ordinal_within(types, left, of.get()),
     }
 }
 

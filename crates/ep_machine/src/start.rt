@@ -4,7 +4,7 @@ ghost use Rattle.std.specs.Prelude.{◌≡◌, List, [], map, take, IfOk};
 ghost use Rattle.ep_machine.specs.Views.{state_at};
 ghost use Rattle.ep_memory.specs.Stores.{live};
 ghost use Rattle.ep_object.specs.declared.code.Image.{Image};
-ghost use Rattle.ep_object.specs.State.{first_live, first_state, empty_slots, first_types, first_segments, integer_entry, char_entry, boolean_entry, text_entry, pointer_entry};
+ghost use Rattle.ep_object.specs.State.{first_live, first_state, empty_slots, first_types, first_segments, integer_entry, char_entry, boolean_entry, text_entry, pointer_entry, plain};
 
 use crate::state::{Configuration, Memory};
 use ep_base::List;
@@ -26,9 +26,14 @@ fn frames(alloc: Global, units: &[ImageUnit]) -> Result<Vec<List<Option<Place>>>
 }
 
 fn entry(kind: Kind) -> TypeEntry
-    ensures { result ≡ record { kind = kind; size = 1 } }
+    ensures { result ≡ plain kind 1 }
 {
-    TypeEntry { kind, size: 1 }
+    TypeEntry {
+        kind,
+        size: 1,
+        start: None,
+        bare: None,
+    }
 }
 
 /// The types from the start.

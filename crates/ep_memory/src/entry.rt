@@ -3,7 +3,7 @@
 ghost use Rattle.std.specs.Prelude.{◌≡◌, length, replicate, Some, None, option_map, IfOk};
 ghost use Rattle.ep_memory.specs.Entries.{HasWords, with_word, with_words};
 ghost use Rattle.ep_memory.specs.Stores.{cell_in};
-ghost use Rattle.ep_object.specs.Places.{fresh_segment};
+ghost use Rattle.ep_object.specs.Places.{undefined_segment};
 ghost use Rattle.ep_object.specs.State.{undefined};
 
 use crate::answers::Cell;
@@ -71,7 +71,7 @@ impl Entry {
 
     /// A segment of so many undefined words.
     pub fn undefined(alloc: Global, type_number: u32, size: u32) -> Result<Entry, AllocError>
-        ensures { IfOk result (λ s. s ≡ Some (fresh_segment type_number size)) }
+        ensures { IfOk result (λ s. s ≡ Some (undefined_segment type_number size)) }
     {
         if size == 1 {
             return Ok(Entry {

@@ -2,7 +2,7 @@
 
 ghost use Rattle.std.specs.Prelude.{◌≡◌, ◌≤◌, ◌<◌, ◌+◌, ◌-◌, ◌^◌, min, length, replicate, Some, option_map, IfErr, OnOk};
 ghost use Rattle.ep_memory.specs.Stores.{Makes, cell_in, empty, end_of, given_back, held, live as live_words, next, put_into, segment_at, weight_in, with_charged, with_word_at, with_words_at, without, OnGone};
-ghost use Rattle.ep_object.specs.Places.{fresh_segment};
+ghost use Rattle.ep_object.specs.Places.{undefined_segment};
 ghost use Rattle.ep_object.specs.declared.state.Segment.{Segment};
 ghost use Rattle.ep_object.specs.State.{live_limit, undefined};
 
@@ -145,7 +145,7 @@ impl Memory {
     /// A segment of a type with so many undefined words. (Until `words` lends the words of all segments at once, this
     /// spares a caller a list of them.)
     pub fn make_undefined(&mut self, ty: u32, size: u32) -> Result<u64, MakeRefusal>
-        ensures made { Makes (fresh_segment ty size) self.old result self.new }
+        ensures made { Makes (undefined_segment ty size) self.old result self.new }
         ensures live { OnOk result (live_words self.new ≡ live_words self.old + (size + 1)) }
     {
         self.room(size as usize)?;

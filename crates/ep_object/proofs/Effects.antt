@@ -152,6 +152,7 @@ module _ (Holds : State → Type 0) where
     op_keeps G i (Some table.TSet) = mapped_keeps (with_typing s) types _
     op_keeps G i (Some table.TArr) = mapped_keeps (with_typing s) types _
     op_keeps G i (Some table.TRec) = mapped_keeps (with_typing s) types _
+    op_keeps G i (Some table.TInit) = mapped_keeps (with_typing s) types _
     op_keeps G i (Some table.Put) = mapped_keeps (with_events s) events _
     op_keeps G i (Some _) = tt
 

@@ -1,4 +1,5 @@
 pub mod Awaiting
+pub mod BareValues
 pub mod Beginning
 pub mod Changes
 pub mod Counts
@@ -8,12 +9,14 @@ pub mod Endings
 pub mod Growing
 pub mod HiddenWords
 pub mod Levels
+pub mod Likes
 pub mod Names
 pub mod NewSegments
 pub mod NewVariables
 pub mod OwnVariables
 pub mod SetValues
 pub mod Standing
+pub mod Starting
 pub mod TypeTables
 pub mod Values
 pub mod Words

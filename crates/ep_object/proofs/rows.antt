@@ -1,11 +1,13 @@
-pub mod ArgumentRows
 pub mod Answers
+pub mod ArgumentRows
 pub mod BindRow
 pub mod ChangeRows
 pub mod FieldRow
 pub mod FrameRows
 pub mod IndexRow
+pub mod InitialRow
 pub mod MakeRow
+pub mod Meeting
 pub mod NewTypes
 pub mod OwnRows
 pub mod PartRows

@@ -2,14 +2,12 @@
 use Rattle.std.specs.Prelude.{◌≡◌, ℕ, zero, suc, ◌+◌, ◌<◌, List, [], ◌∷◌, length, Option, Some, slice_get, ⊤}
 use Rattle.ep_object.specs.Follows.{Facts, StillRuns}
 use Rattle.ep_object.specs.Frames.{level_slots}
-use Rattle.ep_object.specs.Matching.{Memory, Injection, IsIn, Describes, MatchesSlot, own_slot, HasOwnType, Slots, Grown}
+use Rattle.ep_object.specs.Matching.{Memory, Injection, IsIn, IsLike, MatchesSlot, own_slot, HasOwnType, HasTypeUnder, Slots, Grown}
 use Rattle.ep_object.specs.State.{Frame}
 use Rattle.ep_object.specs.declared.state.Place.{Place}
-use Rattle.ep_typed.specs.Denoters.{IsInstance}
 use Rattle.ep_typed.specs.Steps.{Call, Variables, named_in, own_variable}
 use Rattle.ep_typed.specs.Steps as meaning
 use Rattle.ep_typed.specs.Valid.{Declarations, Level, variables_up}
-use Rattle.ep_typed.specs.Viewed.{denoter_of}
 use Rattle.ep_typed.specs.declared.unit.UnitType.{UnitType}
 use Rattle.ep_typed.specs.declared.unit.UnitVariable.{UnitVariable}
 use Rattle.ep_typed.specs.TypeValues.{TypeValue}
@@ -22,7 +20,7 @@ pub record OwnSlot (declared : Declarations) (injection : Injection) (s : meanin
   pub is : own_slot memory.frames k ≡ Some slot
   pub matches : MatchesSlot injection memory.types (own_variable 0 k s) slot
   pub described : (place : Place) (t : TypeValue) → slot ≡ Some place → HasOwnType declared v t
-      → Describes memory.types place.type_number t
+      → IsLike memory.types place.type_number t
 
 -- each variable has one of the routine in whose block names are declared so
 abbrev pub MatchesOwn : Declarations → Facts
@@ -32,14 +30,14 @@ MatchesOwn declared injection s memory =
 -- ---- the routines around
 
 -- A variable of a routine around has a slot among these: it holds a place of the variable once that is made, of a type that
--- describes the one of the declaration, and none before.
+-- describes the one of the declaration, but for initial states, and none before.
 pub record LevelSlot (types : List UnitType) (injection : Injection) (variables : Variables) (slots : List (Option Place))
     (memory : Memory) (k : ℕ) (v : UnitVariable) : Type 0 where
   pub slot : Option Place
   pub is : slice_get slots k ≡ Some slot
   pub matches : MatchesSlot injection memory.types (variables k) slot
-  pub described : (place : Place) (t : TypeValue) → slot ≡ Some place → IsInstance types (denoter_of v.denoter) t
-      → Describes memory.types place.type_number t
+  pub described : (place : Place) (t : TypeValue) → slot ≡ Some place → HasTypeUnder types v t
+      → IsLike memory.types place.type_number t
 
 -- The activation so many levels up from the one that runs has a frame so many levels up from the innermost call, in which
 -- the variables of this routine of a unit with these types match.

@@ -9,8 +9,8 @@ use Rattle.ep_typed.specs.Steps as meaning
 use Rattle.ep_typed.specs.Valid as kind
 use Rattle.ep_typed.specs.Valid.{Declarations, Kind}
 use Rattle.ep_typed.specs.Hosts.{Host, is_of_host}
-use Rattle.ep_typed.specs.TypeValues.{TypeValue, size_of}
-use Rattle.ep_object.specs.Matching.{Memory, at, Injection, Matches, Slots, own_slot, Grown, IsSpot, Describes, HasAt}
+use Rattle.ep_typed.specs.TypeValues.{TypeValue, bare_of, size_of}
+use Rattle.ep_object.specs.Matching.{Memory, at, Injection, Matches, Slots, own_slot, Grown, IsBare, IsLike, IsSpot, HasAt}
 use Rattle.ep_object.specs.Operands.{Operand, Word, Place, Text, Value, Set}
 use Rattle.ep_object.specs.Sets.{IsSet}
 use Rattle.ep_object.specs.Runs.{run, tick}
@@ -224,14 +224,16 @@ pub record TextOnTop (below : List Operand) (r : Result) (injection : Injection)
   pub is_text : r ≡ Bytes bytes
   pub is : operands ≡ Text bytes ∷ below
 
--- An operand is the value of a result of an array or record type: its type describes that one, and its words hold the value.
+-- An operand is the value of a result of an array or record type, which has no initial states: its type is the bare form of that
+-- one, and its words hold the value.
 pub record IsStructure (type : TypeValue) (r : Result) (injection : Injection) (memory : Memory) (operand : Operand) : Type 0 where
   pub value : ValueOf
   pub is_structure : r ≡ Structure type value
   pub type_number : ℕ
   pub words : List ℤ
   pub is : operand ≡ Value type_number words
-  pub described : Describes memory.types type_number type
+  pub bare : bare_of type ≡ type
+  pub described : IsBare memory.types type_number type
   pub sized : length words ≡ size_of type
   pub holds : HasAt injection type value (slice_get words) 0
 
@@ -257,13 +259,13 @@ OnTop kind.Bytes below r = TextOnTop below r
 OnTop (kind.Structured type) below r = StructureOnTop type below r
 OnTop (kind.Set host) below r = SetOnTop below r
 
--- a place of the variable on top, whose type describes the type value
+-- a place of the variable on top, whose type describes the type value, but for initial states
 pub record PlaceOnTop (type : TypeValue) (below : List Operand) (variable : Component) (injection : Injection)
     (memory : Memory) (operands : List Operand) : Type 0 where
   pub place : PlaceOf
   pub is : operands ≡ Place place ∷ below
   pub spot : IsSpot injection memory.types variable place
-  pub described : Describes memory.types place.type_number type
+  pub described : IsLike memory.types place.type_number type
 
 -- inside of a routine: memory has grown and these slots are untouched, the routine is the same, and the operands are such
 pub record Inside (untouched : Slots) (injection : Injection) (memory : Memory) (Then : Operands)

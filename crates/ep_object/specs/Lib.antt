@@ -19,6 +19,7 @@ pub mod Scene
 pub mod SetRows
 pub mod Sets
 pub mod Simulates
+pub mod Starts
 pub mod State
 pub mod Table
 pub mod Tells

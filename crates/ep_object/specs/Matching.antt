@@ -1,5 +1,5 @@
 -- When a state of the machine matches a state of the meaning.
-use Rattle.std.specs.Prelude.{◌≡◌, ℕ, ℤ, zero, suc, ◌+◌, ◌*◌, ◌≤◌, ◌<◌, ◌==◌, cond, ltb, Bool, true, false, IsTrue, List, [], ◌∷◌, length, slice_get, Option, Some, None, option_map, ⊤, if◌then◌else◌}
+use Rattle.std.specs.Prelude.{◌≡◌, ℕ, ℤ, zero, suc, ◌+◌, ◌*◌, ◌≤◌, ◌<◌, ◌==◌, cond, is_some, ltb, Bool, true, false, IsTrue, List, [], ◌∷◌, length, slice_get, Option, Some, None, option_map, ⊤, if◌then◌else◌}
 use Rattle.std.specs.List.{list_any}
 use Rattle.ep_outside.specs.Known.{IsPrefix}
 use Rattle.ep_typed.specs.Bounds.{count_of}
@@ -11,13 +11,15 @@ use Rattle.ep_typed.specs.Steps as meaning
 use Rattle.ep_typed.specs.Valid.{Declarations}
 use Rattle.ep_typed.specs.Viewed.{denoter_of}
 use Rattle.ep_typed.specs.Sets.{are_between}
-use Rattle.ep_typed.specs.TypeValues.{ComponentTypes, TypeValue}
+use Rattle.ep_typed.specs.TypeValues.{ComponentTypes, TypeValue, bare_of, is_started}
 use Rattle.ep_typed.specs.TypeValues as type
+use Rattle.ep_typed.specs.declared.unit.UnitType.{UnitType}
 use Rattle.ep_typed.specs.declared.unit.UnitVariable.{UnitVariable}
 use Rattle.ep_object.specs.Frames.{slots_over}
 use Rattle.ep_object.specs.Operands.{Operand}
 use Rattle.ep_object.specs.Sets.{IsSet, set_size, words_of_set}
-use Rattle.ep_object.specs.State.{Frames, Segments, TypeTable, State, text_entry, first_types, undefined}
+use Rattle.ep_object.specs.Starts.{words_kept}
+use Rattle.ep_object.specs.State.{Frames, Segments, TypeTable, State, bare_number, text_entry, first_types, undefined}
 use Rattle.ep_object.specs.Types.{ordinal_entry, array_entry, record_entry, set_entry}
 use Rattle.ep_object.specs.declared.code.Image.{Image}
 use Rattle.ep_object.specs.declared.code.ImageUnit.{ImageUnit}
@@ -48,7 +50,7 @@ at place operands memory trace =
       trace = trace;
     }
 
--- where an allocation is, and its type
+-- where an allocation is, and its type without initial states
 pub record Mapped : Type 0 where
   pub segment : ℕ
   pub type_value : TypeValue
@@ -72,23 +74,62 @@ abbrev pub IsOf : Injection → ℕ → TypeValue → Type 0
 IsOf injection zero t = ⊥
 IsOf injection (suc n) t = option_map (λ m. m.type_value) (slice_get injection n) ≡ Some t
 
-abbrev mutual
-  -- the type of this number describes the type value
-  pub Describes : TypeTable → ℕ → TypeValue → Type 0
-  Describes types n (type.Ordinal low high) = slice_get types n ≡ Some (ordinal_entry low high)
-  Describes types n type.Text = slice_get types n ≡ Some text_entry
-  Describes types n (type.Array low high of) =
-      (c : ℕ) × (slice_get types n ≡ Some (array_entry low high c (size_of (type.Array low high of)))) × Describes types c of
-  Describes types n (type.Record ts) =
-      (ps : List RecordPart) × (slice_get types n ≡ Some (record_entry ps (size_of (type.Record ts)))) × DescribeEach types 0 ps ts
-  Describes types n (type.Set low high) = slice_get types n ≡ Some (set_entry low high)
+-- ---- which types of the table are those of type values
 
-  -- components behind so many words have types that describe these, one for one, and stand one behind the other
-  pub DescribeEach : TypeTable → ℕ → List RecordPart → ComponentTypes → Type 0
-  DescribeEach types before [] type.no_component = ⊤
-  DescribeEach types before [] (type.next_component t ts) = ⊥
-  DescribeEach types before (p ∷ ps) type.no_component = ⊥
-  DescribeEach types before (p ∷ ps) (type.next_component t ts) = (p.offset ≡ before) × Describes types p.type_number t × DescribeEach types (before + size_of t) ps ts
+abbrev mutual
+  -- the type of this number is the bare form of the type value, which is the same type without initial states
+  pub IsBare : TypeTable → ℕ → TypeValue → Type 0
+  IsBare types n (type.Ordinal low high) = slice_get types n ≡ Some (ordinal_entry low high)
+  IsBare types n type.Text = slice_get types n ≡ Some text_entry
+  IsBare types n (type.Array low high of) =
+      (c : ℕ) × (slice_get types n ≡ Some (array_entry low high c (size_of (type.Array low high of)))) × IsBare types c of
+  IsBare types n (type.Record ts) =
+      (ps : List RecordPart) × (slice_get types n ≡ Some (record_entry ps (size_of (type.Record ts)))) × AreBare types 0 ps ts
+  IsBare types n (type.Set low high) = slice_get types n ≡ Some (set_entry low high)
+  IsBare types n (type.Initial of start) = IsBare types n of
+
+  -- components behind so many words have types that are the bare forms of these, one for one, and stand one behind the other
+  pub AreBare : TypeTable → ℕ → List RecordPart → ComponentTypes → Type 0
+  AreBare types before [] type.no_component = ⊤
+  AreBare types before [] (type.next_component t ts) = ⊥
+  AreBare types before (p ∷ ps) type.no_component = ⊥
+  AreBare types before (p ∷ ps) (type.next_component t ts) = (p.offset ≡ before) × IsBare types p.type_number t × AreBare types (before + size_of t) ps ts
+
+-- A type of the table that is of such a kind describes the type value: it has its size, begins with its initial state, and tells
+-- its bare form, which is another type exactly where an initial state is given to it or in it.
+pub record IsEntry (types : TypeTable) (n : ℕ) (t : TypeValue) (IsKind : Kind → Type 0) : Type 0 where
+  pub kind : Kind
+  pub bare : Option ℕ
+  pub stands : slice_get types n ≡ Some (record { kind = kind; size = size_of t; start = words_kept t; bare = bare })
+  pub is_kind : IsKind kind
+  pub form : IsBare types (bare_number n bare) t
+  pub other : is_some bare ≡ is_started t
+
+abbrev mutual
+  -- the kind of the type value, whose components have types that describe them, each with its own initial state
+  pub IsKindOf : TypeTable → TypeValue → Kind → Type 0
+  IsKindOf types (type.Ordinal low high) k = k ≡ kind.Ord low high
+  IsKindOf types type.Text k = k ≡ kind.Text
+  IsKindOf types (type.Array low high of) k = (c : ℕ) × (k ≡ kind.Array low high c) × IsEntry types c of (IsKindOf types of)
+  IsKindOf types (type.Record ts) k = (ps : List RecordPart) × (k ≡ kind.Record ps) × AreEntries types 0 ps ts
+  IsKindOf types (type.Set low high) k = k ≡ kind.Set low high
+  IsKindOf types (type.Initial of start) k = IsKindOf types of k
+
+  -- so do components behind so many words, one for one, which stand one behind the other
+  pub AreEntries : TypeTable → ℕ → List RecordPart → ComponentTypes → Type 0
+  AreEntries types before [] type.no_component = ⊤
+  AreEntries types before [] (type.next_component t ts) = ⊥
+  AreEntries types before (p ∷ ps) type.no_component = ⊥
+  AreEntries types before (p ∷ ps) (type.next_component t ts) =
+      (p.offset ≡ before) × IsEntry types p.type_number t (IsKindOf types t) × AreEntries types (before + size_of t) ps ts
+
+-- the type of this number describes the type value, with its initial states
+abbrev pub Describes : TypeTable → ℕ → TypeValue → Type 0
+Describes types n t = IsEntry types n t (IsKindOf types t)
+
+-- the type of this number describes a type value that is this one but for initial states
+abbrev pub IsLike : TypeTable → ℕ → TypeValue → Type 0
+IsLike types n t = (u : TypeValue) × (bare_of u ≡ t) × Describes types n u
 
 -- a component of a type: how many words are before it, and its type
 pub record Part : Type 0 where
@@ -112,6 +153,7 @@ part_of type.Text k = None
 part_of (type.Array low high of) k = cond (ltb k (count_of low high)) (Some (record { offset = k * size_of of; type_value = of })) None
 part_of (type.Record ts) k = part_among 0 ts k
 part_of (type.Set low high) k = None
+part_of (type.Initial of start) k = part_of of k
 
 -- the part at a path, of a part that begins behind so many words
 abbrev pub part_along : Option Part → List ℕ → Option Part
@@ -170,6 +212,7 @@ abbrev mutual
       (k : ℕ) → k < count_of low high → HasAt injection of (component_of value k) words (offset + k * size_of of)
   HasAt injection (type.Record ts) value words offset = HaveAt injection ts (component_of value) words offset
   HasAt injection (type.Set low high) value words offset = SetAt low high value words offset
+  HasAt injection (type.Initial of start) value words offset = HasAt injection of value words offset
 
   -- so do those of components, which stand one behind the other
   pub HaveAt : Injection → ComponentTypes → (ℕ → Value) → Words → ℕ → Type 0
@@ -197,14 +240,15 @@ abbrev pub IsRepresented : Injection → Segments → TypeTable → ℕ → Allo
 IsRepresented injection segments types segment allocation = IsRepresentedWhere allocation.ended injection segments types segment allocation
 
 -- A place is that of a variable: it is in the segment of the variable's allocation, where the path leads in that
--- allocation's type, and its type describes that of the variable. What the segment has does not matter, nor whether it has ended.
+-- allocation's type, and its type describes that of the variable, whatever initial states the two have. What the segment has
+-- does not matter, nor whether it has ended.
 pub record IsSpot (injection : Injection) (types : TypeTable) (variable : Component) (place : Place) : Type 0 where
   pub is_in : IsIn injection variable.allocation place.segment
   pub root : TypeValue
   pub is_of : IsOf injection variable.allocation root
   pub type_value : TypeValue
   pub leads : part_along (Some (all_of root)) variable.path ≡ Some (record { offset = place.offset; type_value = type_value })
-  pub described : Describes types place.type_number type_value
+  pub described : IsLike types place.type_number type_value
 
 -- a slot holds the place of a variable once it is made, and none before
 abbrev pub MatchesSlot : Injection → TypeTable → Option Component → Option Place → Type 0
@@ -226,13 +270,17 @@ slot_in frames unit k = slot_of_frame (slice_get frames.units unit) k
 abbrev pub own_slot : Frames → ℕ → Option (Option Place)
 own_slot frames k = slot_of_frame (slots_over frames.calls None) k
 
+-- the type value is that of a variable, under a list of types, without initial states
+abbrev pub HasTypeUnder : List UnitType → UnitVariable → TypeValue → Type 0
+HasTypeUnder types v t = (u : TypeValue) × IsInstance types (denoter_of v.denoter) u × (bare_of u ≡ t)
+
 -- the type value is that of a variable of the unit
 abbrev pub HasType : Declarations → List ℕ → UnitVariable → TypeValue → Type 0
-HasType declared unit v t = IsInstance (declared.types unit) (denoter_of v.denoter) t
+HasType declared unit v t = HasTypeUnder (declared.types unit) v t
 
 -- the type value is that of a variable of the routine in whose block names are declared so
 abbrev pub HasOwnType : Declarations → UnitVariable → TypeValue → Type 0
-HasOwnType declared v t = IsInstance declared.routine_types (denoter_of v.denoter) t
+HasOwnType declared v t = HasTypeUnder declared.routine_types v t
 
 -- The words of the hidden segments from this number on, those in which no allocation is, with one more for each.
 abbrev pub hidden_from : Injection → ℕ → Segments → ℕ
@@ -246,13 +294,14 @@ hidden_words injection segments = hidden_from injection 0 segments
 
 -- ---- matching, in groups: each is over what it reads, so that it goes on holding where nothing of that changes
 
--- each allocation that was made is in a segment of its own, and has the type that is told with it
+-- each allocation that was made is in a segment of its own, and has the type that is told with it, but for initial states
 pub record MatchesInjection (injection : Injection) (allocations : List Allocation)
     (segments : Segments) : Type 0 where
   pub made : length injection ≡ length allocations
   pub apart : (m n segment : ℕ) → IsIn injection m segment → IsIn injection n segment → m ≡ n
   pub within : (n segment : ℕ) → IsIn injection n segment → suc segment ≤ length segments
-  pub typed : (n : ℕ) (t : TypeValue) → IsOf injection n t → meaning.type_in (meaning.allocation_at allocations n) ≡ Some t
+  pub typed : (n : ℕ) (t : TypeValue) → IsOf injection n t
+      → option_map bare_of (meaning.type_in (meaning.allocation_at allocations n)) ≡ Some t
 
 -- the store: the segment of an allocation represents it, or both have ended
 pub record MatchesStore (injection : Injection) (allocations : List Allocation) (segments : Segments)
@@ -284,7 +333,7 @@ pub record MatchesTypes (elaborated : List TypeValue) (types : TypeTable) : Type
   pub known : (t : TypeValue) → IsTrue (list_any (same_type t) elaborated) → (n : ℕ) × Describes types n t
 
 -- The frame of a unit has the places of the variables that are declared, with types that describe those of the
--- declarations; its other slots match nothing.
+-- declarations, but for initial states; its other slots match nothing.
 pub record MatchesFrame (declared : Declarations) (injection : Injection) (variables : List ℕ → ℕ → Option Component)
     (units : List (List (Option Place))) (types : TypeTable) (unit : ℕ) (u : ImageUnit) : Type 0 where
   pub slots : List (Option Place)
@@ -294,12 +343,13 @@ pub record MatchesFrame (declared : Declarations) (injection : Injection) (varia
       → slice_get slots k ≡ Some slot → MatchesSlot injection types (variables u.name k) slot
   pub described : (k : ℕ) (v : UnitVariable) (place : Place) (t : TypeValue)
       → declared.variables u.name k ≡ Some v → slice_get slots k ≡ Some (Some place)
-      → HasType declared u.name v t → Describes types place.type_number t
+      → HasType declared u.name v t → IsLike types place.type_number t
 
--- the variable has a type of which this holds
+-- the variable has a type of which this holds, without its initial states
 pub record IsOfType (allocations : List Allocation) (variable : Component) (Holds : TypeValue → Type 0) : Type 0 where
   pub type_value : TypeValue
-  pub is : meaning.type_along (meaning.type_in (meaning.allocation_at allocations variable.allocation)) variable.path ≡ Some type_value
+  pub is : option_map bare_of (meaning.type_along (meaning.type_in (meaning.allocation_at allocations variable.allocation)) variable.path)
+      ≡ Some type_value
   pub holds : Holds type_value
 
 -- the slots of units: the frame of each unit matches, and a variable has the type of its declaration
@@ -318,12 +368,13 @@ pub record MatchesOutside (injection : Injection) (allocations : List Allocation
   pub lives : meaning.ended_in (meaning.allocation_at allocations 2) ≡ false
 
 -- The counts: no more words live than were counted, where a type value counts 4 for each of its words; hidden segments
--- take no more than was set aside; and no more types were added than were elaborated.
+-- take no more than was set aside; and no more types were added than two for each that was elaborated, of which one is its bare
+-- form.
 pub record MatchesCounts (injection : Injection) (resources : Resources) (segments : Segments)
     (types : TypeTable) (live : ℕ) : Type 0 where
   pub words : live ≤ resources.allocated + hidden_words injection segments + 4 * resources.typed
   pub hidden : hidden_words injection segments ≤ resources.reserved
-  pub number : length types ≤ length resources.types + 5
+  pub number : length types ≤ 2 * length resources.types + 5
 
 -- the state of the meaning matches the machine's memory by the injection, where these variables are declared
 pub record Matches (declared : Declarations) (G : Image) (injection : Injection) (s : meaning.State)

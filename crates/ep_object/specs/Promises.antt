@@ -1,7 +1,7 @@
 -- What a routine promises to the code that calls it, whoever made either. It is said over the `Call` instruction, from
 -- before it to after the instruction that leaves the routine, whose tick may have an effect as any other.
 use Rattle.std.specs.Prelude.{◌≡◌, ℕ, ℤ, pos, ◌+◌, ◌*◌, ◌≤◌, ◌⊎◌, IsTrue, List, [], ◌∷◌, Option, Some, None, slice_get, ⊤}
-use Rattle.ep_typed.specs.Denoters.{type_of}
+use Rattle.ep_typed.specs.Denoters.{bare_type_of}
 use Rattle.ep_typed.specs.Viewed.{denoter_of}
 use Rattle.ep_typed.specs.declared.interface.Formal.{Formal}
 use Rattle.ep_typed.specs.declared.interface.FormalMode.{FormalMode}
@@ -10,7 +10,7 @@ use Rattle.ep_typed.specs.declared.unit.UnitType.{UnitType}
 use Rattle.ep_typed.specs.TypeValues.{TypeValue}
 use Rattle.ep_object.specs.Follows.{end_of, IsStructure, Operands, point, state_at, Fragment, Since, Lands, Inside, GivesUp}
 use Rattle.ep_object.specs.Activations.{IsCallable}
-use Rattle.ep_object.specs.Matching.{Memory, Injection, Matches, IsSpot, Describes, kept_slots}
+use Rattle.ep_object.specs.Matching.{Memory, Injection, Matches, IsLike, IsSpot, kept_slots}
 use Rattle.ep_object.specs.Operands.{Operand, Place, Set, Text, Word}
 use Rattle.ep_object.specs.Sets.{IsSet}
 use Rattle.ep_object.specs.Runs.{run, unit_in}
@@ -33,7 +33,7 @@ use Rattle.ep_typed.specs.Valid.{Declarations, IsOfKind, Kind, Level}
 use Rattle.ep_typed.specs.declared.interface.RoutineEntry.{RoutineEntry}
 use Rattle.ep_typed.specs.declared.interface.RoutineResult.{RoutineResult}
 
--- how a formal parameter takes its argument: a value of a kind, or a variable of a type
+-- how a formal parameter takes its argument: a value of a kind, or a variable of a type, but for initial states
 pub data Passing : Type 0 where
   ByValue : (kind : Kind) → Passing
   ByReference : (type : TypeValue) → Passing
@@ -42,8 +42,8 @@ pub data Passing : Type 0 where
 abbrev pub IsPassed : List UnitType → FormalMode → Formal → Passing → Type 0
 IsPassed types mode.Value f (ByValue k) = IsOfKind k types (denoter_of f.denoter)
 IsPassed types mode.ProtectedValue f (ByValue k) = IsOfKind k types (denoter_of f.denoter)
-IsPassed types mode.Variable f (ByReference t) = type_of types (denoter_of f.denoter) ≡ Some t
-IsPassed types mode.ProtectedVariable f (ByReference t) = type_of types (denoter_of f.denoter) ≡ Some t
+IsPassed types mode.Variable f (ByReference t) = bare_type_of types (denoter_of f.denoter) ≡ Some t
+IsPassed types mode.ProtectedVariable f (ByReference t) = bare_type_of types (denoter_of f.denoter) ≡ Some t
 IsPassed types mode f p = ⊥
 
 -- one for each, in order
@@ -66,7 +66,7 @@ IsArgument injection memory (ByValue k) (Value r) o = IsValueOf injection memory
 IsArgument injection memory (ByValue k) (Variable n) o = ⊥
 IsArgument injection memory (ByReference t) (Value r) o = ⊥
 IsArgument injection memory (ByReference t) (Variable n) o =
-    (p : PlaceOf) × (o ≡ Place p) × IsSpot injection memory.types n p × Describes memory.types p.type_number t
+    (p : PlaceOf) × (o ≡ Place p) × IsSpot injection memory.types n p × IsLike memory.types p.type_number t
 
 -- the operands are those of the arguments, one for each formal and the first lowest, on the ones below
 abbrev pub AreArguments : Injection → Memory → List Passing → List Argument → List Operand → List Operand

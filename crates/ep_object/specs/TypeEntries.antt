@@ -1,5 +1,5 @@
 -- Which types are equal, and what a hasher gets of a type: the laws by which a table finds a type by hash.
-use Rattle.std.specs.Prelude.{◌≡◌, ℕ, ℤ, Bool, true, false, IsTrue, int_le, ◌==◌, ◌&&◌, List, [], ◌∷◌, ◌++◌}
+use Rattle.std.specs.Prelude.{◌≡◌, ℕ, ℤ, Bool, true, false, IsTrue, int_le, ◌==◌, ◌&&◌, List, [], ◌∷◌, ◌++◌, Option, Some, None}
 use Rattle.std.proofs.Common.{refl, ap, subst, arith}
 use Rattle.std.proofs.lemmas.Bool.Decides.{nat_tests}
 use Rattle.std.proofs.lemmas.Int.{ints}
@@ -7,7 +7,7 @@ use Rattle.std.specs.Bool.{Decides}
 use Rattle.std.specs.Cmp.{IsEquivalence, decided, on_equiv}
 use Rattle.std.specs.Hash as fed
 use Rattle.std.specs.Hash.{HashWrites, same_Alike, on_Alike}
-use Rattle.ep_object.specs.Types.{same_kind, same_parts}
+use Rattle.ep_object.specs.Types.{same_bare, same_begin, same_entry, same_kind, same_parts, same_word, same_words}
 use Rattle.ep_object.specs.declared.state.Kind.{Kind}
 use Rattle.ep_object.specs.declared.state.Kind.TheVariants.{Ord, Pointer, Text, Array, Record, Set}
 use Rattle.ep_object.specs.declared.state.RecordPart.{RecordPart}
@@ -29,6 +29,20 @@ kind_writes Text = fed.u8 1
 kind_writes (Array lo hi c) = fed.i64 lo ++ fed.i64 hi ++ fed.u32 c
 kind_writes (Record ps) = parts_writes ps
 kind_writes (Set lo hi) = fed.u8 2 ++ fed.i64 lo ++ fed.i64 hi
+
+-- words, one after another
+abbrev pub words_writes : List ℤ → HashWrites
+words_writes [] = []
+words_writes (w ∷ ws) = fed.i64 w ++ words_writes ws
+
+-- those with which a type begins, where it keeps any
+abbrev pub begin_writes : Option (List ℤ) → HashWrites
+begin_writes None = []
+begin_writes (Some ws) = words_writes ws
+
+-- the kind and those words; of the bare form nothing, which follows from them for nearly all types
+abbrev pub entry_writes : TypeEntry → HashWrites
+entry_writes e = kind_writes e.kind ++ begin_writes e.start
 
 -- ---- kinds that are told to be the same are
 
@@ -129,16 +143,89 @@ kind-refl (Array lo hi c) = both_true (same_bounds lo hi lo hi) (c == c) (bounds
 kind-refl (Record ps) = parts-refl ps
 kind-refl (Set lo hi) = bounds-refl lo hi
 
+-- ---- words to begin with, and bare forms
+
+words_are : (ws zs : List ℤ) → IsTrue (same_words ws zs) → ws ≡ zs
+words_are [] [] t = refl
+words_are [] (z ∷ zs) t = cc
+words_are (w ∷ ws) [] t = cc
+words_are (w ∷ ws) (z ∷ zs) t =
+    let p = both (same_word w z) (same_words ws zs) t in
+    let first = same_number w z p.0 in
+    let rest = words_are ws zs p.1 in
+    λ i. first i ∷ rest i
+
+pub begins_are : (a b : Option (List ℤ)) → IsTrue (same_begin a b) → a ≡ b
+begins_are None None t = refl
+begins_are None (Some zs) t = cc
+begins_are (Some ws) None t = cc
+begins_are (Some ws) (Some zs) t = ap Some (words_are ws zs t)
+
+pub bares_are : (a b : Option ℕ) → IsTrue (same_bare a b) → a ≡ b
+bares_are None None t = refl
+bares_are None (Some c) t = cc
+bares_are (Some b) None t = cc
+bares_are (Some b) (Some c) t = ap Some (same_count b c t)
+
+word-refl : (w : ℤ) → IsTrue (same_word w w)
+word-refl w = grind (arith, ints)
+
+words-refl : (ws : List ℤ) → IsTrue (same_words ws ws)
+words-refl [] = refl
+words-refl (w ∷ ws) = both_true (same_word w w) (same_words ws ws) (word-refl w) (words-refl ws)
+
+begin-refl : (a : Option (List ℤ)) → IsTrue (same_begin a a)
+begin-refl None = refl
+begin-refl (Some ws) = words-refl ws
+
+bare-refl : (a : Option ℕ) → IsTrue (same_bare a a)
+bare-refl None = refl
+bare-refl (Some b) = count-refl b
+
 -- ---- the laws of a table
 
--- whether kinds are told to be the same decides whether they are
-kind_decides : (k l : Kind) → Decides (same_kind k l) (k ≡ l)
-kind_decides k l = (kinds_are k l, λ same. subst (λ m. same_kind k m ≡ true) same (kind-refl k))
+-- what a type has besides its size, which follows
+pub record Told : Type 0 where
+  pub kind : Kind
+  pub start : Option (List ℤ)
+  pub bare : Option ℕ
 
--- being of the same kind is an equivalence
-pub entries_equivalent : IsEquivalence (λ (a b : TypeEntry). same_kind a.kind b.kind)
-entries_equivalent = on_equiv (λ e. e.kind) (decided same_kind kind_decides)
+abbrev pub told : TypeEntry → Told
+told e = record { kind = e.kind; start = e.start; bare = e.bare }
 
--- types of the same kind have the same hash
-pub entries_alike : (a b : TypeEntry) → same_kind a.kind b.kind ≡ true → kind_writes a.kind ≡ kind_writes b.kind
-entries_alike = (on_Alike (λ (e : TypeEntry). e.kind) (same_Alike kind_writes kind_decides)).fed
+abbrev pub same_told : Told → Told → Bool
+same_told d e = same_kind d.kind e.kind && (same_begin d.start e.start && same_bare d.bare e.bare)
+
+-- what is told to be the same is
+pub told_are : (d e : Told) → IsTrue (same_told d e) → d ≡ e
+told_are d e t =
+    let p = both (same_kind d.kind e.kind) (same_begin d.start e.start && same_bare d.bare e.bare) t in
+    let q = both (same_begin d.start e.start) (same_bare d.bare e.bare) p.1 in
+    let k = kinds_are d.kind e.kind p.0 in
+    let s = begins_are d.start e.start q.0 in
+    let b = bares_are d.bare e.bare q.1 in
+    λ i. record { kind = k i; start = s i; bare = b i }
+
+pub told-refl : (e : Told) → IsTrue (same_told e e)
+told-refl e =
+    both_true (same_kind e.kind e.kind) (same_begin e.start e.start && same_bare e.bare e.bare) (kind-refl e.kind)
+    (both_true (same_begin e.start e.start) (same_bare e.bare e.bare) (begin-refl e.start) (bare-refl e.bare))
+
+-- a type is the same as itself
+pub entry-refl : (e : TypeEntry) → IsTrue (same_entry e e)
+entry-refl e = told-refl (told e)
+
+-- whether types are told to be the same decides whether they are
+told_decides : (d e : Told) → Decides (same_told d e) (d ≡ e)
+told_decides d e = (told_are d e, λ same. subst (λ x. same_told d x ≡ true) same (told-refl d))
+
+-- being the same type is an equivalence
+pub entries_equivalent : IsEquivalence same_entry
+entries_equivalent = on_equiv told (decided same_told told_decides)
+
+abbrev told_writes : Told → HashWrites
+told_writes e = kind_writes e.kind ++ begin_writes e.start
+
+-- the same types have the same hash
+pub entries_alike : (a b : TypeEntry) → same_entry a b ≡ true → entry_writes a ≡ entry_writes b
+entries_alike = (on_Alike told (same_Alike told_writes told_decides)).fed

@@ -1,9 +1,10 @@
 //! Which types are equal, and what a hasher gets of a type, so that a table finds it by hash.
 
 ghost use Rattle.std.specs.Prelude.{◌≡◌, fold};
-ghost use Rattle.ep_object.specs.TypeEntries.{parts_writes};
-ghost use Rattle.ep_object.specs.Types.{same_kind as is_same, same_parts as are_same};
+ghost use Rattle.ep_object.specs.TypeEntries.{begin_writes, kind_writes, parts_writes, words_writes};
+ghost use Rattle.ep_object.specs.Types.{same_bare as is_same_bare, same_begin as is_same_begin, same_kind as is_same, same_parts as are_same, same_words as are_same_words};
 
+use crate::code::Words;
 use crate::state::{Kind, RecordPart, TypeEntry};
 use std::hash::{Hash, Hasher};
 
@@ -40,6 +41,62 @@ fn same_kind(a: &Kind, b: &Kind) -> bool
     }
 }
 
+/// Whether two lists of words are the same.
+#[tactic(auto, using(crate::proofs::TypeEntries::other_counts))]
+fn same_words(words: &[i64], others: &[i64]) -> bool
+    ensures { result ≡ are_same_words words.now others.now }
+{
+    if words.len() != others.len() {
+        return false;
+    }
+    for place in 0..words.len() {
+        if words[place] != others[place] {
+            return false;
+        }
+    }
+    true
+}
+
+/// Whether types begin with the same words.
+fn same_begin(a: &Option<Words>, b: &Option<Words>) -> bool
+    ensures { result ≡ is_same_begin a.now b.now }
+{
+    match (a, b) {
+        (None, None) => true,
+        (Some(words), Some(others)) => same_words(words.items(), others.items()),
+        _ => false,
+    }
+}
+
+/// Whether they have the same bare form, or none.
+fn same_bare(a: Option<u32>, b: Option<u32>) -> bool
+    ensures { result ≡ is_same_bare a b }
+{
+    match (a, b) {
+        (None, None) => true,
+        (Some(a), Some(b)) => a == b,
+        _ => false,
+    }
+}
+
+/// A hasher gets the words with which a type begins.
+fn hash_words<H: Hasher>(words: &[i64], state: &mut H)
+    ensures { state.new ≡ fold H.write state.old (words_writes words.now) }
+{
+    for place in 0..words.len() {
+        state.write_i64(words[place]);
+    }
+}
+
+/// Where there are any.
+fn hash_begin<H: Hasher>(begin: &Option<Words>, state: &mut H)
+    ensures { state.new ≡ fold H.write state.old (begin_writes begin.now) }
+{
+    if let Some(words) = begin {
+        hash_words(words.items(), state);
+    }
+}
+
 /// A hasher gets the numbers of the types of components.
 fn hash_parts<H: Hasher>(parts: &[RecordPart], state: &mut H)
     ensures { state.new ≡ fold H.write state.old (parts_writes parts.now) }
@@ -49,17 +106,45 @@ fn hash_parts<H: Hasher>(parts: &[RecordPart], state: &mut H)
     }
 }
 
-// The size of a type follows from its kind, so entries are found by their kinds.
+/// And nearly all by which kinds differ.
+fn hash_kind<H: Hasher>(kind: &Kind, state: &mut H)
+    ensures { state.new ≡ fold H.write state.old (kind_writes kind.now) }
+{
+    match kind {
+        Kind::Ord(lo, hi) => {
+            state.write_i64(*lo);
+            state.write_i64(*hi);
+        }
+        Kind::Pointer => state.write_u8(0),
+        Kind::Text => state.write_u8(1),
+        Kind::Array(lo, hi, component) => {
+            state.write_i64(*lo);
+            state.write_i64(*hi);
+            state.write_u32(*component);
+        }
+        Kind::Record(parts) => hash_parts(parts.items(), state),
+        Kind::Set(lo, hi) => {
+            state.write_u8(2);
+            state.write_i64(*lo);
+            state.write_i64(*hi);
+        }
+    }
+}
+
+// The size of a type follows from its kind, so entries are found by what else they have.
 impl PartialEq for TypeEntry {
     ghost use Rattle.ep_object.specs.TypeEntries.{entries_equivalent};
+    ghost use Rattle.ep_object.specs.Types.{same_entry};
     ghost use Rattle.std.specs.Cmp.{partial_equiv_from_equiv};
 
-    ghost eq = { λ a b. is_same a.kind b.kind };
+    ghost eq = { λ a b. same_entry a b };
 
     ghost laws = { partial_equiv_from_equiv entries_equivalent };
 
     fn eq(&self, other: &TypeEntry) -> bool {
         same_kind(&self.kind, &other.kind)
+            && same_begin(&self.start, &other.start)
+            && same_bare(self.bare, other.bare)
     }
 }
 
@@ -71,31 +156,14 @@ impl Eq for TypeEntry {
 
 impl Hash for TypeEntry {
     ghost use Rattle.ep_object.specs.TypeEntries.{entries_alike};
-    ghost use Rattle.ep_object.specs.TypeEntries.{kind_writes};
+    ghost use Rattle.ep_object.specs.TypeEntries.{entry_writes};
 
-    ghost hash_input = { λ e. kind_writes e.kind };
+    ghost hash_input = { λ e. entry_writes e };
 
     ghost respects_eq = { entries_alike };
 
     fn hash<H: Hasher>(&self, state: &mut H) {
-        match &self.kind {
-            Kind::Ord(lo, hi) => {
-                state.write_i64(*lo);
-                state.write_i64(*hi);
-            }
-            Kind::Pointer => state.write_u8(0),
-            Kind::Text => state.write_u8(1),
-            Kind::Array(lo, hi, component) => {
-                state.write_i64(*lo);
-                state.write_i64(*hi);
-                state.write_u32(*component);
-            }
-            Kind::Record(parts) => hash_parts(parts.items(), state),
-            Kind::Set(lo, hi) => {
-                state.write_u8(2);
-                state.write_i64(*lo);
-                state.write_i64(*hi);
-            }
-        }
+        hash_kind(&self.kind, state);
+        hash_begin(&self.start, state);
     }
 }

@@ -1,8 +1,11 @@
+mod ArrayTypes
+mod Doing
 mod Elements
 mod Endings
 mod IndexTypes
 mod Indexing
-mod Making
+mod InitialStates
+mod Meeting
 mod RecordTypes
 mod SetBits
 mod TypeTables

@@ -1,15 +1,18 @@
 -- Record types, for the contracts of src/records.rt.
-use Rattle.std.proofs.Common.{◌≡◌, ℕ, ℤ, pos, zero, suc, ◌+◌, ◌-◌, ◌<◌, ◌≤◌, List, [], ◌∷◌, ◌++◌, Option, Some, None, MatchOption, false, length, leb, reverse, take, drop, get_or, option_map, add-one, refl, ap, subst, ◌∙◌, arith}
+use Rattle.std.proofs.Common.{◌≡◌, ℕ, ℤ, pos, zero, suc, ◌+◌, ◌-◌, ◌<◌, ◌≤◌, ◌||◌, List, [], ◌∷◌, ◌++◌, Bool, Option, Some, None, MatchOption, true, false, length, leb, reverse, take, drop, get_or, option_map, add-one, refl, sym, ap, subst, ◌∙◌, arith}
 use Rattle.std.proofs.Math.Seq.{take-suc, drop-cons}
 use Rattle.std.proofs.lemmas.List.{reverse-append}
-use Rattle.ep_object.specs.Effects.{Work, weighing, having_weighed}
+use Rattle.ep_object.specs.Effects.{weighing, having_weighed}
 use Rattle.ep_memory.specs.Stores.{Store}
 use Rattle.ep_object.specs.Operands.{Operand, Word, Place, Text, Value, Set, word}
 use Rattle.ep_object.specs.State.{TypeTable, size_limit}
-use Rattle.ep_object.specs.Types.{Numbered, lowest_first, and_numbered, entry_of, entries_of, words_behind, record_of, rec_row}
+use Rattle.ep_object.specs.Types.{Numbered, and_numbered, any_bare, any_start, bare_forms, entries_of, entry_of, lowest_first, parts_behind, rec_row, record_entry, record_of, starts_joined, words_behind}
+use Rattle.ep_object.specs.declared.state.RecordPart.{RecordPart}
+use Rattle.ep_object.specs.declared.state.TypeEntry.{TypeEntry}
 use Rattle.ep_rows.specs.Parts.{typing}
-use Rattle.ep_rows.specs.Records.{pushed, words_of_all, IsPutBack}
+use Rattle.ep_rows.specs.Records.{IsPutBack, bare_of_all, bare_parts_of_all, has_bare, has_start, one_passes, passes, pushed, start_of_all, starts_of_all, words_of_all}
 use Rattle.ep_rows.specs.Steps.{IsDone}
+use Rattle.ep_rows.proofs.Doing.{not_begun}
 use Rattle.ep_rows.specs.declared.step.Step.{Step}
 use Rattle.ep_rows.specs.declared.step.Step.TheVariants.{Next, Goto, Error, Broken, Full, NoMemory, Rare}
 
@@ -95,6 +98,76 @@ next_fits types numbers i before d n less within same there =
     go None h = absurd h
     go (Some ns) h = omega (arith, not_fewer ns (before + n.entry.size), h)
 
+-- ---- what one of the types has, for `any_bare` and `any_start`
+
+-- one of the words numbers a type that passes where one of the types passes
+one_is : (p : TypeEntry → Bool) (one : List Numbered → Bool)
+    → one [] ≡ false → ((n : Numbered) (ns : List Numbered) → one (n ∷ ns) ≡ (p n.entry || one ns))
+    → (types : TypeTable) (zs : List ℤ) (ns : List Numbered) → entries_of types zs ≡ Some ns → one_passes p types zs ≡ one ns
+one_is p one none more types [] ns h =
+    let e : ◌≡◌ {A = List Numbered} [] ns = cc in
+    sym none ∙ ap one e
+one_is p one none more types (z ∷ zs) ns h = go (entry_of types z) (entries_of types zs) h (one_is p one none more types zs)
+  where
+    go : (o : Option Numbered) (os : Option (List Numbered)) → and_numbered o os ≡ Some ns
+        → ((ms : List Numbered) → os ≡ Some ms → one_passes p types zs ≡ one ms) → (passes p o || one_passes p types zs) ≡ one ns
+    go None os e rest = cc
+    go (Some n) None e rest = cc
+    go (Some n) (Some ms) e rest =
+        let same : n ∷ ms ≡ ns = cc in
+        ap (λ b. p n.entry || b) (rest ms refl) ∙ (sym (more n ms) ∙ ap one same)
+
+bare_is : (types : TypeTable) (zs : List ℤ) (ns : List Numbered) → entries_of types zs ≡ Some ns → one_passes has_bare types zs ≡ any_bare ns
+bare_is = one_is has_bare any_bare refl (λ n ns. refl)
+
+start_is : (types : TypeTable) (zs : List ℤ) (ns : List Numbered) → entries_of types zs ≡ Some ns → one_passes has_start types zs ≡ any_start ns
+start_is = one_is has_start any_start refl (λ n ns. refl)
+
+-- ---- the record of all types, for `record_bare` and `record_start`
+
+module _ (types : TypeTable) (zs : List ℤ) (within : MatchOption (words_of_all types zs) ⊥ (λ words. words ≤ size_limit)) where
+  -- what holds where all words number types
+  of_entries : (P : Type 0) → ((ns : List Numbered) → entries_of types zs ≡ Some ns → P) → P
+  of_entries P f = go (entries_of types zs) refl within
+    where
+      go : (o : Option (List Numbered)) → entries_of types zs ≡ o → MatchOption (option_map (words_behind 0) o) ⊥ (λ words. words ≤ size_limit) → P
+      go None e h = absurd h
+      go (Some ns) e h = f ns e
+
+  -- the record is its own bare form
+  pub no_bare : (size : ℕ) → one_passes has_bare types zs ≡ false → bare_of_all types zs size ≡ Some None
+  no_bare size none =
+      of_entries (bare_of_all types zs size ≡ Some None) (λ ns e.
+      let no : any_bare ns ≡ false = sym (bare_is types zs ns e) ∙ none in
+      rw (e, no) refl)
+
+  -- it has another one
+  pub other_bare : (size : ℕ) (parts : List RecordPart) → one_passes has_bare types zs ≡ true → bare_parts_of_all types zs ≡ Some parts
+      → bare_of_all types zs size ≡ Some (Some (record_entry parts size))
+  other_bare size parts one all =
+      of_entries (bare_of_all types zs size ≡ Some (Some (record_entry parts size))) (λ ns e.
+      let yes : any_bare ns ≡ true = sym (bare_is types zs ns e) ∙ one in
+      let same : Some (parts_behind 0 (bare_forms ns)) ≡ Some parts = rw e at all in
+      let is : parts_behind 0 (bare_forms ns) ≡ parts = cc in
+      rw (e, yes, is) refl)
+
+  -- it begins undefined
+  pub no_start : one_passes has_start types zs ≡ false → start_of_all types zs ≡ Some None
+  no_start none =
+      of_entries (start_of_all types zs ≡ Some None) (λ ns e.
+      let no : any_start ns ≡ false = sym (start_is types zs ns e) ∙ none in
+      rw (e, no) refl)
+
+  -- it begins with other words
+  pub other_start : (words : List ℤ) → one_passes has_start types zs ≡ true → starts_of_all types zs ≡ Some words
+      → start_of_all types zs ≡ Some (Some words)
+  other_start words one all =
+      of_entries (start_of_all types zs ≡ Some (Some words)) (λ ns e.
+      let yes : any_start ns ≡ true = sym (start_is types zs ns e) ∙ one in
+      let same : Some (starts_joined ns) ≡ Some words = rw e at all in
+      let is : starts_joined ns ≡ words = cc in
+      rw (e, yes, is) refl)
+
 -- ---- the row where the limit has no room, for `rec`
 
 row_weight : (types : TypeTable) (m : Store) (n size : ℕ) (st rest : List Operand) (ws : List ℤ) → lowest_first n [] st ≡ Some (ws, rest) → words_of_all types ws ≡ Some size → (rec_row (pos n) (typing st types m)).weight ≡ n
@@ -103,9 +176,6 @@ row_weight types m n size st rest ws taken all = rw taken (go (entries_of types 
     go : (o : Option (List Numbered)) → option_map (words_behind 0) o ≡ Some size → (having_weighed o (λ ns. weighing n (record_of ns rest (typing st types m)))).weight ≡ n
     go None h = cc
     go (Some ns) h = refl
-
-not_begun : {A : Type 0} (limit ticks ticks2 n : ℕ) (w : Work A) (old new : A) → w.weight ≡ n → leb (ticks + suc n) limit ≡ false → ticks2 ≡ ticks → new ≡ old → IsDone limit w Full ticks ticks2 old new
-not_begun limit ticks ticks2 n w old new weight full spent same = rw (weight, full) (refl, spent, same)
 
 -- the words are put back, and nothing is done
 pub nothing_done : (limit ticks ticks2 : ℕ) (types : TypeTable) (m : Store) (n size : ℕ) (st rest st2 : List Operand) (ws : List ℤ) (r : Step) → lowest_first n [] st ≡ Some (ws, rest) → words_of_all types ws ≡ Some size

@@ -1,5 +1,5 @@
 -- The bits of the words of a set.
-use Rattle.std.proofs.Common.{◌≡◌, ◌≢◌, ℕ, ℤ, pos, negsuc, zero, suc, ◌+◌, ◌-◌, ◌*◌, ◌/◌, ◌%◌, ◌^◌, ◌<◌, ◌≤◌, ◌==◌, ◌||◌, ◌&&◌, not, leb, ltb, List, [], ◌∷◌, Option, Some, None, Bool, true, false, cond, length, get_or, slice_get, slice_index, slice_index_or, replicate, int_le, to_z, of_z, w64, SFits, nat_abs, slice_set, w32, bit_or, bit_and, bit_xor, min, max, add-zero, pow-suc, refl, sym, ap, ◌∙◌, subst, arith, inl, inr}
+use Rattle.std.proofs.Common.{◌≡◌, ◌≢◌, ℕ, ℤ, pos, negsuc, zero, suc, ◌+◌, ◌*◌, ◌/◌, ◌%◌, ◌^◌, ◌<◌, ◌≤◌, ◌==◌, ◌||◌, ◌&&◌, not, leb, ltb, List, [], ◌∷◌, Some, None, Bool, true, false, cond, length, get_or, slice_get, slice_index, replicate, int_le, to_z, of_z, w64, SFits, nat_abs, slice_set, w32, bit_or, bit_and, bit_xor, min, max, add-zero, pow-suc, refl, sym, ap, ◌∙◌, subst, arith, inl, inr}
 use Rattle.std.proofs.lemmas.Bool.{cases_eq, cases_lt}
 use Rattle.std.proofs.lemmas.Bool.Decides.{nat_tests}
 use Rattle.std.proofs.lemmas.List.{get_or-set_same, get_or-set_other}

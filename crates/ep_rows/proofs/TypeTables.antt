@@ -4,8 +4,7 @@ use Rattle.std.specs.Prelude.{IfSome, nat_lt, if◌then◌else◌}
 use Rattle.std.specs.List.{list_any, position_or_len}
 use Rattle.std.proofs.lemmas.Bool.Decides.{nat_tests}
 use Rattle.ep_object.specs.State.{TypeTable}
-use Rattle.ep_object.specs.Types.{same_kind, kind_number}
-use Rattle.ep_object.specs.declared.state.Kind.{Kind}
+use Rattle.ep_object.specs.Types.{same_entry, entry_number}
 use Rattle.ep_object.specs.declared.state.TypeEntry.{TypeEntry}
 
 less_by_one : (m n : ℕ) → nat_lt (1 + m) (suc n) ≡ false → nat_lt m n ≡ false
@@ -14,7 +13,7 @@ less_by_one m n h = grind (arith, nat_tests)
 none_less : (n : ℕ) → nat_lt 0 (suc n) ≡ false → ⊥
 none_less n h = grind (arith, nat_tests)
 
--- ---- the first type of a kind among the first ones is the first of all
+-- ---- the first of the same types among the first ones is the first of all
 
 -- what is the first to pass among the first n is the first of all
 first_below : {A : Type 0} (p : A → Bool) (n : ℕ) (xs : List A) → position_or_len p (take n xs) < length (take n xs)
@@ -49,10 +48,10 @@ first_in p n k xs h =
     let first : position p xs ≡ Some (position_or_len p xs) = ap (λ b. cond b (Some (position_or_len p xs)) None) here in
     first ∙ ap Some (r.0 ∙ w.1)
 
--- the number of a kind among the first n types is its number, for `number_in_front`
-pub first_in_front : (types : TypeTable) (k : Kind) (n : ℕ) (o : Option ℕ) → o ≡ kind_number k (take n types) → IfSome o (λ number. kind_number k types ≡ Some number)
-first_in_front types k n None h = tt
-first_in_front types k n (Some number) h = first_in (λ x. same_kind k x.kind) n number types (sym h)
+-- the number of a type among the first n types is its number, for `number_in_front`
+pub first_in_front : (types : TypeTable) (e : TypeEntry) (n : ℕ) (o : Option ℕ) → o ≡ entry_number e (take n types) → IfSome o (λ number. entry_number e types ≡ Some number)
+first_in_front types e n None h = tt
+first_in_front types e n (Some number) h = first_in (same_entry e) n number types (sym h)
 
 -- ---- a type that has no number is not there
 
@@ -73,6 +72,6 @@ absent p xs h = by (nat_lt (position_or_len p xs) (length xs)) refl
     by false e = none_passes p xs e
 
 -- it is entered at the end
-pub entered : (types : TypeTable) (e : TypeEntry) → kind_number e.kind types ≡ None
-    → (if list_any (λ x. same_kind e.kind x.kind) types then types else types ++ e ∷ []) ≡ types ++ e ∷ []
-entered types e h = ap (λ c. if c then types else types ++ e ∷ []) (absent (λ x. same_kind e.kind x.kind) types h)
+pub entered : (types : TypeTable) (e : TypeEntry) → entry_number e types ≡ None
+    → (if list_any (same_entry e) types then types else types ++ e ∷ []) ≡ types ++ e ∷ []
+entered types e h = ap (λ c. if c then types else types ++ e ∷ []) (absent (same_entry e) types h)

@@ -7,54 +7,71 @@ use Rattle.ep_memory.specs.declared.answers.Cell.TheVariants as cell
 use Rattle.ep_object.specs.Effects.{Continues, having, having_weighed, light, provided}
 use Rattle.ep_object.specs.Operands.{Operand, Word, Place, Text, Value, Set}
 use Rattle.ep_object.specs.Places.{is_within, is_word_kind, kind_of, load_by, load_of, store_by, store_of, store_row}
-use Rattle.ep_object.specs.State.{Segments, TypeTable}
+use Rattle.ep_object.specs.State.{Segments, TypeTable, bare_number}
 use Rattle.ep_object.specs.declared.state.Kind.{Kind}
 use Rattle.ep_object.specs.declared.state.Kind.TheVariants as kind
 use Rattle.ep_object.specs.declared.state.Place.{Place as PlaceOf}
 use Rattle.ep_object.specs.declared.state.Segment.{Segment}
+use Rattle.ep_object.specs.declared.state.TypeEntry.{TypeEntry}
 use Rattle.ep_rows.specs.Values.{set_stored_at, set_stored_by, word_stored}
 
 -- a variable of one word gives it in one tick
-pub word_loads : (k : Kind) (size : ℕ) (segments : Segments) (p : PlaceOf) (st : List Operand) → is_word_kind k ≡ true → load_by k size segments p st ≡ light (load_of segments p st)
-word_loads (kind.Ord lo hi) size segments p st h = refl
-word_loads kind.Pointer size segments p st h = refl
-word_loads kind.Text size segments p st h = cc
-word_loads (kind.Array lo hi c) size segments p st h = cc
-word_loads (kind.Record ps) size segments p st h = cc
-word_loads (kind.Set lo hi) size segments p st h = cc
+pub word_loads : (k : Kind) (size n : ℕ) (segments : Segments) (p : PlaceOf) (st : List Operand) → is_word_kind k ≡ true → load_by k size n segments p st ≡ light (load_of segments p st)
+word_loads (kind.Ord lo hi) size n segments p st h = refl
+word_loads kind.Pointer size n segments p st h = refl
+word_loads kind.Text size n segments p st h = cc
+word_loads (kind.Array lo hi c) size n segments p st h = cc
+word_loads (kind.Record ps) size n segments p st h = cc
+word_loads (kind.Set lo hi) size n segments p st h = cc
 
 -- so does one that takes it
-by_kind : (o : Option Kind) (segments : Segments) (w : ℤ) (p : PlaceOf) (st : List Operand) → having_weighed o (λ k. store_by k (Word w) segments p st) ≡ light (having o (λ k. provided (is_word_kind k) (store_of k segments p w st)))
-by_kind None segments w p st = refl
-by_kind (Some (kind.Ord lo hi)) segments w p st = refl
-by_kind (Some kind.Pointer) segments w p st = refl
-by_kind (Some kind.Text) segments w p st = refl
-by_kind (Some (kind.Array lo hi c)) segments w p st = refl
-by_kind (Some (kind.Record ps)) segments w p st = refl
-by_kind (Some (kind.Set lo hi)) segments w p st = refl
+stored_by_kind : (k : Kind) (bare : ℕ) (segments : Segments) (w : ℤ) (p : PlaceOf) (st : List Operand) → store_by k bare (Word w) segments p st ≡ light (provided (is_word_kind k) (store_of k segments p w st))
+stored_by_kind (kind.Ord lo hi) bare segments w p st = refl
+stored_by_kind kind.Pointer bare segments w p st = refl
+stored_by_kind kind.Text bare segments w p st = refl
+stored_by_kind (kind.Array lo hi c) bare segments w p st = refl
+stored_by_kind (kind.Record ps) bare segments w p st = refl
+stored_by_kind (kind.Set lo hi) bare segments w p st = refl
+
+by_entry : (types : TypeTable) (n : ℕ) (segments : Segments) (w : ℤ) (p : PlaceOf) (st : List Operand)
+    → having_weighed (slice_get types n) (λ e. store_by e.kind (bare_number n e.bare) (Word w) segments p st) ≡ light (having (kind_of types n) (λ k. provided (is_word_kind k) (store_of k segments p w st)))
+by_entry types n segments w p st = go (slice_get types n) refl
+  where
+    go : (o : Option TypeEntry) → slice_get types n ≡ o
+        → having_weighed (slice_get types n) (λ e. store_by e.kind (bare_number n e.bare) (Word w) segments p st) ≡ light (having (kind_of types n) (λ k. provided (is_word_kind k) (store_of k segments p w st)))
+    go None is = rw is refl
+    go (Some e) is = rw is (stored_by_kind e.kind (bare_number n e.bare) segments w p st)
 
 pub word_stores : (types : TypeTable) (segments : Segments) (w : ℤ) (st : List Operand) → store_row types segments (Word w ∷ st) ≡ light (word_stored types segments w st)
 word_stores types segments w [] = refl
 word_stores types segments w (Word x ∷ st) = refl
-word_stores types segments w (Place p ∷ st) = by_kind (kind_of types p.type_number) segments w p st
+word_stores types segments w (Place p ∷ st) = by_entry types p.type_number segments w p st
 word_stores types segments w (Text bytes ∷ st) = refl
 word_stores types segments w (Value n ws ∷ st) = refl
 word_stores types segments w (Set ms ∷ st) = refl
 
 -- and one that takes a set
-set_by_kind : (o : Option Kind) (segments : Segments) (ms : List ℕ) (p : PlaceOf) (st : List Operand) → having_weighed o (λ k. store_by k (Set ms) segments p st) ≡ light (having o (λ k. set_stored_by k segments ms p st))
-set_by_kind None segments ms p st = refl
-set_by_kind (Some (kind.Ord lo hi)) segments ms p st = refl
-set_by_kind (Some kind.Pointer) segments ms p st = refl
-set_by_kind (Some kind.Text) segments ms p st = refl
-set_by_kind (Some (kind.Array lo hi c)) segments ms p st = refl
-set_by_kind (Some (kind.Record ps)) segments ms p st = refl
-set_by_kind (Some (kind.Set lo hi)) segments ms p st = refl
+set_by_kind : (k : Kind) (bare : ℕ) (segments : Segments) (ms : List ℕ) (p : PlaceOf) (st : List Operand) → store_by k bare (Set ms) segments p st ≡ light (set_stored_by k segments ms p st)
+set_by_kind (kind.Ord lo hi) bare segments ms p st = refl
+set_by_kind kind.Pointer bare segments ms p st = refl
+set_by_kind kind.Text bare segments ms p st = refl
+set_by_kind (kind.Array lo hi c) bare segments ms p st = refl
+set_by_kind (kind.Record ps) bare segments ms p st = refl
+set_by_kind (kind.Set lo hi) bare segments ms p st = refl
+
+set_by_entry : (types : TypeTable) (n : ℕ) (segments : Segments) (ms : List ℕ) (p : PlaceOf) (st : List Operand)
+    → having_weighed (slice_get types n) (λ e. store_by e.kind (bare_number n e.bare) (Set ms) segments p st) ≡ light (having (kind_of types n) (λ k. set_stored_by k segments ms p st))
+set_by_entry types n segments ms p st = go (slice_get types n) refl
+  where
+    go : (o : Option TypeEntry) → slice_get types n ≡ o
+        → having_weighed (slice_get types n) (λ e. store_by e.kind (bare_number n e.bare) (Set ms) segments p st) ≡ light (having (kind_of types n) (λ k. set_stored_by k segments ms p st))
+    go None is = rw is refl
+    go (Some e) is = rw is (set_by_kind e.kind (bare_number n e.bare) segments ms p st)
 
 pub set_stores : (types : TypeTable) (segments : Segments) (ms : List ℕ) (st : List Operand) → store_row types segments (Set ms ∷ st) ≡ light (set_stored_at types segments ms st)
 set_stores types segments ms [] = refl
 set_stores types segments ms (Word x ∷ st) = refl
-set_stores types segments ms (Place p ∷ st) = set_by_kind (kind_of types p.type_number) segments ms p st
+set_stores types segments ms (Place p ∷ st) = set_by_entry types p.type_number segments ms p st
 set_stores types segments ms (Text bytes ∷ st) = refl
 set_stores types segments ms (Value n ws ∷ st) = refl
 set_stores types segments ms (Set ns ∷ st) = refl

@@ -1,8 +1,10 @@
+pub mod Meeting
 pub mod Members
 pub mod Parts
 pub mod Printing
 pub mod Records
 pub mod Segments
+pub mod Starts
 pub mod Steps
 pub mod Taken
 pub mod Values

@@ -1,5 +1,5 @@
 -- What words of a set come to.
-use Rattle.std.specs.Prelude.{◌≡◌, ℕ, ℤ, ◌+◌, ◌*◌, ◌<◌, ◌≤◌, ◌==◌, ◌&&◌, ◌||◌, not, leb, ltb, List, Bool, true, false, slice_index, length}
+use Rattle.std.specs.Prelude.{◌≡◌, ℕ, ◌<◌, ◌==◌, ◌&&◌, ◌||◌, not, leb, ltb, List, Bool, true, false}
 use Rattle.std.specs.Int.{bit_at}
 use Rattle.ep_object.specs.Sets.{member_limit, word_members}
 use Rattle.ep_decode.specs.declared.op.Combination.{Combination}

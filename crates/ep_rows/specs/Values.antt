@@ -32,5 +32,5 @@ has_many_words (kind.Record ps) = true
 has_many_words (kind.Set lo hi) = false
 
 -- a variable in a segment takes the words of a value of this type
-abbrev pub words_stored_in : Segments → Place → ℕ → List ℤ → List Operand → Segment → Effect (List Operand × Segments)
-words_stored_in segments p n ws st s = words_stored segments p n ws s st
+abbrev pub words_stored_in : Segments → Place → ℕ → ℕ → List ℤ → List Operand → Segment → Effect (List Operand × Segments)
+words_stored_in segments p bare n ws st s = words_stored segments p bare n ws s st

@@ -8,7 +8,7 @@ use ep_object::limit;
 
 /// How many numbers are within the bounds.
 #[tactic(auto, using(crate::proofs::IndexTypes::count_within, crate::proofs::IndexTypes::count_without))]
-fn count(low: i64, high: i64) -> u128
+pub(crate) fn count(low: i64, high: i64) -> u128
     ensures count { result ≡ count_of low high }
     ensures small { result ≤ 2 ^ 64 }
 {

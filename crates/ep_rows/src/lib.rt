@@ -15,6 +15,7 @@ pub mod pointers;
 pub mod records;
 pub mod segments;
 pub mod sets;
+pub mod starts;
 mod step;
 pub mod texts;
 mod type_table;

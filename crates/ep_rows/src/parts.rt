@@ -13,6 +13,7 @@ ghost use Rattle.ep_rows.specs.Taken.{IsThere, OnThere, element_told, found_told
 use crate::bounds::component_at;
 use crate::control::spend;
 use crate::step::Step;
+use crate::types::bare_number;
 use crate::values::words_at;
 use crate::{members, places, sets, words};
 use ep_frames::{Members, Stack};
@@ -31,7 +32,7 @@ pub(crate) enum Part {
     Set(Option<i64>, Members),
 }
 
-/// A component of a value.
+/// A component of a value, with the number of the bare form of its type.
 #[derive(Clone, Copy, Drop)]
 pub(crate) struct Found {
     type_number: u32,
@@ -66,7 +67,7 @@ fn part_of(words: &[i64], offset: usize, type_number: u32, types: &[TypeEntry]) 
         Kind::Set(_, _) => Part::Set(value.first().copied(), members::read(value)),
     };
     Some(Found {
-        type_number,
+        type_number: bare_number(type_number, entry.bare),
         offset,
         part,
     })

@@ -6,7 +6,7 @@ ghost use Rattle.ep_rows.specs.Steps.{IsStep, IsDone};
 ghost use Rattle.ep_rows.specs.Parts.{storage};
 
 use crate::control::spend;
-use crate::places::{allocate, has_room, index, push_place};
+use crate::places::{allocate, has_room, index, push_place, size_begun};
 use crate::segments;
 use crate::step::Step;
 use ep_frames::Stack;
@@ -33,14 +33,15 @@ pub fn new(
     let Some(type_number) = index(types.len(), t) else {
         return Step::Broken;
     };
-    let size = types[type_number].size;
-    if !has_room(memory, size as u64 + 1) {
+    let entry = &types[type_number];
+    let size = size_begun(entry);
+    if !has_room(memory, size + 1) {
         return Step::Error(run_error::STORAGE_LIMIT);
     }
-    if !spend(limit, ticks, size as u64) {
+    if !spend(limit, ticks, size) {
         return Step::Full;
     }
-    let Some(place) = allocate(type_number, size, memory) else {
+    let Some(place) = allocate(type_number, entry, memory) else {
         return Step::NoMemory;
     };
     let Ok(number) = i64::try_from(place.segment) else {

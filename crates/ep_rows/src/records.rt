@@ -1,20 +1,20 @@
 //! The row that makes record types.
 
-ghost use Rattle.std.specs.Prelude.{◌≡◌, ◌<◌, ◌≤◌, [], Some, None, MatchOption, IfOk, pos};
-ghost use Rattle.ep_object.specs.State.{size_limit};
-ghost use Rattle.ep_object.specs.Types.{lowest_first, rec_row};
+ghost use Rattle.std.specs.Prelude.{◌≡◌, ◌<◌, ◌≤◌, ◌++◌, [], Some, None, MatchOption, IfOk, OnOk, pos, replicate};
+ghost use Rattle.ep_object.specs.State.{size_limit, undefined, words_begun};
+ghost use Rattle.ep_object.specs.Types.{entry_of as type_of, lowest_first, rec_row};
 ghost use Rattle.ep_rows.specs.Parts.{typing};
-ghost use Rattle.ep_rows.specs.Records.{words_of_all, parts_of_all, IsPutBack};
+ghost use Rattle.ep_rows.specs.Records.{bare_of_all, bare_parts_of_all, has_bare, has_start, one_passes, passes, start_of_all, starts_of_all, whole_of, words_of_all, parts_of_all, IsPutBack};
 ghost use Rattle.ep_rows.specs.Steps.{IsDone};
 
 use crate::control::spend;
 use crate::step::Step;
 use crate::type_table::TypeTable;
-use crate::types::{entry_of, intern};
+use crate::types::{bare_number, entry_of, intern_over, plain};
 use ep_base::{List, NoMemory};
 use ep_frames::Stack;
 use ep_memory::Memory;
-use ep_object::{Kind, RecordPart, RecordParts, TypeEntry, limit};
+use ep_object::{Kind, RecordPart, RecordParts, TypeEntry, Words, limit};
 use ep_typed::run_error;
 use std::alloc::{AllocError, Global};
 
@@ -89,6 +89,162 @@ fn parts_of_all(
     Ok(parts)
 }
 
+/// The same with the bare forms of the types.
+fn bare_parts(alloc: Global, types: &[TypeEntry], numbers: &[i64]) -> Result<RecordParts, NoMemory>
+    requires { MatchOption (words_of_all types.now numbers.now) ⊥ (λ words. words ≤ size_limit) }
+    ensures { IfOk result (λ parts. bare_parts_of_all types.now numbers.now ≡ Some parts) }
+{
+    let mut parts = List::with_room(alloc, numbers.len())?;
+    let mut offset = 0;
+    for number in numbers {
+        let Some((type_number, entry)) = entry_of(types, *number) else {
+            unreachable!()
+        };
+        let Ok(type_number) = u32::try_from(type_number) else {
+            return Err(AllocError);
+        };
+        parts.push(RecordPart {
+            type_number: bare_number(type_number, entry.bare),
+            offset,
+        })?;
+        offset += entry.size;
+    }
+    Ok(parts)
+}
+
+/// Whether the type of a number has another bare form.
+fn has_bare(types: &[TypeEntry], number: i64) -> bool
+    ensures { result ≡ passes has_bare (type_of types.now number) }
+{
+    match entry_of(types, number) {
+        Some((_, entry)) => entry.bare.is_some(),
+        None => false,
+    }
+}
+
+/// Whether one of the types with these numbers has.
+fn any_bare(types: &[TypeEntry], numbers: &[i64]) -> bool
+    ensures { result ≡ one_passes has_bare types.now numbers.now }
+{
+    for number in numbers {
+        if has_bare(types, *number) {
+            return true;
+        }
+    }
+    false
+}
+
+/// Whether a variable of the type of a number begins with words that are not all undefined.
+fn has_start(types: &[TypeEntry], number: i64) -> bool
+    ensures { result ≡ passes has_start (type_of types.now number) }
+{
+    match entry_of(types, number) {
+        Some((_, entry)) => entry.start.is_some(),
+        None => false,
+    }
+}
+
+/// Whether a variable of one of the types with these numbers does.
+fn any_start(types: &[TypeEntry], numbers: &[i64]) -> bool
+    ensures { result ≡ one_passes has_start types.now numbers.now }
+{
+    for number in numbers {
+        if has_start(types, *number) {
+            return true;
+        }
+    }
+    false
+}
+
+/// Appends so many undefined words.
+fn append_undefined(count: u32, words: &mut Vec<i64>) -> Result<(), NoMemory>
+    ensures { OnOk result (words.new.items ≡ words.old.items ++ replicate count undefined) }
+{
+    for _ in 0..count {
+        words.push(i64::MIN)?;
+    }
+    Ok(())
+}
+
+/// Appends the words that a variable of a type begins with.
+fn append_begun(entry: &TypeEntry, words: &mut Vec<i64>) -> Result<(), NoMemory>
+    ensures { OnOk result (words.new.items
+        ≡ words.old.items ++ words_begun entry.now.size entry.now.start) }
+{
+    match &entry.start {
+        Some(begun) => words.extend_from_slice(begun.items()),
+        None => append_undefined(entry.size, words),
+    }
+}
+
+/// What variables of the types with these numbers begin with, one behind the other.
+fn starts_of_all(alloc: Global, types: &[TypeEntry], numbers: &[i64]) -> Result<Words, NoMemory>
+    requires { MatchOption (words_of_all types.now numbers.now) ⊥ (λ words. words ≤ size_limit) }
+    ensures { IfOk result (λ words. starts_of_all types.now numbers.now ≡ Some words) }
+{
+    let mut words = Vec::new(alloc);
+    for number in numbers {
+        let Some((_, entry)) = entry_of(types, *number) else {
+            unreachable!()
+        };
+        append_begun(entry, &mut words)?;
+    }
+    Ok(List::from_vec(words))
+}
+
+/// The words that a record of them begins with, where they are not all undefined.
+fn record_start(
+    alloc: Global,
+    types: &[TypeEntry],
+    numbers: &[i64],
+) -> Result<Option<Words>, NoMemory>
+    requires { MatchOption (words_of_all types.now numbers.now) ⊥ (λ words. words ≤ size_limit) }
+    ensures { IfOk result (λ start. start_of_all types.now numbers.now ≡ Some start) }
+{
+    if any_start(types, numbers) {
+        Ok(Some(starts_of_all(alloc, types, numbers)?))
+    } else {
+        Ok(None)
+    }
+}
+
+/// The record of components of the types with these numbers, which has so many words. Its bare form is left open.
+fn record_whole(
+    alloc: Global,
+    types: &[TypeEntry],
+    numbers: &[i64],
+    size: u32,
+) -> Result<TypeEntry, NoMemory>
+    requires { MatchOption (words_of_all types.now numbers.now) ⊥ (λ words. words ≤ size_limit) }
+    ensures { IfOk result (λ e. whole_of types.now numbers.now size ≡ Some e) }
+{
+    let parts = parts_of_all(alloc, types, numbers)?;
+    let start = record_start(alloc, types, numbers)?;
+    Ok(TypeEntry {
+        kind: Kind::Record(parts),
+        size,
+        start,
+        bare: None,
+    })
+}
+
+/// Its bare form, where it has another one.
+fn record_bare(
+    alloc: Global,
+    types: &[TypeEntry],
+    numbers: &[i64],
+    size: u32,
+) -> Result<Option<TypeEntry>, NoMemory>
+    requires { MatchOption (words_of_all types.now numbers.now) ⊥ (λ words. words ≤ size_limit) }
+    ensures { IfOk result (λ e. bare_of_all types.now numbers.now size ≡ Some e) }
+{
+    if !any_bare(types, numbers) {
+        return Ok(None);
+    }
+    let parts = bare_parts(alloc, types, numbers)?;
+    Ok(Some(plain(Kind::Record(parts), size)))
+}
+
 /// The record type with components of so many types, which stand on top, the lowest one first.
 pub fn rec(
     count: usize,
@@ -121,10 +277,12 @@ pub fn rec(
     if words > limit::TYPE_WORDS as u128 {
         return Step::Error(run_error::STORAGE_LIMIT);
     }
-    let Ok(parts) = parts_of_all(alloc, types.entries(), &numbers) else {
+    let size = words as u32;
+    let Ok(bare) = record_bare(alloc, types.entries(), &numbers, size) else {
         return Step::NoMemory;
     };
-    let kind = Kind::Record(parts);
-    let size = words as u32;
-    intern(TypeEntry { kind, size }, types, memory, stack)
+    let Ok(whole) = record_whole(alloc, types.entries(), &numbers, size) else {
+        return Step::NoMemory;
+    };
+    intern_over(bare, whole, types, memory, stack)
 }

@@ -8,8 +8,8 @@ ghost use Rattle.ep_object.specs.Texts.{text_row, chars_row, form_row, form_widt
 ghost use Rattle.ep_object.specs.Operands.{Text, Word, set};
 ghost use Rattle.ep_decode.specs.Operations.{print_number};
 ghost use Rattle.ep_frames.specs.Stacks.{place_top, value_top, word_top};
-ghost use Rattle.ep_rows.specs.Printing.{printed_top, IsRestored};
-ghost use Rattle.ep_rows.specs.Steps.{IsDone, IsStep};
+ghost use Rattle.ep_rows.specs.Printing.{printed_top};
+ghost use Rattle.ep_rows.specs.Steps.{IsDone, IsStep, IsRestored};
 
 use crate::control::{spend, top_weight};
 use crate::step::Step;

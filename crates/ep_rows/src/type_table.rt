@@ -1,7 +1,7 @@
 //! The types that are met, each once, under their numbers. Which number a type has is found by hash.
 
 ghost use Rattle.std.specs.Prelude.{◌≡◌, ◌<◌, ◌∷◌, ◌++◌, [], length, Some, None, IfSome, OnOk, OnErr};
-ghost use Rattle.ep_object.specs.Types.{kind_number};
+ghost use Rattle.ep_object.specs.Types.{entry_number};
 
 use ep_base::NoMemory;
 use ep_object::TypeEntry;
@@ -13,10 +13,10 @@ use std::marker::Model;
 /// are there from the start come first, and a comparison costs a quarter of such a look-up.
 const FRONT: usize = 3;
 
-/// The number of the type of the same kind, where it is one of the first.
+/// The number of the same type, where it is one of the first.
 #[inline(always)]
 fn number_in_front(entry: &TypeEntry, types: &[TypeEntry]) -> Option<usize>
-    ensures number { IfSome result (λ number. kind_number entry.now.kind types.now ≡ Some number) }
+    ensures number { IfSome result (λ number. entry_number entry.now types.now ≡ Some number) }
     ensures within { IfSome result (λ number. number < length types.now) }
 {
     types.iter().take(FRONT).position(|e| *entry == *e)
@@ -59,10 +59,10 @@ impl TypeTable {
         self.entries.as_slice()
     }
 
-    /// The number of the type that is of the same kind.
+    /// The number of the type that is the same.
     #[inline(never)]
     pub fn number_of(&self, entry: &TypeEntry) -> Option<usize>
-        ensures number { result ≡ kind_number entry.now.kind self.now }
+        ensures number { result ≡ entry_number entry.now self.now }
         ensures within { IfSome result (λ number. number < length self.now) }
     {
         match number_in_front(entry, self.entries.as_slice()) {
@@ -72,10 +72,9 @@ impl TypeTable {
     }
 
     /// A type that is not there gets the next number. Without memory all stays as it was.
-    #[tactic(auto, using(crate::proofs::TypeTables::entered))]
     #[inline(never)]
     pub fn add(&mut self, entry: TypeEntry) -> Result<(), NoMemory>
-        requires { kind_number entry.kind self.old ≡ None }
+        requires { entry_number entry self.old ≡ None }
         ensures added { OnOk result (self.new ≡ self.old ++ entry ∷ []) }
         ensures unchanged { OnErr result (self.new ≡ self.old) }
     {

@@ -1,22 +1,27 @@
 //! The rows that make types. Equal types have one number.
 
-ghost use Rattle.std.specs.Prelude.{◌≡◌, ◌<◌, ◌≤◌, ◌+◌, ◌*◌, ◌^◌, suc, length, Option, Some, None, MatchOption};
-ghost use Rattle.ep_object.specs.Types.{kind_number, words_of_kind as words_of, ord_row, ordinal_entry as ordinal, set_entry as set_type, set_row, added, interned, entry_of as type_of, bounds_of as kind_bounds, arr_row};
+ghost use Rattle.std.specs.Prelude.{◌≡◌, ◌<◌, ◌≤◌, ◌+◌, ◌*◌, ◌^◌, suc, length, Option, Some, None, MatchOption, IfOk, option_map};
+ghost use Rattle.ep_object.specs.State.{bare_number as bare_of, plain as plain_of};
+ghost use Rattle.ep_object.specs.Types.{array_entry, array_over, entry_number, words_in as words_begun, words_of_entry as words_of_type, words_of_kind as words_of, ord_row, ordinal_entry as ordinal, repeated, set_entry as set_type, set_row, interned, interned_over, entry_of as type_of, bounds_of as kind_bounds, arr_row};
+ghost use Rattle.ep_rows.specs.Meeting.{IsMet, over};
+ghost use Rattle.ep_typed.specs.Bounds.{count_of};
 ghost use Rattle.ep_rows.specs.Steps.{IsStep};
 ghost use Rattle.ep_rows.specs.Parts.{typing};
 
 use crate::step::Step;
 use crate::type_table::TypeTable;
 use crate::{bounds, places, sets, words};
+use ep_base::{List, NoMemory};
 use ep_frames::Stack;
 use ep_memory::Memory;
-use ep_object::{Kind, SET_WORDS, TypeEntry, limit};
+use ep_object::{Kind, SET_WORDS, TypeEntry, Words, limit};
 use ep_typed::run_error;
+use std::alloc::Global;
 
 /// How many words a new type of this kind counts.
 fn words_of_kind(kind: &Kind) -> u64
     ensures words { result ≡ words_of kind.now }
-    ensures small { result < 2 ^ 63 }
+    ensures small { result < 2 ^ 62 }
 {
     match kind {
         Kind::Ord(_, _) => 1,
@@ -28,36 +33,71 @@ fn words_of_kind(kind: &Kind) -> u64
     }
 }
 
+/// How many words an initial state has.
+fn words_in(start: &Option<Words>) -> u64
+    ensures words { result ≡ words_begun start.now }
+    ensures small { result < 2 ^ 62 }
+{
+    match start {
+        None => 0,
+        Some(words) => words.items().len() as u64,
+    }
+}
+
+/// How many words a new type counts, with those of its initial state.
+fn words_of_entry(entry: &TypeEntry) -> u64
+    ensures words { result ≡ words_of_type entry.now }
+    ensures small { result < 2 ^ 63 }
+{
+    words_of_kind(&entry.kind) + words_in(&entry.start)
+}
+
 /// A new type with the next number.
-#[inline(always)]
 fn add(
     entry: TypeEntry,
     number: usize,
     types: &mut TypeTable,
     memory: &mut Memory,
-    stack: &mut Stack,
-) -> Step
+) -> Result<usize, Step>
     requires next { number ≡ length types.old }
-    requires new { kind_number entry.kind types.old ≡ None }
-    ensures done { IsStep (added entry stack.old (typing stack.old types.old memory.old)) result
-        (typing stack.new types.new memory.new) }
+    requires new { entry_number entry types.old ≡ None }
+    ensures met { IsMet entry types.old memory.old result types.new memory.new }
+    ensures small { IfOk result (λ number. number < 2 ^ 63) }
     ensures segments { memory.new.segments ≡ memory.old.segments }
 {
     if number as u64 >= limit::TYPES {
-        return Step::Error(run_error::STORAGE_LIMIT);
+        return Err(Step::Error(run_error::STORAGE_LIMIT));
     }
-    let words = words_of_kind(&entry.kind);
+    let words = words_of_entry(&entry);
     if memory.charge(words).is_err() {
-        return Step::Error(run_error::STORAGE_LIMIT);
+        return Err(Step::Error(run_error::STORAGE_LIMIT));
     }
     if types.add(entry).is_err() {
         memory.give_back(words);
-        return Step::NoMemory;
+        return Err(Step::NoMemory);
     }
-    words::push_word(stack, number as i64)
+    Ok(number)
 }
 
 /// The number that the type has, or a new one.
+#[inline(always)]
+pub(crate) fn meet(
+    entry: TypeEntry,
+    types: &mut TypeTable,
+    memory: &mut Memory,
+) -> Result<usize, Step>
+    ensures met { IsMet entry types.old memory.old result types.new memory.new }
+    ensures small { IfOk result (λ number. number < 2 ^ 63) }
+    ensures segments { memory.new.segments ≡ memory.old.segments }
+{
+    let count = types.entries().len();
+    if let Some(number) = types.number_of(&entry) {
+        return Ok(number);
+    }
+    add(entry, count, types, memory)
+}
+
+/// The number is left.
 #[inline(always)]
 pub(crate) fn intern(
     entry: TypeEntry,
@@ -69,21 +109,92 @@ pub(crate) fn intern(
         (typing stack.new types.new memory.new) }
     ensures segments { memory.new.segments ≡ memory.old.segments }
 {
-    let count = types.entries().len();
-    if let Some(number) = types.number_of(&entry) {
-        return words::push_word(stack, number as i64);
+    match meet(entry, types, memory) {
+        Ok(number) => words::push_word(stack, number as i64),
+        Err(step) => step,
     }
-    add(entry, count, types, memory, stack)
+}
+
+/// A type that has a bare form besides it, which is met just before it.
+fn intern_behind(
+    bare: TypeEntry,
+    whole: TypeEntry,
+    types: &mut TypeTable,
+    memory: &mut Memory,
+    stack: &mut Stack,
+) -> Step
+    ensures done { IsStep (interned_over (Some bare) (over whole) stack.old
+        (typing stack.old types.old memory.old)) result (typing stack.new types.new memory.new) }
+    ensures segments { memory.new.segments ≡ memory.old.segments }
+{
+    let number = match meet(bare, types, memory) {
+        Ok(number) => number,
+        Err(step) => return step,
+    };
+    let Ok(number) = u32::try_from(number) else {
+        return Step::NoMemory;
+    };
+    let TypeEntry {
+        kind,
+        size,
+        start,
+        bare: _,
+    } = whole;
+    let entry = TypeEntry {
+        kind,
+        size,
+        start,
+        bare: Some(number),
+    };
+    intern(entry, types, memory, stack)
+}
+
+/// The same, or a type that has none.
+pub(crate) fn intern_over(
+    bare: Option<TypeEntry>,
+    whole: TypeEntry,
+    types: &mut TypeTable,
+    memory: &mut Memory,
+    stack: &mut Stack,
+) -> Step
+    requires { whole.bare ≡ None }
+    ensures done { IsStep (interned_over bare (over whole) stack.old
+        (typing stack.old types.old memory.old)) result (typing stack.new types.new memory.new) }
+    ensures segments { memory.new.segments ≡ memory.old.segments }
+{
+    match bare {
+        None => intern(whole, types, memory, stack),
+        Some(bare) => intern_behind(bare, whole, types, memory, stack),
+    }
+}
+
+/// A type of this kind and size in which no initial state is given.
+pub(crate) fn plain(kind: Kind, size: u32) -> TypeEntry
+    ensures { result ≡ plain_of kind size }
+{
+    TypeEntry {
+        kind,
+        size,
+        start: None,
+        bare: None,
+    }
+}
+
+/// The number of the bare form of the type of a number.
+pub(crate) fn bare_number(number: u32, bare: Option<u32>) -> u32
+    ensures { result ≡ bare_of number bare }
+{
+    match bare {
+        None => number,
+        Some(bare) => bare,
+    }
 }
 
 /// The ordinal type with these bounds.
 fn ordinal_entry(lo: i64, hi: i64) -> TypeEntry
     ensures { result ≡ ordinal lo hi }
 {
-    TypeEntry {
-        kind: Kind::Ord(lo, hi),
-        size: 1,
-    }
+    plain(Kind::Ord(lo, hi), 1)
 }
 
 /// The ordinal type with two bounds.
@@ -129,10 +240,7 @@ fn bounds_of(kind: &Kind) -> Option<(i64, i64)>
 fn set_entry(lo: i64, hi: i64) -> TypeEntry
     ensures { result ≡ set_type lo hi }
 {
-    TypeEntry {
-        kind: Kind::Set(lo, hi),
-        size: SET_WORDS,
-    }
+    plain(Kind::Set(lo, hi), SET_WORDS)
 }
 
 /// The set type whose base type has the number on top.
@@ -156,8 +264,64 @@ pub fn set(types: &mut TypeTable, memory: &mut Memory, stack: &mut Stack) -> Ste
     intern(set_entry(lo, hi), types, memory, stack)
 }
 
+/// The words so often, one behind the other.
+fn repeat(alloc: Global, count: u128, words: &[i64]) -> Result<Words, NoMemory>
+    ensures { IfOk result (λ all. all ≡ repeated count words.now) }
+{
+    let mut all = Vec::new(alloc);
+    for _ in 0..count {
+        all.extend_from_slice(words)?;
+    }
+    Ok(List::from_vec(all))
+}
+
+/// What an array begins with whose components begin so.
+fn array_start(
+    alloc: Global,
+    lo: i64,
+    hi: i64,
+    start: &Option<Words>,
+) -> Result<Option<Words>, NoMemory>
+    ensures { IfOk result (λ all. all ≡ option_map (repeated (count_of lo hi)) start.now) }
+{
+    match start {
+        None => Ok(None),
+        Some(words) => Ok(Some(repeat(alloc, bounds::count(lo, hi), words.items())?)),
+    }
+}
+
+/// The bare form of an array of components that have this one.
+fn array_bare(lo: i64, hi: i64, size: u32, bare: Option<u32>) -> Option<TypeEntry>
+    ensures { result ≡ option_map (λ b. array_entry lo hi b size) bare }
+{
+    match bare {
+        None => None,
+        Some(component) => Some(plain(Kind::Array(lo, hi, component), size)),
+    }
+}
+
+/// An array of components of this type, which has this number. The bare form that it is given is left open.
+fn array_whole(
+    alloc: Global,
+    lo: i64,
+    hi: i64,
+    number: u32,
+    size: u32,
+    component: &TypeEntry,
+) -> Result<TypeEntry, NoMemory>
+    ensures { IfOk result (λ e. e ≡ array_over lo hi number size component.now.start None) }
+{
+    let start = array_start(alloc, lo, hi, &component.start)?;
+    Ok(TypeEntry {
+        kind: Kind::Array(lo, hi, number),
+        size,
+        start,
+        bare: None,
+    })
+}
+
 /// The array type with the index type and the component type of these numbers.
-pub fn arr(types: &mut TypeTable, memory: &mut Memory, stack: &mut Stack) -> Step
+pub fn arr(alloc: Global, types: &mut TypeTable, memory: &mut Memory, stack: &mut Stack) -> Step
     ensures done { IsStep (arr_row (typing stack.old types.old memory.old)) result
         (typing stack.new types.new memory.new) }
     ensures segments { memory.new.segments ≡ memory.old.segments }
@@ -180,6 +344,9 @@ pub fn arr(types: &mut TypeTable, memory: &mut Memory, stack: &mut Stack) -> Ste
     let Ok(number) = u32::try_from(number) else {
         return Step::NoMemory;
     };
-    let kind = Kind::Array(lo, hi, number);
-    intern(TypeEntry { kind, size }, types, memory, stack)
+    let bare = array_bare(lo, hi, size, component_type.bare);
+    let Ok(whole) = array_whole(alloc, lo, hi, number, size, component_type) else {
+        return Step::NoMemory;
+    };
+    intern_over(bare, whole, types, memory, stack)
 }

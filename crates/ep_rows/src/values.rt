@@ -7,6 +7,7 @@ ghost use Rattle.ep_object.specs.Control.{dup_row};
 ghost use Rattle.ep_object.specs.Effects.{Continues};
 ghost use Rattle.ep_object.specs.Operands.{Operand, Place as PlaceOperand, Value, set};
 ghost use Rattle.ep_object.specs.Places.{load_by, load_row, load_value, living, store_row, words_at};
+ghost use Rattle.ep_object.specs.State.{bare_number as bare_of};
 ghost use Rattle.ep_rows.specs.Segments.{gone_of, other_type_at};
 ghost use Rattle.ep_rows.specs.Steps.{IsDone, IsStep};
 ghost use Rattle.ep_rows.specs.Values.{has_many_words, words_stored_in};
@@ -14,6 +15,7 @@ ghost use Rattle.ep_rows.specs.Values.{has_many_words, words_stored_in};
 use crate::control::spend;
 use crate::places::{load_word, store_word};
 use crate::step::Step;
+use crate::types::bare_number;
 use crate::{segments, sets};
 use ep_frames::Stack;
 use ep_memory::{Memory, Stored};
@@ -73,19 +75,20 @@ pub(crate) fn dup(
     push_value(type_number, words, stack)
 }
 
-/// The value of a variable of a structured type.
+/// The value of a variable of a structured type, whose bare form has this number.
 fn load_value(
     limit: u64,
     ticks: &mut u64,
     p: Place,
     size: u32,
+    bare: u32,
     memory: &Memory,
     stack: &mut Stack,
 ) -> Step
     requires { ticks.old < limit }
     ensures within { ticks.new < limit }
     ensures done { (st : List Operand) → stack.old ≡ PlaceOperand p ∷ st
-        → IsDone limit (load_value memory.now.segments p size st) result ticks.old ticks.new stack.old stack.new }
+        → IsDone limit (load_value memory.now.segments p size bare st) result ticks.old ticks.new stack.old stack.new }
 {
     let Some(words) = memory.words_of(p.segment) else {
         return segments::gone(p.segment, memory);
@@ -97,7 +100,7 @@ fn load_value(
         return Step::Full;
     }
     stack.pop();
-    push_value(p.type_number, value, stack)
+    push_value(bare, value, stack)
 }
 
 /// The value of a variable of this type, whose place is on top.
@@ -112,8 +115,8 @@ fn load_typed(
     requires { ticks.old < limit }
     ensures within { ticks.new < limit }
     ensures done { (st : List Operand) → stack.old ≡ PlaceOperand p ∷ st
-        → IsDone limit (load_by entry.now.kind entry.now.size memory.now.segments p st) result ticks.old ticks.new
-        stack.old stack.new }
+        → IsDone limit (load_by entry.now.kind entry.now.size (bare_of p.type_number entry.now.bare)
+        memory.now.segments p st) result ticks.old ticks.new stack.old stack.new }
 {
     match &entry.kind {
         Kind::Text => Step::Broken,
@@ -126,7 +129,8 @@ fn load_typed(
             sets::load(p, memory, stack)
         }
         Kind::Array(_, _, _) | Kind::Record(_) => {
-            load_value(limit, ticks, p, entry.size, memory, stack)
+            let bare = bare_number(p.type_number, entry.bare);
+            load_value(limit, ticks, p, entry.size, bare, memory, stack)
         }
     }
 }
@@ -165,14 +169,15 @@ fn other_type(p: Place, memory: &Memory) -> Step
     Step::Error(run_error::TUPLES_DIFFER)
 }
 
-/// The words of a value take the place of those of a variable, which has to be of the same type.
-fn put_value(p: Place, type_number: u32, words: &[i64], memory: &mut Memory) -> Step
+/// The words of a value take the place of those of a variable, whose type has to have the same bare form.
+fn put_value(p: Place, bare: u32, type_number: u32, words: &[i64], memory: &mut Memory) -> Step
     ensures done { (st : List Operand) → IsStep
-        (living memory.old.segments p.segment (words_stored_in memory.old.segments p type_number words.now st))
+        (living memory.old.segments p.segment
+        (words_stored_in memory.old.segments p bare type_number words.now st))
         result (st, memory.new.segments) }
     ensures live { live memory.new ≡ live memory.old }
 {
-    if type_number != p.type_number {
+    if type_number != bare {
         return other_type(p, memory);
     }
     match memory.store_words(p.segment, u64::from(p.offset), words) {
@@ -213,7 +218,8 @@ fn store_value(
     if !spend(limit, ticks, words.len() as u64) {
         return Step::Full;
     }
-    let step = put_value(p, type_number, words, memory);
+    let bare = bare_number(p.type_number, entry.bare);
+    let step = put_value(p, bare, type_number, words, memory);
     stack.pop();
     stack.pop();
     step

@@ -23,8 +23,8 @@ mod view;
 pub use kind::{Enumeration, Host, Kind, same_host};
 pub use meaning::Meaning;
 pub use parameter::{
-    FormalParameter, FormalParameters, Protection, TypeName, copied_parameters, protection_of,
-    same_parameters, same_type,
+    FormalParameter, FormalParameters, Protection, TypeName, WrittenType, copied_parameters,
+    protection_of, same_parameters, same_type,
 };
 pub use record::{OpenField, OpenRecord, RecordVariable};
 pub use required::{Function, Procedure, Required, RequiredConstant, required_identifier};

@@ -18,6 +18,15 @@ pub enum TypeName {
     Entry(u32),
 }
 
+/// A type by the name that is written for it, which may have an initial state (ISO 10206, 6.6).
+#[derive(Clone, Copy, Drop)]
+pub struct WrittenType {
+    /// The name.
+    pub name: TypeName,
+    /// Which type it is, whatever its name.
+    pub is: TypeName,
+}
+
 /// Whether a variable is protected, so that nothing may threaten it (ISO 10206, 6.7.3.1 and 6.9.4).
 #[derive(Clone, Copy, Drop)]
 pub enum Protection {
@@ -36,7 +45,7 @@ pub struct FormalParameter {
     /// The number of its section, counted from 0.
     pub section: u32,
     /// Its type.
-    pub of: TypeName,
+    pub of: WrittenType,
     /// The kind of its type.
     pub kind: Kind,
 }
@@ -99,7 +108,7 @@ fn same_parameter(left: &FormalParameter, right: &FormalParameter) -> bool
     left.name.bytes() == right.name.bytes()
         && same_mode(left.mode, right.mode)
         && left.section == right.section
-        && same_type(left.of, right.of)
+        && same_type(left.of.is, right.of.is)
 }
 
 /// Whether two lists of formal parameters are the same, one for one.

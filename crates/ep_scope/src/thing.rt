@@ -1,7 +1,7 @@
 //! What a name may stand for.
 
 use crate::kind::Kind;
-use crate::parameter::{FormalParameters, Protection, TypeName};
+use crate::parameter::{FormalParameters, Protection, TypeName, WrittenType};
 use ep_base::Name;
 use ep_typed::{StandardFile, Value};
 
@@ -59,7 +59,7 @@ pub enum Declaration {
     /// A procedure with these formal parameters (ISO 10206, 6.7.1).
     Procedure(FormalParameters),
     /// A function with these formal parameters, and its result of this type and kind (ISO 10206, 6.7.2).
-    Function(FormalParameters, TypeName, Kind),
+    Function(FormalParameters, WrittenType, Kind),
 }
 
 impl Drop for Declaration {

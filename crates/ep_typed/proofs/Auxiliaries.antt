@@ -1,15 +1,15 @@
 -- Auxiliary variables are valid: those of `for` with bounds are integers, that of `for` over members is a set of integers, and those of `with` are of record types of the unit.
 use Rattle.std.specs.Prelude.{All}
-use Rattle.std.proofs.Common.{◌≡◌, ◌∙◌, ◌+◌, ℕ, pos, suc, zero, List, [], ◌∷◌, ◌++◌, length, map, Option, Some, None, slice_get, refl, ap, subst, sym, arith}
+use Rattle.std.proofs.Common.{◌≡◌, ◌∙◌, ◌+◌, ℕ, pos, suc, zero, List, [], ◌∷◌, ◌++◌, length, map, Option, Some, None, slice_get, refl, ap, subst, sym, arith, option_map}
 use Rattle.std.proofs.lemmas.List.{length-map}
 use Rattle.std.proofs.lemmas.Option.{get_or_from_slice_get, same_Some, slice_get_within}
 use Rattle.ep_typed.specs.Auxiliaries.{block_auxiliaries, auxiliary_variable, auxiliary_variables, first_for, first_for_in, member_variable, member_variables, with_variable, with_variables, with_variables_of, with_variables_in, with_variables_other}
-use Rattle.ep_typed.specs.Denoters.{base_of, definition_of, host_of, required_type, type_of}
+use Rattle.ep_typed.specs.Denoters.{base_of, definition_of, host_of, required_type, type_of, bare_type_of}
 use Rattle.ep_typed.specs.Hosts as host
 use Rattle.ep_typed.specs.Hosts.{Host}
 use Rattle.ep_typed.specs.Routines.{first_with, formal_variable, made_by_unit, made_variables, unit_variables, variables_of}
 use Rattle.ep_typed.specs.Trees.{Fixed, Denoter, Required, Named, Subrange, Set, Place, Entire, OfUnit, OfRoutine, entire, Stmt, Stmts, Empty, Compound, Assign, AssignTag, If, While, Repeat, For, ForIn, With, Procedure, Halt, Write, none, next, Case, Arms, no_arm, next_arm, Other, no_other, otherwise_do}
-use Rattle.ep_typed.specs.TypeValues.{TypeValue, Record}
+use Rattle.ep_typed.specs.TypeValues.{TypeValue, Record, bare_of}
 use Rattle.ep_typed.specs.TypeValues as type
 use Rattle.ep_typed.specs.Sets.{last_member}
 use Rattle.ep_typed.specs.declared.denoter.Bound.TheVariants as bound
@@ -55,7 +55,7 @@ members_denoter : (types : List UnitType) → IsDenoter types any_members
 members_denoter types = record {
   type_value = type.Set (pos 0) (pos last_member);
   has_type = refl;
-  typed = set (Subrange (Required simple.Integer) (Fixed (pos 0)) (Fixed (pos last_member))) (pos 0) (pos last_member) (subrange (Required simple.Integer) (pos 0) (pos last_member) host.Integer refl (refl, refl, refl, refl, refl)) refl refl;
+  typed = set (Subrange (Required simple.Integer) (Fixed (pos 0)) (Fixed (pos last_member))) (type.Ordinal (pos 0) (pos last_member)) (pos 0) (pos last_member) (subrange (Required simple.Integer) (pos 0) (pos last_member) host.Integer refl (refl, refl, refl, refl, refl)) refl refl refl;
 }
 
 pub member_valid : (types : List UnitType) (line : ℕ) → IsVariable types (member_variable line)
@@ -110,18 +110,26 @@ module _ (declared : Declarations) (types : List UnitType) (own_types : declared
   both_denoted (w ∷ vs) ws p q (suc k) v e = both_denoted vs ws (λ j x d. p (suc j) x d) q k v e
 
   -- a name that has a type value is that of a valid type
-  named_valid : (of : ℕ) (t : TypeValue) → type_of types (Named of []) ≡ Some t → IsDenoter types (Named of [])
-  named_valid of t e =
+  type_valid : (of : ℕ) (t : TypeValue) → type_of types (Named of []) ≡ Some t → IsDenoter types (Named of [])
+  type_valid of t e =
       let x = is_of types (Named of []) t (types_are_instances types (Named of []) t e) in
       let its : IsType types x.0 = subst (λ u. IsType types u) (get_or_from_slice_get types of x.0 x.0 x.1) (valid of x.0 (slice_get_within types of x.0 x.1)) in
       let d : IsDenoter types (definition_of x.0) = its.denoter in
       let same : d.type_value ≡ t = instances_are_one types (definition_of x.0) d.type_value t (typed_instance types (definition_of x.0) d.type_value d.typed) x.2 in
       record { type_value = t; has_type = e; typed = named of x.0 x.1 (subst (λ u. IsTyped types (definition_of x.0) u) same d.typed) }
 
+  -- whatever initial states it has
+  named_valid : (of : ℕ) (t : TypeValue) → bare_type_of types (Named of []) ≡ Some t → IsDenoter types (Named of [])
+  named_valid of b e = go (type_of types (Named of [])) refl e
+    where
+      go : (o : Option TypeValue) → type_of types (Named of []) ≡ o → option_map bare_of o ≡ Some b → IsDenoter types (Named of [])
+      go None is f = cc
+      go (Some t) is f = type_valid of t is
+
   -- the type value of the variable that stands for a place
-  its_type : (v : Entire) (of : ℕ) (t : TypeValue) → IsUnmade declared v → IsPlaceWhere declared (λ ts d. (d ≡ Named of []) × (type_of ts d ≡ Some t)) (entire v) → type_of types (Named of []) ≡ Some t
-  its_type (OfUnit unit k) of t (no_level, unit_is, unmade) (w, there, is) = ap (λ ts. type_of ts (Named of [])) (sym (ap declared.types unit_is ∙ unit_types)) ∙ (ap (type_of (declared.types unit)) (sym is.0) ∙ is.1)
-  its_type (OfRoutine zero k) of t unmade (w, there, is) = ap (λ ts. type_of ts (Named of [])) (sym own_types) ∙ (ap (type_of declared.routine_types) (sym is.0) ∙ is.1)
+  its_type : (v : Entire) (of : ℕ) (t : TypeValue) → IsUnmade declared v → IsPlaceWhere declared (λ ts d. (d ≡ Named of []) × (bare_type_of ts d ≡ Some t)) (entire v) → bare_type_of types (Named of []) ≡ Some t
+  its_type (OfUnit unit k) of t (no_level, unit_is, unmade) (w, there, is) = ap (λ ts. bare_type_of ts (Named of [])) (sym (ap declared.types unit_is ∙ unit_types)) ∙ (ap (bare_type_of (declared.types unit)) (sym is.0) ∙ is.1)
+  its_type (OfRoutine zero k) of t unmade (w, there, is) = ap (λ ts. bare_type_of ts (Named of [])) (sym own_types) ∙ (ap (bare_type_of declared.routine_types) (sym is.0) ∙ is.1)
   its_type (OfRoutine (suc up) k) of t unmade is = absurd unmade
 
   one_denoted : (line of : ℕ) (v : Entire) (p : Place) → IsWith declared v of p → IsDenoter types (denoter_of (with_variable line of).denoter)

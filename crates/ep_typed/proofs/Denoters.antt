@@ -1,32 +1,49 @@
 -- What is found for a denoter is its type value, and a denoter has at most one.
 use Rattle.std.proofs.Common.{◌≡◌, ℕ, ℤ, pos, zero, suc, List, [], ◌∷◌, length, Option, Some, None, slice_get, refl, sym, ap, ◌∙◌, subst}
 use Rattle.std.proofs.lemmas.Option.{same_Some}
-use Rattle.ep_typed.specs.Denoters.{AreInstances, IsInstance, required, named, subrange, enumeration, array, components, set, none, one_more, required_type, definition_of, array_type, set_type, record_type, next_type, found_of, type_step, types_step, type_within}
+use Rattle.ep_typed.specs.Denoters.{AreInstances, IsInstance, required, named, subrange, enumeration, array, components, set, initial, none, one_more, required_type, definition_of, array_over, array_type, initial_type, set_over, set_type, start_by, record_type, next_type, found_of, type_step, types_step, type_within}
 use Rattle.ep_typed.specs.Laws.{TypesAreInstances, InstancesAreOne}
-use Rattle.ep_typed.specs.Trees.{Fixed, Denoter, Denoters, Required, Named, Subrange, Enumeration, Array, Record, Set, no_denoter, next_denoter}
+use Rattle.ep_typed.specs.Trees.{Fixed, Denoter, Denoters, Required, Named, Subrange, Enumeration, Array, Record, Set, Initial, no_denoter, next_denoter}
 use Rattle.ep_typed.specs.declared.unit.UnitType.{UnitType}
 use Rattle.ep_typed.specs.TypeValues as type
-use Rattle.ep_typed.specs.TypeValues.{ComponentTypes, TypeValue, Ordinal}
+use Rattle.ep_typed.specs.TypeValues.{ComponentTypes, Start, TypeValue, Ordinal, bare_of}
 
 -- the type value of an array comes from that of its index type, which is ordinal, and that of its components
+over_index : (b : TypeValue) (p : Option TypeValue) (v : TypeValue) → array_over (Some b) p ≡ Some v
+    → (low high : ℤ) × (of : TypeValue) × (b ≡ Ordinal low high) × (p ≡ Some of) × (v ≡ type.Array low high of)
+over_index (Ordinal low high) None v e = cc
+over_index (Ordinal low high) (Some of) v e = (low, high, of, refl, refl, same_Some v (type.Array low high of) (sym e))
+over_index type.Text p v e = cc
+over_index (type.Array l h t) p v e = cc
+over_index (type.Record ts) p v e = cc
+over_index (type.Set l h) p v e = cc
+over_index (type.Initial t s) p v e = cc
+
 pub of_array : (o p : Option TypeValue) (v : TypeValue) → array_type o p ≡ Some v
-    → (low high : ℤ) × (of : TypeValue) × (o ≡ Some (Ordinal low high)) × (p ≡ Some of) × (v ≡ type.Array low high of)
+    → (i : TypeValue) × (low high : ℤ) × (of : TypeValue) × (o ≡ Some i) × (bare_of i ≡ Ordinal low high) × (p ≡ Some of) × (v ≡ type.Array low high of)
 of_array None p v e = cc
-of_array (Some (Ordinal low high)) None v e = cc
-of_array (Some (Ordinal low high)) (Some of) v e = (low, high, of, refl, refl, same_Some v (type.Array low high of) (sym e))
-of_array (Some type.Text) p v e = cc
-of_array (Some (type.Array l h t)) p v e = cc
-of_array (Some (type.Record ts)) p v e = cc
-of_array (Some (type.Set l h)) p v e = cc
+of_array (Some i) p v e = let x = over_index (bare_of i) p v e in (i, x.0, x.1, x.2, refl, x.3, x.4, x.5)
 
 -- and that of a set from that of its base type, alike
-pub of_set : (o : Option TypeValue) (v : TypeValue) → set_type o ≡ Some v → (low high : ℤ) × (o ≡ Some (Ordinal low high)) × (v ≡ type.Set low high)
+over_base : (b v : TypeValue) → set_over (Some b) ≡ Some v → (low high : ℤ) × (b ≡ Ordinal low high) × (v ≡ type.Set low high)
+over_base (Ordinal low high) v e = (low, high, refl, same_Some v (type.Set low high) (sym e))
+over_base type.Text v e = cc
+over_base (type.Array l h t) v e = cc
+over_base (type.Record ts) v e = cc
+over_base (type.Set l h) v e = cc
+over_base (type.Initial t s) v e = cc
+
+pub of_set : (o : Option TypeValue) (v : TypeValue) → set_type o ≡ Some v
+    → (b : TypeValue) × (low high : ℤ) × (o ≡ Some b) × (bare_of b ≡ Ordinal low high) × (v ≡ type.Set low high)
 of_set None v e = cc
-of_set (Some (Ordinal low high)) v e = (low, high, refl, same_Some v (type.Set low high) (sym e))
-of_set (Some type.Text) v e = cc
-of_set (Some (type.Array l h t)) v e = cc
-of_set (Some (type.Record ts)) v e = cc
-of_set (Some (type.Set l h)) v e = cc
+of_set (Some b) v e = let x = over_base (bare_of b) v e in (b, x.0, x.1, refl, x.2, x.3)
+
+-- that of a type with an initial state from that of the type
+pub of_initial : (o : Option TypeValue) (s : Option Start) (v : TypeValue) → initial_type o s ≡ Some v
+    → (t : TypeValue) × (start : Start) × (o ≡ Some t) × (s ≡ Some start) × (v ≡ type.Initial t start)
+of_initial None s v e = cc
+of_initial (Some t) None v e = cc
+of_initial (Some t) (Some start) v e = (t, start, refl, refl, same_Some v (type.Initial t start) (sym e))
 
 -- that of a record comes from those of its components
 pub of_record : (o : Option ComponentTypes) (v : TypeValue) → record_type o ≡ Some v → (ts : ComponentTypes) × (o ≡ Some ts) × (v ≡ type.Record ts)
@@ -55,14 +72,17 @@ module _ (types : List UnitType) where
     instance_step find h (Enumeration (first ∷ others)) v e = subst (λ w. IsInstance types (Enumeration (first ∷ others)) w) (same_Some _ v e) (enumeration first others)
     instance_step find h (Array index component) v e =
         let p = of_array (type_step types find index) (type_step types find component) v e in
-        subst (λ w. IsInstance types (Array index component) w) (sym p.5)
-        (array index component p.0 p.1 p.2 (instance_step find h index (Ordinal p.0 p.1) p.3) (instance_step find h component p.2 p.4))
+        subst (λ w. IsInstance types (Array index component) w) (sym p.7)
+        (array index component p.0 p.1 p.2 p.3 (instance_step find h index p.0 p.4) p.5 (instance_step find h component p.3 p.6))
     instance_step find h (Record ds) v e =
         let p = of_record (types_step types find ds) v e in
         subst (λ w. IsInstance types (Record ds) w) (sym p.2) (components ds p.0 (instances_step find h ds p.0 p.1))
     instance_step find h (Set base) v e =
         let p = of_set (type_step types find base) v e in
-        subst (λ w. IsInstance types (Set base) w) (sym p.3) (set base p.0 p.1 (instance_step find h base (Ordinal p.0 p.1) p.2))
+        subst (λ w. IsInstance types (Set base) w) (sym p.5) (set base p.0 p.1 p.2 (instance_step find h base p.0 p.3) p.4)
+    instance_step find h (Initial of value) v e =
+        let p = of_initial (type_step types find of) (start_by value) v e in
+        subst (λ w. IsInstance types (Initial of value) w) (sym p.4) (initial of value p.0 p.1 (instance_step find h of p.0 p.2) p.3)
 
     instances_step : (find : Denoter → Option TypeValue) → ((d : Denoter) (v : TypeValue) → find d ≡ Some v → IsInstance types d v) → (ds : Denoters) (ts : ComponentTypes) → types_step types find ds ≡ Some ts → AreInstances types ds ts
     instances_step find h no_denoter ts e = subst (AreInstances types no_denoter) (same_Some type.no_component ts e) none
@@ -92,9 +112,10 @@ module _ (types : List UnitType) where
   IsOf (Enumeration []) v = ⊥
   IsOf (Enumeration (first ∷ others)) v = Ordinal (pos 0) (pos (length others)) ≡ v
   IsOf (Array index component) v =
-      (low high : ℤ) × (of : TypeValue) × (type.Array low high of ≡ v) × IsInstance types index (Ordinal low high) × IsInstance types component of
+      (i : TypeValue) × (low high : ℤ) × (of : TypeValue) × (type.Array low high of ≡ v) × IsInstance types index i × (bare_of i ≡ Ordinal low high) × IsInstance types component of
   IsOf (Record ds) v = (ts : ComponentTypes) × (type.Record ts ≡ v) × AreInstances types ds ts
-  IsOf (Set base) v = (low high : ℤ) × (type.Set low high ≡ v) × IsInstance types base (Ordinal low high)
+  IsOf (Set base) v = (b : TypeValue) × (low high : ℤ) × (type.Set low high ≡ v) × IsInstance types base b × (bare_of b ≡ Ordinal low high)
+  IsOf (Initial of value) v = (t : TypeValue) × (start : Start) × (type.Initial t start ≡ v) × IsInstance types of t × (start_by value ≡ Some start)
 
   -- and alike those of components
   abbrev AreOf : Denoters → ComponentTypes → Type 0
@@ -106,9 +127,10 @@ module _ (types : List UnitType) where
   is_of d v (named index t at h) = (t, at, h)
   is_of d v (subrange host low high) = refl
   is_of d v (enumeration first others) = refl
-  is_of d v (array index component low high of i c) = (low, high, of, refl, i, c)
+  is_of d v (array index component j low high of i over c) = (j, low, high, of, refl, i, over, c)
   is_of d v (components ds ts all) = (ts, refl, all)
-  is_of d v (set base low high i) = (low, high, refl, i)
+  is_of d v (set base b low high i over) = (b, low, high, refl, i, over)
+  is_of d v (initial of value t start i starts) = (t, start, refl, i, starts)
 
   are_of : (ds : Denoters) (ts : ComponentTypes) → AreInstances types ds ts → AreOf ds ts
   are_of ds ts none = refl
@@ -124,18 +146,23 @@ module _ (types : List UnitType) where
         instance_one (definition_of t) v w h (subst (λ u. IsInstance types (definition_of u) w) same x.2)
     instance_one d v w (subrange host low high) other = is_of (Subrange host (Fixed low) (Fixed high)) w other
     instance_one d v w (enumeration first others) other = is_of (Enumeration (first ∷ others)) w other
-    instance_one d v w (array index component low high of i c) other =
+    instance_one d v w (array index component j low high of i over c) other =
         let x = is_of (Array index component) w other in
-        let bounds = same_ordinal low high x.0 x.1 (instance_one index (Ordinal low high) (Ordinal x.0 x.1) i x.4) in
-        let of_same : of ≡ x.2 = instance_one component of x.2 c x.5 in
-        (λ k. type.Array (bounds.0 k) (bounds.1 k) (of_same k)) ∙ x.3
+        let bounds = same_ordinal low high x.1 x.2 (sym over ∙ (ap bare_of (instance_one index j x.0 i x.5) ∙ x.6)) in
+        let of_same : of ≡ x.3 = instance_one component of x.3 c x.7 in
+        (λ k. type.Array (bounds.0 k) (bounds.1 k) (of_same k)) ∙ x.4
     instance_one d v w (components ds ts all) other =
         let x = is_of (Record ds) w other in
         ap type.Record (instances_one ds ts x.0 all x.2) ∙ x.1
-    instance_one d v w (set base low high i) other =
+    instance_one d v w (set base b low high i over) other =
         let x = is_of (Set base) w other in
-        let bounds = same_ordinal low high x.0 x.1 (instance_one base (Ordinal low high) (Ordinal x.0 x.1) i x.3) in
-        (λ k. type.Set (bounds.0 k) (bounds.1 k)) ∙ x.2
+        let bounds = same_ordinal low high x.1 x.2 (sym over ∙ (ap bare_of (instance_one base b x.0 i x.4) ∙ x.5)) in
+        (λ k. type.Set (bounds.0 k) (bounds.1 k)) ∙ x.3
+    instance_one d v w (initial of value t start i starts) other =
+        let x = is_of (Initial of value) w other in
+        let own : t ≡ x.0 = instance_one of t x.0 i x.3 in
+        let begin : start ≡ x.1 = same_Some start x.1 (sym starts ∙ x.4) in
+        (λ k. type.Initial (own k) (begin k)) ∙ x.2
 
     instances_one : (ds : Denoters) (ts us : ComponentTypes) → AreInstances types ds ts → AreInstances types ds us → ts ≡ us
     instances_one ds ts us none other = are_of no_denoter us other

@@ -1,6 +1,6 @@
 -- What the denoters of the code are seen as.
 use Rattle.std.proofs.Common.{◌≡◌, ◌∙◌, ℕ, List, None, append-nil, map, sym, ap}
-use Rattle.ep_typed.specs.Trees.{Denoter, Required, Named, Subrange, Enumeration, Array, Record, Set, denoters}
+use Rattle.ep_typed.specs.Trees.{Denoter, Required, Named, Subrange, Enumeration, Array, Record, Set, Initial, denoters}
 use Rattle.ep_typed.specs.Viewed.{bound_of, components_of, denoter_of, denoter_step, field_step, part_step, selector_step, variant_part_step, variant_step}
 use Rattle.ep_typed.specs.declared.denoter.Bound.{Bound}
 use Rattle.ep_typed.specs.declared.denoter.Denoter.{Denoter as Written}
@@ -10,6 +10,7 @@ use Rattle.ep_typed.specs.declared.denoter.Denoter.TheFolds.{fold-roll-Denoter, 
 use Rattle.ep_typed.specs.declared.denoter.FieldPart.{FieldPart, roll-FieldPart}
 use Rattle.ep_typed.specs.declared.denoter.RecordField.{RecordField, fold-RecordField, out-RecordField, roll-out-RecordField}
 use Rattle.ep_typed.specs.declared.denoter.RequiredType.{RequiredType}
+use Rattle.ep_typed.specs.declared.value.Value.{Value}
 
 pub required_is : (r : RequiredType) → denoter_of (written.Required r) ≡ Required r
 required_is r = ap denoter_of (sym (written.rolls-Required r)) ∙ fold-roll-Denoter Denoter Denoter (List Denoter) Denoter Denoter (List Denoter) denoter_step selector_step part_step field_step variant_step variant_part_step (layer.Required r)
@@ -31,6 +32,9 @@ record_is part = ap denoter_of (sym (written.rolls-Record part)) ∙ fold-roll-D
 
 pub set_is : (base : Written) → denoter_of (written.Set base) ≡ Set (denoter_of base)
 set_is base = ap denoter_of (sym (written.rolls-Set base)) ∙ fold-roll-Denoter Denoter Denoter (List Denoter) Denoter Denoter (List Denoter) denoter_step selector_step part_step field_step variant_step variant_part_step (layer.Set base)
+
+pub initial_is : (of : Written) (value : Value) → denoter_of (written.Initial of value) ≡ Initial (denoter_of of) value
+initial_is of value = ap denoter_of (sym (written.rolls-Initial of value)) ∙ fold-roll-Denoter Denoter Denoter (List Denoter) Denoter Denoter (List Denoter) denoter_step selector_step part_step field_step variant_step variant_part_step (layer.Initial of value)
 
 -- a field, by its denoter
 field_is : (f : RecordField) → fold-RecordField Denoter Denoter (List Denoter) Denoter Denoter (List Denoter) denoter_step selector_step part_step field_step variant_step variant_part_step f ≡ denoter_of (out-RecordField f).denoter

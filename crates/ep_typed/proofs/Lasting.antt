@@ -2,8 +2,8 @@
 use Rattle.std.proofs.Common.{slice_get, ◌≡◌, ℕ, ℤ, pos, negsuc, zero, suc, ◌+◌, List, [], ◌∷◌, Option, Some, None, Bool, true, false, length, refl, ap, arith}
 use Rattle.std.specs.Prelude.{if◌then◌else◌}
 use Rattle.ep_typed.specs.Controls.{in_order, next_value, has_more, others}
-use Rattle.ep_typed.specs.Denoters.{definition_of, required_type, subrange_type, enumeration_type, array_type, set_type}
-use Rattle.ep_typed.specs.Meaning.{clears, clears_all, tag_tested, selected_by, selected_now, is_another, changes_variant, sets_tag, assigns_tag, looks, argument, arguments, extended, collected, members_found, one_result, weights_of, results_given, initialized, takes_by, takes_all, elaborate, elaborate_each, answered, indexed, selected, selecting, selects, chosen, active, part, place, eval, write_piece, write_wide, write_item, write_items, assign, turns, turns_until, assigns, undefines, turns_to, counts, takes_least, member_turn, names, exec, exec_all, elaborated, elaborated_where, elaborated_found, elaborate_step, elaborate_within, make, make_all, make_own, make_all_own, start_of, starts_of, Found, routine_in, activation, runs_routine, routine_does, routine_of, read, assign_living, tried, exec_arms, exec_other}
+use Rattle.ep_typed.specs.Denoters.{definition_of, required_type, subrange_type, enumeration_type, array_type, set_type, start_by}
+use Rattle.ep_typed.specs.Meaning.{clears, clears_all, tag_tested, selected_by, selected_now, is_another, changes_variant, sets_tag, assigns_tag, looks, argument, arguments, extended, collected, members_found, one_result, weights_of, results_given, initialized, takes_by, takes_all, elaborate, elaborate_each, answered, indexed, selected, selecting, selects, chosen, active, part, place, eval, write_piece, write_wide, write_item, write_items, assign, turns, turns_until, assigns, undefines, turns_to, counts, takes_least, member_turn, names, exec, exec_all, elaborated, elaborated_where, elaborated_found, elaborate_step, elaborate_within, make, make_all, make_own, make_all_own, start_of, starts_of, Found, routine_in, activation, runs_routine, routine_does, routine_of, read, assign_living, tried, exec_arms, exec_other, begins, begins_where}
 use Rattle.ep_typed.specs.Operations.{Answer, Number, Fault, is_same, is_true, decides, is_in}
 use Rattle.ep_typed.specs.Printing.{Result, number_of, members_of, plain_text, wide_text, piece_events}
 use Rattle.ep_typed.specs.Printing as result
@@ -15,7 +15,7 @@ use Rattle.ep_typed.specs.Steps.{Value as ValueOf}
 use Rattle.ep_typed.specs.SetOperations.{set_answer}
 use Rattle.ep_typed.specs.Sets.{least_member, with_number, with_numbers}
 use Rattle.ep_typed.specs.Results.{misfit, result_of, suits, unresulting, value_of, weight_of}
-use Rattle.ep_typed.specs.Trees.{Array, Enumeration, Subrange, Named, Record, Set, Required, Denoter, Denoters, no_denoter, next_denoter, Callee, Place, Variable, Own, Standard, Indexed, Field, Variant, Expr, Constant, Text, Read, One, Two, Short, Step, Function, IndexedValue, FieldValue, SetOf, OnSets, Card, Designator, Single, Range, Designators, no_member, next_member, Actual, Evaluated, Accessed, Actuals, no_actual, next_actual, Item, Plain, Wide, Stmt, Stmts, Empty, Compound, Assign, Tagging, AssignTag, If, While, Repeat, Control, For, MemberControl, ForIn, With, Procedure, Halt, Write, none, next, Case, Arms, no_arm, next_arm, Other, no_other, otherwise_do, Entire, OfUnit, OfRoutine, entire, SetConstant}
+use Rattle.ep_typed.specs.Trees.{Array, Enumeration, Subrange, Named, Record, Set, Required, Denoter, Denoters, no_denoter, next_denoter, Callee, Place, Variable, Own, Standard, Indexed, Field, Variant, Expr, Constant, Text, Read, One, Two, Short, Step, Function, IndexedValue, FieldValue, SetOf, OnSets, Card, Designator, Single, Range, Designators, no_member, next_member, Actual, Evaluated, Accessed, Actuals, no_actual, next_actual, Item, Plain, Wide, Stmt, Stmts, Empty, Compound, Assign, Tagging, AssignTag, If, While, Repeat, Control, For, MemberControl, ForIn, With, Procedure, Halt, Write, none, next, Case, Arms, no_arm, next_arm, Other, no_other, otherwise_do, Entire, OfUnit, OfRoutine, entire, SetConstant, Initial, constant_expr}
 use Rattle.ep_typed.specs.Routines.{made_variables, made_by_unit}
 use Rattle.ep_typed.specs.Viewed.{denoter_of, stmt_of}
 use Rattle.ep_typed.specs.declared.interface.Formal.{Formal}
@@ -29,7 +29,7 @@ use Rattle.ep_typed.specs.declared.unit.UnitVariable.{UnitVariable}
 use Rattle.ep_typed.specs.declared.tree.CaseRange.{CaseRange}
 use Rattle.ep_typed.specs.declared.tree.Selection.{Selection}
 use Rattle.ep_typed.specs.TypeValues as type
-use Rattle.ep_typed.specs.TypeValues.{TypeValue, set_size}
+use Rattle.ep_typed.specs.TypeValues.{TypeValue, set_size, Start}
 use Rattle.ep_typed.specs.Laws.{IsLonger, MeaningsLast}
 use Rattle.ep_typed.proofs.Steady.{steady_looks, grows_refl, grows_trans, grows_quiet, grows_events, grows_type, grows_counted, grows_made, grows_made_own, steady_give, steady_cut, steady_stop, steady_bind, steady_spend, steady_change, steady_fetch, steady_fetch_or, steady_turns, steady_turns_until, steady_turns_to, steady_in_call, steady_routine_of, steady_using, steady_assign_living}
 use Rattle.ep_typed.specs.declared.run_error.TheConstants as run_error
@@ -403,7 +403,18 @@ module _ (call other : Handler) (lasts : IsLastingHandler call other) (g j : ℕ
   lasting_elaborated_where None = lasting_cut
   lasting_elaborated_where (Some t) = lasting_elaborated t
 
-  module _ (types : List UnitType) where
+  -- one that gets an initial state
+  lasting_begins : (line : ℕ) (t : TypeValue) (r : Result) (u : TypeValue) → Lasting (begins call g unit line t r u) (begins other (g + j) unit line t r u)
+  lasting_begins line t r u =
+      lasting_if (suits (Some t) r)
+      (lasting_bind {c = change (with_type u)} {f = λ _. spend (suc (size_of t)) (give u)} (lasting_change (grows_type u)) (λ _. lasting_spend (suc (size_of t)) (lasting_give u)))
+      (lasting_stop (Error (misfit r) unit line))
+
+  lasting_begins_where : (line : ℕ) (t : TypeValue) (r : Result) (o : Option Start) → Lasting (begins_where call g unit line t r o) (begins_where other (g + j) unit line t r o)
+  lasting_begins_where line t r None = lasting_cut
+  lasting_begins_where line t r (Some start) = lasting_begins line t r (type.Initial t start)
+
+  module _ (line : ℕ) (types : List UnitType) where
     lasting_elaborated_found : (find found : Denoter → Computation TypeValue) → ((d : Denoter) → Lasting (find d) (found d)) → (o : Option UnitType)
         → Lasting (elaborated_found call g unit find o) (elaborated_found other (g + j) unit found o)
     lasting_elaborated_found find found last None = lasting_cut
@@ -411,7 +422,7 @@ module _ (call other : Handler) (lasts : IsLastingHandler call other) (g j : ℕ
 
     mutual
       lasting_elaborate_step : (find found : Denoter → Computation TypeValue) → ((d : Denoter) → Lasting (find d) (found d)) → (d : Denoter)
-          → Lasting (elaborate_step call g unit types find d) (elaborate_step other (g + j) unit types found d)
+          → Lasting (elaborate_step call g unit line types find d) (elaborate_step other (g + j) unit line types found d)
       lasting_elaborate_step find found last (Required r) = lasting_elaborated (required_type r)
       lasting_elaborate_step find found last (Named index []) = lasting_elaborated_found find found last (slice_get types index)
       lasting_elaborate_step find found last (Named index (b ∷ bs)) = lasting_cut
@@ -421,18 +432,20 @@ module _ (call other : Handler) (lasts : IsLastingHandler call other) (g j : ℕ
           lasting_bind (lasting_elaborate_step find found last index) (λ t. lasting_bind (lasting_elaborate_step find found last component) (λ u. lasting_elaborated_where (array_type (Some t) (Some u))))
       lasting_elaborate_step find found last (Record ds) = lasting_bind (lasting_elaborate_each find found last ds) (λ ts. lasting_elaborated (type.Record ts))
       lasting_elaborate_step find found last (Set base) = lasting_bind (lasting_elaborate_step find found last base) (λ t. lasting_elaborated_where (set_type (Some t)))
+      lasting_elaborate_step find found last (Initial of value) =
+          lasting_bind (lasting_elaborate_step find found last of) (λ t. lasting_bind (lasting_eval line (constant_expr value)) (λ r. lasting_begins_where line t r (start_by value)))
 
       lasting_elaborate_each : (find found : Denoter → Computation TypeValue) → ((d : Denoter) → Lasting (find d) (found d)) → (ds : Denoters)
-          → Lasting (elaborate_each call g unit types find ds) (elaborate_each other (g + j) unit types found ds)
+          → Lasting (elaborate_each call g unit line types find ds) (elaborate_each other (g + j) unit line types found ds)
       lasting_elaborate_each find found last no_denoter = lasting_give type.no_component
       lasting_elaborate_each find found last (next_denoter d ds) =
           lasting_bind (lasting_elaborate_step find found last d) (λ t. lasting_bind (lasting_elaborate_each find found last ds) (λ ts. lasting_give (type.next_component t ts)))
 
-    lasting_elaborate_within : (n : ℕ) (d : Denoter) → Lasting (elaborate_within call g unit types n d) (elaborate_within other (g + j) unit types n d)
+    lasting_elaborate_within : (n : ℕ) (d : Denoter) → Lasting (elaborate_within call g unit line types n d) (elaborate_within other (g + j) unit line types n d)
     lasting_elaborate_within zero d = lasting_cut
-    lasting_elaborate_within (suc n) d = lasting_elaborate_step (elaborate_within call g unit types n) (elaborate_within other (g + j) unit types n) (lasting_elaborate_within n) d
+    lasting_elaborate_within (suc n) d = lasting_elaborate_step (elaborate_within call g unit line types n) (elaborate_within other (g + j) unit line types n) (lasting_elaborate_within n) d
 
-    lasting_elaborate : (d : Denoter) → Lasting (elaborate call g unit types d) (elaborate other (g + j) unit types d)
+    lasting_elaborate : (d : Denoter) → Lasting (elaborate call g unit line types d) (elaborate other (g + j) unit line types d)
     lasting_elaborate d = lasting_elaborate_within (suc (length types)) d
 
   -- a variable that is allocated
@@ -442,7 +455,7 @@ module _ (call other : Handler) (lasts : IsLastingHandler call other) (g j : ℕ
 
   -- a variable
   lasting_make : (types : List UnitType) (number : ℕ) (v : UnitVariable) → Lasting (make call g unit types number v) (make other (g + j) unit types number v)
-  lasting_make types number v = lasting_bind (lasting_elaborate types (denoter_of v.denoter)) (λ t. lasting_allocate number t)
+  lasting_make types number v = lasting_bind (lasting_elaborate v.line types (denoter_of v.denoter)) (λ t. lasting_allocate number t)
 
   -- variables
   lasting_make_all : (types : List UnitType) (number : ℕ) (vs : List UnitVariable) → Lasting (make_all call g unit types number vs) (make_all other (g + j) unit types number vs)
@@ -456,7 +469,7 @@ module _ (call other : Handler) (lasts : IsLastingHandler call other) (g j : ℕ
 
   -- a variable of a routine
   lasting_make_own : (types : List UnitType) (number : ℕ) (v : UnitVariable) → Lasting (make_own call g unit types number v) (make_own other (g + j) unit types number v)
-  lasting_make_own types number v = lasting_bind (lasting_elaborate types (denoter_of v.denoter)) (λ t. lasting_allocate_own number t)
+  lasting_make_own types number v = lasting_bind (lasting_elaborate v.line types (denoter_of v.denoter)) (λ t. lasting_allocate_own number t)
 
   -- its variables
   lasting_make_all_own : (types : List UnitType) (number : ℕ) (vs : List UnitVariable) → Lasting (make_all_own call g unit types number vs) (make_all_own other (g + j) unit types number vs)
@@ -493,9 +506,9 @@ lasting_initialized unit line t r = lasting_if (suits (Some t) r) (lasting_chang
 module _ (call other : Handler) (lasts : IsLastingHandler call other) (g j : ℕ) (unit : List ℕ) (types : List UnitType) where
   -- a formal parameter that takes its argument
   lasting_takes_value : (line number : ℕ) (f : Formal) (r : Result)
-      → Lasting (bind (elaborate call g unit types (denoter_of f.denoter)) (λ t. bind (allocate_own number t) (λ _. initialized unit line t r))) (bind (elaborate other (g + j) unit types (denoter_of f.denoter)) (λ t. bind (allocate_own number t) (λ _. initialized unit line t r)))
+      → Lasting (bind (elaborate call g unit line types (denoter_of f.denoter)) (λ t. bind (allocate_own number t) (λ _. initialized unit line t r))) (bind (elaborate other (g + j) unit line types (denoter_of f.denoter)) (λ t. bind (allocate_own number t) (λ _. initialized unit line t r)))
   lasting_takes_value line number f r =
-      lasting_bind (lasting_elaborate call other lasts g j unit types (denoter_of f.denoter)) (λ t. lasting_bind (lasting_allocate_own call other lasts g j unit number t) (λ _. lasting_initialized unit line t r))
+      lasting_bind (lasting_elaborate call other lasts g j unit line types (denoter_of f.denoter)) (λ t. lasting_bind (lasting_allocate_own call other lasts g j unit number t) (λ _. lasting_initialized unit line t r))
 
   lasting_takes_variable : (number : ℕ) (v : Component) → Lasting (spend 1 (change (with_own_bound number v))) (spend 1 (change (with_own_bound number v)))
   lasting_takes_variable number v = lasting_spend 1 (lasting_change (λ s. grows_quiet s (with_own_bound number v s) refl refl))

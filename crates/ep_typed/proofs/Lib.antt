@@ -1,4 +1,5 @@
 pub mod Auxiliaries
+pub mod Bares
 pub mod Denoters
 pub mod Done
 pub mod Examples

@@ -4,9 +4,9 @@ use Rattle.std.specs.Prelude.{if◌then◌else◌}
 use Rattle.std.specs.List.{list_any}
 use Rattle.ep_outside.specs.Known.{IsPrefix}
 use Rattle.ep_typed.specs.Controls.{in_order, next_value, has_more, others}
-use Rattle.ep_typed.specs.Denoters.{definition_of, required_type, subrange_type, enumeration_type, array_type, set_type}
+use Rattle.ep_typed.specs.Denoters.{definition_of, required_type, subrange_type, enumeration_type, array_type, set_type, start_by}
 use Rattle.ep_typed.specs.Events.{Trace}
-use Rattle.ep_typed.specs.Meaning.{clears, clears_all, tag_tested, selected_by, selected_now, is_another, changes_variant, sets_tag, assigns_tag, looks, argument, arguments, extended, collected, members_found, one_result, weights_of, result_at, results_given, initialized, takes_by, takes_all, elaborate, elaborate_each, answered, indexed, selected, selecting, selects, chosen, active, part, place, eval, write_piece, write_wide, write_item, write_items, assign, turns, turns_until, assigns, undefines, turns_to, counts, takes_least, member_turn, names, exec, exec_all, elaborated, elaborated_where, elaborated_found, elaborate_step, elaborate_within, make, make_all, make_own, make_all_own, start_of, starts_of, Found, routine_in, activation, runs_routine, routine_does, routine_of, read, assign_living, tried, exec_arms, exec_other}
+use Rattle.ep_typed.specs.Meaning.{clears, clears_all, tag_tested, selected_by, selected_now, is_another, changes_variant, sets_tag, assigns_tag, looks, argument, arguments, extended, collected, members_found, one_result, weights_of, result_at, results_given, initialized, takes_by, takes_all, elaborate, elaborate_each, answered, indexed, selected, selecting, selects, chosen, active, part, place, eval, write_piece, write_wide, write_item, write_items, assign, turns, turns_until, assigns, undefines, turns_to, counts, takes_least, member_turn, names, exec, exec_all, elaborated, elaborated_where, elaborated_found, elaborate_step, elaborate_within, make, make_all, make_own, make_all_own, start_of, starts_of, Found, routine_in, activation, runs_routine, routine_does, routine_of, read, assign_living, tried, exec_arms, exec_other, begins, begins_where}
 use Rattle.ep_typed.specs.Operations.{Answer, Number, Fault, is_same, is_true, decides, is_in}
 use Rattle.ep_typed.specs.Printing.{Result, number_of, members_of, plain_text, wide_text, piece_events}
 use Rattle.ep_typed.specs.Printing as result
@@ -18,7 +18,7 @@ use Rattle.ep_typed.specs.Steps.{Value as ValueOf}
 use Rattle.ep_typed.specs.SetOperations.{set_answer}
 use Rattle.ep_typed.specs.Sets.{least_member, with_number, with_numbers}
 use Rattle.ep_typed.specs.Results.{misfit, result_of, suits, unresulting, value_of, weight_of}
-use Rattle.ep_typed.specs.Trees.{Array, Enumeration, Subrange, Named, Record, Set, Required, Denoter, Denoters, no_denoter, next_denoter, Callee, Place, Variable, Own, Standard, Indexed, Field, Variant, Expr, Constant, Text, Read, One, Two, Short, Step, Function, IndexedValue, FieldValue, SetOf, OnSets, Card, Designator, Single, Range, Designators, no_member, next_member, Actual, Evaluated, Accessed, Actuals, no_actual, next_actual, Item, Plain, Wide, Stmt, Stmts, Empty, Compound, Assign, Tagging, AssignTag, If, While, Repeat, Control, For, MemberControl, ForIn, With, Procedure, Halt, Write, none, next, Case, Arms, no_arm, next_arm, Other, no_other, otherwise_do, Entire, OfUnit, OfRoutine, entire, SetConstant}
+use Rattle.ep_typed.specs.Trees.{Array, Enumeration, Subrange, Named, Record, Set, Required, Denoter, Denoters, no_denoter, next_denoter, Callee, Place, Variable, Own, Standard, Indexed, Field, Variant, Expr, Constant, Text, Read, One, Two, Short, Step, Function, IndexedValue, FieldValue, SetOf, OnSets, Card, Designator, Single, Range, Designators, no_member, next_member, Actual, Evaluated, Accessed, Actuals, no_actual, next_actual, Item, Plain, Wide, Stmt, Stmts, Empty, Compound, Assign, Tagging, AssignTag, If, While, Repeat, Control, For, MemberControl, ForIn, With, Procedure, Halt, Write, none, next, Case, Arms, no_arm, next_arm, Other, no_other, otherwise_do, Entire, OfUnit, OfRoutine, entire, SetConstant, Initial, constant_expr}
 use Rattle.ep_typed.specs.Routines.{made_variables, made_by_unit}
 use Rattle.ep_typed.specs.Viewed.{denoter_of, stmt_of}
 use Rattle.ep_typed.specs.declared.interface.Formal.{Formal}
@@ -29,7 +29,7 @@ use Rattle.ep_typed.specs.declared.operations.Print.{Print}
 use Rattle.ep_typed.specs.declared.tree.CaseRange.{CaseRange}
 use Rattle.ep_typed.specs.declared.tree.Selection.{Selection}
 use Rattle.ep_typed.specs.TypeValues as type
-use Rattle.ep_typed.specs.TypeValues.{TypeValue, set_size}
+use Rattle.ep_typed.specs.TypeValues.{TypeValue, set_size, Start}
 use Rattle.ep_typed.specs.declared.unit.Unit.{Unit as TypedUnit}
 use Rattle.ep_typed.specs.declared.unit.UnitType.{UnitType}
 use Rattle.ep_typed.specs.declared.unit.UnitVariable.{UnitVariable}
@@ -435,7 +435,18 @@ module _ (call : Handler) (steady : IsSteadyHandler call) (g : ℕ) (unit : List
   steady_elaborated_where None = steady_cut
   steady_elaborated_where (Some t) = steady_elaborated t
 
-  module _ (types : List UnitType) where
+  -- one that gets an initial state
+  steady_begins : (line : ℕ) (t : TypeValue) (r : Result) (u : TypeValue) → Steady (begins call g unit line t r u)
+  steady_begins line t r u =
+      steady_if (suits (Some t) r)
+      (steady_bind {c = change (with_type u)} {f = λ _. spend (suc (size_of t)) (give u)} (steady_change (grows_type u)) (λ _. steady_spend (suc (size_of t)) (steady_give u)))
+      (steady_stop (Error (misfit r) unit line))
+
+  pub steady_begins_where : (line : ℕ) (t : TypeValue) (r : Result) (o : Option Start) → Steady (begins_where call g unit line t r o)
+  steady_begins_where line t r None = steady_cut
+  steady_begins_where line t r (Some start) = steady_begins line t r (type.Initial t start)
+
+  module _ (line : ℕ) (types : List UnitType) where
     steady_elaborated_found : (find : Denoter → Computation TypeValue) → ((d : Denoter) → Steady (find d)) → (o : Option UnitType)
         → Steady (elaborated_found call g unit find o)
     steady_elaborated_found find steady_find None = steady_cut
@@ -443,7 +454,7 @@ module _ (call : Handler) (steady : IsSteadyHandler call) (g : ℕ) (unit : List
 
     mutual
       pub steady_elaborate_step : (find : Denoter → Computation TypeValue) → ((d : Denoter) → Steady (find d)) → (d : Denoter)
-          → Steady (elaborate_step call g unit types find d)
+          → Steady (elaborate_step call g unit line types find d)
       steady_elaborate_step find steady_find (Required r) = steady_elaborated (required_type r)
       steady_elaborate_step find steady_find (Named index []) = steady_elaborated_found find steady_find (slice_get types index)
       steady_elaborate_step find steady_find (Named index (b ∷ bs)) = steady_cut
@@ -453,23 +464,25 @@ module _ (call : Handler) (steady : IsSteadyHandler call) (g : ℕ) (unit : List
           steady_bind (steady_elaborate_step find steady_find index) (λ t. steady_bind (steady_elaborate_step find steady_find component) (λ u. steady_elaborated_where (array_type (Some t) (Some u))))
       steady_elaborate_step find steady_find (Record ds) = steady_bind (steady_elaborate_each find steady_find ds) (λ ts. steady_elaborated (type.Record ts))
       steady_elaborate_step find steady_find (Set base) = steady_bind (steady_elaborate_step find steady_find base) (λ t. steady_elaborated_where (set_type (Some t)))
+      steady_elaborate_step find steady_find (Initial of value) =
+          steady_bind (steady_elaborate_step find steady_find of) (λ t. steady_bind (steady_eval line (constant_expr value)) (λ r. steady_begins_where line t r (start_by value)))
 
       pub steady_elaborate_each : (find : Denoter → Computation TypeValue) → ((d : Denoter) → Steady (find d)) → (ds : Denoters)
-          → Steady (elaborate_each call g unit types find ds)
+          → Steady (elaborate_each call g unit line types find ds)
       steady_elaborate_each find steady_find no_denoter = steady_give type.no_component
       steady_elaborate_each find steady_find (next_denoter d ds) =
           steady_bind (steady_elaborate_step find steady_find d) (λ t. steady_bind (steady_elaborate_each find steady_find ds) (λ ts. steady_give (type.next_component t ts)))
 
-    pub steady_elaborate_within : (n : ℕ) (d : Denoter) → Steady (elaborate_within call g unit types n d)
+    pub steady_elaborate_within : (n : ℕ) (d : Denoter) → Steady (elaborate_within call g unit line types n d)
     steady_elaborate_within zero d = steady_cut
-    steady_elaborate_within (suc n) d = steady_elaborate_step (elaborate_within call g unit types n) (steady_elaborate_within n) d
+    steady_elaborate_within (suc n) d = steady_elaborate_step (elaborate_within call g unit line types n) (steady_elaborate_within n) d
 
-    pub steady_elaborate : (d : Denoter) → Steady (elaborate call g unit types d)
+    pub steady_elaborate : (d : Denoter) → Steady (elaborate call g unit line types d)
     steady_elaborate d = steady_elaborate_within (suc (length types)) d
 
   -- a variable of a type that is elaborated
   pub steady_make : (types : List UnitType) (number : ℕ) (v : UnitVariable) → Steady (make call g unit types number v)
-  steady_make types number v = steady_bind (steady_elaborate types (denoter_of v.denoter)) (λ t. steady_allocate unit number t)
+  steady_make types number v = steady_bind (steady_elaborate v.line types (denoter_of v.denoter)) (λ t. steady_allocate unit number t)
 
   -- variables
   pub steady_make_all : (types : List UnitType) (number : ℕ) (vs : List UnitVariable) → Steady (make_all call g unit types number vs)
@@ -478,7 +491,7 @@ module _ (call : Handler) (steady : IsSteadyHandler call) (g : ℕ) (unit : List
 
   -- a variable of a routine, of a type that is elaborated
   pub steady_make_own : (types : List UnitType) (number : ℕ) (v : UnitVariable) → Steady (make_own call g unit types number v)
-  steady_make_own types number v = steady_bind (steady_elaborate types (denoter_of v.denoter)) (λ t. steady_allocate_own number t)
+  steady_make_own types number v = steady_bind (steady_elaborate v.line types (denoter_of v.denoter)) (λ t. steady_allocate_own number t)
 
   -- its variables
   pub steady_make_all_own : (types : List UnitType) (number : ℕ) (vs : List UnitVariable) → Steady (make_all_own call g unit types number vs)
@@ -514,9 +527,9 @@ steady_initialized unit line t r = steady_if (suits (Some t) r) (steady_change (
 
 module _ (call : Handler) (steady : IsSteadyHandler call) (g : ℕ) (unit : List ℕ) (types : List UnitType) where
   -- a formal parameter that takes its argument
-  steady_takes_value : (line number : ℕ) (f : Formal) (r : Result) → Steady (bind (elaborate call g unit types (denoter_of f.denoter)) (λ t. bind (allocate_own number t) (λ _. initialized unit line t r)))
+  steady_takes_value : (line number : ℕ) (f : Formal) (r : Result) → Steady (bind (elaborate call g unit line types (denoter_of f.denoter)) (λ t. bind (allocate_own number t) (λ _. initialized unit line t r)))
   steady_takes_value line number f r =
-      steady_bind (steady_elaborate call steady g unit types (denoter_of f.denoter)) (λ t. steady_bind (steady_allocate_own number t) (λ _. steady_initialized unit line t r))
+      steady_bind (steady_elaborate call steady g unit line types (denoter_of f.denoter)) (λ t. steady_bind (steady_allocate_own number t) (λ _. steady_initialized unit line t r))
 
   steady_takes_variable : (number : ℕ) (c : Component) → Steady (spend 1 (change (with_own_bound number c)))
   steady_takes_variable number c = steady_spend 1 (steady_change (λ s. grows_quiet s (with_own_bound number c s) refl refl))

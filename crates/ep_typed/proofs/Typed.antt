@@ -5,12 +5,13 @@ use Rattle.std.proofs.lemmas.Bool.Decides.{nat_tests}
 use Rattle.std.proofs.lemmas.Option.{same_Some}
 use Rattle.ep_typed.specs.Denoters.{ArrayParts, AreInstances, IsInstance, array_step, array_of, array_within, base_of, base_within, definition_of, denoter_at, found_of, host_of, host_step, host_within, enumeration_host, record_of, record_within, required_type}
 use Rattle.ep_typed.specs.Denoters as instance
+use Rattle.ep_typed.proofs.Bares.{bare_value}
 use Rattle.ep_typed.specs.Hosts.{Host, is_of_host}
 use Rattle.ep_typed.specs.Hosts as host
-use Rattle.ep_typed.specs.Trees.{Denoter, Denoters, Required, Named, Subrange, Enumeration, Array, Record, Set}
+use Rattle.ep_typed.specs.Trees.{Denoter, Denoters, Required, Named, Subrange, Enumeration, Array, Record, Set, Initial}
 use Rattle.ep_typed.specs.TypeValues as type
-use Rattle.ep_typed.specs.TypeValues.{ComponentTypes, TypeValue, type_among}
-use Rattle.ep_typed.specs.Valid.{AreTyped, IsTyped, required, named, subrange, enumeration, array, components, set, none_typed, next_typed, AreTypeValues, IsSetOf, IsTypeOf, IsTypeValue}
+use Rattle.ep_typed.specs.TypeValues.{ComponentTypes, TypeValue, bare_each, bare_of, type_among}
+use Rattle.ep_typed.specs.Valid.{AreTyped, IsTyped, required, named, subrange, enumeration, array, components, set, initial, none_typed, next_typed, AreTypeValues, IsSetOf, IsTypeOf, IsTypeValue}
 use Rattle.ep_typed.specs.declared.denoter.RequiredType.TheVariants as simple
 use Rattle.ep_typed.specs.declared.unit.UnitType.{UnitType}
 
@@ -32,10 +33,11 @@ module _ (types : List UnitType) where
     typed_instance d v (named index t at h) = instance.named index t at (typed_instance (definition_of t) v h)
     typed_instance d v (subrange of low high h has within) = instance.subrange of low high
     typed_instance d v (enumeration first others fits) = instance.enumeration first others
-    typed_instance d v (array index component low high of i c) =
-        instance.array index component low high of (typed_instance index (type.Ordinal low high) i) (typed_instance component of c)
+    typed_instance d v (array index component j low high of i over c) =
+        instance.array index component j low high of (typed_instance index j i) over (typed_instance component of c)
     typed_instance d v (components ds ts all) = instance.components ds ts (typed_instances ds ts all)
-    typed_instance d v (set base low high i from to) = instance.set base low high (typed_instance base (type.Ordinal low high) i)
+    typed_instance d v (set base b low high i over from to) = instance.set base b low high (typed_instance base b i) over
+    typed_instance d v (initial of value t start x starts fits) = instance.initial of value t start (typed_instance of t x) starts
 
     typed_instances : (ds : Denoters) (ts : ComponentTypes) → AreTyped types ds ts → AreInstances types ds ts
     typed_instances ds ts none_typed = instance.none
@@ -50,9 +52,10 @@ module _ (types : List UnitType) where
     typed_value d v (named index t at h) = typed_value (definition_of t) v h
     typed_value d v (subrange of low high h has within) = (within.0, within.3, within.4)
     typed_value d v (enumeration first others fits) = (from_zero (length others), refl, fits)
-    typed_value d v (array index component low high of i c) = (typed_value index (type.Ordinal low high) i, typed_value component of c)
+    typed_value d v (array index component j low high of i over c) = (subst IsTypeValue over (bare_value j (typed_value index j i)), typed_value component of c)
     typed_value d v (components ds ts all) = typed_values ds ts all
-    typed_value d v (set base low high i from to) = (typed_value base (type.Ordinal low high) i, from, to)
+    typed_value d v (set base b low high i over from to) = (subst IsTypeValue over (bare_value b (typed_value base b i)), from, to)
+    typed_value d v (initial of value t start x starts fits) = typed_value of t x
 
     typed_values : (ds : Denoters) (ts : ComponentTypes) → AreTyped types ds ts → AreTypeValues ts
     typed_values ds ts none_typed = tt
@@ -76,6 +79,7 @@ module _ (types : List UnitType) where
   host_step-more find more keeps (Array index component) h e = e
   host_step-more find more keeps (Record ds) h e = e
   host_step-more find more keeps (Set base) h e = e
+  host_step-more find more keeps (Initial of value) h e = host_step-more find more keeps of h e
 
   host_within-more : (n : ℕ) (d : Denoter) (h : Host) → host_within types n d ≡ Some h → host_within types (suc n) d ≡ Some h
   host_within-more zero d h e = cc
@@ -91,8 +95,8 @@ module _ (types : List UnitType) where
   one_host m n d g h a b =
       same_Some g h (sym (host_within-so_many n (m + n) m d g (omega arith) a) ∙ host_within-so_many m (m + n) n d h refl b)
 
-  -- the type value of a valid denoter is a type of its host, where it has one
-  typed_of_within : (n : ℕ) (d : Denoter) (v : TypeValue) (h : Host) → IsTyped types d v → host_within types n d ≡ Some h → IsTypeOf h v
+  -- the type value of a valid denoter is a type of its host, where it has one, but for initial states
+  typed_of_within : (n : ℕ) (d : Denoter) (v : TypeValue) (h : Host) → IsTyped types d v → host_within types n d ≡ Some h → IsTypeOf h (bare_of v)
   typed_of_within zero d v h x e = cc
   typed_of_within (suc n) d v h (required simple.Integer) e = subst (λ k. IsTypeOf k (required_type simple.Integer)) (same_Some host.Integer h e) (refl, refl, refl, refl, refl)
   typed_of_within (suc n) d v h (required simple.Char) e = subst (λ k. IsTypeOf k (required_type simple.Char)) (same_Some host.Char h e) (refl, refl, refl, refl, refl)
@@ -102,20 +106,23 @@ module _ (types : List UnitType) where
       subst (λ k. IsTypeOf k (type.Ordinal low high)) (one_host (suc (length types)) (suc n) of g h has e) within
   typed_of_within (suc n) d v h (enumeration first others fits) e =
       subst (λ k. IsTypeOf k (type.Ordinal (pos 0) (pos (length others)))) (same_Some (host.Enumeration (length others)) h e) (from_zero (length others), first_of (length others), last_of (length others), refl, fits)
-  typed_of_within (suc n) d v h (array index component low high of i c) e = cc
+  typed_of_within (suc n) d v h (array index component j low high of i over c) e = cc
   typed_of_within (suc n) d v h (components ds ts all) e = cc
-  typed_of_within (suc n) d v h (set base low high i from to) e = cc
+  typed_of_within (suc n) d v h (set base b low high i over from to) e = cc
+  typed_of_within (suc n) d v h (initial of value t start x starts fits) e = typed_of_within (suc n) of t h x e
 
-  pub typed_of_host : (d : Denoter) (v : TypeValue) (h : Host) → IsTyped types d v → host_of types d ≡ Some h → IsTypeOf h v
+  pub typed_of_host : (d : Denoter) (v : TypeValue) (h : Host) → IsTyped types d v → host_of types d ≡ Some h → IsTypeOf h (bare_of v)
   typed_of_host d v h x e = typed_of_within (suc (length types)) d v h x e
 
-  -- the parts of a valid denoter of an array are valid
+  -- the parts of a valid denoter of an array are valid, and its type value is that of an array of them, but for initial states
   pub record HasParts (a : ArrayParts) (v : TypeValue) : Type 0 where
+    pub over : TypeValue
     pub low : ℤ
     pub high : ℤ
     pub of : TypeValue
-    pub is : v ≡ type.Array low high of
-    pub index : IsTyped types a.index (type.Ordinal low high)
+    pub is : bare_of v ≡ type.Array low high (bare_of of)
+    pub index : IsTyped types a.index over
+    pub bounds : bare_of over ≡ type.Ordinal low high
     pub component : IsTyped types a.component of
 
   parts_within : (n : ℕ) (d : Denoter) (v : TypeValue) (a : ArrayParts) → IsTyped types d v → array_within types n d ≡ Some a → HasParts a v
@@ -125,17 +132,21 @@ module _ (types : List UnitType) where
   parts_within (suc n) d v a (subrange of low high g has within) e = cc
   parts_within (suc n) d v a (enumeration first others fits) e = cc
   parts_within (suc n) d v a (components ds ts all) e = cc
-  parts_within (suc n) d v a (set base low high i from to) e = cc
-  parts_within (suc n) d v a (array index component low high of i c) e =
-      subst (λ (b : ArrayParts). HasParts b (type.Array low high of)) (same_Some (record { index = index; component = component }) a e) (record { low = low; high = high; of = of; is = refl; index = i; component = c })
+  parts_within (suc n) d v a (set base b low high i over from to) e = cc
+  parts_within (suc n) d v a (initial of value t start x starts fits) e =
+      let p = parts_within (suc n) of t a x e in
+      record { over = p.over; low = p.low; high = p.high; of = p.of; is = p.is; index = p.index; bounds = p.bounds; component = p.component }
+  parts_within (suc n) d v a (array index component j low high of i over c) e =
+      subst (λ (b : ArrayParts). HasParts b (type.Array low high of)) (same_Some (record { index = index; component = component }) a e)
+      (record { over = j; low = low; high = high; of = of; is = refl; index = i; bounds = over; component = c })
 
   pub typed_parts : (d : Denoter) (v : TypeValue) (a : ArrayParts) → IsTyped types d v → array_of types d ≡ Some a → HasParts a v
   typed_parts d v a x e = parts_within (suc (length types)) d v a x e
 
-  -- the components of a valid denoter of a record are valid
+  -- the components of a valid denoter of a record are valid, and its type value is that of a record of them, but for initial states
   pub record HasComponents (ds : Denoters) (v : TypeValue) : Type 0 where
     pub types_of : ComponentTypes
-    pub is : v ≡ type.Record types_of
+    pub is : bare_of v ≡ type.Record (bare_each types_of)
     pub all : AreTyped types ds types_of
 
   components_within : (n : ℕ) (d : Denoter) (v : TypeValue) (ds : Denoters) → IsTyped types d v → record_within types n d ≡ Some ds → HasComponents ds v
@@ -144,26 +155,29 @@ module _ (types : List UnitType) where
   components_within (suc n) d v ds (named index t at x) e = components_within n (definition_of t) v ds x (sym (ap (found_of (record_within types n)) at) ∙ e)
   components_within (suc n) d v ds (subrange of low high g has within) e = cc
   components_within (suc n) d v ds (enumeration first others fits) e = cc
-  components_within (suc n) d v ds (array index component low high of i c) e = cc
-  components_within (suc n) d v ds (set base low high i from to) e = cc
+  components_within (suc n) d v ds (array index component j low high of i over c) e = cc
+  components_within (suc n) d v ds (set base b low high i over from to) e = cc
+  components_within (suc n) d v ds (initial of value t start x starts fits) e =
+      let p = components_within (suc n) of t ds x e in record { types_of = p.types_of; is = p.is; all = p.all }
   components_within (suc n) d v ds (components es ts all) e = subst (λ (fs : Denoters). HasComponents fs (type.Record ts)) (same_Some es ds e) (record { types_of = ts; is = refl; all = all })
 
   pub typed_components : (d : Denoter) (v : TypeValue) (ds : Denoters) → IsTyped types d v → record_of types d ≡ Some ds → HasComponents ds v
   typed_components d v ds x e = components_within (suc (length types)) d v ds x e
 
-  -- the type value of a valid denoter is that of sets over the host of its base type, where it has one
-  set_within : (n : ℕ) (d : Denoter) (v : TypeValue) (base : Denoter) (h : Host) → IsTyped types d v → base_within types n d ≡ Some base → host_of types base ≡ Some h → IsSetOf h v
+  -- the type value of a valid denoter is that of sets over the host of its base type, where it has one, but for initial states
+  set_within : (n : ℕ) (d : Denoter) (v : TypeValue) (base : Denoter) (h : Host) → IsTyped types d v → base_within types n d ≡ Some base → host_of types base ≡ Some h → IsSetOf h (bare_of v)
   set_within zero d v base h x e has = cc
   set_within (suc n) d v base h (required r) e has = cc
   set_within (suc n) d v base h (named index t at x) e has = set_within n (definition_of t) v base h x (sym (ap (found_of (base_within types n)) at) ∙ e) has
   set_within (suc n) d v base h (subrange of low high g x within) e has = cc
   set_within (suc n) d v base h (enumeration first others fits) e has = cc
-  set_within (suc n) d v base h (array index component low high of i c) e has = cc
+  set_within (suc n) d v base h (array index component j low high of i over c) e has = cc
   set_within (suc n) d v base h (components es ts all) e has = cc
-  set_within (suc n) d v base h (set own low high i from to) e has =
-      (typed_of_host own (type.Ordinal low high) h i (ap (host_of types) (same_Some own base e) ∙ has), from, to)
+  set_within (suc n) d v base h (initial of value t start x starts fits) e has = set_within (suc n) of t base h x e has
+  set_within (suc n) d v base h (set own b low high i over from to) e has =
+      (subst (IsTypeOf h) over (typed_of_host own b h i (ap (host_of types) (same_Some own base e) ∙ has)), from, to)
 
-  pub typed_set : (d : Denoter) (v : TypeValue) (base : Denoter) (h : Host) → IsTyped types d v → base_of types d ≡ Some base → host_of types base ≡ Some h → IsSetOf h v
+  pub typed_set : (d : Denoter) (v : TypeValue) (base : Denoter) (h : Host) → IsTyped types d v → base_of types d ≡ Some base → host_of types base ≡ Some h → IsSetOf h (bare_of v)
   typed_set d v base h x e has = set_within (suc (length types)) d v base h x e has
 
   -- the one of a number has its type

@@ -1,15 +1,17 @@
 -- Which type value and which host a denoter has, under the list of types in which it names.
-use Rattle.std.specs.Prelude.{◌≡◌, ℕ, ℤ, pos, neg_ℤ, zero, suc, List, [], ◌∷◌, length, slice_get, Option, Some, None}
+use Rattle.std.specs.Prelude.{◌≡◌, ℕ, ℤ, pos, neg_ℤ, zero, suc, List, [], ◌∷◌, length, slice_get, Option, Some, None, option_map}
 use Rattle.ep_typed.specs.Hosts as host
 use Rattle.ep_typed.specs.Hosts.{Host}
 use Rattle.ep_typed.specs.Operations.{maxint, last_char}
-use Rattle.ep_typed.specs.Trees.{Bound, Fixed, Denoter, Required, Named, Subrange, Enumeration, Array, Record, Denoters, no_denoter, next_denoter, Set}
+use Rattle.ep_typed.specs.Trees.{Bound, Fixed, Denoter, Required, Named, Subrange, Enumeration, Array, Record, Denoters, no_denoter, next_denoter, Set, Initial}
 use Rattle.ep_typed.specs.Viewed.{denoter_of}
 use Rattle.ep_typed.specs.declared.denoter.RequiredType.{RequiredType}
 use Rattle.ep_typed.specs.declared.denoter.RequiredType.TheVariants as simple
 use Rattle.ep_typed.specs.declared.unit.UnitType.{UnitType}
 use Rattle.ep_typed.specs.TypeValues as type
-use Rattle.ep_typed.specs.TypeValues.{TypeValue, ComponentTypes, Ordinal, Text, no_component, next_component}
+use Rattle.ep_typed.specs.TypeValues.{TypeValue, ComponentTypes, Start, Ordinal, Text, no_component, next_component, simple_start, set_start, bare_of}
+use Rattle.ep_typed.specs.declared.value.Value.{Value}
+use Rattle.ep_typed.specs.declared.value.Value.TheVariants as constant
 
 -- the type value of a required type (ISO 10206, 6.4.2.2)
 abbrev pub required_type : RequiredType → TypeValue
@@ -21,19 +23,29 @@ required_type simple.Boolean = Ordinal (pos 0) (pos 1)
 abbrev pub definition_of : UnitType → Denoter
 definition_of t = denoter_of t.entry.denoter
 
+-- the initial state that a constant is; a text is none so far
+abbrev pub start_by : Value → Option Start
+start_by (constant.Word w) = Some (simple_start w)
+start_by (constant.Text bytes) = None
+start_by (constant.Set ms) = Some (set_start ms)
+
 -- The denoter has the type value: a required type its own, a name that of what it is defined as, a subrange its
 -- bounds, an enumeration of one name or more the ordinal numbers of its constants, an array that of its index type and
--- its components, a record those of its components, and a set the bounds of its base type.
+-- its components, a record those of its components, a set the bounds of its base type, and a type with an initial state that
+-- type with what the constant is.
 mutual
   pub data IsInstance (types : List UnitType) : Denoter → TypeValue → Type 0 where
     required : (r : RequiredType) → IsInstance types (Required r) (required_type r)
     named : (index : ℕ) (t : UnitType) {v : TypeValue} → slice_get types index ≡ Some t → IsInstance types (definition_of t) v → IsInstance types (Named index []) v
     subrange : (host : Denoter) (low high : ℤ) → IsInstance types (Subrange host (Fixed low) (Fixed high)) (Ordinal low high)
     enumeration : (first : List ℕ) (others : List (List ℕ)) → IsInstance types (Enumeration (first ∷ others)) (Ordinal (pos 0) (pos (length others)))
-    array : (index component : Denoter) (low high : ℤ) (of : TypeValue) → IsInstance types index (Ordinal low high) → IsInstance types component of
-        → IsInstance types (Array index component) (type.Array low high of)
+    array : (index component : Denoter) (i : TypeValue) (low high : ℤ) (of : TypeValue) → IsInstance types index i → bare_of i ≡ Ordinal low high
+        → IsInstance types component of → IsInstance types (Array index component) (type.Array low high of)
     components : (ds : Denoters) (ts : ComponentTypes) → AreInstances types ds ts → IsInstance types (Record ds) (type.Record ts)
-    set : (base : Denoter) (low high : ℤ) → IsInstance types base (Ordinal low high) → IsInstance types (Set base) (type.Set low high)
+    set : (base : Denoter) (b : TypeValue) (low high : ℤ) → IsInstance types base b → bare_of b ≡ Ordinal low high
+        → IsInstance types (Set base) (type.Set low high)
+    initial : (of : Denoter) (value : Value) (t : TypeValue) (start : Start) → IsInstance types of t → start_by value ≡ Some start
+        → IsInstance types (Initial of value) (type.Initial t start)
 
   -- one for one
   pub data AreInstances (types : List UnitType) : Denoters → ComponentTypes → Type 0 where
@@ -54,15 +66,26 @@ abbrev pub enumeration_host : List (List ℕ) → Option Host
 enumeration_host [] = None
 enumeration_host (first ∷ others) = Some (host.Enumeration (length others))
 
--- the type value of an array, whose index type is ordinal
-abbrev pub array_type : Option TypeValue → Option TypeValue → Option TypeValue
-array_type (Some (Ordinal low high)) (Some of) = Some (type.Array low high of)
-array_type _ _ = None
+-- the type value of an array, whose index type is ordinal; an initial state of the index type does not matter
+abbrev pub array_over : Option TypeValue → Option TypeValue → Option TypeValue
+array_over (Some (Ordinal low high)) (Some of) = Some (type.Array low high of)
+array_over _ _ = None
 
--- the type value of a set, whose base type is ordinal
+abbrev pub array_type : Option TypeValue → Option TypeValue → Option TypeValue
+array_type index of = array_over (option_map bare_of index) of
+
+-- the type value of a set, whose base type is ordinal, alike
+abbrev pub set_over : Option TypeValue → Option TypeValue
+set_over (Some (Ordinal low high)) = Some (type.Set low high)
+set_over _ = None
+
 abbrev pub set_type : Option TypeValue → Option TypeValue
-set_type (Some (Ordinal low high)) = Some (type.Set low high)
-set_type _ = None
+set_type base = set_over (option_map bare_of base)
+
+-- the type value of a type with an initial state
+abbrev pub initial_type : Option TypeValue → Option Start → Option TypeValue
+initial_type (Some t) (Some start) = Some (type.Initial t start)
+initial_type _ _ = None
 
 -- the type value of a record
 abbrev pub record_type : Option ComponentTypes → Option TypeValue
@@ -99,6 +122,7 @@ module _ (types : List UnitType) where
   -- the parts of a denoter of an array, by those of the definition where it is a name
   abbrev pub array_step : (Denoter → Option ArrayParts) → Denoter → Option ArrayParts
   array_step find (Array index component) = Some (record { index = index; component = component })
+  array_step find (Initial of value) = array_step find of
   array_step find (Named index []) = found_of find (slice_get types index)
   array_step find _ = None
 
@@ -113,6 +137,7 @@ module _ (types : List UnitType) where
   -- the components of a denoter of a record, alike
   abbrev pub record_step : (Denoter → Option Denoters) → Denoter → Option Denoters
   record_step find (Record ds) = Some ds
+  record_step find (Initial of value) = record_step find of
   record_step find (Named index []) = found_of find (slice_get types index)
   record_step find _ = None
 
@@ -127,6 +152,7 @@ module _ (types : List UnitType) where
   -- the base type of a denoter of a set, alike
   abbrev pub base_step : (Denoter → Option Denoter) → Denoter → Option Denoter
   base_step find (Set base) = Some base
+  base_step find (Initial of value) = base_step find of
   base_step find (Named index []) = found_of find (slice_get types index)
   base_step find _ = None
 
@@ -149,6 +175,7 @@ module _ (types : List UnitType) where
     type_step find (Array index component) = array_type (type_step find index) (type_step find component)
     type_step find (Record ds) = record_type (types_step find ds)
     type_step find (Set base) = set_type (type_step find base)
+    type_step find (Initial of value) = initial_type (type_step find of) (start_by value)
 
     -- those of all of them
     pub types_step : (Denoter → Option TypeValue) → Denoters → Option ComponentTypes
@@ -167,6 +194,7 @@ module _ (types : List UnitType) where
   host_step find (Array index component) = None
   host_step find (Record ds) = None
   host_step find (Set base) = None
+  host_step find (Initial of value) = host_step find of
 
   -- at most so many names are followed, each but the first one in the definition of the one before it
   abbrev pub type_within : ℕ → Denoter → Option TypeValue
@@ -184,3 +212,7 @@ module _ (types : List UnitType) where
   -- the host of a denoter, where it has one
   abbrev pub host_of : Denoter → Option Host
   host_of = host_within (suc (length types))
+
+  -- the bare form of a denoter's type value, where it has one: the type that its variables are of, whatever they begin with
+  abbrev pub bare_type_of : Denoter → Option TypeValue
+  bare_type_of d = option_map bare_of (type_of d)

@@ -4,8 +4,8 @@ use Rattle.std.specs.Prelude.{ℕ, ℤ, pos, negsuc, zero, suc, ◌+◌, Bool, t
 use Rattle.ep_typed.specs.Calls.{Argument, Value, Handler, in_call}
 use Rattle.ep_typed.specs.Calls as argument_is
 use Rattle.ep_typed.specs.Controls.{in_order, next_value, has_more, others}
-use Rattle.ep_typed.specs.Denoters.{required_type, subrange_type, enumeration_type, array_type, set_type, definition_of}
-use Rattle.ep_typed.specs.Trees.{Denoter, Required, Named, Subrange, Enumeration, Array, Record, Denoters, no_denoter, next_denoter, Set, Callee, Place, Variable, Own, Standard, Indexed, Field, Variant, Expr, Constant, Text, Read, One, Two, Short, Step, Function, IndexedValue, FieldValue, SetOf, OnSets, Card, Designator, Single, Range, Designators, no_member, next_member, Actual, Evaluated, Accessed, Actuals, no_actual, next_actual, Item, Plain, Wide, Stmt, Stmts, Empty, Compound, Assign, Tagging, AssignTag, If, While, Repeat, Control, For, MemberControl, ForIn, With, Procedure, Halt, Write, none, next, Case, Arms, no_arm, next_arm, Other, no_other, otherwise_do, Entire, OfUnit, OfRoutine, entire, SetConstant}
+use Rattle.ep_typed.specs.Denoters.{required_type, subrange_type, enumeration_type, array_type, set_type, definition_of, start_by}
+use Rattle.ep_typed.specs.Trees.{Denoter, Required, Named, Subrange, Enumeration, Array, Record, Denoters, no_denoter, next_denoter, Set, Initial, constant_expr, Callee, Place, Variable, Own, Standard, Indexed, Field, Variant, Expr, Constant, Text, Read, One, Two, Short, Step, Function, IndexedValue, FieldValue, SetOf, OnSets, Card, Designator, Single, Range, Designators, no_member, next_member, Actual, Evaluated, Accessed, Actuals, no_actual, next_actual, Item, Plain, Wide, Stmt, Stmts, Empty, Compound, Assign, Tagging, AssignTag, If, While, Repeat, Control, For, MemberControl, ForIn, With, Procedure, Halt, Write, none, next, Case, Arms, no_arm, next_arm, Other, no_other, otherwise_do, Entire, OfUnit, OfRoutine, entire, SetConstant}
 use Rattle.ep_typed.specs.Routines.{made_variables, made_by_unit}
 use Rattle.ep_typed.specs.Viewed.{denoter_of, stmt_of}
 use Rattle.ep_typed.specs.Steps.{Call, Normal, Halted, Error, Undefined, Outcome, Computation, give, cut, stop, bind, spend, change, fetch, fetch_or, with_events, assigned, type_at, whole, Component, component, component_number, is_number, tag_of, variant_number, with_type, allocate, allocate_own, own_variable, newest_assigned, with_bound, with_own_bound, standard_file, first_state, using, is_within, size_of, variants_count}
@@ -27,7 +27,7 @@ use Rattle.ep_typed.specs.declared.tree.Selection.{Selection}
 use Rattle.ep_typed.specs.declared.unit.UnitType.{UnitType}
 use Rattle.ep_typed.specs.declared.unit.UnitVariable.{UnitVariable}
 use Rattle.ep_typed.specs.TypeValues as type
-use Rattle.ep_typed.specs.TypeValues.{TypeValue, ComponentTypes, set_size}
+use Rattle.ep_typed.specs.TypeValues.{TypeValue, ComponentTypes, Start, set_size}
 use Rattle.ep_typed.specs.declared.unit.Unit.{Unit as TypedUnit}
 
 -- what a variable gives that is a result, where it is defined
@@ -319,6 +319,17 @@ module _ (call : Handler) (g : ℕ) (unit : List ℕ) where
   abbrev pub elaborated : TypeValue → Computation TypeValue
   elaborated t = bind (change (with_type t)) (λ _. spend 1 (give t))
 
+  -- A type gets an initial state (ISO 10206, 6.6), which a variable of it could be assigned: an error where it could not, and
+  -- else the type value with it is counted, and a step is spent for its node and its size besides.
+  abbrev pub begins : ℕ → TypeValue → Result → TypeValue → Computation TypeValue
+  begins line t r with_start =
+      if suits (Some t) r then bind (change (with_type with_start)) (λ _. spend (suc (size_of t)) (give with_start)) else stop (Error (misfit r) unit line)
+
+  -- what is no initial state has no meaning
+  abbrev pub begins_where : ℕ → TypeValue → Result → Option Start → Computation TypeValue
+  begins_where line t r None = cut
+  begins_where line t r (Some start) = begins line t r (type.Initial t start)
+
   -- what has no type value has no meaning, and no valid unit has it
   abbrev pub elaborated_where : Option TypeValue → Computation TypeValue
   elaborated_where None = cut
@@ -328,8 +339,8 @@ module _ (call : Handler) (g : ℕ) (unit : List ℕ) where
   elaborated_found find None = cut
   elaborated_found find (Some t) = find (definition_of t)
 
-  module _ (types : List UnitType) where
-    -- A type is elaborated, its parts in the order of the text. A name spends what its definition does.
+  module _ (line : ℕ) (types : List UnitType) where
+    -- A type is elaborated for a declaration on this line, its parts in the order of the text. A name spends what its definition does.
     abbrev mutual
       pub elaborate_step : (Denoter → Computation TypeValue) → Denoter → Computation TypeValue
       elaborate_step find (Required r) = elaborated (required_type r)
@@ -341,6 +352,9 @@ module _ (call : Handler) (g : ℕ) (unit : List ℕ) where
           bind (elaborate_step find index) (λ t. bind (elaborate_step find component) (λ u. elaborated_where (array_type (Some t) (Some u))))
       elaborate_step find (Record ds) = bind (elaborate_each find ds) (λ ts. elaborated (type.Record ts))
       elaborate_step find (Set base) = bind (elaborate_step find base) (λ t. elaborated_where (set_type (Some t)))
+      -- the type, then its initial state
+      elaborate_step find (Initial of value) =
+          bind (elaborate_step find of) (λ t. bind (eval line (constant_expr value)) (λ r. begins_where line t r (start_by value)))
 
       -- the types of components, in order
       pub elaborate_each : (Denoter → Computation TypeValue) → Denoters → Computation ComponentTypes
@@ -357,7 +371,7 @@ module _ (call : Handler) (g : ℕ) (unit : List ℕ) where
 
   -- its type is elaborated, and then the variable is made, which spends its size
   abbrev pub make : List UnitType → ℕ → UnitVariable → Computation (Unit {0})
-  make types number v = bind (elaborate types (denoter_of v.denoter)) (λ t. allocate unit number t)
+  make types number v = bind (elaborate v.line types (denoter_of v.denoter)) (λ t. allocate unit number t)
 
   -- the variables from this number on, in order
   abbrev pub make_all : List UnitType → ℕ → List UnitVariable → Computation (Unit {0})
@@ -366,7 +380,7 @@ module _ (call : Handler) (g : ℕ) (unit : List ℕ) where
 
   -- a variable of a routine is made alike
   abbrev pub make_own : List UnitType → ℕ → UnitVariable → Computation (Unit {0})
-  make_own types number v = bind (elaborate types (denoter_of v.denoter)) (λ t. allocate_own number t)
+  make_own types number v = bind (elaborate v.line types (denoter_of v.denoter)) (λ t. allocate_own number t)
 
   abbrev pub make_all_own : List UnitType → ℕ → List UnitVariable → Computation (Unit {0})
   make_all_own types number [] = give tt
@@ -410,9 +424,9 @@ module _ (call : Handler) (g : ℕ) (unit : List ℕ) (types : List UnitType) wh
   -- argument of it has no meaning.
   abbrev pub takes_by : FormalMode → ℕ → ℕ → Formal → Argument → Computation (Unit {0})
   takes_by mode.Value line number f (Value r) =
-      bind (elaborate call g unit types (denoter_of f.denoter)) (λ t. bind (allocate_own number t) (λ _. initialized unit line t r))
+      bind (elaborate call g unit line types (denoter_of f.denoter)) (λ t. bind (allocate_own number t) (λ _. initialized unit line t r))
   takes_by mode.ProtectedValue line number f (Value r) =
-      bind (elaborate call g unit types (denoter_of f.denoter)) (λ t. bind (allocate_own number t) (λ _. initialized unit line t r))
+      bind (elaborate call g unit line types (denoter_of f.denoter)) (λ t. bind (allocate_own number t) (λ _. initialized unit line t r))
   takes_by mode.Variable line number f (argument_is.Variable c) = spend 1 (change (with_own_bound number c))
   takes_by mode.ProtectedVariable line number f (argument_is.Variable c) = spend 1 (change (with_own_bound number c))
   takes_by mode line number f x = cut

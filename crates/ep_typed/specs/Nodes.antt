@@ -31,7 +31,13 @@ abbrev pub count_where : Option ℕ → ℕ
 count_where None = 0
 count_where (Some n) = n
 
--- A denoter, those in it, their bounds, and the labels of variants, each of which is a range with two bounds.
+-- a value counts one, and that of a set one more for each member
+abbrev pub value_nodes : Value → ℕ
+value_nodes (value.Word z) = 1
+value_nodes (value.Text bytes) = 1
+value_nodes (value.Set ms) = 1 + length ms
+
+-- A denoter, those in it, their bounds, initial states, and the labels of variants, each of which is a range with two bounds.
 abbrev pub denoter_count : Denoter-F ℕ ℕ ℕ ℕ ℕ ℕ → ℕ
 denoter_count (denoter.Required required) = 1
 denoter_count (denoter.Named index tuple) = 1 + length tuple
@@ -40,6 +46,7 @@ denoter_count (denoter.Enumeration names) = 1
 denoter_count (denoter.Array index component) = 1 + index + component
 denoter_count (denoter.Record part) = 1 + part
 denoter_count (denoter.Set base) = 1 + base
+denoter_count (denoter.Initial of value) = 1 + of + value_nodes value
 
 -- a field by its denoter
 abbrev pub field_count : RecordField-F ℕ ℕ ℕ ℕ ℕ ℕ → ℕ
@@ -182,12 +189,6 @@ schema_formal_nodes f = 1 + denoter_nodes f.denoter
 -- the formals and the denoter of a type
 abbrev pub type_nodes : UnitType → ℕ
 type_nodes t = sum (map schema_formal_nodes t.entry.formals) + denoter_nodes t.entry.denoter
-
--- a value counts one, and that of a set one more for each member
-abbrev pub value_nodes : Value → ℕ
-value_nodes (value.Word z) = 1
-value_nodes (value.Text bytes) = 1
-value_nodes (value.Set ms) = 1 + length ms
 
 -- the denoter of a constant, and its value
 abbrev pub constant_nodes : ConstantEntry → ℕ

@@ -4,7 +4,7 @@ use Rattle.ep_typed.specs.Printing.{Result, Number, Bytes, Structure, Members}
 use Rattle.ep_typed.specs.Sets.{are_between}
 use Rattle.ep_typed.specs.Steps.{Component, State, Value, Word, Undefined, component_number, component_of, is_among, type_at, value_at, word_of, set_of}
 use Rattle.ep_typed.specs.Steps as value
-use Rattle.ep_typed.specs.TypeValues.{TypeValue, component_type, same_type, size_of}
+use Rattle.ep_typed.specs.TypeValues.{TypeValue, bare_of, bare_each, component_type, same_type, size_of}
 use Rattle.ep_typed.specs.TypeValues as type
 use Rattle.ep_typed.specs.declared.run_error.TheConstants as run_error
 
@@ -17,14 +17,20 @@ weight_of (Structure t v) = size_of t
 weight_of (Members ms) = 0
 
 -- What a variable of a type gives that has this value, where it is defined: an array or a record gives all that its
--- components have, each defined or not, a set its members, and any other one a number (ISO 10206, 6.8.1).
+-- components have, each defined or not, a set its members, and any other one a number (ISO 10206, 6.8.1). The type of what is
+-- given has no initial states, which say only how variables begin.
+abbrev pub given_as : TypeValue → Value → Option Result
+given_as (type.Ordinal low high) v = option_map Number (word_of v)
+given_as type.Text v = option_map Number (word_of v)
+given_as (type.Array low high of) v = Some (Structure (type.Array low high (bare_of of)) v)
+given_as (type.Record ts) v = Some (Structure (type.Record (bare_each ts)) v)
+given_as (type.Set low high) v = option_map Members (set_of v)
+given_as (type.Initial of start) v = given_as of v
+
+-- what has no type gives a number
 abbrev pub given_by : Option TypeValue → Value → Option Result
 given_by None v = option_map Number (word_of v)
-given_by (Some (type.Ordinal low high)) v = option_map Number (word_of v)
-given_by (Some type.Text) v = option_map Number (word_of v)
-given_by (Some (type.Array low high of)) v = Some (Structure (type.Array low high of) v)
-given_by (Some (type.Record ts)) v = Some (Structure (type.Record ts) v)
-given_by (Some (type.Set low high)) v = option_map Members (set_of v)
+given_by (Some t) v = given_as t v
 
 abbrev pub result_of : Component → State → Option Result
 result_of c s = given_by (type_at c s) (value_at c s)
@@ -43,15 +49,23 @@ part_at (Bytes bytes) z = None
 part_at (Structure t v) z = component_number (Some t) z
 part_at (Members ms) z = None
 
--- what has no type is of none
+-- Whether a type is this one, which has no initial states: those of the type play no part in it (own). What has no type is of none.
 abbrev pub is_type : Option TypeValue → TypeValue → Bool
 is_type None u = false
-is_type (Some t) u = same_type t u
+is_type (Some t) u = same_type (bare_of t) u
 
 -- whether all members are of the base type, where the type is that of a set (ISO 10206, 6.4.6)
+abbrev pub has_base : TypeValue → List ℕ → Bool
+has_base (type.Ordinal low high) ms = false
+has_base type.Text ms = false
+has_base (type.Array low high of) ms = false
+has_base (type.Record ts) ms = false
+has_base (type.Set low high) ms = are_between low high ms
+has_base (type.Initial of start) ms = has_base of ms
+
 abbrev pub has_base_for : Option TypeValue → List ℕ → Bool
-has_base_for (Some (type.Set low high)) ms = are_between low high ms
-has_base_for _ ms = false
+has_base_for None ms = false
+has_base_for (Some t) ms = has_base t ms
 
 -- whether a variable of a type may have the result as its value; a text is of none so far
 abbrev pub suits : Option TypeValue → Result → Bool
@@ -68,9 +82,17 @@ misfit (Structure u v) = run_error.TUPLES_DIFFER
 misfit (Members ms) = run_error.SET_MEMBER
 
 -- the error where a function ends and its result, a variable of this type, gives none
+abbrev pub unresulting_of : TypeValue → ℕ
+unresulting_of (type.Ordinal low high) = run_error.RESULT_UNDEFINED
+unresulting_of type.Text = run_error.RESULT_UNDEFINED
+unresulting_of (type.Array low high of) = run_error.RESULT_UNDEFINED
+unresulting_of (type.Record ts) = run_error.RESULT_UNDEFINED
+unresulting_of (type.Set low high) = run_error.UNDEFINED_VALUE
+unresulting_of (type.Initial of start) = unresulting_of of
+
 abbrev pub unresulting : Option TypeValue → ℕ
-unresulting (Some (type.Set low high)) = run_error.UNDEFINED_VALUE
-unresulting _ = run_error.RESULT_UNDEFINED
+unresulting None = run_error.RESULT_UNDEFINED
+unresulting (Some t) = unresulting_of t
 
 -- the value that it then has
 abbrev pub value_of : Result → Value

@@ -8,7 +8,9 @@ use Rattle.ep_typed.specs.declared.tree.Selection.{Selection}
 use Rattle.ep_typed.specs.declared.tree.StandardFile.{StandardFile}
 use Rattle.ep_typed.specs.declared.tree.StandardFile.TheVariants.{Input, Output}
 use Rattle.ep_typed.specs.Bounds.{component_at}
-pub use Rattle.ep_typed.specs.TypeValues.{TypeValue, Ordinal, Text, Array, component_type, is_within, size_of, same_type, parts_of}
+pub use Rattle.ep_typed.specs.TypeValues.{TypeValue, Ordinal, Text, Array, component_type, is_within, size_of, same_type, parts_of, start_size}
+use Rattle.ep_typed.specs.TypeValues.{ComponentTypes, Start, no_component, next_component, simple_start, set_start}
+use Rattle.ep_typed.specs.TypeValues as type
 
 -- how a run ends
 pub data End : Type 0 where
@@ -23,6 +25,28 @@ pub data Value : Type 0 where
   Word : (number : ℤ) → Value
   Components : (of : ℕ → Value) → Value
   Members : (of : List ℕ) → Value
+
+-- the value that an initial state is
+abbrev pub started_as : Start → Value
+started_as (simple_start w) = Word w
+started_as (set_start ms) = Members ms
+
+abbrev mutual
+  -- The value that a new variable of a type has (ISO 10206, 6.6): the initial state of the type, where that has one, and else
+  -- those of its components; what is given no initial state begins undefined.
+  pub start_of : TypeValue → Value
+  start_of (Ordinal low high) = Undefined
+  start_of Text = Undefined
+  start_of (Array low high of) = Components (λ k. start_of of)
+  start_of (type.Record ts) = Components (starts_of ts)
+  start_of (type.Set low high) = Undefined
+  start_of (type.Initial of start) = started_as start
+
+  -- those of components, by their numbers
+  pub starts_of : ComponentTypes → ℕ → Value
+  starts_of no_component k = Undefined
+  starts_of (next_component t ts) zero = start_of t
+  starts_of (next_component t ts) (suc k) = starts_of ts k
 
 -- a variable (ISO 10206, 6.5.1): the component of an allocation to which a path of numbers leads, and all of the allocation
 -- where the path is empty
@@ -256,9 +280,18 @@ abbrev pub type_at : Component → State → Option TypeValue
 type_at c s = type_along (type_in (allocation_at s.allocations c.allocation)) c.path
 
 -- the number of the component with this index, where the type is an array and the index is within its bounds
+abbrev pub number_at : TypeValue → ℤ → Option ℕ
+number_at (Ordinal low high) z = None
+number_at Text z = None
+number_at (Array low high of) z = component_at low high z
+number_at (type.Record ts) z = None
+number_at (type.Set low high) z = None
+number_at (type.Initial of start) z = number_at of z
+
+-- what has no type has no components
 abbrev pub component_number : Option TypeValue → ℤ → Option ℕ
-component_number (Some (Array low high of)) z = component_at low high z
-component_number _ z = None
+component_number None z = None
+component_number (Some t) z = number_at t z
 
 -- what has no type has no values
 abbrev pub is_among : Option TypeValue → ℤ → Bool
@@ -283,9 +316,9 @@ watched r = record r { lost = r.lost || not (has_room r) }
 abbrev pub first_types : List TypeValue
 first_types = Ordinal (neg_ℤ (pos maxint)) (pos maxint) ∷ Ordinal (pos 0) (pos last_char) ∷ Ordinal (pos 0) (pos 1) ∷ Text ∷ []
 
--- the words of a new type value, of which the first types have none
+-- the words of a new type value, with those of its initial state; the first types have none
 abbrev pub words_of_type : TypeValue → ℕ
-words_of_type t = if list_any (same_type t) first_types then 0 else 1 + parts_of t
+words_of_type t = if list_any (same_type t) first_types then 0 else 1 + parts_of t + start_size t
 
 -- room is lost where a type has more words than every run has
 abbrev pub sized : TypeValue → Resources → Resources
@@ -314,11 +347,11 @@ with_bound unit number c s = record s { variables = bound unit number c s.variab
 abbrev pub counted : TypeValue → State → State
 counted t s = record s { resources = taken (size_of t + 1) s.resources }
 
--- a new variable, undefined, once its words are counted: an allocation of its type
+-- a new variable, in the initial state of its type, once its words are counted: an allocation of the type
 abbrev pub made : List ℕ → ℕ → TypeValue → State → State
 made unit number t s =
     record s {
-      allocations = s.allocations ++ record { type_value = t; value = Undefined; ended = false } ∷ [];
+      allocations = s.allocations ++ record { type_value = t; value = start_of t; ended = false } ∷ [];
       variables = bound unit number (whole (suc (length s.allocations))) s.variables;
     }
 
@@ -353,11 +386,11 @@ abbrev pub with_own : ℕ → ℕ → List Call → List Call
 with_own number n [] = []
 with_own number n (c ∷ calls) = record c { variables = bound_own number (whole n) c.variables; made = c.made ++ n ∷ [] } ∷ calls
 
--- a new variable of the routine that runs, undefined, once its words are counted
+-- a new variable of the routine that runs, in the initial state of its type, once its words are counted
 abbrev pub made_own : ℕ → TypeValue → State → State
 made_own number t s =
     record s {
-      allocations = s.allocations ++ record { type_value = t; value = Undefined; ended = false } ∷ [];
+      allocations = s.allocations ++ record { type_value = t; value = start_of t; ended = false } ∷ [];
       calls = with_own number (suc (length s.allocations)) s.calls;
     }
 

@@ -9,6 +9,8 @@ use Rattle.ep_typed.specs.declared.denoter.RequiredType.{RequiredType}
 use Rattle.ep_typed.specs.declared.tree.CaseRange.{CaseRange}
 use Rattle.ep_typed.specs.declared.tree.Selection.{Selection}
 use Rattle.ep_typed.specs.declared.tree.StandardFile.{StandardFile}
+use Rattle.ep_typed.specs.declared.value.Value.{Value}
+use Rattle.ep_typed.specs.declared.value.Value.TheVariants as constant
 
 -- a bound of a type: a constant, by its ordinal number
 pub data Bound : Type 0 where
@@ -28,6 +30,8 @@ mutual
     Record : (components : Denoters) → Denoter
     -- a set, by its base type
     Set : (base : Denoter) → Denoter
+    -- a type with an initial state, which is a constant (ISO 10206, 6.6)
+    Initial : (of : Denoter) (value : Value) → Denoter
 
   -- denoters, in order
   pub data Denoters : Type 0 where
@@ -109,6 +113,12 @@ mutual
 abbrev pub designators : List Designator → Designators
 designators [] = no_member
 designators (d ∷ more) = next_member d (designators more)
+
+-- a constant as an expression
+abbrev pub constant_expr : Value → Expr
+constant_expr (constant.Word w) = Constant w
+constant_expr (constant.Text bytes) = Text bytes
+constant_expr (constant.Set ms) = SetConstant ms
 
 abbrev pub actuals : List Actual → Actuals
 actuals [] = no_actual

@@ -1,7 +1,7 @@
 -- Which typed trees the static rules give: each form has parts of the kinds, types and numbers that it asks for.
 use Rattle.std.specs.Prelude.{◌≡◌, ℕ, ℤ, pos, zero, suc, ◌+◌, ◌<◌, ◌≤◌, Bool, true, false, All, List, [], ◌∷◌, ◌++◌, map, slice_get, drop, length, Option, Some, None, IsTrue, int_le, ⊤, if◌then◌else◌}
 use Rattle.std.specs.Str.{bytes_eq}
-use Rattle.ep_typed.specs.Denoters.{ArrayParts, array_of, base_of, definition_of, denoter_at, denoters_count, record_of, required_type, type_of, host_of}
+use Rattle.ep_typed.specs.Denoters.{ArrayParts, array_of, base_of, definition_of, denoter_at, denoters_count, record_of, required_type, type_of, host_of, bare_type_of, start_by}
 use Rattle.ep_typed.specs.Hosts.{Host, least, greatest, is_of_host}
 use Rattle.ep_typed.specs.Hosts as host
 use Rattle.ep_typed.specs.Operations.{is_integer, is_apart}
@@ -9,7 +9,7 @@ use Rattle.ep_typed.specs.Results.{has_base_for}
 use Rattle.ep_typed.specs.Sets.{IsSet, are_between, is_ordinal}
 use Rattle.ep_typed.specs.Steps.{is_within, variant_number, variants_count}
 use Rattle.ep_typed.specs.Trees as tree
-use Rattle.ep_typed.specs.Trees.{Fixed, Denoter, Required, Named, Subrange, Enumeration, Array, Record, Denoters, no_denoter, next_denoter, Callee, Place, Variable, Own, Standard, Indexed, Field, Variant, Expr, Constant, Text, Read, One, Two, Short, Step, Function, IndexedValue, FieldValue, SetOf, OnSets, Card, Designator, Single, Range, Designators, no_member, next_member, Actual, Evaluated, Accessed, Actuals, no_actual, next_actual, Item, Plain, Wide, Stmt, Stmts, Empty, Compound, Assign, Tagging, AssignTag, If, While, Repeat, Control, For, MemberControl, ForIn, With, Procedure, Halt, Write, none, next, Case, Arms, no_arm, next_arm, Other, no_other, otherwise_do, Entire, OfUnit, OfRoutine, entire, SetConstant}
+use Rattle.ep_typed.specs.Trees.{Fixed, Denoter, Required, Named, Subrange, Enumeration, Array, Record, Denoters, no_denoter, next_denoter, Initial, Callee, Place, Variable, Own, Standard, Indexed, Field, Variant, Expr, Constant, Text, Read, One, Two, Short, Step, Function, IndexedValue, FieldValue, SetOf, OnSets, Card, Designator, Single, Range, Designators, no_member, next_member, Actual, Evaluated, Accessed, Actuals, no_actual, next_actual, Item, Plain, Wide, Stmt, Stmts, Empty, Compound, Assign, Tagging, AssignTag, If, While, Repeat, Control, For, MemberControl, ForIn, With, Procedure, Halt, Write, none, next, Case, Arms, no_arm, next_arm, Other, no_other, otherwise_do, Entire, OfUnit, OfRoutine, entire, SetConstant}
 pub use Rattle.ep_typed.specs.Routines.{heading_of, formal_variable, variables_of, unit_variables}
 use Rattle.ep_typed.specs.Routines.{first_with, made_by_unit}
 use Rattle.ep_typed.specs.Viewed.{denoter_of, stmt_of}
@@ -30,7 +30,7 @@ use Rattle.ep_typed.specs.declared.interface.RoutineEntry.{RoutineEntry}
 use Rattle.ep_typed.specs.declared.interface.RoutineResult.{RoutineResult}
 use Rattle.ep_typed.specs.declared.tree.CaseRange.{CaseRange}
 use Rattle.ep_typed.specs.declared.tree.Selection.{Selection}
-use Rattle.ep_typed.specs.TypeValues.{TypeValue, ComponentTypes, type_among}
+use Rattle.ep_typed.specs.TypeValues.{TypeValue, ComponentTypes, Start, bare_of, type_among}
 use Rattle.ep_typed.specs.TypeValues as type
 use Rattle.ep_typed.specs.declared.value.Value.{Value}
 use Rattle.ep_typed.specs.declared.value.Value.TheVariants as value
@@ -39,35 +39,38 @@ use Rattle.ep_typed.specs.declared.unit.UnitType.{UnitType}
 use Rattle.ep_typed.specs.declared.unit.UnitVariable.{UnitVariable}
 use Rattle.ep_typed.specs.declared.unit.Unit.{Unit as TypedUnit}
 
--- what an expression is: of an ordinal type with this host, a text, of an array or record type, or a set over this host
+-- What an expression is: of an ordinal type with this host, a text, of an array or record type without initial states, or a
+-- set over this host.
 pub data Kind : Type 0 where
   Ordinal : (host : Host) → Kind
   Bytes : Kind
   Structured : (type_value : TypeValue) → Kind
   Set : (host : Host) → Kind
 
--- the type value is that of an array or a record
+-- the type value is that of an array or a record, and no initial state is given to it
 abbrev pub IsStructured : TypeValue → Type 0
 IsStructured (type.Ordinal low high) = ⊥
 IsStructured type.Text = ⊥
 IsStructured (type.Array low high of) = ⊤
 IsStructured (type.Record ts) = ⊤
 IsStructured (type.Set low high) = ⊥
+IsStructured (type.Initial of start) = ⊥
 
 -- under a list of types a value of the denoter's type is of the kind
 abbrev pub IsOfKind : Kind → List UnitType → Denoter → Type 0
 IsOfKind (Ordinal h) types d = host_of types d ≡ Some h
 IsOfKind Bytes types d = ⊥
-IsOfKind (Structured t) types d = (type_of types d ≡ Some t) × IsStructured t
+IsOfKind (Structured t) types d = (bare_type_of types d ≡ Some t) × IsStructured t
 IsOfKind (Set h) types d = (base : Denoter) × (base_of types d ≡ Some base) × (host_of types base ≡ Some h)
 
--- a type is not empty, and its values are integers of the host
+-- a type without initial states is not empty, and its values are integers of the host
 abbrev pub IsTypeOf : Host → TypeValue → Type 0
 IsTypeOf h (type.Ordinal low high) = IsTrue (int_le low high) × IsTrue (is_of_host h low) × IsTrue (is_of_host h high) × IsTrue (is_integer low) × IsTrue (is_integer high)
 IsTypeOf h type.Text = ⊥
 IsTypeOf h (type.Array low high of) = ⊥
 IsTypeOf h (type.Record ts) = ⊥
 IsTypeOf h (type.Set low high) = ⊥
+IsTypeOf h (type.Initial of start) = ⊥
 
 -- the values of a type of the host may be members of sets
 abbrev pub IsBaseOf : Host → ℤ → ℤ → Type 0
@@ -78,7 +81,7 @@ abbrev pub IsSetOf : Host → TypeValue → Type 0
 IsSetOf h (type.Set low high) = IsBaseOf h low high
 IsSetOf h _ = ⊥
 
--- values of the type value are of the kind
+-- values of the type value, which has no initial states, are of the kind
 abbrev pub IsTypeOfKind : Kind → TypeValue → Type 0
 IsTypeOfKind (Ordinal h) t = IsTypeOf h t
 IsTypeOfKind Bytes t = ⊥
@@ -299,8 +302,8 @@ module _ (declared : Declarations) where
     pub IsGiven : List UnitType → FormalMode → Formal → Actual → Type 0
     IsGiven types mode.Value f (Evaluated x) = (k : Kind) × IsOfKind k types (denoter_of f.denoter) × IsExpr k x
     IsGiven types mode.ProtectedValue f (Evaluated x) = (k : Kind) × IsOfKind k types (denoter_of f.denoter) × IsExpr k x
-    IsGiven types mode.Variable f (Accessed p) = (t : TypeValue) × (type_of types (denoter_of f.denoter) ≡ Some t) × IsPlaceWhere (λ list d. type_of list d ≡ Some t) p
-    IsGiven types mode.ProtectedVariable f (Accessed p) = (t : TypeValue) × (type_of types (denoter_of f.denoter) ≡ Some t) × IsPlaceWhere (λ list d. type_of list d ≡ Some t) p
+    IsGiven types mode.Variable f (Accessed p) = (t : TypeValue) × (bare_type_of types (denoter_of f.denoter) ≡ Some t) × IsPlaceWhere (λ list d. bare_type_of list d ≡ Some t) p
+    IsGiven types mode.ProtectedVariable f (Accessed p) = (t : TypeValue) × (bare_type_of types (denoter_of f.denoter) ≡ Some t) × IsPlaceWhere (λ list d. bare_type_of list d ≡ Some t) p
     IsGiven types mode f a = ⊥
 
     -- one for each, in order
@@ -314,9 +317,9 @@ module _ (declared : Declarations) where
   abbrev pub IsPlace : Host → Place → Type 0
   IsPlace h = IsPlaceWhere (λ types d. host_of types d ≡ Some h)
 
-  -- the place of a variable of this type value (ISO 10206, 6.7.3.3)
+  -- the place of a variable of this type value (ISO 10206, 6.7.3.3), whatever it begins with
   abbrev pub IsVariableOf : TypeValue → Place → Type 0
-  IsVariableOf t = IsPlaceWhere (λ types d. type_of types d ≡ Some t)
+  IsVariableOf t = IsPlaceWhere (λ types d. bare_type_of types d ≡ Some t)
 
   abbrev pub IsItem : Item → Type 0
   IsItem (Plain print x) = IsExpr (printed_kind print) x
@@ -343,7 +346,7 @@ module _ (declared : Declarations) where
   -- The denoter is that of a record with variants that are selected so, by a tag of this host and with these bounds.
   abbrev pub IsTagged : Host → ℤ → ℤ → Selection → List UnitType → Denoter → Type 0
   IsTagged h low high s types d =
-      (ds : Denoters) × (record_of types d ≡ Some ds) × ((selection : IsSelection types ds s) × (selection.host ≡ h) × (type_of types selection.tag ≡ Some (type.Ordinal low high)))
+      (ds : Denoters) × (record_of types d ≡ Some ds) × ((selection : IsSelection types ds s) × (selection.host ≡ h) × (bare_type_of types selection.tag ≡ Some (type.Ordinal low high)))
 
   -- The auxiliary variable of an assignment to a tag is an integer, and the tag of the record is of this host and has those
   -- bounds.
@@ -362,7 +365,7 @@ module _ (declared : Declarations) where
   pub record IsWith (v : Entire) (of : ℕ) (p : Place) : Type 0 where
     pub components : ComponentTypes
     pub unmade : IsUnmade declared v
-    pub variable : IsPlaceWhere (λ types d. (d ≡ Named of []) × (type_of types d ≡ Some (type.Record components))) (entire v)
+    pub variable : IsPlaceWhere (λ types d. (d ≡ Named of []) × (bare_type_of types d ≡ Some (type.Record components))) (entire v)
     pub place : IsVariableOf (type.Record components) p
 
   abbrev mutual
@@ -404,13 +407,22 @@ abbrev mutual
   IsTypeValue (type.Array low high of) = (IsTrue (int_le low high) × IsTrue (is_integer low) × IsTrue (is_integer high)) × IsTypeValue of
   IsTypeValue (type.Record ts) = AreTypeValues ts
   IsTypeValue (type.Set low high) = (IsTrue (int_le low high) × IsTrue (is_integer low) × IsTrue (is_integer high)) × IsTrue (is_ordinal low) × IsTrue (is_ordinal high)
+  IsTypeValue (type.Initial of start) = IsTypeValue of
 
   pub AreTypeValues : ComponentTypes → Type 0
   AreTypeValues type.no_component = ⊤
   AreTypeValues (type.next_component t ts) = IsTypeValue t × AreTypeValues ts
 
+-- Under a list of types the constant may be the initial state of a type, whose values it may still lie outside of: a value of
+-- the host of an ordinal type, or a set over that of a set type (ISO 10206, 6.6).
+abbrev pub IsStartFor : List UnitType → Denoter → Value → Type 0
+IsStartFor types d (value.Word w) = (h : Host) × (host_of types d ≡ Some h) × IsTrue (is_of_host h w)
+IsStartFor types d (value.Text bytes) = ⊥
+IsStartFor types d (value.Set ms) = (h : Host) × IsOfKind (Set h) types d × IsSet ms × IsTrue (are_between (least h) (greatest h) ms)
+
 -- The denoter has the type value and breaks no rule: the bounds of a subrange are in order and of its host, and an
--- enumeration has no more constants than there are integers; the values of a set's base type may be members.
+-- enumeration has no more constants than there are integers; the values of a set's base type may be members; an initial state is
+-- one for the type.
 mutual
   pub data IsTyped (types : List UnitType) : Denoter → TypeValue → Type 0 where
     required : (r : RequiredType) → IsTyped types (Required r) (required_type r)
@@ -419,11 +431,13 @@ mutual
         → IsTyped types (Subrange of (Fixed low) (Fixed high)) (type.Ordinal low high)
     enumeration : (first : List ℕ) (others : List (List ℕ)) → IsTrue (is_integer (pos (length others)))
         → IsTyped types (Enumeration (first ∷ others)) (type.Ordinal (pos 0) (pos (length others)))
-    array : (index component : Denoter) (low high : ℤ) (of : TypeValue) → IsTyped types index (type.Ordinal low high) → IsTyped types component of
-        → IsTyped types (Array index component) (type.Array low high of)
+    array : (index component : Denoter) (i : TypeValue) (low high : ℤ) (of : TypeValue) → IsTyped types index i → bare_of i ≡ type.Ordinal low high
+        → IsTyped types component of → IsTyped types (Array index component) (type.Array low high of)
     components : (ds : Denoters) (ts : ComponentTypes) → AreTyped types ds ts → IsTyped types (Record ds) (type.Record ts)
-    set : (base : Denoter) (low high : ℤ) → IsTyped types base (type.Ordinal low high) → IsTrue (is_ordinal low) → IsTrue (is_ordinal high)
+    set : (base : Denoter) (b : TypeValue) (low high : ℤ) → IsTyped types base b → bare_of b ≡ type.Ordinal low high → IsTrue (is_ordinal low) → IsTrue (is_ordinal high)
         → IsTyped types (tree.Set base) (type.Set low high)
+    initial : (of : Denoter) (v : Value) (t : TypeValue) (start : Start) → IsTyped types of t → start_by v ≡ Some start → IsStartFor types of v
+        → IsTyped types (Initial of v) (type.Initial t start)
 
   -- one for one
   pub data AreTyped (types : List UnitType) : Denoters → ComponentTypes → Type 0 where

@@ -55,6 +55,7 @@ denoter_step (denoter.Enumeration names) = tree.Enumeration names
 denoter_step (denoter.Array index component) = tree.Array index component
 denoter_step (denoter.Record components) = tree.Record (tree.denoters components)
 denoter_step (denoter.Set base) = tree.Set base
+denoter_step (denoter.Initial of value) = tree.Initial of value
 
 -- a field by its type
 abbrev pub field_step : RecordField-F tree.Denoter tree.Denoter (List tree.Denoter) tree.Denoter tree.Denoter (List tree.Denoter) → tree.Denoter

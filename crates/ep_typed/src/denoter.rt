@@ -1,6 +1,7 @@
 //! Type denoters (ISO 10206, 6.4.1).
 
 use crate::tree::CaseRanges;
+use crate::value::Value;
 use ep_base::{Boxed, List, Name, Names};
 
 /// A required type that a denoter may name (ISO 10206, 6.4.2.2).
@@ -48,6 +49,8 @@ pub enum Denoter {
     Record(FieldPart),
     /// A set, by the denoter of its base type (ISO 10206, 6.4.3.5).
     Set(Boxed<Denoter>),
+    /// A type with an initial state, which is a constant (ISO 10206, 6.6).
+    Initial(Boxed<Denoter>, Value),
 }
 
 /// The fields of a record or of a variant, in order, and its variant part, where it has one.

@@ -168,6 +168,9 @@ fn denoter(d: &Denoter) -> u64
             .saturating_add(1),
         Denoter::Record(part) => field_part(part).saturating_add(1),
         Denoter::Set(base) => denoter(base.get()).saturating_add(1),
+        Denoter::Initial(of, start) => denoter(of.get())
+            .saturating_add(value(start))
+            .saturating_add(1),
     }
 }
 

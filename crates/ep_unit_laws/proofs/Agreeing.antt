@@ -3,7 +3,7 @@ use Rattle.std.proofs.Common.{◌≡◌, ℕ, zero, suc, ◌<◌, ◌≤◌, ◌
 use Rattle.std.proofs.lemmas.List.Elements.{All-cons, All-head, All-nil, All-tail}
 use Rattle.std.proofs.lemmas.Slice.Eq.{bytes_eq-Decides}
 use Rattle.std.specs.Prelude.{All, drop, if◌then◌else◌}
-use Rattle.ep_typed.specs.Denoters.{host_of, type_of}
+use Rattle.ep_typed.specs.Denoters.{host_of, bare_type_of}
 use Rattle.ep_typed.specs.Trees as tree
 use Rattle.ep_typed.specs.TypeValues.{TypeValue}
 use Rattle.ep_typed.specs.Valid as valid
@@ -25,6 +25,7 @@ use Rattle.ep_scope.specs.declared.kind.Kind.{Kind}
 use Rattle.ep_scope.specs.declared.kind.Kind.TheVariants as kind
 use Rattle.ep_scope.specs.declared.parameter.FormalParameter.{FormalParameter}
 use Rattle.ep_scope.specs.declared.parameter.TypeName.{TypeName}
+use Rattle.ep_scope.specs.declared.parameter.WrittenType.{WrittenType}
 use Rattle.ep_scope.specs.declared.thing.Declaration.{Declaration}
 use Rattle.ep_scope.specs.declared.thing.Declaration.TheVariants as declaration
 use Rattle.ep_scope.specs.declared.thing.Declared.{Declared}
@@ -42,7 +43,7 @@ use Rattle.ep_check_unit.specs.declared.block.Enclosing.{Enclosing}
 use Rattle.ep_check_unit.specs.declared.block.OwnResult.{OwnResult}
 use Rattle.ep_unit_laws.proofs.Open.{IsOpen, around_length}
 use Rattle.ep_unit_laws.proofs.Denoting.{DenotesKind, kind_had, kind_type, set_of_kind}
-use Rattle.ep_unit_laws.proofs.Holds.{HasKindHere, HasTypeHere, Head, Holds, HoldsComposition, HoldsStructuredType, HoldsDeclaration, HoldsOwn, HoldsParameter, HoldsResultOf, HoldsResults, HoldsScopes, HoldsThing, HoldsThings, HoldsVariable, ListsKind, head_of, holds_scopes, levels_at, lists_kind_small, lists_small, name_denotes, named_tree, type_values}
+use Rattle.ep_unit_laws.proofs.Holds.{HasTypeHere, Head, Holds, HoldsComposition, HoldsStructuredType, HoldsDeclaration, HoldsOwn, HoldsParameter, HoldsResultOf, HoldsResults, HoldsScopes, HoldsThing, HoldsThings, HoldsVariable, ListsKind, head_of, holds_scopes, levels_at, lists_kind_small, lists_small, name_denotes, named_tree, type_values}
 
 name_same : (a b : List ℕ) → a ≡ b → bytes_eq a b ≡ true
 name_same a b h = grind (arith, bytes_eq-Decides)
@@ -92,8 +93,11 @@ module _ (u : TypedUnit) where
       let y = All-head (HoldsParameter u i) p ps x in (
         record {
           mode = refl;
-          has_kind = subst (λ d. HasKind (type_values u) u.types d p.kind) (sym (name_denotes p.of)) (has_kind i (named_tree p.of) p.kind y.denotes.0 le (lists_kind_small u i p.kind y.lists) y.denotes.1);
-          has_type = ap (type_of u.types) (name_denotes p.of);
+          has_kind = subst (λ d. HasKind (type_values u) u.types d p.kind) (sym (name_denotes p.of.name)) (has_kind i (named_tree p.of.name) p.kind y.denotes.0 le (lists_kind_small u i p.kind y.lists) y.denotes.1);
+          has_type =
+              ap (bare_type_of u.types) (name_denotes p.of.name)
+              ∙ (kind_type u.types i (named_tree p.of.name) p.kind y.denotes.0 le y.denotes.1
+              ∙ sym (kind_type u.types i (named_tree p.of.is) p.kind y.denotes.0 le y.denotes.2));
         },
         parameters_hold i ps le (All-tail (HoldsParameter u i) p ps x),
       )
@@ -104,8 +108,8 @@ module _ (u : TypedUnit) where
     has_kind i d k x.0 le (lists_kind_small u i k l) x.1,
     (
       x.0,
-      kind_type u.types i (named_tree of) k x.0 x.2 (suc (length u.types)) (omega (arith, le)),
-      kind_type u.types i d k x.0 x.1 (suc (length u.types)) (omega (arith, le)),
+      kind_type u.types i (named_tree of) k x.0 le x.2,
+      kind_type u.types i d k x.0 le x.1,
     ),
   )
 
@@ -182,23 +186,23 @@ module _ (u : TypedUnit) where
     own_stored es i level number of kind.File le x = absurd x.denotes.1
 
     -- a heading that is held is that of a function
-    function_typed : (i : ℕ) (heading : RoutineEntry) (name : Option (List ℕ)) (of : TypeName) (k : Kind) → i ≤ length u.types → heading.result ≡ Some (record { name = name; denoter = type_denoter of }) → ListsKind u i k → HasKindHere u i (named_tree of) k
+    function_typed : (i : ℕ) (heading : RoutineEntry) (name : Option (List ℕ)) (of : WrittenType) (k : Kind) → i ≤ length u.types → heading.result ≡ Some (record { name = name; denoter = type_denoter of.name }) → ListsKind u i k → HasTypeHere u i (named_tree of.name) of.is k
         → IsFunctionWith (own u) (type_values u) structures u.types k heading
     function_typed i heading name of (kind.Ordinal h) le is l d = (
       record {
-        result = record { name = name; denoter = type_denoter of };
+        result = record { name = name; denoter = type_denoter of.name };
         has_result = is;
-        has_kind = ap (host_of u.types) (name_denotes of) ∙ d.1.has_host (suc (length u.types)) (omega (arith, le));
+        has_kind = ap (host_of u.types) (name_denotes of.name) ∙ d.1.has_host (suc (length u.types)) (omega (arith, le));
       },
       lists_small u i h l,
     )
     function_typed i heading name of (kind.Structured n) le is l d =
-        (record { name = name; denoter = type_denoter of }, is, subst (λ x. HasKind (type_values u) u.types x (kind.Structured n)) (sym (name_denotes of)) (has_kind i (named_tree of) (kind.Structured n) d.0 le tt d.1), all)
+        (record { name = name; denoter = type_denoter of.name }, is, subst (λ x. HasKind (type_values u) u.types x (kind.Structured n)) (sym (name_denotes of.name)) (has_kind i (named_tree of.name) (kind.Structured n) d.0 le tt d.1), all)
     function_typed i heading name of (kind.Set h) le is l d = (
       record {
-        result = record { name = name; denoter = type_denoter of };
+        result = record { name = name; denoter = type_denoter of.name };
         has_result = is;
-        has_kind = subst (IsOfKind (valid.Set (typed_host h)) u.types) (sym (name_denotes of)) (set_of_kind u.types i (named_tree of) (typed_host h) d.0 le d.1);
+        has_kind = subst (IsOfKind (valid.Set (typed_host h)) u.types) (sym (name_denotes of.name)) (set_of_kind u.types i (named_tree of.name) (typed_host h) d.0 le d.1);
       },
       lists_small u i h l,
     )
@@ -210,15 +214,15 @@ module _ (u : TypedUnit) where
   variable_typed : (i number : ℕ) (unit : List ℕ) (of : TypeName) (k : Kind) → i ≤ length u.types → unit ≡ u.name → HoldsVariable u i number of k → IsOfType (own u) (type_values u) (tree.Variable unit number) of
   variable_typed i number unit of k le e x = (
     x.denotes.0,
-    kind_type u.types i (named_tree of) k x.denotes.0 x.denotes.2 (suc (length u.types)) (omega (arith, le)),
-    (x.variable, declared_own unit number x.variable e x.at, ap (λ ts. type_of ts (denoter_of x.variable.denoter)) (types_own unit e) ∙ kind_type u.types i (denoter_of x.variable.denoter) k x.denotes.0 x.denotes.1 (suc (length u.types)) (omega (arith, le))),
+    kind_type u.types i (named_tree of) k x.denotes.0 le x.denotes.2,
+    (x.variable, declared_own unit number x.variable e x.at, ap (λ ts. bare_type_of ts (denoter_of x.variable.denoter)) (types_own unit e) ∙ kind_type u.types i (denoter_of x.variable.denoter) k x.denotes.0 le x.denotes.1),
   )
 
   own_typed : (es : List Enclosing) (i level number : ℕ) (of : TypeName) (k : Kind) → i ≤ length u.types → HoldsOwn u es i level number of k → IsOfType (in_routine (levels_at u.routines es) (own u)) (type_values u) (tree.Own (length es - level) number) of
   own_typed es i level number of k le x = (
     x.denotes.0,
-    kind_type u.types i (named_tree of) k x.denotes.0 x.denotes.2 (suc (length u.types)) (omega (arith, le)),
-    (x.variable, x.at, kind_type u.types i (denoter_of x.variable.denoter) k x.denotes.0 x.denotes.1 (suc (length u.types)) (omega (arith, le))),
+    kind_type u.types i (named_tree of) k x.denotes.0 le x.denotes.2,
+    (x.variable, x.at, kind_type u.types i (denoter_of x.variable.denoter) k x.denotes.0 le x.denotes.1),
   )
 
   routines_own : (unit : List ℕ) → unit ≡ u.name → (own u).routines unit ≡ map heading_of u.routines
@@ -303,16 +307,16 @@ module _ (u : TypedUnit) (es : List Enclosing) where
   result_placed i level variable of (kind.Ordinal h) le x = (lists_small u i h x.lists, own_place u es i level variable of h le x)
   result_placed i level variable of (kind.Structured n) le x =
       let d = x.denotes.1 in
-      (x.denotes.0, (d.of_number, d.of_structure), (x.variable, x.at, (d.has_type (suc (length u.types)) (omega (arith, le)), d.of_structure)))
+      (x.denotes.0, (d.of_number, d.of_structure), (x.variable, x.at, (kind_type u.types i (denoter_of x.variable.denoter) (kind.Structured n) x.denotes.0 le d, d.of_structure)))
   result_placed i level variable of (kind.Set h) le x = (lists_small u i h x.lists, (x.variable, x.at, set_of_kind u.types i (denoter_of x.variable.denoter) (typed_host h) x.denotes.0 le x.denotes.1))
   result_placed i level variable of kind.EmptySet le x = tt
   result_placed i level variable of kind.Text le x = tt
   result_placed i level variable of kind.File le x = tt
 
-  result_unless : (i : ℕ) (fs : List Enclosing) (r : OwnResult) (named : Bool) → i ≤ length u.types → HoldsOwn u es i (suc (length fs)) r.variable r.of r.kind → ResultsAreThere within (type_values u) (length es) (assigned_functions fs)
+  result_unless : (i : ℕ) (fs : List Enclosing) (r : OwnResult) (named : Bool) → i ≤ length u.types → HoldsOwn u es i (suc (length fs)) r.variable r.of.is r.kind → ResultsAreThere within (type_values u) (length es) (assigned_functions fs)
       → ResultsAreThere within (type_values u) (length es) (function_before (if named then None else Some (record { function = r.function; level = suc (length fs); variable = r.variable; kind = r.kind })) (assigned_functions fs))
   result_unless i fs r true le x others = others
-  result_unless i fs r false le x others = (result_placed i (suc (length fs)) r.variable r.of r.kind le x, others)
+  result_unless i fs r false le x others = (result_placed i (suc (length fs)) r.variable r.of.is r.kind le x, others)
 
   result_before : (i : ℕ) (fs : List Enclosing) (r : Option OwnResult) → i ≤ length u.types → HoldsResultOf u es i (suc (length fs)) r → ResultsAreThere within (type_values u) (length es) (assigned_functions fs)
       → ResultsAreThere within (type_values u) (length es) (function_before (assigned_function (suc (length fs)) r) (assigned_functions fs))

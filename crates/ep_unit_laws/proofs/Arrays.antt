@@ -5,11 +5,10 @@ use Rattle.ep_typed.specs.Denoters.{ArrayParts, array_of}
 use Rattle.ep_typed.specs.Trees as tree
 use Rattle.ep_typed.specs.TypeValues as type
 use Rattle.ep_typed.specs.TypeValues.{TypeValue}
-use Rattle.ep_typed.specs.Valid.{IsTyped}
+use Rattle.ep_typed.specs.Valid.{IsTypeOf}
 use Rattle.ep_typed.specs.Viewed.{denoter_of}
 use Rattle.ep_typed.specs.declared.unit.Unit.{Unit as TypedUnit}
 use Rattle.ep_typed.proofs.Forms.{array_is}
-use Rattle.ep_typed.proofs.Typed.{typed_of_host}
 use Rattle.ep_scope.specs.declared.structure.ArrayType.{ArrayType}
 use Rattle.ep_scope.specs.declared.structure.Composition.TheVariants as composition
 use Rattle.ep_scope.specs.declared.structure.StructuredType.{StructuredType}
@@ -22,7 +21,7 @@ use Rattle.ep_check_expr.specs.Judgements.{Accepts, when_accepted}
 use Rattle.ep_check_stmt.proofs.judged.Fits.{Fits, fits_is, fits_then}
 use Rattle.ep_check_unit.specs.Blocks.{Block}
 use Rattle.ep_check_unit.specs.Declarations.{Part, Written, array_over, array_written, index_host, settled_part}
-use Rattle.ep_unit_laws.proofs.Denoting.{Denotes, DenotesStructured, array_there, denotes_array, kind_more, kind_type, kind_typed, kind_valued, ordinal_value}
+use Rattle.ep_unit_laws.proofs.Denoting.{Denotes, DenotesStructured, array_there, denotes_array, denotes_bounds, denotes_hosted, kind_bare, kind_more, kind_valued}
 use Rattle.ep_unit_laws.proofs.Holds.{HasKindHere, HasTypeHere, Holds, HoldsElements, HoldsStructuredType, ListsKind, has_type_more, holds_more, lists_more, lists_kind_more, lists_kind_small, type_values}
 use Rattle.ep_unit_laws.proofs.Leading.{Extends, Grows, extends_before, grows_trans, prefix_length}
 use Rattle.ep_unit_laws.proofs.Open.{IsOpen}
@@ -81,9 +80,7 @@ module _ (u : TypedUnit) where
 
       -- its bounds
       bounds : (low high : ℤ) × (index_typed.0 ≡ type.Ordinal low high)
-      bounds =
-          ordinal_value u.types (suc Number) (denoter_of index.denoter) (typed_host h) index_typed.0
-          (index_typed.1.has_host (suc Number) (omega arith)) (index_typed.1.has_type (suc Number) (omega arith))
+      bounds = denotes_bounds u.types Number (denoter_of index.denoter) (typed_host h) index_typed.0 (omega (arith, within)) index_typed.1
 
       abbrev Value : TypeValue
       Value = type.Array bounds.0 bounds.1 below_stood.denotes.0
@@ -93,8 +90,7 @@ module _ (u : TypedUnit) where
           subst (λ d. DenotesStructured u.types Number d Number Value) (sym (array_is index.denoter below.denoter))
           (denotes_array u.types Number Number next.entry (denoter_of index.denoter) (denoter_of below.denoter) (typed_host h) bounds.0 bounds.1 below_stood.denotes.0
           (subst (Denotes u.types Number (denoter_of index.denoter) (typed_host h)) bounds.2 index_typed.1)
-          (kind_type u.types Number (denoter_of below.denoter) below.kind below_stood.denotes.0 below_stood.denotes.1)
-          (kind_typed u.types Number (denoter_of below.denoter) below.kind below_stood.denotes.0 below_stood.denotes.1)
+          (kind_bare u.types Number (denoter_of below.denoter) below.kind below_stood.denotes.0 below_stood.denotes.1)
           next.at (next.definition ∙ array_is index.denoter below.denoter) within)
 
       elements_held : HoldsElements u (suc Number) Elements Parts
@@ -112,7 +108,7 @@ module _ (u : TypedUnit) where
         bounds.1,
         below_stood.denotes.0,
         refl,
-        typed_of_host u.types (denoter_of index.denoter) (type.Ordinal bounds.0 bounds.1) (typed_host h) (subst (IsTyped u.types (denoter_of index.denoter)) bounds.2 index_typed.1.typed) (index_typed.1.has_host (suc (length u.types)) (omega (arith, within))),
+        subst (IsTypeOf (typed_host h)) bounds.2 (denotes_hosted u.types Number (denoter_of index.denoter) (typed_host h) index_typed.0 (omega (arith, within)) index_typed.1),
         kind_valued u.types (type_values u) (λ n. refl) Number (denoter_of below.denoter) below.kind below_stood.denotes.0 (omega (arith, within)) (lists_kind_small u Number below.kind below_stood.lists) below_stood.denotes.1,
       )
 

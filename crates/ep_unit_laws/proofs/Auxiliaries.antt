@@ -6,7 +6,7 @@ use Rattle.ep_tree.specs.declared.statement.Compound.{Compound}
 use Rattle.ep_typed.proofs.Auxiliaries.{auxiliary_host, member_base}
 use Rattle.ep_typed.proofs.Forms.{named_is}
 use Rattle.ep_typed.specs.Auxiliaries.{auxiliary_variable, auxiliary_variables, block_auxiliaries, first_for_in_of, first_for_of, member_variable, member_variables, with_variable, with_variables, with_variables_of}
-use Rattle.ep_typed.specs.Denoters.{host_of, type_of}
+use Rattle.ep_typed.specs.Denoters.{host_of, bare_type_of}
 use Rattle.ep_typed.specs.Hosts as host
 use Rattle.ep_typed.specs.Routines.{made_by_unit, unit_variables}
 use Rattle.ep_typed.specs.Trees as tree
@@ -122,7 +122,7 @@ module _ (declared : Declarations) (types : List UnitType) where
         omega (arith, many, integers_counted (first_for_of ss) (has_bounds scopes c) same, set_counted (first_for_in_of ss) (has_for_in c) same_in)
 
     -- each stands for a record of its type, where the types hold the structured types and no code makes a variable behind those that are made
-    with_placed : (values : TypeValues) (structures : List StructuredType) → ((of : ℕ) → values (type_name.Entry of) ≡ type_of types (tree.Named of [])) → All (HoldsStructure values types) structures
+    with_placed : (values : TypeValues) (structures : List StructuredType) → ((of : ℕ) → values (type_name.Entry of) ≡ bare_type_of types (tree.Named of [])) → All (HoldsStructure values types) structures
         → (first : ℕ) → first ≡ first_auxiliary locals + length (block_auxiliaries (tree.Compound ss)) → IsUnmadeFrom locals first → WithsAreThere declared values structures locals first (with_variables_of ss)
     with_placed values structures numbered held first is unmade k line of at =
         let v : UnitVariable = with_variable line of in
@@ -130,11 +130,11 @@ module _ (declared : Declarations) (types : List UnitType) where
         let there : IsLocal locals (first + k) v =
         subst (λ n. IsLocal locals n v) {x = first_auxiliary locals + (length made + k)} {y = first + k} (omega (arith, is)) (all (length made + k) v (behind made (with_variables_of ss) k ∙ at)) in (
           unmade (first + k) (omega arith),
-          local_placed (λ list d. (d ≡ tree.Named of []) × (type_of list d ≡ values (type_name.Entry of)) × All (HoldsStructure values list) structures) locals (first + k) v there
-              (named_is of [], ap (type_of types) (named_is of []) ∙ sym (numbered of), held),
+          local_placed (λ list d. (d ≡ tree.Named of []) × (bare_type_of list d ≡ values (type_name.Entry of)) × All (HoldsStructure values list) structures) locals (first + k) v there
+              (named_is of [], ap (bare_type_of types) (named_is of []) ∙ sym (numbered of), held),
         )
 
-    pub with_auxiliaries : (values : TypeValues) (structures : List StructuredType) → ((of : ℕ) → values (type_name.Entry of) ≡ type_of types (tree.Named of [])) → All (HoldsStructure values types) structures
+    pub with_auxiliaries : (values : TypeValues) (structures : List StructuredType) → ((of : ℕ) → values (type_name.Entry of) ≡ bare_type_of types (tree.Named of [])) → All (HoldsStructure values types) structures
         → IsUnmadeFrom locals (first_auxiliary locals + length (block_auxiliaries (tree.Compound ss))) → (scopes : List Region) (c : Compound) → is_some (first_for_of ss) ≡ has_bounds scopes c → is_some (first_for_in_of ss) ≡ has_for_in c
         → WithsAreThere declared values structures locals (withs_of scopes locals c) (with_variables_of ss)
     with_auxiliaries values structures numbered held unmade scopes c same same_in =

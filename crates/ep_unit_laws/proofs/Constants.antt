@@ -38,7 +38,7 @@ use Rattle.ep_check_stmt.proofs.judged.Fits.{Any, Fits, fits_any, fits_both, fit
 use Rattle.ep_check_unit.specs.Declarations.{are_all_members, constant_definition, constant_entered, entry_denoter, enumerated, host_denoter, members_denoter, own_thing, scopes_of, set_denoter, unused, with_constant, with_entry, with_name}
 use Rattle.ep_check_unit.specs.Blocks.{Block}
 use Rattle.ep_unit_laws.proofs.Agreeing.{holds_agrees, within}
-use Rattle.ep_unit_laws.proofs.Denoting.{Denotes, DenotesSet, denotes_set, denotes_subrange, full_type, kind_has_values}
+use Rattle.ep_unit_laws.proofs.Denoting.{Denotes, DenotesSet, bare_takes, denotes_set, denotes_subrange, full_type, kind_bare, kind_has_values}
 use Rattle.ep_unit_laws.proofs.Holds.{Holds, Lists, ListsKind, constant_valid, host_denotes, known_listed, lists_small, things_push}
 use Rattle.ep_unit_laws.proofs.Open.{IsOpen, open_push}
 use Rattle.ep_unit_laws.proofs.Leading.{Grows, Leads, Enters, bodies_refl, enters_refl, enters_then, head_in, length_push, noted_leads, prefix_length, prefix_more, prefix_refl}
@@ -149,7 +149,9 @@ module _ (u : TypedUnit) where
   set_valid : (i : ℕ) (name : List ℕ) (h : Host) (ms : List ℕ) → i ≤ length u.types → Lists u i h → IsSetOver (typed_host h) ms → IsConstant u.types (record { name = name; denoter = set_denoter h; value = value.Set ms })
   set_valid i name h ms le l s = record {
     kind = kind_has_values u.types i (denoter_of (set_denoter h)) (kind.Set h) (type.Set (members_least h) (members_greatest h)) le (set_denotes i h le l);
-    value = (s.0, members_between h ms s);
+    value =
+        bare_takes u.types i (denoter_of (set_denoter h)) (type.Set (members_least h) (members_greatest h))
+        (kind_bare u.types i (denoter_of (set_denoter h)) (kind.Set h) (type.Set (members_least h) (members_greatest h)) (set_denotes i h le l)) (value.Set ms) (s.0, members_between h ms s);
   }
 
   -- the list of constants with one of its kind, whose host is listed

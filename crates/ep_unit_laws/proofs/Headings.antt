@@ -15,6 +15,7 @@ use Rattle.ep_typed.specs.declared.interface.FormalMode.{FormalMode}
 use Rattle.ep_typed.specs.declared.interface.RoutineEntry.{RoutineEntry}
 use Rattle.ep_typed.specs.declared.interface.RoutineResult.{RoutineResult}
 use Rattle.ep_typed.specs.declared.unit.Unit.{Unit as TypedUnit}
+use Rattle.ep_typed.specs.Viewed.{denoter_of}
 use Rattle.ep_scope.specs.Required.{look_up}
 use Rattle.ep_scope.specs.Scopes.{Entries}
 use Rattle.ep_scope.specs.declared.parameter.FormalParameter.{FormalParameter}
@@ -27,14 +28,14 @@ use Rattle.ep_scope.specs.declared.thing.Thing.TheVariants as thing
 use Rattle.ep_check_expr.specs.Judgements.{Judged, Accepts, Breaks}
 use Rattle.ep_check_stmt.proofs.judged.Fits.{Any, Fits, fits_any, fits_then, fits_weaker}
 use Rattle.ep_check_unit.specs.Blocks.{Block, RoutineForm, around_of}
-use Rattle.ep_check_unit.specs.Declarations.{Standing, Written, entered, own_thing, type_denoter, type_named, unused, with_name}
+use Rattle.ep_check_unit.specs.Declarations.{Standing, Written, entered, own_thing, type_denoter, type_named, unused, with_name, written_type}
 use Rattle.ep_check_unit.specs.Functions.{own_name_at, own_result, routine_declaration, same_result, typed_result}
 use Rattle.ep_check_unit.specs.Routines.{Headed, declared_routine, formal_of, forwarded, has_body, has_number, headed_again, headed_first, headed_form, headed_over, headed_then, hidden_type, identified_again, identified_over, is_parameter, is_repeated, parameter_added, parameter_type, parameters_added, result_headed, result_judged, routine_there, section_judged, section_mode, section_type, sections_judged, start_headed, with_routine}
 use Rattle.ep_check_unit.specs.declared.block.Enclosing.{Enclosing}
 use Rattle.ep_check_unit.specs.declared.functions.HeadingResult.{HeadingResult}
 use Rattle.ep_check_unit.proofs.Forms.{each_push}
-use Rattle.ep_unit_laws.proofs.Denoting.{kind_has_values}
-use Rattle.ep_unit_laws.proofs.Holds.{HasKindHere, Holds, HoldsDeclaration, HoldsParameter, HoldsResult, HoldsRoutine, HoldsThings, HoldsThing, ListsKind, around_innermost, formals_valid, head_of, headed_around, name_denotes, named_tree}
+use Rattle.ep_unit_laws.proofs.Denoting.{DenotesKind, kind_has_values}
+use Rattle.ep_unit_laws.proofs.Holds.{HasTypeHere, Holds, HoldsDeclaration, HoldsParameter, HoldsResult, HoldsRoutine, HoldsThings, HoldsThing, ListsKind, around_innermost, formals_valid, head_of, headed_around, name_denotes, named_tree}
 use Rattle.ep_unit_laws.proofs.Items.{LeadsOn}
 use Rattle.ep_unit_laws.proofs.Leading.{Extends, Grows, Leads, bodies_refl, head_in, leads_refl, length_push, named_holds, prefix_last, prefix_length, prefix_more, prefix_refl}
 use Rattle.ep_unit_laws.proofs.Meant.{HoldsIf, look_up_holds}
@@ -59,7 +60,7 @@ headings_length (r ∷ rs) = ap suc (headings_length rs)
 -- a typed result is that of a heading, whatever its name
 abbrev pub IsResultOf : Option HeadingResult → Option RoutineResult → Type 0
 IsResultOf None result = result ≡ None
-IsResultOf (Some r) result = (name : Option (List ℕ)) × (result ≡ Some (record { name = name; denoter = type_denoter r.of }))
+IsResultOf (Some r) result = (name : Option (List ℕ)) × (result ≡ Some (record { name = name; denoter = type_denoter r.of.name }))
 
 module _ (u : TypedUnit) where
   -- ---- lists of formal parameters
@@ -80,22 +81,26 @@ module _ (u : TypedUnit) where
   section_named routine before (formal_type.Named name) b = type_if (bytes_eq routine name.first || is_parameter name.first before) name.first name.second b
   section_named routine before (formal_type.TypeOf line name) b = tt
 
+  -- the name that is written for a type denotes it
+  names_written : (b : Block) (w : Written) → Names u b w → (i : ℕ) → HasTypeHere u i (denoter_of w.denoter) w.of w.kind → HasTypeHere u i (named_tree (written_type w).name) w.of w.kind
+  names_written b w n i x = (x.0, subst (λ d. DenotesKind u.types i d w.kind x.0) (ap denoter_of n.named ∙ name_denotes (written_type w).name) x.1, x.2)
+
   added_if : (twice : Bool) (b : Block) (before : List FormalParameter) (p : FormalParameter) → ((i : ℕ) → Holds u i b → HoldsParameter u i p)
       → Fits (HeldIn b before) (if twice then Breaks (rule.TWICE ∷ []) else Accepts (before ++ p ∷ []))
   added_if true b before p h = tt
   added_if false b before p h = λ i x all. All-push (HoldsParameter u i) before p all (h i x)
 
-  added_held : (b : Block) (m : FormalMode) (section : ℕ) (w : Written) → Names u b w → (names : List (List ℕ)) (before : List FormalParameter) → Fits (HeldIn b before) (parameters_added m section w.of w.kind names before)
+  added_held : (b : Block) (m : FormalMode) (section : ℕ) (w : Written) → Names u b w → (names : List (List ℕ)) (before : List FormalParameter) → Fits (HeldIn b before) (parameters_added m section (written_type w) w.kind names before)
   added_held b m section w n [] before = λ i x all. all
   added_held b m section w n (name ∷ names) before =
-      let p : FormalParameter = record { name = name; mode = m; section = section; of = w.of; kind = w.kind } in
-      fits_then (HeldIn b before) (HeldIn b before) (parameters_added m section w.of w.kind names) (parameter_added p before)
-      (added_if (is_parameter name before) b before p (λ i x. let y = n.holds i x in record { lists = y.1; denotes = (y.0.0, y.0.2) }))
-      (λ ps h. fits_weaker (HeldIn b ps) (HeldIn b before) (parameters_added m section w.of w.kind names ps) (λ qs g i x all. g i x (h i x all)) (added_held b m section w n names ps))
+      let p : FormalParameter = record { name = name; mode = m; section = section; of = written_type w; kind = w.kind } in
+      fits_then (HeldIn b before) (HeldIn b before) (parameters_added m section (written_type w) w.kind names) (parameter_added p before)
+      (added_if (is_parameter name before) b before p (λ i x. let y = n.holds i x in record { lists = y.1; denotes = names_written b w n i y.0 }))
+      (λ ps h. fits_weaker (HeldIn b ps) (HeldIn b before) (parameters_added m section (written_type w) w.kind names ps) (λ qs g i x all. g i x (h i x all)) (added_held b m section w n names ps))
 
   section_held : (routine : List ℕ) (section : ℕ) (s : FormalSection) (b : Block) (before : List FormalParameter) → Fits (HeldIn b before) (section_judged routine section s b before)
   section_held routine section s b before =
-      fits_then (Names u b) (HeldIn b before) (λ w. parameters_added (section_mode s.protected s.variable) section w.of w.kind s.names before) (section_type routine before s.of b) (section_named routine before s.of b)
+      fits_then (Names u b) (HeldIn b before) (λ w. parameters_added (section_mode s.protected s.variable) section (written_type w) w.kind s.names before) (section_type routine before s.of b) (section_named routine before s.of b)
       (λ w n. added_held b (section_mode s.protected s.variable) section w n s.names before)
 
   sections_held : (routine : List ℕ) (section : ℕ) (ss : List FormalSection) (b : Block) (before : List FormalParameter) → Fits (HeldIn b before) (sections_judged routine section ss b before)
@@ -112,7 +117,7 @@ module _ (u : TypedUnit) where
   -- the result of a heading has a type
   abbrev HoldsTyped : ℕ → Option HeadingResult → Type 0
   HoldsTyped i None = ⊤
-  HoldsTyped i (Some r) = HasKindHere u i (named_tree r.of) r.kind × ListsKind u i r.kind
+  HoldsTyped i (Some r) = HasTypeHere u i (named_tree r.of.name) r.of.is r.kind × ListsKind u i r.kind
 
   abbrev ResultHeld : Block → Option HeadingResult → Type 0
   ResultHeld b r = (i : ℕ) → Holds u i b → HoldsTyped i r
@@ -167,7 +172,7 @@ module _ (u : TypedUnit) where
   -- a result that has a type is valid
   typed_valid : (i : ℕ) (r : Option HeadingResult) → i ≤ length u.types → HoldsTyped i r → IsResult u.types (typed_result r)
   typed_valid i None le x = tt
-  typed_valid i (Some r) le x = subst (HasKind u.types) (sym (name_denotes r.of)) (kind_has_values u.types i (named_tree r.of) r.kind x.0.0 le x.0.1)
+  typed_valid i (Some r) le x = subst (HasKind u.types) (sym (name_denotes r.of.name)) (kind_has_values u.types i (named_tree r.of.name) r.kind x.0.0 le x.0.1)
 
   -- one routine more
   routine_grows : (name : List ℕ) (line : ℕ) (ps : List FormalParameter) (r : Option HeadingResult) (b : Block) → Grows b (with_routine name line ps r b)
@@ -387,8 +392,8 @@ module _ (u : TypedUnit) where
 
   result_held : (function : List ℕ) (own : Option (List ℕ)) (of : QualifiedName) (b : Block) → Fits (λ r. ResultHeld b (Some r)) (result_judged function own of b)
   result_held function own of b =
-      fits_then (Names u b) (λ r. ResultHeld b (Some r)) (λ w. Accepts (record { name = own; of = w.of; kind = w.kind })) (parameter_type function [] of.first of.second b)
-      (type_if (bytes_eq function of.first || is_parameter of.first []) of.first of.second b) (λ w n i x. let y = n.holds i x in ((y.0.0, y.0.2), y.1))
+      fits_then (Names u b) (λ r. ResultHeld b (Some r)) (λ w. Accepts (record { name = own; of = written_type w; kind = w.kind })) (parameter_type function [] of.first of.second b)
+      (type_if (bytes_eq function of.first || is_parameter of.first []) of.first of.second b) (λ w n i x. let y = n.holds i x in (names_written b w n i y.0, y.1))
 
   identified_leads : (is_forward : Bool) (o : Option Thing) (b : Block) → FoundIn b o → Fits (HeadsOn b) (identified_over is_forward o b)
   identified_leads is_forward None b there = tt

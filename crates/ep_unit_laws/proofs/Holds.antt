@@ -2,7 +2,7 @@
 use Rattle.std.proofs.Common.{◌≡◌, ℕ, ℤ, zero, suc, ◌<◌, ◌≤◌, ◌-◌, List, [], ◌∷◌, ◌++◌, map, length, Option, Some, None, slice_get, IsTrue, inl, inr, refl, sym, ap, ◌∙◌, subst, arith}
 use Rattle.std.proofs.lemmas.List.Elements.{All-cons, All-head, All-nil, All-tail}
 use Rattle.std.specs.Prelude.{All, ⊤, drop}
-use Rattle.ep_typed.specs.Denoters.{ArrayParts, definition_of, type_of}
+use Rattle.ep_typed.specs.Denoters.{ArrayParts, bare_type_of}
 use Rattle.ep_typed.specs.Hosts as typed
 use Rattle.ep_typed.specs.Hosts.{is_of_host}
 use Rattle.ep_typed.specs.Trees as tree
@@ -17,7 +17,6 @@ use Rattle.ep_typed.specs.declared.interface.FormalMode.TheVariants as mode
 use Rattle.ep_typed.specs.declared.interface.RoutineEntry.{RoutineEntry}
 use Rattle.ep_typed.specs.declared.unit.Unit.{Unit as TypedUnit}
 use Rattle.ep_typed.specs.declared.unit.UnitRoutine.{UnitRoutine}
-use Rattle.ep_typed.specs.declared.unit.UnitType.{UnitType}
 use Rattle.ep_typed.specs.declared.unit.UnitVariable.{UnitVariable}
 use Rattle.ep_typed.specs.TypeValues.{TypeValue}
 use Rattle.ep_typed.specs.declared.value.Value.TheVariants as value
@@ -35,6 +34,7 @@ use Rattle.ep_scope.specs.declared.kind.Kind.TheVariants as kind
 use Rattle.ep_scope.specs.declared.parameter.FormalParameter.{FormalParameter}
 use Rattle.ep_scope.specs.declared.parameter.TypeName.{TypeName}
 use Rattle.ep_scope.specs.declared.parameter.TypeName.TheVariants as type_name
+use Rattle.ep_scope.specs.declared.parameter.WrittenType.{WrittenType}
 use Rattle.ep_scope.specs.declared.thing.Declaration.{Declaration}
 use Rattle.ep_scope.specs.declared.thing.Declaration.TheVariants as declaration
 use Rattle.ep_scope.specs.declared.thing.Declared.{Declared}
@@ -49,7 +49,7 @@ use Rattle.ep_check_unit.specs.Blocks.{Block, RoutineForm, around_of}
 use Rattle.ep_check_unit.specs.declared.block.Enclosing.{Enclosing}
 use Rattle.ep_check_unit.specs.declared.block.OwnResult.{OwnResult}
 use Rattle.ep_unit_laws.proofs.Open.{AreUnderWay}
-use Rattle.ep_unit_laws.proofs.Denoting.{Denotes, DenotesKind, IsSmall, full_type, denotes_more, denotes_required, denotes_named, denotes_enumeration, kind_has_values, kind_more, kind_valid}
+use Rattle.ep_unit_laws.proofs.Denoting.{Denotes, DenotesKind, IsSmall, bare_takes, full_type, denotes_more, denotes_required, kind_bare, kind_has_values, kind_more, kind_valid}
 
 -- ---- denoters as plain data
 
@@ -106,14 +106,8 @@ module _ (u : TypedUnit) where
 
   -- the enumeration is the type of its number among the first types of the unit
   pub record ListsEnumeration (i : ℕ) (e : Enumeration) : Type 0 where
-    pub before : e.number < i
-    pub entry : UnitType
-    pub at : slice_get u.types e.number ≡ Some entry
-    pub first : List ℕ
-    pub others : List (List ℕ)
-    pub names : definition_of entry ≡ tree.Enumeration (first ∷ others)
-    pub last : length others ≡ e.last
-    pub small : IsSmall (typed.Enumeration (length others))
+    pub denotes : Denotes u.types i (tree.Named e.number []) (typed.Enumeration e.last) (full_type (typed.Enumeration e.last))
+    pub small : IsSmall (typed.Enumeration e.last)
 
   -- the host is required, or such an enumeration
   abbrev pub Lists : ℕ → Host → Type 0
@@ -127,14 +121,15 @@ module _ (u : TypedUnit) where
   lists_more i j host.Integer le l = tt
   lists_more i j host.Char le l = tt
   lists_more i j host.Boolean le l = tt
-  lists_more i j (host.Enumeration e) le l = record { before = omega (arith, le, l.before); entry = l.entry; at = l.at; first = l.first; others = l.others; names = l.names; last = l.last; small = l.small }
+  lists_more i j (host.Enumeration e) le l =
+      record { denotes = denotes_more u.types i j (tree.Named e.number []) (typed.Enumeration e.last) (full_type (typed.Enumeration e.last)) le l.denotes; small = l.small }
 
   -- its numbers are integers
   pub lists_small : (i : ℕ) (h : Host) → Lists i h → IsHost h
   lists_small i host.Integer l = refl
   lists_small i host.Char l = refl
   lists_small i host.Boolean l = refl
-  lists_small i (host.Enumeration e) l = subst (λ n. IsSmall (typed.Enumeration n)) l.last l.small
+  lists_small i (host.Enumeration e) l = l.small
 
   -- a kind whose host is listed
   abbrev pub ListsKind : ℕ → Kind → Type 0
@@ -165,19 +160,12 @@ module _ (u : TypedUnit) where
   abbrev pub HasKindHere : ℕ → tree.Denoter → Kind → Type 0
   HasKindHere i d k = (v : TypeValue) × DenotesKind u.types i d k v
 
-  -- so has the type of this name, and it has the type value of the denoter
+  -- so has the type of this name, and its type value has the bare form that that of the denoter has
   abbrev pub HasTypeHere : ℕ → tree.Denoter → TypeName → Kind → Type 0
   HasTypeHere i d of k = (v : TypeValue) × DenotesKind u.types i d k v × DenotesKind u.types i (named_tree of) k v
 
   pub required_lists : (i : ℕ) (r : RequiredType) (h : typed.Host) → Denotes u.types 0 (tree.Required r) h (full_type h) → Denotes u.types i (denoter_of (denoter.Required r)) h (full_type h)
   required_lists i r h d = subst (λ x. Denotes u.types i x h (full_type h)) (sym (required_is r)) (denotes_more u.types 0 i (tree.Required r) h (full_type h) (omega arith) d)
-
-  enumeration_lists : (i : ℕ) (e : Enumeration) → ListsEnumeration i e → Denotes u.types i (tree.Named e.number []) (typed.Enumeration e.last) (full_type (typed.Enumeration e.last))
-  enumeration_lists i e l =
-      subst (λ n. Denotes u.types i (tree.Named e.number []) (typed.Enumeration n) (full_type (typed.Enumeration n))) l.last
-      (denotes_more u.types 1 i (tree.Named e.number []) (typed.Enumeration (length l.others)) (full_type (typed.Enumeration (length l.others))) (omega (arith, l.before))
-      (denotes_named u.types e.number 0 l.entry (typed.Enumeration (length l.others)) (full_type (typed.Enumeration (length l.others))) l.at
-      (subst (λ d. Denotes u.types 0 d (typed.Enumeration (length l.others)) (full_type (typed.Enumeration (length l.others)))) (sym l.names) (denotes_enumeration u.types l.first l.others l.small))))
 
   -- the denoter of a host has all its values
   pub host_denotes : (i : ℕ) (h : Host) → Lists i h → Denotes u.types i (denoter_of (host_denoter h)) (typed_host h) (full_type (typed_host h))
@@ -185,14 +173,14 @@ module _ (u : TypedUnit) where
   host_denotes i host.Char l = required_lists i simple.Char typed.Char (denotes_required u.types simple.Char)
   host_denotes i host.Boolean l = required_lists i simple.Boolean typed.Boolean (denotes_required u.types simple.Boolean)
   host_denotes i (host.Enumeration e) l =
-      subst (λ d. Denotes u.types i d (typed.Enumeration e.last) (full_type (typed.Enumeration e.last))) (sym (named_is e.number [])) (enumeration_lists i e l)
+      subst (λ d. Denotes u.types i d (typed.Enumeration e.last) (full_type (typed.Enumeration e.last))) (sym (named_is e.number [])) l.denotes
 
   -- a constant of a host is valid
   pub constant_valid : (i : ℕ) (name : List ℕ) (h : Host) (z : ℤ) → i ≤ length u.types → Lists i h → IsTrue (is_of_host (typed_host h) z)
       → IsConstant u.types (record { name = name; denoter = host_denoter h; value = value.Word z })
   constant_valid i name h z le l s = record {
     kind = kind_has_values u.types i (denoter_of (host_denoter h)) (kind.Ordinal h) (full_type (typed_host h)) le (host_denotes i h l);
-    value = s;
+    value = bare_takes u.types i (denoter_of (host_denoter h)) (full_type (typed_host h)) (kind_bare u.types i (denoter_of (host_denoter h)) (kind.Ordinal h) (full_type (typed_host h)) (host_denotes i h l)) (value.Word z) s;
   }
 
   -- ---- things
@@ -221,7 +209,7 @@ module _ (u : TypedUnit) where
   -- a formal parameter has a type
   pub record HoldsParameter (i : ℕ) (p : FormalParameter) : Type 0 where
     pub lists : ListsKind i p.kind
-    pub denotes : HasKindHere i (named_tree p.of) p.kind
+    pub denotes : HasTypeHere i (named_tree p.of.name) p.of.is p.kind
 
   -- An array has an index type of its host, and components of their kind and type.
   pub record HoldsElements (i : ℕ) (a : ArrayType) (parts : ArrayParts) : Type 0 where
@@ -230,9 +218,9 @@ module _ (u : TypedUnit) where
     pub lists : ListsKind i a.kind
     pub denotes : HasTypeHere i parts.component a.component a.kind
 
-  -- the type value of each type
+  -- the type value of each type, without initial states
   abbrev pub type_values : TypeValues
-  type_values t = type_of u.types (named_tree t)
+  type_values t = bare_type_of u.types (named_tree t)
 
   -- a record has components of the kinds and types of its fields, whose hosts are listed
   abbrev pub HoldsFields : ℕ → List FieldType → tree.Denoters → Type 0
@@ -249,7 +237,7 @@ module _ (u : TypedUnit) where
     pub has_structure : HasStructure u.types (tree.Named s.number []) structure
     pub components : HoldsComposition i s.composition structure
     pub type_value : TypeValue
-    pub has_value : type_of u.types (tree.Named s.number []) ≡ Some type_value
+    pub has_value : bare_type_of u.types (tree.Named s.number []) ≡ Some type_value
     pub value_made : IsValueMadeOf type_values s.composition type_value
 
   -- In code of these blocks, the routine of this number and level is a procedure with these formal parameters.
@@ -262,16 +250,16 @@ module _ (u : TypedUnit) where
     pub parameters : All (HoldsParameter i) ps
 
   -- Alike a function, whose result has this type.
-  pub record HoldsFunction (es : List Enclosing) (i level number : ℕ) (ps : List FormalParameter) (of : TypeName) (k : Kind) : Type 0 where
+  pub record HoldsFunction (es : List Enclosing) (i level number : ℕ) (ps : List FormalParameter) (of : WrittenType) (k : Kind) : Type 0 where
     pub inside : level ≤ length es
     pub heading : RoutineEntry
     pub at : slice_get (map head_of u.routines) number ≡ Some (heading, around_of (drop (length es - level) es))
     pub name : Option (List ℕ)
-    pub result : heading.result ≡ Some (record { name = name; denoter = type_denoter of })
+    pub result : heading.result ≡ Some (record { name = name; denoter = type_denoter of.name })
     pub formals : heading.formals ≡ map formal_of ps
     pub parameters : All (HoldsParameter i) ps
     pub lists : ListsKind i k
-    pub denotes : HasKindHere i (named_tree of) k
+    pub denotes : HasTypeHere i (named_tree of.name) of.is k
 
   -- The formal parameters, the result and the variables of the routine of this number are valid, the routines around it are those it is declared in, and what it does is valid with the variables that the unit gives to all of them.
   pub record HoldsRoutine (number : ℕ) (r : RoutineForm) : Type 0 where
@@ -288,7 +276,7 @@ module _ (u : TypedUnit) where
   -- the result of the function under way has a type, and its variable comes behind these formal parameters
   pub record HoldsOwnResult (i : ℕ) (ps : List FormalParameter) (r : OwnResult) : Type 0 where
     pub lists : ListsKind i r.kind
-    pub denotes : HasKindHere i (named_tree r.of) r.kind
+    pub denotes : HasTypeHere i (named_tree r.of.name) r.of.is r.kind
     pub variable : r.variable ≡ length ps
 
   abbrev pub HoldsResult : ℕ → List FormalParameter → Option OwnResult → Type 0
@@ -308,7 +296,7 @@ module _ (u : TypedUnit) where
   -- the variable that has the result of a function, whose variables have this level
   abbrev pub HoldsResultOf : List Enclosing → ℕ → ℕ → Option OwnResult → Type 0
   HoldsResultOf es i level None = ⊤
-  HoldsResultOf es i level (Some r) = HoldsOwn es i level r.variable r.of r.kind
+  HoldsResultOf es i level (Some r) = HoldsOwn es i level r.variable r.of.is r.kind
 
   -- those of the functions under way, in code of these blocks
   abbrev pub HoldsResults : List Enclosing → ℕ → List Enclosing → Type 0
@@ -319,7 +307,7 @@ module _ (u : TypedUnit) where
   has_type_more i j d of k le x = (x.0, kind_more u.types i j d k x.0 le x.1, kind_more u.types i j (named_tree of) k x.0 le x.2)
 
   parameter_more : (i j : ℕ) (p : FormalParameter) → i ≤ j → HoldsParameter i p → HoldsParameter j p
-  parameter_more i j p le x = record { lists = lists_kind_more i j p.kind le x.lists; denotes = (x.denotes.0, kind_more u.types i j (named_tree p.of) p.kind x.denotes.0 le x.denotes.1) }
+  parameter_more i j p le x = record { lists = lists_kind_more i j p.kind le x.lists; denotes = has_type_more i j (named_tree p.of.name) p.of.is p.kind le x.denotes }
 
   pub parameters_more : (i j : ℕ) (ps : List FormalParameter) → i ≤ j → All (HoldsParameter i) ps → All (HoldsParameter j) ps
   parameters_more i j [] le x = All-nil (HoldsParameter j)
@@ -360,7 +348,7 @@ module _ (u : TypedUnit) where
   own_more : (es : List Enclosing) (i j level number : ℕ) (of : TypeName) (k : Kind) → i ≤ j → HoldsOwn es i level number of k → HoldsOwn es j level number of k
   own_more es i j level number of k le x = record { lists = lists_kind_more i j k le x.lists; inside = x.inside; variable = x.variable; at = x.at; denotes = has_type_more i j (denoter_of x.variable.denoter) of k le x.denotes }
 
-  function_more : (es : List Enclosing) (i j level number : ℕ) (ps : List FormalParameter) (of : TypeName) (k : Kind) → i ≤ j → HoldsFunction es i level number ps of k → HoldsFunction es j level number ps of k
+  function_more : (es : List Enclosing) (i j level number : ℕ) (ps : List FormalParameter) (of : WrittenType) (k : Kind) → i ≤ j → HoldsFunction es i level number ps of k → HoldsFunction es j level number ps of k
   function_more es i j level number ps of k le x = record {
     inside = x.inside;
     heading = x.heading;
@@ -370,16 +358,16 @@ module _ (u : TypedUnit) where
     formals = x.formals;
     parameters = parameters_more i j ps le x.parameters;
     lists = lists_kind_more i j k le x.lists;
-    denotes = has_kind_more i j (named_tree of) k le x.denotes;
+    denotes = has_type_more i j (named_tree of.name) of.is k le x.denotes;
   }
 
   pub result_more : (i j : ℕ) (ps : List FormalParameter) (r : Option OwnResult) → i ≤ j → HoldsResult i ps r → HoldsResult j ps r
   result_more i j ps None le x = tt
-  result_more i j ps (Some r) le x = record { lists = lists_kind_more i j r.kind le x.lists; denotes = has_kind_more i j (named_tree r.of) r.kind le x.denotes; variable = x.variable }
+  result_more i j ps (Some r) le x = record { lists = lists_kind_more i j r.kind le x.lists; denotes = has_type_more i j (named_tree r.of.name) r.of.is r.kind le x.denotes; variable = x.variable }
 
   result_of_more : (es : List Enclosing) (i j level : ℕ) (r : Option OwnResult) → i ≤ j → HoldsResultOf es i level r → HoldsResultOf es j level r
   result_of_more es i j level None le x = tt
-  result_of_more es i j level (Some r) le x = own_more es i j level r.variable r.of r.kind le x
+  result_of_more es i j level (Some r) le x = own_more es i j level r.variable r.of.is r.kind le x
 
   results_more : (es : List Enclosing) (i j : ℕ) (fs : List Enclosing) → i ≤ j → HoldsResults es i fs → HoldsResults es j fs
   results_more es i j [] le x = tt
@@ -406,7 +394,7 @@ module _ (u : TypedUnit) where
     parameters = x.parameters;
   }
 
-  function_deeper : (e : Enclosing) (es : List Enclosing) (i level number : ℕ) (ps : List FormalParameter) (of : TypeName) (k : Kind) → HoldsFunction es i level number ps of k → HoldsFunction (e ∷ es) i level number ps of k
+  function_deeper : (e : Enclosing) (es : List Enclosing) (i level number : ℕ) (ps : List FormalParameter) (of : WrittenType) (k : Kind) → HoldsFunction es i level number ps of k → HoldsFunction (e ∷ es) i level number ps of k
   function_deeper e es i level number ps of k x = record {
     inside = omega (arith, x.inside);
     heading = x.heading;
@@ -421,7 +409,7 @@ module _ (u : TypedUnit) where
 
   result_of_deeper : (e : Enclosing) (es : List Enclosing) (i level : ℕ) (r : Option OwnResult) → HoldsResultOf es i level r → HoldsResultOf (e ∷ es) i level r
   result_of_deeper e es i level None x = tt
-  result_of_deeper e es i level (Some r) x = own_deeper e es i level r.variable r.of r.kind x
+  result_of_deeper e es i level (Some r) x = own_deeper e es i level r.variable r.of.is r.kind x
 
   pub results_deeper : (e : Enclosing) (es : List Enclosing) (i : ℕ) (fs : List Enclosing) → HoldsResults es i fs → HoldsResults (e ∷ es) i fs
   results_deeper e es i [] x = tt
@@ -451,7 +439,7 @@ module _ (u : TypedUnit) where
   -- a formal parameter that has a type is valid
   formal_valid : (i : ℕ) (p : FormalParameter) → i ≤ length u.types → HoldsParameter i p → IsFormal u.types (formal_of p)
   formal_valid i p le x = record {
-    denoter = subst (IsFormalBy p.mode u.types) (sym (name_denotes p.of)) (given_by i p.mode p.kind (named_tree p.of) x.denotes.0 le x.denotes.1);
+    denoter = subst (IsFormalBy p.mode u.types) (sym (name_denotes p.of.name)) (given_by i p.mode p.kind (named_tree p.of.name) x.denotes.0 le x.denotes.1);
   }
 
   pub formals_valid : (i : ℕ) (ps : List FormalParameter) → i ≤ length u.types → All (HoldsParameter i) ps → All (IsFormal u.types) (map formal_of ps)

@@ -20,11 +20,11 @@ use Rattle.ep_scope.specs.declared.parameter.TypeName.{TypeName}
 use Rattle.ep_scope.specs.declared.thing.Declaration.TheVariants as declaration
 use Rattle.ep_scope.specs.declared.thing.Thing.TheVariants as thing
 use Rattle.ep_check_expr.specs.Judgements.{Judged, Accepts, Breaks, when_accepted}
-use Rattle.ep_check_expr.specs.Laws.{BoundsAreKnown, BoundsAreSound, ConstantsAreKnown, ConstantsAreSound}
+use Rattle.ep_check_expr.specs.Laws.{BoundsAreKnown, BoundsAreSound, ConstantsAreKnown, ConstantsAreSound, InitialStatesAreSound}
 use Rattle.ep_check_stmt.proofs.judged.Fits.{Any, Fits, fits_any, fits_then}
 use Rattle.ep_scope.specs.declared.rule.TheConstants as rule
 use Rattle.ep_check_unit.specs.declared.types.TheConstants as limit
-use Rattle.ep_check_unit.specs.Declarations.{Standing, Stands, Falls, Written, all_variables_declared, and_then, at_line, constant_definition, constants_declared, core_of, declaration_ended, is_outermost, new_variable, own_thing, settled_type, unless_large, type_definition, type_definitions, type_entered, type_written, unused, variable_declaration, variable_entered, variables_declared, variables_entered, with_name, with_own_variable, with_type, with_unit_variable, with_variable}
+use Rattle.ep_check_unit.specs.Declarations.{Standing, Stands, Falls, Written, all_variables_declared, and_then, at_line, constant_definition, constants_declared, declaration_ended, is_outermost, new_variable, own_thing, settled_type, unless_large, type_definition, type_definitions, type_entered, type_written, unused, variable_declaration, variable_entered, variables_declared, variables_entered, with_name, with_own_variable, with_type, with_unit_variable, with_variable}
 use Rattle.ep_check_unit.specs.Routines.{formal_of}
 use Rattle.ep_check_unit.specs.Units.{parameter_entered, parameters_entered, standard_file}
 use Rattle.ep_check_unit.specs.Blocks.{Block, own_count, result_count}
@@ -32,7 +32,7 @@ use Rattle.ep_check_unit.specs.declared.block.Enclosing.{Enclosing}
 use Rattle.ep_check_unit.specs.declared.block.OwnResult.{OwnResult}
 use Rattle.ep_check_unit.specs.declared.block.OwnVariables.{OwnVariables}
 use Rattle.ep_unit_laws.proofs.Constants.{constant_definition-leads}
-use Rattle.ep_unit_laws.proofs.Denoters.{core_written-writes, settled_type-settles}
+use Rattle.ep_unit_laws.proofs.Denoters.{settled_type-settles, type_written-writes}
 use Rattle.ep_unit_laws.proofs.Denoting.{DenotesKind, kind_valid}
 use Rattle.ep_typed.proofs.Forms.{named_is}
 use Rattle.ep_unit_laws.proofs.Holds.{HasTypeHere, Holds, ListsKind, innermost, levels_at, own_innermost, things_push}
@@ -115,10 +115,10 @@ module _ (u : TypedUnit) where
   then_leads b more (Stands c) h g = further b c (more c) h (g c)
   then_leads b more (Falls line rules) h g = tt
 
-  module _ (few : length u.constants ≤ maxint) (bounds : BoundsAreSound) (bound_hosts : BoundsAreKnown) where
+  module _ (few : length u.constants ≤ maxint) (bounds : BoundsAreSound) (bound_hosts : BoundsAreKnown) (initial_states : InitialStatesAreSound) where
     type_definition-leads : (line : ℕ) (d : TypeDefinition) (b : Block) → Fits (Leads u b) (type_definition line d b)
     type_definition-leads line d b =
-        fits_then (Writes u b) (Leads u b) (type_entered d) (when_accepted unless_large (type_written line d.of b)) (small_fits (Writes u b) (type_written line d.of b) (core_written-writes u few bounds bound_hosts line (core_of d.of) b)) (λ w wr. definition_leads d b w wr)
+        fits_then (Writes u b) (Leads u b) (type_entered d) (when_accepted unless_large (type_written line d.of b)) (small_fits (Writes u b) (type_written line d.of b) (type_written-writes u few bounds bound_hosts initial_states line d.of b)) (λ w wr. definition_leads d b w wr)
 
     pub type_definitions-leads : (line : ℕ) (ds : List TypeDefinition) (b : Block) → Fits (Leads u b) (type_definitions line ds b)
     type_definitions-leads line [] b = leads_refl u b
@@ -268,7 +268,7 @@ module _ (u : TypedUnit) where
 
     variable_declaration-leads : (d : VariableDeclaration) (b : Block) → Fits (Leads u b) (variable_declaration d b)
     variable_declaration-leads d b =
-        fits_then (Settles u b) (Leads u b) (variables_declared d) (when_accepted unless_large (settled_type d.line (core_of d.of) b)) (small_fits (Settles u b) (settled_type d.line (core_of d.of) b) (settled_type-settles u few bounds bound_hosts d.line (core_of d.of) b))
+        fits_then (Settles u b) (Leads u b) (variables_declared d) (when_accepted unless_large (settled_type d.line d.of b)) (small_fits (Settles u b) (settled_type d.line d.of b) (settled_type-settles u few bounds bound_hosts initial_states d.line d.of b))
         (λ w s. fits_then (Enters u (IsStanding (length w.block.types) w.denoter w.of w.kind) (length w.block.types) w.block) (Leads u b) (λ c. Accepts (declaration_ended c)) (variables_entered d.line w.denoter w.of w.kind d.names w.block)
         (variables_enter (length w.block.types) d.line w.denoter w.of w.kind d.names w.block) (λ c e. ended_leads b c w s e))
 

@@ -56,7 +56,7 @@ head_in r = (record { name = r.name; formals = r.formals; result = r.result }, r
 -- the variable of this name that has the result of a function, which is declared on this line
 abbrev pub result_in : ℕ → List ℕ → Option OwnResult → List UnitVariable
 result_in line name None = []
-result_in line name (Some r) = record { name = name; line = line; declaration = 0; denoter = type_denoter r.of; tuple = []; parameter = false } ∷ []
+result_in line name (Some r) = record { name = name; line = line; declaration = 0; denoter = type_denoter r.of.name; tuple = []; parameter = false } ∷ []
 
 -- the variables of a routine that is declared on this line, where that of its result has this name
 abbrev pub variables_in : ℕ → List ℕ → OwnVariables → List UnitVariable

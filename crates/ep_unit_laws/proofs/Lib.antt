@@ -10,6 +10,7 @@ pub mod Structures
 pub mod Arrays
 pub mod Records
 pub mod Sets
+pub mod InitialStates
 pub mod Ranges
 pub mod Variants
 pub mod Denoters

@@ -23,7 +23,7 @@ use Rattle.ep_check_stmt.proofs.judged.Fits.{Fits, fits_then, fits_weaker}
 use Rattle.ep_check_unit.specs.Blocks.{Block}
 use Rattle.ep_check_unit.specs.Declarations.{Field, Fielded, ListJudged, Listed, Section, Written, field_of, field_part, fields_named, has_field, own_fields, plain_list, record_field, record_over, record_written, section_written, sections_written, settled_part}
 use Rattle.ep_check_unit.proofs.Denoters.{AreKept}
-use Rattle.ep_unit_laws.proofs.Denoting.{AreDenoted, DenotesStructured, denotes_record, kind_type, kind_typed, kind_valued, record_there}
+use Rattle.ep_unit_laws.proofs.Denoting.{AreDenoted, DenotesStructured, bare_more, denotes_record, kind_bare, kind_valued, record_there}
 use Rattle.ep_unit_laws.proofs.Agreeing.{denoter_holds}
 use Rattle.ep_unit_laws.proofs.Holds.{HasTypeHere, Holds, HoldsStructuredType, ListsKind, all_lists_more, has_type_more, holds_more, lists_kind_more, lists_kind_small, type_values}
 use Rattle.ep_unit_laws.proofs.Leading.{Extends, Grows, extends_before, grows_refl, grows_trans, prefix_length}
@@ -127,7 +127,7 @@ module _ (u : TypedUnit) where
   denoted_more i j tree.no_denoter no_component le x = tt
   denoted_more i j tree.no_denoter (next_component t ts) le x = absurd x
   denoted_more i j (tree.next_denoter d ds) no_component le x = absurd x
-  denoted_more i j (tree.next_denoter d ds) (next_component t ts) le x = (λ n lt. x.0 n (omega (arith, le, lt)), x.1, denoted_more i j ds ts le x.2)
+  denoted_more i j (tree.next_denoter d ds) (next_component t ts) le x = (bare_more u.types i j d t le x.0, denoted_more i j ds ts le x.1)
 
   pub list_more : (i j : ℕ) (ds : tree.Denoters) (fs : List FieldType) → i ≤ j → ListHeld i ds fs → ListHeld j ds fs
   list_more i j ds fs le x = record {
@@ -148,7 +148,7 @@ module _ (u : TypedUnit) where
 
   -- ---- the fields of a list that are in none of its variants, before other components
 
-  -- their type values, before these
+  -- the bare forms of their type values, before these
   pub types_of : (i : ℕ) (fs : List Field) → HaveFields i fs → ComponentTypes → ComponentTypes
   types_of i [] x rest = rest
   types_of i (f ∷ fs) x rest = next_component x.0.1.0 (types_of i fs x.1 rest)
@@ -158,7 +158,7 @@ module _ (u : TypedUnit) where
   unfolding types_of
   all_denoted i [] x rest more h = h
   all_denoted i (f ∷ fs) x rest more h =
-      (kind_type u.types i (denoter_of f.denoter) f.kind x.0.1.0 x.0.1.1, kind_typed u.types i (denoter_of f.denoter) f.kind x.0.1.0 x.0.1.1, all_denoted i fs x.1 rest more h)
+      (kind_bare u.types i (denoter_of f.denoter) f.kind x.0.1.0 x.0.1.1, all_denoted i fs x.1 rest more h)
 
   -- behind them
   pub denoter_behind : (fs : List Field) (rest : List tree.Denoter) (k : ℕ) → denoter_at (tree.denoters (denoters_of fs ++ rest)) (length fs + k) ≡ denoter_at (tree.denoters rest) k

@@ -30,7 +30,7 @@ use Rattle.ep_scope.specs.declared.parameter.Protection.TheVariants as protectio
 use Rattle.ep_scope.specs.declared.thing.Declaration.TheVariants as declaration
 use Rattle.ep_check_expr.specs.Judgements.{Judged, Accepts, Breaks}
 use Rattle.ep_check_expr.specs.Agreement.{structures_of}
-use Rattle.ep_check_expr.specs.Laws.{BoundsAreKnown, BoundsAreSound, ConstantsAreKnown, ConstantsAreSound}
+use Rattle.ep_check_expr.specs.Laws.{BoundsAreKnown, BoundsAreSound, ConstantsAreKnown, ConstantsAreSound, InitialStatesAreSound}
 use Rattle.ep_check_stmt.specs.Laws.{StatementsAreSound}
 use Rattle.ep_check_stmt.specs.Statements.{Judgement, Passes, Waits, Fails}
 use Rattle.ep_check_stmt.proofs.judged.Auxiliaries.{bounded_there, members_there}
@@ -126,7 +126,7 @@ formal_at line (b ∷ before) p ps vs = formal_at line before p ps vs
 
 -- the variable of the result behind them
 result_at : (line : ℕ) (name : List ℕ) (ps : List FormalParameter) (r : OwnResult) (vs : List UnitVariable)
-    → slice_get (map (formal_variable line) (map formal_of ps) ++ (result_in line name (Some r) ++ vs)) (length ps) ≡ Some (record { name = name; line = line; declaration = 0; denoter = type_denoter r.of; tuple = []; parameter = false })
+    → slice_get (map (formal_variable line) (map formal_of ps) ++ (result_in line name (Some r) ++ vs)) (length ps) ≡ Some (record { name = name; line = line; declaration = 0; denoter = type_denoter r.of.name; tuple = []; parameter = false })
 result_at line name [] r vs = refl
 result_at line name (p ∷ ps) r vs = result_at line name ps r vs
 
@@ -178,40 +178,40 @@ made_length : (line : ℕ) (name : List ℕ) (ps : List FormalParameter) (r : Op
 made_length line name ps None vs made = omega (arith, length-map ps formal_of, length-append vs made)
 made_length line name ps (Some r) vs made = omega (arith, length-map ps formal_of, length-append vs made)
 
-module _ (u : TypedUnit) (few : length u.constants ≤ maxint) (statements : StatementsAreSound) (constants : ConstantsAreSound) (bounds : BoundsAreSound) (constant_hosts : ConstantsAreKnown) (bound_hosts : BoundsAreKnown) where
+module _ (u : TypedUnit) (few : length u.constants ≤ maxint) (statements : StatementsAreSound) (constants : ConstantsAreSound) (bounds : BoundsAreSound) (constant_hosts : ConstantsAreKnown) (bound_hosts : BoundsAreKnown) (initial_states : InitialStatesAreSound) where
   -- ---- the block of a routine begins with its formal parameters and its result
 
   -- a formal parameter is a variable of the routine
   formal_held : (i : ℕ) (before : List FormalParameter) (p : FormalParameter) (ps : List FormalParameter) (b : Block) → b.own.parameters ≡ before ++ p ∷ ps → Extends u b → All (HoldsParameter u i) b.own.parameters
-      → HoldsOwn u b.own.enclosing i (length b.own.enclosing) (length before) p.of p.kind
+      → HoldsOwn u b.own.enclosing i (length b.own.enclosing) (length before) p.of.is p.kind
   formal_held i before p ps b is e held =
       let x : HoldsParameter u i p = all_between (HoldsParameter u i) before p ps (subst (All (HoldsParameter u i)) is held) in
       let v : UnitVariable = formal_variable e.line (formal_of p) in
       let rest : List UnitVariable = result_in e.line e.name b.own.result ++ b.own.variables in
       let first : slice_get (map (formal_variable e.line) (map formal_of b.own.parameters) ++ rest) (length before) ≡ Some v =
       subst (λ qs. slice_get (map (formal_variable e.line) (map formal_of qs) ++ rest) (length before) ≡ Some v) (sym is) (formal_at e.line before p ps rest) in
-      own_innermost u b.own.enclosing i (length before) p.of p.kind v x.lists (prefix_get (variables_in e.line e.name b.own) (innermost (levels_at u.routines b.own.enclosing)) (length before) v e.own first)
-      (x.denotes.0, subst (λ d. DenotesKind u.types i d p.kind x.denotes.0) (sym (name_denotes p.of)) x.denotes.1, x.denotes.1)
+      own_innermost u b.own.enclosing i (length before) p.of.is p.kind v x.lists (prefix_get (variables_in e.line e.name b.own) (innermost (levels_at u.routines b.own.enclosing)) (length before) v e.own first)
+      (x.denotes.0, subst (λ d. DenotesKind u.types i d p.kind x.denotes.0) (sym (name_denotes p.of.name)) x.denotes.1, x.denotes.2)
 
   formals_lead : (before ps : List FormalParameter) (n : ℕ) (b : Block) → length before ≡ n → b.own.parameters ≡ before ++ ps → Fits (Leads u b) (formals_entered n ps b)
   formals_lead before [] n b count is = leads_refl u b
   formals_lead before (p ∷ ps) n b count is =
-      let t = own_thing b n (declaration.Own p.of p.kind (protection_of p.mode)) in
+      let t = own_thing b n (declaration.Own p.of.is p.kind (protection_of p.mode)) in
       fits_then (Leads u b) (Leads u b) (formals_entered (suc n) ps) (entered p.name t b)
-      (entered_leads u p.name t b (λ under. tt) (λ under e x. (x.unit, subst (λ k. HoldsOwn u b.own.enclosing (length b.types) (length b.own.enclosing) k p.of p.kind) count (formal_held (length b.types) before p ps b is e x.parameters))))
+      (entered_leads u p.name t b (λ under. tt) (λ under e x. (x.unit, subst (λ k. HoldsOwn u b.own.enclosing (length b.types) (length b.own.enclosing) k p.of.is p.kind) count (formal_held (length b.types) before p ps b is e x.parameters))))
       (λ c l. leads_on u b c (formals_entered (suc n) ps c) l
       (formals_lead (before ++ p ∷ []) ps (suc n) c (length_push before p ∙ ap suc count) (l.grows.parameters ∙ (is ∙ sym (append_assoc before (p ∷ []) ps)))))
 
   -- so is the result
-  own_held : (i : ℕ) (r : OwnResult) (b : Block) → b.own.result ≡ Some r → Extends u b → HoldsResult u i b.own.parameters b.own.result → HoldsOwn u b.own.enclosing i (length b.own.enclosing) r.variable r.of r.kind
+  own_held : (i : ℕ) (r : OwnResult) (b : Block) → b.own.result ≡ Some r → Extends u b → HoldsResult u i b.own.parameters b.own.result → HoldsOwn u b.own.enclosing i (length b.own.enclosing) r.variable r.of.is r.kind
   own_held i r b is e held =
       let x : HoldsOwnResult u i b.own.parameters r = subst (HoldsResult u i b.own.parameters) is held in
-      let v : UnitVariable = record { name = e.name; line = e.line; declaration = 0; denoter = type_denoter r.of; tuple = []; parameter = false } in
+      let v : UnitVariable = record { name = e.name; line = e.line; declaration = 0; denoter = type_denoter r.of.name; tuple = []; parameter = false } in
       let first : slice_get (variables_in e.line e.name b.own) (length b.own.parameters) ≡ Some v =
       subst (λ s. slice_get (map (formal_variable e.line) (map formal_of b.own.parameters) ++ (result_in e.line e.name s ++ b.own.variables)) (length b.own.parameters) ≡ Some v) (sym is) (result_at e.line e.name b.own.parameters r b.own.variables) in
-      own_innermost u b.own.enclosing i r.variable r.of r.kind v x.lists
+      own_innermost u b.own.enclosing i r.variable r.of.is r.kind v x.lists
       (subst (λ n. slice_get (innermost (levels_at u.routines b.own.enclosing)) n ≡ Some v) (sym x.variable) (prefix_get (variables_in e.line e.name b.own) (innermost (levels_at u.routines b.own.enclosing)) (length b.own.parameters) v e.own first))
-      (x.denotes.0, subst (λ d. DenotesKind u.types i d r.kind x.denotes.0) (sym (name_denotes r.of)) x.denotes.1, x.denotes.1)
+      (x.denotes.0, subst (λ d. DenotesKind u.types i d r.kind x.denotes.0) (sym (name_denotes r.of.name)) x.denotes.1, x.denotes.2)
 
   -- a name of its own stands for it
   result_leads : (number : ℕ) (ps : List FormalParameter) (r : Option HeadingResult) (b : Block) → b.own.result ≡ own_result number (length ps) r → Fits (Leads u b) (result_entered number (length ps) r b)
@@ -221,7 +221,7 @@ module _ (u : TypedUnit) (few : length u.constants ≤ maxint) (statements : Sta
       named : (name : Option (List ℕ)) → Fits (Leads u b) (own_name_entered (in_block number (length ps) r) name b)
       named None = leads_refl u b
       named (Some name) =
-          entered_leads u name (own_thing b (length ps) (declaration.Own r.of r.kind protection.Unprotected)) b
+          entered_leads u name (own_thing b (length ps) (declaration.Own r.of.is r.kind protection.Unprotected)) b
           (λ under. tt) (λ under e x. (x.unit, own_held (length b.types) (in_block number (length ps) r) b is e x.result))
 
   -- the scopes behind it are those before it
@@ -555,9 +555,9 @@ module _ (u : TypedUnit) (few : length u.constants ≤ maxint) (statements : Sta
   rolled_routine x g b = subst (λ (j : PartJudged). LeadsOn u b (j.declares b)) (sym (fold-roll-Routine PartJudged BodyJudged PartJudged of_part of_body of_routine x)) (g b)
 
   part_step : (y : Part-F LeadingPart LeadingBody LeadingRoutine) → PartLeads (roll-Part (part_layer y))
-  part_step (Part-F.Constants c) = rolled_part (Part-F.Constants c) (λ b. constants_lead u few bounds bound_hosts constants constant_hosts c.definitions b)
-  part_step (Part-F.Types t) = rolled_part (Part-F.Types t) (λ b. line_leads u b t.line (type_definitions t.line t.definitions b) (type_definitions-leads u few bounds bound_hosts t.line t.definitions b))
-  part_step (Part-F.Variables v) = rolled_part (Part-F.Variables v) (λ b. variables_lead u few bounds bound_hosts v.declarations b)
+  part_step (Part-F.Constants c) = rolled_part (Part-F.Constants c) (λ b. constants_lead u few bounds bound_hosts initial_states constants constant_hosts c.definitions b)
+  part_step (Part-F.Types t) = rolled_part (Part-F.Types t) (λ b. line_leads u b t.line (type_definitions t.line t.definitions b) (type_definitions-leads u few bounds bound_hosts initial_states t.line t.definitions b))
+  part_step (Part-F.Variables v) = rolled_part (Part-F.Variables v) (λ b. variables_lead u few bounds bound_hosts initial_states v.declarations b)
   part_step (Part-F.Routine r) = rolled_part (Part-F.Routine r.0) (λ b. r.1 b)
 
   body_step : (y : RoutineBody-F LeadingPart LeadingBody LeadingRoutine) → BodyLeads (roll-RoutineBody (body_layer y))

@@ -1,15 +1,18 @@
 -- Set types that are written in a block: the unit that has the block's lists has them as valid types.
-use Rattle.std.proofs.Common.{◌≡◌, ℕ, ℤ, zero, suc, ◌<◌, Bool, true, false, ◌&&◌, List, [], ◌∷◌, ◌++◌, length, Option, Some, None, slice_get, refl, sym, ap, ◌∙◌, subst, arith}
+use Rattle.std.proofs.Common.{◌≡◌, ℕ, ℤ, zero, suc, ◌<◌, Bool, true, false, ◌&&◌, List, [], ◌∷◌, ◌++◌, length, Option, Some, None, option_map, slice_get, refl, sym, ap, ◌∙◌, subst, arith}
 use Rattle.std.proofs.lemmas.Option.{slice_get_within}
 use Rattle.std.specs.Prelude.{if◌then◌else◌}
-use Rattle.ep_typed.specs.Denoters.{definition_of, found_of, type_within}
+use Rattle.ep_typed.specs.Denoters.{definition_of, found_of, required_type, start_by, type_within}
 use Rattle.ep_typed.specs.Sets.{is_ordinal}
 use Rattle.ep_typed.specs.Trees as tree
 use Rattle.ep_typed.specs.TypeValues as type
-use Rattle.ep_typed.specs.TypeValues.{TypeValue}
+use Rattle.ep_typed.specs.TypeValues.{TypeValue, bare_of}
 use Rattle.ep_typed.specs.Viewed.{denoter_of}
+use Rattle.ep_typed.specs.declared.denoter.RequiredType.{RequiredType}
+use Rattle.ep_typed.specs.declared.denoter.RequiredType.TheVariants as simple
 use Rattle.ep_typed.specs.declared.unit.Unit.{Unit as TypedUnit}
 use Rattle.ep_typed.specs.declared.unit.UnitType.{UnitType}
+use Rattle.ep_typed.proofs.Denoters.{of_initial}
 use Rattle.ep_typed.proofs.Forms.{set_is}
 use Rattle.ep_outside.specs.Known.{IsPrefix}
 use Rattle.ep_scope.specs.declared.kind.Host.{Host}
@@ -23,8 +26,7 @@ use Rattle.ep_check_stmt.proofs.judged.Fits.{Fits, fits_is, fits_then}
 use Rattle.ep_check_unit.specs.Blocks.{Block}
 use Rattle.ep_check_unit.specs.Declarations.{Part, Written, are_members, index_host, ordinal_value, set_on, set_over, set_written, settled_part, unless_wide, value_of}
 use Rattle.ep_unit_laws.proofs.Arrays.{index_ordinal}
-use Rattle.ep_unit_laws.proofs.Denoting.{DenotesSet, denotes_set}
-use Rattle.ep_unit_laws.proofs.Denoting as denoting
+use Rattle.ep_unit_laws.proofs.Denoting.{Denotes, DenotesSet, denotes_bounds, denotes_set}
 use Rattle.ep_unit_laws.proofs.Holds.{HasTypeHere, Holds, ListsKind, holds_more, lists_kind_more, named_tree}
 use Rattle.ep_unit_laws.proofs.Leading.{Extends}
 use Rattle.ep_unit_laws.proofs.Open.{IsOpen}
@@ -41,24 +43,33 @@ front_there (y ∷ xs) ys (suc n) x e = front_there xs ys n x e
 
 module _ (types : List UnitType) where
   -- by the own denoter of the type
-  definition_members : (n : ℕ) (d : tree.Denoter) (v : TypeValue) → type_within types n d ≡ Some v → are_members (ordinal_value d) ≡ true → are_members (Some v) ≡ true
+  definition_members : (n : ℕ) (d : tree.Denoter) (v : TypeValue) → type_within types n d ≡ Some v → are_members (ordinal_value d) ≡ true → are_members (Some (bare_of v)) ≡ true
   definition_members zero d v e m = cc
-  definition_members (suc n) (tree.Subrange of low high) v e m = subst (λ o. are_members o ≡ true) e m
-  definition_members (suc n) (tree.Enumeration names) v e m = subst (λ o. are_members o ≡ true) e m
+  definition_members (suc n) (tree.Subrange of (tree.Fixed low) (tree.Fixed high)) v e m = subst (λ o. are_members (option_map bare_of o) ≡ true) e m
+  definition_members (suc n) (tree.Enumeration []) v e m = cc
+  definition_members (suc n) (tree.Enumeration (first ∷ others)) v e m = subst (λ o. are_members (option_map bare_of o) ≡ true) e m
   definition_members (suc n) (tree.Required r) v e m = cc
   definition_members (suc n) (tree.Named index tuple) v e m = cc
   definition_members (suc n) (tree.Array index component) v e m = cc
   definition_members (suc n) (tree.Record ds) v e m = cc
   definition_members (suc n) (tree.Set base) v e m = cc
+  definition_members (suc n) (tree.Initial of value) v e m =
+      let p = of_initial (type_within types (suc n) of) (start_by value) v e in
+      subst (λ t. are_members (Some (bare_of t)) ≡ true) (sym p.4) (definition_members (suc n) of p.0 p.2 m)
 
   -- by its entry in fewer types
   entry_members : (n number : ℕ) (v : TypeValue) (o : Option UnitType) → ((t : UnitType) → o ≡ Some t → slice_get types number ≡ Some t) → found_of (type_within types n) (slice_get types number) ≡ Some v
-      → are_members (found_of ordinal_value o) ≡ true → are_members (Some v) ≡ true
+      → are_members (found_of ordinal_value o) ≡ true → are_members (Some (bare_of v)) ≡ true
   entry_members n number v None there e m = cc
   entry_members n number v (Some t) there e m = definition_members n (definition_of t) v (sym (ap (found_of (type_within types n)) (there t refl)) ∙ e) m
 
-  pub value_members : (n : ℕ) (few : List UnitType) (of : TypeName) (v : TypeValue) → IsPrefix few types → type_within types (suc n) (named_tree of) ≡ Some v → are_members (value_of few of) ≡ true → are_members (Some v) ≡ true
-  value_members n few (type_name.Required r) v p e m = subst (λ o. are_members o ≡ true) e m
+  required_members : (r : RequiredType) (v : TypeValue) → Some (required_type r) ≡ Some v → are_members (Some (required_type r)) ≡ true → are_members (Some (bare_of v)) ≡ true
+  required_members simple.Integer v e m = subst (λ o. are_members (option_map bare_of o) ≡ true) e m
+  required_members simple.Char v e m = subst (λ o. are_members (option_map bare_of o) ≡ true) e m
+  required_members simple.Boolean v e m = subst (λ o. are_members (option_map bare_of o) ≡ true) e m
+
+  pub value_members : (n : ℕ) (few : List UnitType) (of : TypeName) (v : TypeValue) → IsPrefix few types → type_within types (suc n) (named_tree of) ≡ Some v → are_members (value_of few of) ≡ true → are_members (Some (bare_of v)) ≡ true
+  value_members n few (type_name.Required r) v p e m = required_members r v e m
   value_members n few (type_name.Entry number) v p e m =
       entry_members n number v (slice_get few number) (λ t at. ap (λ l. slice_get l number) p.is ∙ front_there few p.rest number t at) e m
 
@@ -89,15 +100,14 @@ module _ (u : TypedUnit) where
 
       -- its bounds
       bounds : (low high : ℤ) × (typed_here.0 ≡ type.Ordinal low high)
-      bounds =
-          denoting.ordinal_value u.types (suc Number) (denoter_of base.denoter) (typed_host h) typed_here.0
-          (typed_here.1.has_host (suc Number) (omega arith)) (typed_here.1.has_type (suc Number) (omega arith))
+      bounds = denotes_bounds u.types Number (denoter_of base.denoter) (typed_host h) typed_here.0 (omega (arith, within)) typed_here.1
 
       may_be : (is_ordinal bounds.0 ≡ true) × (is_ordinal bounds.1 ≡ true)
       may_be =
+          let of = typed_here.2.has_bare in
           both_true (is_ordinal bounds.0) (is_ordinal bounds.1)
-          (subst (λ v. are_members (Some v) ≡ true) bounds.2
-          (value_members u.types Number base.block.types base.of typed_here.0 ext.types (typed_here.2.has_type (suc Number) (omega arith)) members))
+          (subst (λ v. are_members (Some v) ≡ true) (of.bare ∙ bounds.2)
+          (value_members u.types Number base.block.types base.of of.type_value ext.types (of.has_type (suc Number) (omega arith)) members))
 
       abbrev Value : TypeValue
       Value = type.Set bounds.0 bounds.1
@@ -106,7 +116,7 @@ module _ (u : TypedUnit) where
       over_denotes =
           subst (λ d. DenotesSet u.types Number d (typed_host h) Value) (sym (set_is base.denoter))
           (denotes_set u.types Number (denoter_of base.denoter) (typed_host h) bounds.0 bounds.1 (omega (arith, within))
-          (subst (denoting.Denotes u.types Number (denoter_of base.denoter) (typed_host h)) bounds.2 typed_here.1) may_be.0 may_be.1)
+          (subst (Denotes u.types Number (denoter_of base.denoter) (typed_host h)) bounds.2 typed_here.1) may_be.0 may_be.1)
 
       over_wrote : Wrote u Number Over
       over_wrote = record {

@@ -1,5 +1,5 @@
 -- Types that are written in a block have denoters that are valid in the unit that has its lists.
-use Rattle.std.proofs.Common.{◌≡◌, ℕ, suc, ◌≤◌, ◌+◌, Bool, true, false, ◌&&◌, List, [], ◌∷◌, ◌++◌, map, length, Option, Some, None, slice_get, IsTrue, refl, sym, ap, ◌∙◌, subst, arith}
+use Rattle.std.proofs.Common.{◌≡◌, ℕ, suc, ◌≤◌, ◌+◌, Bool, true, false, ◌&&◌, List, [], ◌∷◌, ◌++◌, map, length, Option, Some, None, slice_get, IsTrue, refl, sym, ap, subst, arith}
 use Rattle.std.proofs.lemmas.Bool.Decides.{nat_tests}
 use Rattle.std.proofs.lemmas.List.Elements.{All-push}
 use Rattle.std.proofs.lemmas.Option.{slice_get_within}
@@ -45,7 +45,7 @@ use Rattle.ep_check_expr.specs.Names.{undeclared}
 use Rattle.ep_check_expr.specs.declared.constants.ConstantForm.{ConstantForm}
 use Rattle.ep_check_expr.proofs.SameHost.{host_same}
 use Rattle.ep_check_stmt.proofs.judged.Fits.{Fits, fits_is, fits_pair, fits_then}
-use Rattle.ep_check_unit.specs.Declarations.{subrange_nodes, Written, common_host, declared_type, enumerated, enumeration, host_denoter, next_enumeration, next_type, noted, number_in, ordered, range, required_host, scopes_of, subrange, subrange_denoter, type_meant, type_named, with_type}
+use Rattle.ep_check_unit.specs.Declarations.{subrange_nodes, Written, common_host, declared_type, enumerated, enumeration, host_denoter, next_enumeration, next_type, noted, number_in, ordered, range, required_host, scopes_of, subrange, subrange_denoter, type_denoter, type_meant, type_named, with_type, written_type}
 use Rattle.ep_check_unit.specs.Blocks.{Block}
 use Rattle.ep_unit_laws.proofs.Constants.{ListsWithin, enumerated_counts, enumerated_enters}
 use Rattle.ep_unit_laws.proofs.Denoting.{Denotes, DenotesKind, IsSmall, denotes_enumeration, denotes_more, denotes_required, denotes_subrange, full_type, kind_more, kind_named, kind_valid}
@@ -66,6 +66,7 @@ module _ (u : TypedUnit) where
   -- The type has a name that is there already, and nothing is declared with it.
   pub record Names (b : Block) (w : Written) : Type 0 where
     pub same : w.block ≡ b
+    pub named : w.denoter ≡ type_denoter (written_type w).name
     pub holds : (i : ℕ) → Holds u i b → HasTypeHere u i (denoter_of w.denoter) w.of w.kind × ListsKind u i w.kind
 
   required_typed : (i : ℕ) (r : RequiredType) (h : Host) → Denotes u.types 0 (tree.Required r) (typed_host h) (full_type (typed_host h)) → HasTypeHere u i (denoter_of (denoter.Required r)) (type_name.Required r) (kind.Ordinal h)
@@ -83,6 +84,7 @@ module _ (u : TypedUnit) where
   declared_names : (d : Declared) (what : Declaration) (b : Block) → ((i : ℕ) → Holds u i b → HoldsDeclaration u b.own.enclosing i d what) → Fits (Names b) (declared_type d what b)
   declared_names d (declaration.«Type» of k nodes) b held = record {
     same = refl;
+    named = refl;
     holds = λ i x.
         let t = held i x in
         ((t.denotes.0, subst (λ n. DenotesKind u.types i n k t.denotes.0) (sym (named_is d.number [])) t.denotes.1, t.denotes.2), t.lists);
@@ -98,7 +100,7 @@ module _ (u : TypedUnit) where
   meant_names missing (Standard file) b held = tt
   meant_names missing (FieldOf f) b held = tt
   meant_names missing (Requires (required.Constant c)) b held = tt
-  meant_names missing (Requires (required.«Type» r)) b held = record { same = refl; holds = λ i x. required_names i r }
+  meant_names missing (Requires (required.«Type» r)) b held = record { same = refl; named = refl; holds = λ i x. required_names i r }
   meant_names missing (Requires (required.Function f)) b held = tt
   meant_names missing (Requires (required.Procedure p)) b held = tt
   meant_names missing Nothing b held = tt
@@ -119,7 +121,7 @@ module _ (u : TypedUnit) where
   pub record Wrote (i : ℕ) (w : Written) : Type 0 where
     pub block : Holds u (suc i) w.block
     pub denotes : HasKindHere u i (denoter_of w.denoter) w.kind
-    -- the type has the type value of the denoter
+    -- the type has a type value of the same bare form
     pub of : DenotesKind u.types (suc i) (named_tree w.of) w.kind denotes.0
     pub lists : ListsKind u (suc i) w.kind
 
@@ -345,15 +347,15 @@ module _ (u : TypedUnit) where
         let next : IsNext i (denoter_of (denoter.Enumeration (first ∷ others))) = subst (λ n. IsNext n (denoter_of (denoter.Enumeration (first ∷ others)))) count there in
         let small = few_constants (length c.constants) (length b.constants) (length u.constants) (length others) counts (prefix_length c.constants u.constants ext.constants) few in
         let le : suc i ≤ length u.types = omega (arith, slice_get_within u.types i next.entry next.at) in
-        let listed : ListsEnumeration u (suc i) (record { number = i; last = length others }) =
-        record { before = omega arith; entry = next.entry; at = next.at; first = first; others = others; names = next.definition ∙ enumeration_is (first ∷ others); last = refl; small = small } in
         let denotes : Denotes u.types i (denoter_of (denoter.Enumeration (first ∷ others))) (typed.Enumeration (length others)) (full_type (typed.Enumeration (length others))) =
         subst (λ d. Denotes u.types i d (typed.Enumeration (length others)) (full_type (typed.Enumeration (length others)))) (sym (enumeration_is (first ∷ others)))
         (denotes_more u.types 0 i (tree.Enumeration (first ∷ others)) (typed.Enumeration (length others)) (full_type (typed.Enumeration (length others))) (omega arith) (denotes_enumeration u.types first others small)) in
+        let named = next_denotes i (denoter_of (denoter.Enumeration (first ∷ others))) (kind.Ordinal (next_enumeration (length others) b)) (full_type (typed.Enumeration (length others))) next denotes in
+        let listed : ListsEnumeration u (suc i) (record { number = i; last = length others }) = record { denotes = named; small = small } in
         let wrote : Wrote i (record { denoter = denoter.Enumeration (first ∷ others); of = next_type b; kind = kind.Ordinal (next_enumeration (length others) b); nodes = 1; block = c }) = record {
           block = enters.holds (le, listed) under ext (holds_more u i (suc i) b (omega arith) x);
           denotes = (full_type (typed.Enumeration (length others)), denotes);
-          of = next_denotes i (denoter_of (denoter.Enumeration (first ∷ others))) (kind.Ordinal (next_enumeration (length others) b)) (full_type (typed.Enumeration (length others))) next denotes;
+          of = named;
           lists = listed;
         } in
         subst (λ n. Wrote n (record { denoter = denoter.Enumeration (first ∷ others); of = next_type b; kind = kind.Ordinal (next_enumeration (length others) b); nodes = 1; block = c })) (sym count) wrote;

@@ -12,7 +12,7 @@ use Rattle.ep_typed.specs.Viewed.{stmt_of}
 use Rattle.ep_typed.specs.declared.unit.Unit.{Unit as TypedUnit}
 use Rattle.ep_typed.specs.declared.unit.UnitRoutine.{UnitRoutine}
 use Rattle.ep_check_expr.specs.Judgements.{Judged, Accepts, Breaks}
-use Rattle.ep_check_expr.specs.Laws.{BoundsAreKnown, BoundsAreSound, ConstantsAreKnown, ConstantsAreSound}
+use Rattle.ep_check_expr.specs.Laws.{BoundsAreKnown, BoundsAreSound, ConstantsAreKnown, ConstantsAreSound, InitialStatesAreSound}
 use Rattle.ep_unit_laws.proofs.Auxiliaries.{AreBehind, auxiliaries_of, for_auxiliaries, for_in_auxiliaries, unit_behind, unit_unmade, with_auxiliaries}
 use Rattle.ep_scope.specs.Scopes.{depth_in}
 use Rattle.ep_check_expr.specs.Agreement.{AgreesBy, structures_of}
@@ -101,12 +101,12 @@ routine_valid u number r at held = record {
 routines_valid : (u : TypedUnit) → HoldsRoutines u (map routine_form u.routines) → (number : ℕ) (r : UnitRoutine) → slice_get u.routines number ≡ Some r → IsRoutine u number r
 routines_valid u held number r at = routine_valid u number r at (held number (routine_form r) (form_there u.routines number r at))
 
-module _ (statements : StatementsAreSound) (constants : ConstantsAreSound) (bounds : BoundsAreSound) (constant_hosts : ConstantsAreKnown) (bound_hosts : BoundsAreKnown) where
+module _ (statements : StatementsAreSound) (constants : ConstantsAreSound) (bounds : BoundsAreSound) (constant_hosts : ConstantsAreKnown) (bound_hosts : BoundsAreKnown) (initial_states : InitialStatesAreSound) where
   -- all declarations lead to its block
   block_leads : (p : Program) (u : TypedUnit) (form : ProgramForm) → IsMade p form → length u.constants ≤ maxint → Leads u (program_block p) form.block
   block_leads p u form made few =
       let entered : Leads u (program_block p) made.first = subst (Fits (Leads u (program_block p))) made.entered (parameters_lead u p.parameters (program_block p)) in
-      let declared : Leads u made.first form.block = subst (LeadsOn u made.first) made.declared (parts_lead u few statements constants bounds constant_hosts bound_hosts p.parts made.first) in
+      let declared : Leads u made.first form.block = subst (LeadsOn u made.first) made.declared (parts_lead u few statements constants bounds constant_hosts bound_hosts initial_states p.parts made.first) in
       leads_trans u (program_block p) made.first form.block entered declared
 
   -- in which no routine is under way

@@ -1,20 +1,21 @@
 -- Lists of fields with a variant part that are written in a block: the unit that has the block's lists has the components that they give, and the fields of its variants.
-use Rattle.std.proofs.Common.{◌≡◌, ℕ, zero, suc, ◌+◌, ◌<◌, ◌≤◌, Bool, true, false, List, [], ◌∷◌, ◌++◌, map, length, Option, Some, None, slice_get, refl, sym, ap, ◌∙◌, subst, arith, append-nil, append_assoc}
+use Rattle.std.proofs.Common.{◌≡◌, ℕ, pos, zero, suc, ◌+◌, ◌≤◌, Bool, true, false, List, [], ◌∷◌, ◌++◌, map, length, Option, Some, None, slice_get, refl, sym, ap, ◌∙◌, subst, arith, append-nil, append_assoc}
 use Rattle.std.proofs.lemmas.List.{length-append}
+use Rattle.std.proofs.lemmas.Option.{same_Some}
 use Rattle.std.proofs.lemmas.List.Elements.{All-append, All-cons, All-head, All-nil, All-push, All-tail}
 use Rattle.std.specs.Prelude.{All, ⊤, is_some, if◌then◌else◌}
 use Rattle.ep_outside.specs.Known.{IsPrefix}
 use Rattle.ep_tree.specs.declared.expression.Label.{Label}
 use Rattle.ep_tree.specs.declared.types.VariantSelector.{VariantSelector}
 use Rattle.ep_tree.specs.declared.types.VariantSelector.TheVariants as selector
-use Rattle.ep_typed.specs.Denoters.{definition_of, denoter_at, denoters_count, found_of, type_within}
+use Rattle.ep_typed.specs.Denoters.{definition_of, denoter_at, denoters_count, found_of, required_type, start_by, type_within}
 use Rattle.ep_typed.specs.Hosts as typed
 use Rattle.ep_typed.specs.Hosts.{is_of_host}
 use Rattle.ep_typed.specs.Steps.{variant_number, variants_count}
 use Rattle.ep_typed.specs.Trees as tree
 use Rattle.ep_typed.specs.TypeValues as type
-use Rattle.ep_typed.specs.TypeValues.{ComponentTypes, TypeValue, next_component, no_component, type_among}
-use Rattle.ep_typed.specs.Valid.{AreApart, Declarations, IsSelection, IsTypeOf, IsTyped, components, labels_joined}
+use Rattle.ep_typed.specs.TypeValues.{ComponentTypes, TypeValue, bare_of, next_component, no_component, type_among}
+use Rattle.ep_typed.specs.Valid.{AreApart, Declarations, IsSelection, IsTypeOf, labels_joined}
 use Rattle.ep_typed.specs.Viewed as viewed
 use Rattle.ep_typed.specs.Viewed.{denoter_of, denoter_step, field_step, part_step, selector_step, variant_part_step, variant_step}
 use Rattle.ep_typed.specs.declared.denoter.Denoter.TheFolds.{fold-roll-FieldPart, fold-roll-Selector, fold-roll-Variant, fold-roll-VariantPart}
@@ -23,7 +24,9 @@ use Rattle.ep_typed.specs.declared.denoter.FieldPart.{FieldPart}
 use Rattle.ep_typed.specs.declared.denoter.Selector.TheVariants as written_selector
 use Rattle.ep_typed.specs.declared.denoter.Variant.{Variant, roll-Variant}
 use Rattle.ep_typed.specs.declared.denoter.VariantPart.{roll-VariantPart}
-use Rattle.ep_typed.proofs.Typed.{typed_of_host}
+use Rattle.ep_typed.proofs.Denoters.{of_initial}
+use Rattle.ep_typed.specs.declared.denoter.RequiredType.{RequiredType}
+use Rattle.ep_typed.specs.declared.denoter.RequiredType.TheVariants as simple
 use Rattle.ep_typed.specs.declared.tree.CaseRange.{CaseRange}
 use Rattle.ep_typed.specs.declared.tree.Selection.{Selection}
 use Rattle.ep_typed.specs.declared.unit.Unit.{Unit as TypedUnit}
@@ -46,7 +49,7 @@ use Rattle.ep_check_unit.proofs.Denoters.{AreKept, AreVariantsKept, IsKeptIf}
 use Rattle.ep_check_unit.proofs.Forms.{map_push}
 use Rattle.ep_unit_laws.proofs.Agreeing.{denoter_holds}
 use Rattle.ep_unit_laws.proofs.Arrays.{index_ordinal}
-use Rattle.ep_unit_laws.proofs.Denoting.{AreDenoted, all_typed, kind_more, kind_valued, record_found}
+use Rattle.ep_unit_laws.proofs.Denoting.{AreDenoted, HasBare, bare_record, denotes_hosted, kind_more, kind_type, kind_valued}
 use Rattle.ep_unit_laws.proofs.Holds.{HasTypeHere, Holds, ListsKind, Lists as ListsHost, lists_kind_more, lists_kind_small, named_tree, type_values}
 use Rattle.ep_unit_laws.proofs.Leading.{Extends, Grows, bodies_refl, extends_before, grows_refl, grows_trans, head_in, length_push, prefix_length, prefix_refl, waits_some}
 use Rattle.ep_unit_laws.proofs.Open.{IsOpen}
@@ -59,24 +62,34 @@ use Rattle.ep_unit_laws.proofs.Types.{Names, type_named-names}
 -- ---- the values of a tag
 
 module _ (types : List UnitType) where
-  definition_is : (n : ℕ) (d : tree.Denoter) (v x : TypeValue) → type_within types n d ≡ Some v → ordinal_value d ≡ Some x → v ≡ x
+  definition_is : (n : ℕ) (d : tree.Denoter) (v x : TypeValue) → type_within types n d ≡ Some v → ordinal_value d ≡ Some x → bare_of v ≡ x
   definition_is zero d v x e f = cc
-  definition_is (suc n) (tree.Subrange of low high) v x e f = cc
-  definition_is (suc n) (tree.Enumeration names) v x e f = cc
+  definition_is (suc n) (tree.Subrange of (tree.Fixed low) (tree.Fixed high)) v x e f = ap bare_of (same_Some v (type.Ordinal low high) (sym e)) ∙ same_Some (type.Ordinal low high) x f
+  definition_is (suc n) (tree.Enumeration []) v x e f = cc
+  definition_is (suc n) (tree.Enumeration (first ∷ others)) v x e f =
+      ap bare_of (same_Some v (type.Ordinal (pos 0) (pos (length others))) (sym e)) ∙ same_Some (type.Ordinal (pos 0) (pos (length others))) x f
   definition_is (suc n) (tree.Required r) v x e f = cc
   definition_is (suc n) (tree.Named index tuple) v x e f = cc
   definition_is (suc n) (tree.Array index component) v x e f = cc
   definition_is (suc n) (tree.Record ds) v x e f = cc
   definition_is (suc n) (tree.Set base) v x e f = cc
+  definition_is (suc n) (tree.Initial of value) v x e f =
+      let p = of_initial (type_within types (suc n) of) (start_by value) v e in
+      ap bare_of p.4 ∙ definition_is (suc n) of p.0 x p.2 f
 
   entry_is : (n number : ℕ) (v x : TypeValue) (o : Option UnitType) → ((t : UnitType) → o ≡ Some t → slice_get types number ≡ Some t) → found_of (type_within types n) (slice_get types number) ≡ Some v
-      → found_of ordinal_value o ≡ Some x → v ≡ x
+      → found_of ordinal_value o ≡ Some x → bare_of v ≡ x
   entry_is n number v x None there e f = cc
   entry_is n number v x (Some t) there e f = definition_is n (definition_of t) v x (sym (ap (found_of (type_within types n)) (there t refl)) ∙ e) f
 
-  -- the type value by the own denoter of a type is that of its name
-  value_is : (n : ℕ) (few : List UnitType) (of : TypeName) (v x : TypeValue) → IsPrefix few types → type_within types (suc n) (named_tree of) ≡ Some v → value_of few of ≡ Some x → v ≡ x
-  value_is n few (type_name.Required r) v x p e f = cc
+  required_is : (r : RequiredType) (v x : TypeValue) → Some (required_type r) ≡ Some v → Some (required_type r) ≡ Some x → bare_of v ≡ x
+  required_is simple.Integer v x e f = ap bare_of (same_Some v (required_type simple.Integer) (sym e)) ∙ same_Some (required_type simple.Integer) x f
+  required_is simple.Char v x e f = ap bare_of (same_Some v (required_type simple.Char) (sym e)) ∙ same_Some (required_type simple.Char) x f
+  required_is simple.Boolean v x e f = ap bare_of (same_Some v (required_type simple.Boolean) (sym e)) ∙ same_Some (required_type simple.Boolean) x f
+
+  -- the type value by the own denoter of a type is the bare form of that of its name
+  value_is : (n : ℕ) (few : List UnitType) (of : TypeName) (v x : TypeValue) → IsPrefix few types → type_within types (suc n) (named_tree of) ≡ Some v → value_of few of ≡ Some x → bare_of v ≡ x
+  value_is n few (type_name.Required r) v x p e f = required_is r v x e f
   value_is n few (type_name.Entry number) v x p e f =
       entry_is n number v x (slice_get few number) (λ t at. ap (λ l. slice_get l number) p.is ∙ front_there few p.rest number t at) e f
 
@@ -267,12 +280,16 @@ module _ (u : TypedUnit) where
       record {
         lists = subst (ListsKind u i) is y.1;
         here = here;
-        bounds = value_is u.types (suc i) w.block.types w.of here.0 (type.Ordinal low high) (subst (λ b. IsPrefix b.types u.types) (sym names.same) prefix) (here.2.has_type (suc (suc i)) (omega arith)) e;
+        bounds =
+            let of = here.2.has_bare in
+            sym of.bare
+            ∙ value_is u.types (suc i) w.block.types w.of of.type_value (type.Ordinal low high) (subst (λ b. IsPrefix b.types u.types) (sym names.same) prefix) (of.has_type (suc (suc i)) (omega arith)) e;
       }
   tag_made c name w names h ordinal (Some type.Text) e = tt
   tag_made c name w names h ordinal (Some (type.Array low high of)) e = tt
   tag_made c name w names h ordinal (Some (type.Record ts)) e = tt
   tag_made c name w names h ordinal (Some (type.Set low high)) e = tt
+  tag_made c name w names h ordinal (Some (type.Initial of start)) e = tt
 
   tag_fits : (c : Block) (name : List ℕ) (w : Written) → Names u c w → Fits (IsTagOf c) (tag_of name w)
   tag_fits c name w names =
@@ -320,23 +337,20 @@ module _ (u : TypedUnit) where
   variant_at i (d ∷ ds) (gs ∷ more) x zero fs e = let is : gs ≡ fs = cc in record { inner = x.0.inner; there = ap Some x.0.is; list = subst (ListHeld u i x.0.inner) is x.0.list }
   variant_at i (d ∷ ds) (gs ∷ more) x (suc k) fs e = let y = variant_at i ds more x.1 k fs e in record { inner = y.inner; there = y.there; list = y.list }
 
-  -- their type values
+  -- the bare forms of their type values
   variant_types : (i : ℕ) (ds : List tree.Denoter) (lists : List (List FieldType)) → VariantsHeld i ds lists → ComponentTypes
   variant_types i [] lists x = no_component
   variant_types i (d ∷ ds) [] x = absurd x
   variant_types i (d ∷ ds) (fs ∷ more) x = next_component (type.Record x.0.list.types) (variant_types i ds more x.1)
 
-  variant_denoted : (i : ℕ) (d : tree.Denoter) (fs : List FieldType) (x : VariantHeld i d fs) → (n : ℕ) → i < n → type_within u.types n d ≡ Some (type.Record x.list.types)
-  variant_denoted i d fs x n lt = ap (type_within u.types n) x.is ∙ record_found u.types x.inner x.list.types i n lt x.list.denoted
-
-  variant_typed : (i : ℕ) (d : tree.Denoter) (fs : List FieldType) (x : VariantHeld i d fs) → IsTyped u.types d (type.Record x.list.types)
-  variant_typed i d fs x = subst (λ c. IsTyped u.types c (type.Record x.list.types)) (sym x.is) (components x.inner x.list.types (all_typed u.types i x.inner x.list.types x.list.denoted))
+  variant_bare : (i : ℕ) (d : tree.Denoter) (fs : List FieldType) (x : VariantHeld i d fs) → HasBare u.types i d (type.Record x.list.types)
+  variant_bare i d fs x = subst (λ c. HasBare u.types i c (type.Record x.list.types)) (sym x.is) (bare_record u.types i x.inner x.list.types x.list.denoted)
 
   variants_denoted : (i : ℕ) (ds : List tree.Denoter) (lists : List (List FieldType)) (x : VariantsHeld i ds lists) → AreDenoted u.types i (tree.denoters ds) (variant_types i ds lists x)
   unfolding variant_types
   variants_denoted i [] lists x = tt
   variants_denoted i (d ∷ ds) [] x = absurd x
-  variants_denoted i (d ∷ ds) (fs ∷ more) x = (variant_denoted i d fs x.0, variant_typed i d fs x.0, variants_denoted i ds more x.1)
+  variants_denoted i (d ∷ ds) (fs ∷ more) x = (variant_bare i d fs x.0, variants_denoted i ds more x.1)
 
   -- ---- variants one after another
 
@@ -479,14 +493,11 @@ module _ (u : TypedUnit) where
 
     -- the tag alone
     tag_denoted : AreDenoted u.types i (tree.denoters (denoter_of t.denoter ∷ [])) (next_component tag.here.0 no_component)
-    tag_denoted = (tag.here.1.has_type, tag.here.1.typed, tt)
+    tag_denoted = (tag.here.1.has_bare, tt)
 
     behind_denoted : AreDenoted u.types i (tree.denoters Behind) More
-    behind_denoted = (
-      (λ n lt. record_found u.types (tree.denoters (denoter_of t.denoter ∷ [])) (next_component tag.here.0 no_component) i n lt tag_denoted),
-      components (tree.denoters (denoter_of t.denoter ∷ [])) (next_component tag.here.0 no_component) (all_typed u.types i (tree.denoters (denoter_of t.denoter ∷ [])) (next_component tag.here.0 no_component) tag_denoted),
-      variants_denoted i (variants_in g) g.lists variants,
-    )
+    behind_denoted =
+        (bare_record u.types i (tree.denoters (denoter_of t.denoter ∷ [])) (next_component tag.here.0 no_component) tag_denoted, variants_denoted i (variants_in g) g.lists variants)
 
     denoted : AreDenoted u.types i Ds Ts
     denoted = all_denoted u i f.fields own Behind More behind_denoted
@@ -507,7 +518,7 @@ module _ (u : TypedUnit) where
 
     -- the bounds of its type are of its host
     of_host : IsTypeOf TagHost (type.Ordinal t.values.low t.values.high)
-    of_host = subst (IsTypeOf TagHost) tag.bounds (typed_of_host u.types (denoter_of t.denoter) tag.here.0 TagHost tag.here.1.typed (tag.here.1.has_host (suc (length u.types)) (omega (arith, le))))
+    of_host = subst (IsTypeOf TagHost) tag.bounds (denotes_hosted u.types i (denoter_of t.denoter) TagHost tag.here.0 le tag.here.1)
 
     joined_is : labels_joined g.labels.before ++ g.labels.own ≡ labels_joined g.labels.before
     joined_is = ap (λ rs. labels_joined g.labels.before ++ rs) ended ∙ append-nil (labels_joined g.labels.before)
@@ -526,7 +537,7 @@ module _ (u : TypedUnit) where
 
     tag_selects : Selects (type_values u) u.types (record { selection = S; host = t.values.host; low = t.values.low; high = t.values.high }) (denoter_of t.denoter) Ds
     unfolding selects
-    tag_selects declared = (selects declared, refl, refl, tag.here.1.has_type (suc (length u.types)) (omega (arith, le)) ∙ ap Some tag.bounds)
+    tag_selects declared = (selects declared, refl, refl, kind_type u.types i (denoter_of t.denoter) (kind.Ordinal t.values.host) tag.here.0 le tag.here.1 ∙ ap Some tag.bounds)
 
     tag_held : IsFieldOf (type_values u) u.types Ds (tag_field S t)
     tag_held = (denoter_of t.denoter, tag_there, denoter_holds u i (denoter_of t.denoter) t.of (kind.Ordinal t.values.host) le tag.lists tag.here, refl, tag_selects)

@@ -4,11 +4,10 @@
 ghost use Rattle.std.specs.Prelude.{◌≡◌, map};
 ghost use Rattle.std.specs.List.{list_all};
 ghost use Rattle.ep_tree.specs.Shapes.{bare};
-ghost use Rattle.ep_built.specs.Built.{built_component, built_program, built_import, built_type_name, built_heading, built_start, built_routine, built_type_definition, built_type_denoter, built_plain, built_formal_type, built_section, built_core, built_selector, built_variant_part, selector_form, is_component, behind_call, is_call, built_target, built_control, built_call, behind_arguments, built_statement, built_relation, built_adding, built_multiplying, is_character, built_factor, built_access, form_told, selector_belonging, brackets_are_built, is_bare_text};
+ghost use Rattle.ep_built.specs.Built.{built_component, built_program, built_import, built_type_name, built_heading, built_start, built_routine, built_type_definition, built_plain, built_formal_type, built_section, built_core, built_selector, built_variant_part, selector_form, is_component, behind_call, is_call, built_target, built_control, built_call, behind_arguments, built_statement, built_relation, built_adding, built_multiplying, is_character, built_factor, built_access, form_told, selector_belonging, brackets_are_built, is_bare_text};
 ghost use Rattle.ep_tree.specs.declared.expression.Factor.{out-Factor};
 ghost use Rattle.ep_tree.specs.declared.types.Core.{out-Core};
 ghost use Rattle.ep_tree.specs.declared.types.Plain.{out-Plain};
-ghost use Rattle.ep_tree.specs.declared.types.TypeDenoter.{out-TypeDenoter};
 ghost use Rattle.ep_tree.specs.declared.types.VariantPart.{out-VariantPart};
 ghost use Rattle.ep_tree.specs.declared.statement.Statement.{out-Statement};
 ghost use Rattle.ep_tree.specs.declared.routine.Routine.{out-Routine};
@@ -18,7 +17,7 @@ use ep_base::Name;
 use ep_tree::{
     Access, AddingOperator, Component, Core, Expression, Factor, FormalSection, FormalType, Import,
     MultiplyingOperator, Plain, Program, QualifiedName, RelationalOperator, Routine,
-    RoutineHeading, RoutineStart, Selector, Statement, TypeDefinition, TypeDenoter, VariantPart,
+    RoutineHeading, RoutineStart, Selector, Statement, TypeDefinition, VariantPart,
     VariantSelector,
 };
 
@@ -91,14 +90,7 @@ pub(super) fn type_definition_is_built(d: &TypeDefinition) -> bool
     d.discriminants.items().is_empty()
 }
 
-/// A type denoter has no initial state.
-pub(super) fn type_denoter_is_built(t: &TypeDenoter) -> bool
-    ensures { result ≡ built_type_denoter (out-TypeDenoter t.now) }
-{
-    t.initial.is_none()
-}
-
-/// A type denoter is not `bindable`.
+/// A type denoter without its initial state is not `bindable`.
 pub(super) fn plain_is_built(p: &Plain) -> bool
     ensures { result ≡ built_plain (out-Plain p.now) }
 {

@@ -3,7 +3,7 @@ use Rattle.std.proofs.Common.{◌≡◌, ℕ, suc, ◌+◌, List, [], ◌∷◌,
 use Rattle.std.specs.Prelude.{All, ⊤}
 use Rattle.std.proofs.lemmas.List.{length_push}
 use Rattle.ep_tree.specs.declared.expression.Access as syntax
-use Rattle.ep_typed.specs.Denoters.{type_of}
+use Rattle.ep_typed.specs.Denoters.{bare_type_of}
 use Rattle.ep_typed.specs.Trees as tree
 use Rattle.ep_typed.specs.Auxiliaries.{first_for, first_for_in, with_variables}
 use Rattle.ep_typed.specs.Trees.{Denoter, Entire, Expr, Named, Place, Stmt, entire}
@@ -63,7 +63,7 @@ module _ (declared : Declarations) (types : TypeValues) (structures : List Struc
   module _ (depth : ℕ) where
     module _ (n : ℕ) (fs : List FieldType) (in_view : (list : List UnitType) → All (HoldsStructure types list) structures → HoldsStructure types list (made_so n (composition.Record fs))) (v : Entire) (there : WithIsThere declared types structures v n) where
       abbrev Denotes : List UnitType → Denoter → Type 0
-      Denotes list d = (d ≡ Named n []) × (type_of list d ≡ types (type_name.Entry n)) × All (HoldsStructure types list) structures
+      Denotes list d = (d ≡ Named n []) × (bare_type_of list d ≡ types (type_name.Entry n)) × All (HoldsStructure types list) structures
 
       -- the variable has the record type
       stands_at : IsStructuredAt declared types structures n (entire v)
@@ -89,8 +89,8 @@ module _ (declared : Declarations) (types : TypeValues) (structures : List Struc
           record {
             components = h.value_made.0;
             unmade = there.0;
-            variable = place_wider declared Denotes (λ list d. (d ≡ Named n []) × (type_of list d ≡ Some (type.Record h.value_made.0))) (entire v) (λ list d q. (q.0, q.1 ∙ value)) there.1;
-            place = place_wider declared (λ list d. HasKind types list d (kind.Structured n) × All (HoldsStructure types list) structures) (λ list d. type_of list d ≡ Some (type.Record h.value_made.0)) place (λ list d k. k.0.1.2 ∙ (sym k.0.1.1.0 ∙ value)) at;
+            variable = place_wider declared Denotes (λ list d. (d ≡ Named n []) × (bare_type_of list d ≡ Some (type.Record h.value_made.0))) (entire v) (λ list d q. (q.0, q.1 ∙ value)) there.1;
+            place = place_wider declared (λ list d. HasKind types list d (kind.Structured n) × All (HoldsStructure types list) structures) (λ list d. bare_type_of list d ≡ Some (type.Record h.value_made.0)) place (λ list d k. k.0.1.2 ∙ (sym k.0.1.1.0 ∙ value)) at;
           }
 
     -- ---- records that are opened one after another

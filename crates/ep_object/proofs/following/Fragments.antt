@@ -1,7 +1,7 @@
 -- How the machine follows computations from place to place of the code.
 use Rattle.std.proofs.Common.{◌≡◌, ℕ, ℤ, suc, ◌+◌, ◌*◌, ◌≤◌, IsTrue, List, ◌∷◌, refl, sym, subst, arith}
 use Rattle.ep_object.specs.Follows.{end_of, Point, point, state_at, Facts, After, Lands, Fragment, Operands, Bare, OnTop, PlaceOnTop, StillRuns, SameRoutine, Inside}
-use Rattle.ep_object.specs.Matching.{Memory, at, Injection, Matches, Slots, Grown, IsSpot, Describes}
+use Rattle.ep_object.specs.Matching.{Memory, at, Injection, Matches, Slots, Grown, IsSpot, IsLike}
 use Rattle.ep_object.specs.Operands.{Operand, Word, Place, Text}
 use Rattle.ep_object.specs.Runs.{outcome}
 use Rattle.ep_object.specs.State.{State, Running, Stopped, Error}
@@ -127,7 +127,7 @@ module _ {untouched : Slots} {B : Type 0} {declared : Declarations} {G : Image} 
   pub fragment_bind_place : {type : TypeValue} {below : List Operand} {c : Computation Component} {f : Component → Computation B} {e : Component → ℕ}
       → ((a : Component) → Steady (f a))
       → Fragment declared G Here n from c middle (λ a. Inside untouched from.injection from.memory (PlaceOnTop type below a)) d e
-      → ((a : Component) (p : PlaceOf) (longer : Injection) (after : Memory) → Grown untouched from.injection from.memory longer after → SameRoutine untouched from.memory.frames after.frames → IsSpot longer after.types a p → Describes after.types p.type_number type → Fragment declared G Here n (point longer after middle (Place p ∷ below)) (f a) to (λ b. Inside untouched longer after (Then b)) (e a) g)
+      → ((a : Component) (p : PlaceOf) (longer : Injection) (after : Memory) → Grown untouched from.injection from.memory longer after → SameRoutine untouched from.memory.frames after.frames → IsSpot longer after.types a p → IsLike after.types p.type_number type → Fragment declared G Here n (point longer after middle (Place p ∷ below)) (f a) to (λ b. Inside untouched longer after (Then b)) (e a) g)
       → Fragment declared G Here n from (bind c f) to (λ b. Inside untouched from.injection from.memory (Then b)) d g
   fragment_bind_place {f = f} {e = e} steady first second =
       inside_bind steady first (λ a longer after pushed grown routine top. subst (λ x. Fragment declared G Here n (point longer after middle x) (f a) to (λ b. Inside untouched longer after (Then b)) (e a) g) (sym top.is) (second a top.place longer after grown routine top.spot top.described))

@@ -3,13 +3,13 @@ use Rattle.std.proofs.Common.{◌≡◌, ℕ, suc, ◌+◌, ◌-◌, ◌≤◌, 
 use Rattle.std.proofs.lemmas.List.{length-map}
 use Rattle.std.specs.Prelude.{⊤}
 use Rattle.ep_object.specs.Calls.{argument_at, flat}
-use Rattle.ep_object.specs.Matching.{Memory, Injection, Describes, Slots, Grown}
+use Rattle.ep_object.specs.Matching.{Memory, Injection, Slots, Grown, IsBare}
 use Rattle.ep_object.specs.Follows.{OnTop}
 use Rattle.ep_object.specs.Operands.{Operand, Set, Text, Word, weight, weights}
 use Rattle.ep_object.specs.Promises.{Passing, ByValue, ByReference, IsArgument, AreArguments, IsValueOf}
 use Rattle.ep_object.specs.State.{Frame}
 use Rattle.ep_object.proofs.matching.Elements.{length-set, slice_get-set-other}
-use Rattle.ep_object.proofs.matching.Growing.{describes-grown, is_spot-grown}
+use Rattle.ep_object.proofs.matching.Growing.{bare-longer, describes-grown, is_spot-grown}
 use Rattle.ep_typed.specs.Calls.{Argument, Value, Variable}
 use Rattle.ep_object.proofs.matching.Words.{has_at-longer}
 use Rattle.ep_typed.specs.Meaning.{weights_of}
@@ -39,8 +39,8 @@ pub value-grown : {untouched : Slots} {injection longer : Injection} {memory aft
 value-grown (kind.Ordinal h) r o g v = v
 value-grown kind.Bytes r o g v = v
 value-grown (kind.Set h) r o g v = v
-value-grown (kind.Structured t) r o g v =
-    record { value = v.value; is_structure = v.is_structure; type_number = v.type_number; words = v.words; is = v.is; described = describes-grown v.type_number t g v.described; sized = v.sized; holds = has_at-longer g.larger t v.value (slice_get v.words) 0 v.holds }
+value-grown {memory = memory} {after = after} (kind.Structured t) r o g v =
+    record { value = v.value; is_structure = v.is_structure; type_number = v.type_number; words = v.words; is = v.is; bare = v.bare; described = bare-longer memory.types after.types v.type_number t g.types v.described; sized = v.sized; holds = has_at-longer g.larger t v.value (slice_get v.words) 0 v.holds }
 
 -- and in whatever memory has the same types
 pub value_anywhere : (injection : Injection) (memory later : Memory) → later.types ≡ memory.types → (k : Kind) (r : Result) (o : Operand)
@@ -49,7 +49,7 @@ value_anywhere injection memory later same (kind.Ordinal h) r o v = v
 value_anywhere injection memory later same kind.Bytes r o v = v
 value_anywhere injection memory later same (kind.Set h) r o v = v
 value_anywhere injection memory later same (kind.Structured t) r o v =
-    record { value = v.value; is_structure = v.is_structure; type_number = v.type_number; words = v.words; is = v.is; described = subst (λ types. Describes types v.type_number t) (sym same) v.described; sized = v.sized; holds = v.holds }
+    record { value = v.value; is_structure = v.is_structure; type_number = v.type_number; words = v.words; is = v.is; bare = v.bare; described = subst (λ types. IsBare types v.type_number t) (sym same) v.described; sized = v.sized; holds = v.holds }
 
 -- it has the weight of the result
 pub value_weight : (injection : Injection) (memory : Memory) (k : Kind) (r : Result) (o : Operand) → IsValueOf injection memory k r o → weight o ≡ weight_of r

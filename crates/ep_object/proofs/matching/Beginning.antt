@@ -1,8 +1,9 @@
 -- The machine matches the meaning before the first start.
-use Rattle.std.proofs.Common.{◌≡◌, ℕ, zero, suc, ◌≤◌, List, [], ◌∷◌, length, Option, Some, None, slice_get, replicate, map, refl, sym, ap, ◌∙◌, subst, arith}
+use Rattle.std.proofs.Common.{◌≡◌, ℕ, zero, suc, ◌≤◌, List, [], ◌∷◌, length, Option, Some, None, slice_get, replicate, map, refl, sym, ap, ◌∙◌, subst, arith, option_map}
 use Rattle.std.specs.Prelude.{pos, int_le, if◌then◌else◌}
 use Rattle.ep_typed.specs.Operations.{last_char}
-use Rattle.ep_object.specs.Matching.{Memory, Injection, IsIn, IsOf, HasSize, MatchesSlot, Represents, IsRepresented, Matches}
+use Rattle.ep_object.specs.declared.state.Kind.TheVariants as kind
+use Rattle.ep_object.specs.Matching.{Memory, Injection, IsIn, IsOf, HasSize, MatchesSlot, Represents, IsRepresented, Matches, Describes}
 use Rattle.ep_object.specs.State.{Frames, TypeTable, empty_slots, first_segments, first_types, integer_entry, char_entry, boolean_entry, text_entry, pointer_entry, first_live, undefined}
 use Rattle.ep_object.specs.declared.code.Image.{Image}
 use Rattle.ep_object.specs.declared.state.Place.{Place}
@@ -13,7 +14,7 @@ use Rattle.ep_object.proofs.Grows.{is_prefix}
 use Rattle.ep_typed.specs.Steps.{Component, Allocation, Resources}
 use Rattle.ep_typed.specs.Steps as meaning
 use Rattle.ep_typed.specs.Valid.{Declarations}
-use Rattle.ep_typed.specs.TypeValues.{TypeValue}
+use Rattle.ep_typed.specs.TypeValues.{TypeValue, bare_of}
 use Rattle.ep_typed.specs.TypeValues as type
 
 -- before the first start, in these frames
@@ -95,7 +96,7 @@ first_apart (suc (suc (suc m))) n segment h k = cc
 first_apart m (suc (suc (suc n))) segment h k = cc
 
 first_typed : (n : ℕ) (t : TypeValue) → IsOf first_injection n t
-    → meaning.type_in (meaning.allocation_at meaning.first_state.allocations n) ≡ Some t
+    → option_map bare_of (meaning.type_in (meaning.allocation_at meaning.first_state.allocations n)) ≡ Some t
 first_typed zero t h = absurd h
 first_typed (suc zero) t h = h
 first_typed (suc (suc zero)) t h = h
@@ -105,11 +106,14 @@ first_typed (suc (suc (suc n))) t h = cc
 abbrev file : Allocation
 file = meaning.standard_allocation
 
+file_described : Describes first_types 3 type.Text
+file_described = record { kind = kind.Text; bare = None; stands = refl; is_kind = refl; form = refl; other = refl }
+
 input_represented : Represents first_injection first_segments first_types 1 file
-input_represented = record { type_number = 3; words = undefined ∷ []; stands = refl; described = refl; sized = refl; holds = refl }
+input_represented = record { type_number = 3; words = undefined ∷ []; stands = refl; described = file_described; sized = refl; holds = refl }
 
 output_represented : Represents first_injection first_segments first_types 2 file
-output_represented = record { type_number = 3; words = undefined ∷ []; stands = refl; described = refl; sized = refl; holds = refl }
+output_represented = record { type_number = 3; words = undefined ∷ []; stands = refl; described = file_described; sized = refl; holds = refl }
 
 first_represented : (n segment : ℕ) (allocation : Allocation) → IsIn first_injection n segment
     → meaning.allocation_at meaning.first_state.allocations n ≡ Some allocation

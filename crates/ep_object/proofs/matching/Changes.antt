@@ -1,5 +1,5 @@
 -- The machine goes on matching where a value is assigned or events are added.
-use Rattle.std.proofs.Common.{◌≡◌, ℕ, ℤ, zero, suc, false, ◌<◌, ◌≤◌, ◌⊎◌, inl, inr, List, length, Option, Some, None, slice_get, slice_set, refl, sym, ap, ◌∙◌, subst, arith}
+use Rattle.std.proofs.Common.{◌≡◌, ℕ, ℤ, zero, suc, false, ◌<◌, ◌≤◌, ◌⊎◌, inl, inr, List, length, Option, Some, None, slice_get, slice_set, refl, sym, ap, ◌∙◌, subst, arith, option_map}
 use Rattle.std.proofs.lemmas.Option.{same_Some, slice_get_within}
 use Rattle.ep_object.specs.Matching.{IsOfType, Memory, Injection, IsIn, MatchesSlot, MatchesInjection, MatchesFrame, MatchesUnits, MatchesCounts, hidden_words, HasAt, Represents, IsRepresented, Matches, Slots, every_slot, Grown}
 use Rattle.ep_object.specs.declared.code.Image.{Image}
@@ -15,7 +15,7 @@ use Rattle.ep_typed.specs.Calls.{entered, back_in}
 use Rattle.ep_typed.specs.Events.{Trace}
 use Rattle.ep_typed.specs.Steps.{Component, Call, Value, Allocation, value_with, type_along, allocation_at, assigned_at, assigned, type_in, type_at, ended_in, has_ended, with_events, is_within}
 use Rattle.ep_typed.specs.Steps as meaning
-use Rattle.ep_typed.specs.TypeValues.{TypeValue}
+use Rattle.ep_typed.specs.TypeValues.{TypeValue, bare_of}
 use Rattle.ep_typed.specs.Valid.{Declarations}
 
 -- two numbers are the same or not
@@ -55,7 +55,7 @@ matches_frame-grown {longer = longer} {before = before} {after = after} unit u g
 pub of_type-same : {allocations others : List Allocation} {Holds : TypeValue → Type 0} (c : Component)
     → type_in (allocation_at others c.allocation) ≡ type_in (allocation_at allocations c.allocation)
     → IsOfType allocations c Holds → IsOfType others c Holds
-of_type-same c same h = record { type_value = h.type_value; is = ap (λ o. type_along o c.path) same ∙ h.is; holds = h.holds }
+of_type-same c same h = record { type_value = h.type_value; is = ap (λ o. option_map bare_of (type_along o c.path)) same ∙ h.is; holds = h.holds }
 
 -- the units go on matching where memory grows, frames and variables stay, and no allocation changes its type
 pub matches_units-grown : {untouched : Slots} {declared : Declarations} {G : Image} {injection longer : Injection} {allocations others : List Allocation} {variables : List ℕ → ℕ → Option Component} {memory after : Memory}
@@ -190,7 +190,7 @@ module _ {declared : Declarations} {G : Image} {injection : Injection} {s : mean
             made = old_injected.made ∙ sym (assigned_length s.allocations n path value a is);
             apart = old_injected.apart;
             within = λ m k p. let w = old_injected.within m k p in omega (arith, w, length-set memory.segments segment (Some new));
-            typed = λ m t p. type_at_assigned m (same_or_not n m) ∙ old_injected.typed m t p;
+            typed = λ m t p. ap (option_map bare_of) (type_at_assigned m (same_or_not n m)) ∙ old_injected.typed m t p;
           }
 
       counts : MatchesCounts injection s.resources (slice_set memory.segments segment (Some new)) memory.types memory.live

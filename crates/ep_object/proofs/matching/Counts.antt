@@ -79,7 +79,7 @@ live_bounded c = omega (arith, c.words, c.hidden)
 
 -- the limits are not met, or room is lost
 pub full_lost : (a b : ℕ) (r : Resources) → (ltb a type_limit && leb b live_limit) ≡ false
-    → a ≤ length r.types + 5 → b ≤ held r + 4 * r.typed → IsTrue (watched r).lost
+    → a ≤ 2 * length r.types + 5 → b ≤ held r + 4 * r.typed → IsTrue (watched r).lost
 full_lost a b r full few live = go (ltb a type_limit) refl
   where
     go : (x : Bool) → ltb a type_limit ≡ x → IsTrue (watched r).lost
@@ -90,18 +90,18 @@ full_lost a b r full few live = go (ltb a type_limit) refl
 sized_lost : (t : TypeValue) (r : Resources) → IsTrue r.lost → IsTrue (sized t r).lost
 sized_lost t r h = rw h refl
 
--- room is lost where a new type passes a limit, which counts so many words
+-- room is lost where a new type or its bare form passes a limit, which counts so many words
 pub met_lost : (a b w : ℕ) (t : TypeValue) (r : Resources) → (IsTrue (list_any (same_type t) r.types) → ⊥)
-    → (ltb a type_limit && leb (b + w) live_limit) ≡ false → a ≤ length r.types + 5 → b ≤ held r + 4 * r.typed
-    → words_of_type t ≡ w → IsTrue (met t r).lost
-met_lost a b w t r new full few live word = go (list_any (same_type t) r.types) new
+    → (ltb a type_limit && leb (b + w) live_limit) ≡ false → a ≤ 2 * length r.types + 6 → b + w ≤ held r + 4 * r.typed + 2 * words_of_type t
+    → IsTrue (met t r).lost
+met_lost a b w t r new full few live = go (list_any (same_type t) r.types) new
   where
     go : (x : Bool) → (IsTrue x → ⊥)
         → IsTrue (sized t (watched (if x then r else record r { types = t ∷ r.types; typed = r.typed + words_of_type t }))).lost
     go true n = absurd (n refl)
     go false n =
         sized_lost t (watched (record r { types = t ∷ r.types; typed = r.typed + words_of_type t }))
-        (full_lost a (b + w) (record r { types = t ∷ r.types; typed = r.typed + words_of_type t }) full (omega (arith, few)) (omega (arith, live, word)))
+        (full_lost a (b + w) (record r { types = t ∷ r.types; typed = r.typed + words_of_type t }) full (omega (arith, few)) (omega (arith, live)))
 
 -- and where a variable of the type would have too many words
 pub met_large : (t : TypeValue) (r : Resources) → size_limit < size_of t → IsTrue (met t r).lost

@@ -1,5 +1,6 @@
 -- Allocations end on both sides: the machine goes on matching.
-use Rattle.std.proofs.Common.{◌≡◌, ℕ, zero, suc, ◌+◌, ◌-◌, ◌<◌, ◌⊎◌, inl, inr, Bool, true, false, List, [], ◌∷◌, length, Option, Some, None, slice_get, slice_set, refl, sym, ap, ◌∙◌, subst, arith}
+use Rattle.std.proofs.Common.{◌≡◌, ℕ, zero, suc, ◌+◌, ◌-◌, ◌<◌, ◌⊎◌, inl, inr, Bool, true, false, List, [], ◌∷◌, length, Option, Some, None, slice_get, slice_set, refl, sym, ap, ◌∙◌, subst, arith, option_map}
+use Rattle.ep_typed.specs.TypeValues.{bare_of}
 use Rattle.std.proofs.lemmas.Option.{same_Some, slice_get_within}
 use Rattle.ep_object.specs.Activations.{AreMade}
 use Rattle.ep_object.specs.Calls.{ended, words_in, words_of}
@@ -126,7 +127,7 @@ module _ {declared : Declarations} {G : Image} {injection : Injection} {s : mean
             made = before.made ∙ sym (ended_length s.allocations n its.0 its.1);
             apart = before.apart;
             within = λ m k p. let w = before.within m k p in omega (arith, w, length-set memory.segments segment None);
-            typed = λ m t p. type_ended m (same_or_not n m) ∙ before.typed m t p;
+            typed = λ m t p. ap (option_map bare_of) (type_ended m (same_or_not n m)) ∙ before.typed m t p;
           }
 
       counts : MatchesCounts injection ended_state.resources (slice_set memory.segments segment None) memory.types ended_memory.live

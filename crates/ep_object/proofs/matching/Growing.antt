@@ -5,16 +5,19 @@ use Rattle.ep_object.specs.Follows.{Facts, IsStillCall, IsSameCall, IsNotLeft, S
 use Rattle.ep_typed.specs.Steps.{Component}
 use Rattle.ep_typed.specs.Steps as meaning
 use Rattle.ep_object.specs.Frames.{routine_over}
-use Rattle.ep_object.specs.Matching.{Memory, Injection, IsIn, IsOf, IsSpot, DescribeEach, Describes, Slots, every_slot, AreAmong, Grown}
+use Rattle.ep_object.specs.Matching.{Memory, Injection, IsIn, IsOf, IsSpot, AreBare, AreEntries, Describes, IsBare, IsKindOf, IsLike, Slots, every_slot, AreAmong, Grown}
 use Rattle.ep_object.specs.Operands.{Operand}
 use Rattle.ep_object.specs.Routines.{unit_of}
 use Rattle.ep_object.specs.Runs.{name_of, unit_in}
-use Rattle.ep_object.specs.State.{Frame, Frames, TypeTable, text_entry}
+use Rattle.ep_object.specs.Starts.{words_kept}
+use Rattle.ep_object.specs.State.{Frame, Frames, TypeTable, bare_number, text_entry}
 use Rattle.ep_object.specs.Types.{ordinal_entry, array_entry, record_entry, set_entry}
 use Rattle.ep_object.specs.declared.code.Image.{Image}
+use Rattle.ep_object.specs.declared.state.Kind.{Kind}
 use Rattle.ep_object.specs.declared.state.Place.{Place}
 use Rattle.ep_object.specs.declared.state.RecordPart.{RecordPart}
 use Rattle.ep_object.specs.declared.state.Segment.{Segment}
+use Rattle.ep_object.specs.declared.state.TypeEntry.{TypeEntry}
 use Rattle.ep_object.proofs.Grows.{is_prefix, prefix_then}
 use Rattle.ep_outside.specs.Known.{IsPrefix}
 use Rattle.ep_typed.specs.TypeValues.{ComponentTypes, TypeValue, size_of}
@@ -113,30 +116,67 @@ grown_trans {longer = longer} {last = last} {memory = memory} {after = after} {f
         let n = p.allocated segment y.0 le y.1 in (n.0, is_in-longer longer last n.0 segment q.larger n.1)
 
 mutual
-  -- a number keeps its type in a longer table
-  pub described-longer : (types longer : TypeTable) (n : ℕ) (t : TypeValue) → IsPrefix types longer
-      → Describes types n t → Describes longer n t
-  described-longer types longer n (type.Ordinal low high) p h = slice_get-prefix types longer n (ordinal_entry low high) p h
-  described-longer types longer n type.Text p h = slice_get-prefix types longer n text_entry p h
-  described-longer types longer n (type.Array low high of) p h =
-      (h.0, slice_get-prefix types longer n (array_entry low high h.0 (size_of (type.Array low high of))) p h.1, described-longer types longer h.0 of p h.2)
-  described-longer types longer n (type.Record ts) p h =
-      (h.0, slice_get-prefix types longer n (record_entry h.0 (size_of (type.Record ts))) p h.1, each_described-longer types longer 0 h.0 ts p h.2)
-  described-longer types longer n (type.Set low high) p h = slice_get-prefix types longer n (set_entry low high) p h
+  -- a bare form stays one in a longer table
+  pub bare-longer : (types longer : TypeTable) (n : ℕ) (t : TypeValue) → IsPrefix types longer
+      → IsBare types n t → IsBare longer n t
+  bare-longer types longer n (type.Ordinal low high) p h = slice_get-prefix types longer n (ordinal_entry low high) p h
+  bare-longer types longer n type.Text p h = slice_get-prefix types longer n text_entry p h
+  bare-longer types longer n (type.Array low high of) p h =
+      (h.0, slice_get-prefix types longer n (array_entry low high h.0 (size_of (type.Array low high of))) p h.1, bare-longer types longer h.0 of p h.2)
+  bare-longer types longer n (type.Record ts) p h =
+      (h.0, slice_get-prefix types longer n (record_entry h.0 (size_of (type.Record ts))) p h.1, each_bare-longer types longer 0 h.0 ts p h.2)
+  bare-longer types longer n (type.Set low high) p h = slice_get-prefix types longer n (set_entry low high) p h
+  bare-longer types longer n (type.Initial of start) p h = bare-longer types longer n of p h
 
-  pub each_described-longer : (types longer : TypeTable) (before : ℕ) (parts : List RecordPart) (ts : ComponentTypes) → IsPrefix types longer
-      → DescribeEach types before parts ts → DescribeEach longer before parts ts
-  each_described-longer types longer before [] type.no_component p h = tt
-  each_described-longer types longer before [] (type.next_component t ts) p h = absurd h
-  each_described-longer types longer before (q ∷ qs) type.no_component p h = absurd h
-  each_described-longer types longer before (q ∷ qs) (type.next_component t ts) p h =
-      (h.0, described-longer types longer q.type_number t p h.1, each_described-longer types longer (before + size_of t) qs ts p h.2)
+  pub each_bare-longer : (types longer : TypeTable) (before : ℕ) (parts : List RecordPart) (ts : ComponentTypes) → IsPrefix types longer
+      → AreBare types before parts ts → AreBare longer before parts ts
+  each_bare-longer types longer before [] type.no_component p h = tt
+  each_bare-longer types longer before [] (type.next_component t ts) p h = absurd h
+  each_bare-longer types longer before (q ∷ qs) type.no_component p h = absurd h
+  each_bare-longer types longer before (q ∷ qs) (type.next_component t ts) p h =
+      (h.0, bare-longer types longer q.type_number t p h.1, each_bare-longer types longer (before + size_of t) qs ts p h.2)
+
+-- the entry of a type value
+abbrev pub entry_as : TypeValue → Kind → Option ℕ → TypeEntry
+entry_as t kind bare = record { kind = kind; size = size_of t; start = words_kept t; bare = bare }
+
+mutual
+  -- a kind stays that of a type value
+  pub kind-longer : (types longer : TypeTable) (t : TypeValue) (k : Kind) → IsPrefix types longer → IsKindOf types t k → IsKindOf longer t k
+  kind-longer types longer (type.Ordinal low high) k p h = h
+  kind-longer types longer type.Text k p h = h
+  kind-longer types longer (type.Array low high of) k p h =
+      let e = h.2 in
+      (h.0, h.1, record { kind = e.kind; bare = e.bare; stands = slice_get-prefix types longer h.0 (entry_as of e.kind e.bare) p e.stands; is_kind = kind-longer types longer of e.kind p e.is_kind; form = bare-longer types longer (bare_number h.0 e.bare) of p e.form; other = e.other })
+  kind-longer types longer (type.Record ts) k p h = (h.0, h.1, entries-longer types longer 0 h.0 ts p h.2)
+  kind-longer types longer (type.Set low high) k p h = h
+  kind-longer types longer (type.Initial of start) k p h = kind-longer types longer of k p h
+
+  pub entries-longer : (types longer : TypeTable) (before : ℕ) (parts : List RecordPart) (ts : ComponentTypes) → IsPrefix types longer
+      → AreEntries types before parts ts → AreEntries longer before parts ts
+  entries-longer types longer before [] type.no_component p h = tt
+  entries-longer types longer before [] (type.next_component t ts) p h = absurd h
+  entries-longer types longer before (q ∷ qs) type.no_component p h = absurd h
+  entries-longer types longer before (q ∷ qs) (type.next_component t ts) p h =
+      let e = h.1 in
+      (h.0, record { kind = e.kind; bare = e.bare; stands = slice_get-prefix types longer q.type_number (entry_as t e.kind e.bare) p e.stands; is_kind = kind-longer types longer t e.kind p e.is_kind; form = bare-longer types longer (bare_number q.type_number e.bare) t p e.form; other = e.other }, entries-longer types longer (before + size_of t) qs ts p h.2)
+
+-- a number keeps its type in a longer table
+pub described-longer : (types longer : TypeTable) (n : ℕ) (t : TypeValue) → IsPrefix types longer
+    → Describes types n t → Describes longer n t
+described-longer types longer n t p e =
+    record { kind = e.kind; bare = e.bare; stands = slice_get-prefix types longer n (entry_as t e.kind e.bare) p e.stands; is_kind = kind-longer types longer t e.kind p e.is_kind; form = bare-longer types longer (bare_number n e.bare) t p e.form; other = e.other }
+
+-- and so does one that tells it but for initial states
+pub like-longer : (types longer : TypeTable) (n : ℕ) (t : TypeValue) → IsPrefix types longer
+    → IsLike types n t → IsLike longer n t
+like-longer types longer n t p h = (h.0, h.1, described-longer types longer n h.0 p h.2)
 
 -- a type stays what it is
 pub describes-grown : {untouched : Slots} {injection longer : Injection} {memory after : Memory} (n : ℕ) (type_value : TypeValue)
-    → Grown untouched injection memory longer after → Describes memory.types n type_value
-    → Describes after.types n type_value
-describes-grown {memory = memory} {after = after} n t g h = described-longer memory.types after.types n t g.types h
+    → Grown untouched injection memory longer after → IsLike memory.types n type_value
+    → IsLike after.types n type_value
+describes-grown {memory = memory} {after = after} n t g h = like-longer memory.types after.types n t g.types h
 
 -- the place of a variable stays its place
 pub is_spot-grown : {untouched : Slots} {injection longer : Injection} {memory after : Memory} {v : Component} {place : Place}

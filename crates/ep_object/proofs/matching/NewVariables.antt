@@ -1,16 +1,15 @@
 -- A variable is made: the machine goes on matching with one more segment.
 use Rattle.std.proofs.Common.{length-append, ◌≡◌, ℕ, zero, suc, ◌+◌, ◌≤◌, ◌<◌, ◌⊎◌, inl, inr, Bool, true, false, ◌&&◌, IsTrue, List, [], ◌∷◌, ◌++◌, length, Option, Some, None, option_map, slice_get, slice_set, refl, sym, ap, ◌∙◌, subst, arith}
-use Rattle.std.specs.Prelude.{nat_le, if◌then◌else◌, replicate}
+use Rattle.std.specs.Prelude.{nat_le, if◌then◌else◌}
 use Rattle.std.specs.Str.{bytes_eq}
 use Rattle.std.proofs.lemmas.Bool.Decides.{nat_tests}
-use Rattle.std.proofs.lemmas.List.{length-replicate}
 use Rattle.std.proofs.lemmas.Option.{slice_get_within, same_Some}
 use Rattle.std.proofs.lemmas.Slice.Eq.{bytes_eq-Decides}
 use native.Mathlib.Decide.{ℕ_discrete}
-use Rattle.ep_object.specs.Matching.{Memory, Mapped, Injection, IsIn, IsOf, IsSpot, IsOfType, Describes, IsHidden, Slots, every_slot, slot_in, MatchesSlot, MatchesInjection, MatchesFrame, MatchesCounts, hidden_words, IsRepresented, HasType, Matches, Grown}
-use Rattle.ep_object.specs.Places.{fresh_segment}
+use Rattle.ep_object.specs.Matching.{Memory, Mapped, Injection, IsIn, IsOf, IsSpot, IsOfType, Describes, IsHidden, IsLike, Slots, every_slot, slot_in, MatchesSlot, MatchesInjection, MatchesFrame, MatchesCounts, hidden_words, IsRepresented, HasType, Matches, Grown}
+use Rattle.ep_object.specs.Starts.{start_words}
 use Rattle.ep_object.specs.Placing.{HasDistinctNames}
-use Rattle.ep_object.specs.State.{Frames, undefined}
+use Rattle.ep_object.specs.State.{Frames}
 use Rattle.ep_object.specs.declared.code.Image.{Image}
 use Rattle.ep_object.specs.declared.code.ImageUnit.{ImageUnit}
 use Rattle.ep_object.specs.declared.state.Place.{Place}
@@ -20,13 +19,14 @@ use Rattle.ep_object.proofs.matching.Elements.{slice_get-push, slice_get-pushed,
 use Rattle.ep_object.proofs.matching.Growing.{slice_get-prefix, is_in-longer, is_of-longer}
 use Rattle.ep_object.proofs.Grows.{is_prefix}
 use Rattle.ep_object.proofs.matching.HiddenWords.{hidden_words-pushed}
-use Rattle.ep_object.proofs.matching.NewSegments.{fresh_holds}
-use Rattle.ep_object.proofs.matching.Standing.{slice_get-some, mapped_within, both, one_type, represented-same, represented-longer, living_represented, allocated}
-use Rattle.ep_typed.specs.Steps.{Undefined, Component, whole, type_along, Allocation, allocation_at, type_in, ended_in, bound, counted, made}
+use Rattle.ep_object.proofs.matching.NewSegments.{fresh_holds, new_segment}
+use Rattle.ep_object.proofs.matching.Starting.{AreStarts, starts_length}
+use Rattle.ep_object.proofs.matching.Standing.{slice_get-some, mapped_within, both, one_type_of, represented-same, represented-longer, living_represented, allocated}
+use Rattle.ep_typed.specs.Steps.{start_of, Component, whole, type_along, Allocation, allocation_at, type_in, ended_in, bound, counted, made}
 use Rattle.ep_typed.specs.Steps as meaning
 use Rattle.ep_typed.specs.Valid.{Declarations, IsTypeValue}
 use Rattle.ep_typed.specs.TypeValues as type
-use Rattle.ep_typed.specs.TypeValues.{TypeValue, size_of}
+use Rattle.ep_typed.specs.TypeValues.{TypeValue, bare_of, size_of}
 use Rattle.ep_typed.specs.declared.unit.UnitVariable.{UnitVariable}
 
 -- ---- what is bound
@@ -83,6 +83,16 @@ type_more allocations a (suc n) t is = go (slice_get allocations n) refl
     go None e = let none : ◌≡◌ {A = Option TypeValue} None (Some t) = sym (ap type_in e) ∙ is in cc
     go (Some b) e = ap type_in (slice_get-prefix allocations (allocations ++ a ∷ []) n b (record { rest = a ∷ []; is = refl }) e) ∙ sym (ap type_in e) ∙ is
 
+-- but for initial states too
+pub bare_more : (allocations : List Allocation) (a : Allocation) (n : ℕ) (u : TypeValue)
+    → option_map bare_of (type_in (allocation_at allocations n)) ≡ Some u → option_map bare_of (type_in (allocation_at (allocations ++ a ∷ []) n)) ≡ Some u
+bare_more allocations a n u is = go (type_in (allocation_at allocations n)) refl is
+  where
+    go : (o : Option TypeValue) → type_in (allocation_at allocations n) ≡ o → option_map bare_of o ≡ Some u
+        → option_map bare_of (type_in (allocation_at (allocations ++ a ∷ []) n)) ≡ Some u
+    go None e f = cc
+    go (Some t) e f = ap (option_map bare_of) (type_more allocations a n t e) ∙ f
+
 -- a variable keeps its type
 pub of_type-more : {Holds : TypeValue → Type 0} (allocations : List Allocation) (a : Allocation) (c : Component)
     → IsOfType allocations c Holds → IsOfType (allocations ++ a ∷ []) c Holds
@@ -93,10 +103,10 @@ of_type-more {Holds = Holds} allocations a c h = go (type_in (allocation_at allo
     kept t e = of_type-same c (type_more allocations a c.allocation t e ∙ sym e) h
 
     go : (o : Option TypeValue) → type_in (allocation_at allocations c.allocation) ≡ o → (path : List ℕ)
-        → type_along (type_in (allocation_at allocations c.allocation)) path ≡ Some h.type_value → IsOfType (allocations ++ a ∷ []) c Holds
+        → option_map bare_of (type_along (type_in (allocation_at allocations c.allocation)) path) ≡ Some h.type_value → IsOfType (allocations ++ a ∷ []) c Holds
     go (Some t) e path is = kept t e
-    go None e [] is = let none : ◌≡◌ {A = Option TypeValue} None (Some h.type_value) = sym e ∙ is in absurd cc
-    go None e (k ∷ path) is = let none : ◌≡◌ {A = Option TypeValue} None (Some h.type_value) = sym (ap (λ o. type_along o (k ∷ path)) e) ∙ is in absurd cc
+    go None e [] is = let none : ◌≡◌ {A = Option TypeValue} None (Some h.type_value) = sym (ap (option_map bare_of) e) ∙ is in absurd cc
+    go None e (k ∷ path) is = let none : ◌≡◌ {A = Option TypeValue} None (Some h.type_value) = sym (ap (λ o. option_map bare_of (type_along o (k ∷ path))) e) ∙ is in absurd cc
 
 -- ---- the memory with one more variable
 
@@ -106,7 +116,7 @@ new_place memory number = record { segment = length memory.segments; offset = 0;
 
 -- one more variable of a type, which has this number, with these frames
 abbrev pub with_variable : TypeValue → ℕ → Frames → Memory → Memory
-with_variable t number frames memory = record memory { frames = frames; segments = memory.segments ++ Some (fresh_segment number (size_of t)) ∷ []; live = memory.live + (size_of t + 1) }
+with_variable t number frames memory = record memory { frames = frames; segments = memory.segments ++ Some (new_segment number t) ∷ []; live = memory.live + (size_of t + 1) }
 
 -- the frames with its place in a slot of the unit's frame
 abbrev pub with_place : ℕ → ℕ → List (Option Place) → Memory → Frames
@@ -114,7 +124,7 @@ with_place number k slots memory = record memory.frames { units = slice_set memo
 
 -- where an allocation of the type is that is made next
 abbrev pub next_item : TypeValue → Memory → Mapped
-next_item t memory = record { segment = length memory.segments; type_value = t }
+next_item t memory = record { segment = length memory.segments; type_value = bare_of t }
 
 -- the injection with it
 abbrev pub with_segment : TypeValue → Injection → Memory → Injection
@@ -131,7 +141,7 @@ is_in-either t injection memory (suc n) segment h = elim (mapped-push (λ m. m.s
 
 -- and so is its type
 is_of-either : (t : TypeValue) (injection : Injection) (memory : Memory) (n : ℕ) (u : TypeValue)
-    → IsOf (with_segment t injection memory) n u → IsOf injection n u ⊎ ((n ≡ suc (length injection)) × (u ≡ t))
+    → IsOf (with_segment t injection memory) n u → IsOf injection n u ⊎ ((n ≡ suc (length injection)) × (u ≡ bare_of t))
 is_of-either t injection memory zero u h = absurd h
 is_of-either t injection memory (suc n) u h = elim (mapped-push (λ m. m.type_value) injection (next_item t memory) u n h) [ inl p ↦ inl p | inr p ↦ inr (ap suc p.0, p.1) ]
 
@@ -148,21 +158,21 @@ grown_making t injection memory number frames kept =
     record {
       larger = record { rest = next_item t memory ∷ []; is = refl };
       types = is_prefix memory.types;
-      segments = omega (arith, length-append memory.segments (Some (fresh_segment number (size_of t)) ∷ []));
+      segments = omega (arith, length-append memory.segments (Some (new_segment number t) ∷ []));
       hidden = λ segment le hidden n is_in. stays_hidden segment le hidden n (is_in-either t injection memory n segment is_in);
-      others = λ segment le hidden. slice_get-before memory.segments (Some (fresh_segment number (size_of t))) segment le;
-      allocated = λ segment y le q. new_allocated segment le (slice_get_within (memory.segments ++ Some (fresh_segment number (size_of t)) ∷ []) segment (Some y) q);
+      others = λ segment le hidden. slice_get-before memory.segments (Some (new_segment number t)) segment le;
+      allocated = λ segment y le q. new_allocated segment le (slice_get_within (memory.segments ++ Some (new_segment number t) ∷ []) segment (Some y) q);
       slots = kept;
-      typed = λ segment x y p q. same_type segment x y p (sym (slice_get-before memory.segments (Some (fresh_segment number (size_of t))) segment (slice_get_within memory.segments segment (Some x) p)) ∙ q);
-      ended = λ segment y le q. (y, sym (slice_get-before memory.segments (Some (fresh_segment number (size_of t))) segment le) ∙ q);
+      typed = λ segment x y p q. same_type segment x y p (sym (slice_get-before memory.segments (Some (new_segment number t)) segment (slice_get_within memory.segments segment (Some x) p)) ∙ q);
+      ended = λ segment y le q. (y, sym (slice_get-before memory.segments (Some (new_segment number t)) segment le) ∙ q);
     }
   where
     -- the only new segment is that of the new allocation
     new_allocated : (segment : ℕ) → length memory.segments ≤ segment
-        → segment < length (memory.segments ++ Some (fresh_segment number (size_of t)) ∷ [])
+        → segment < length (memory.segments ++ Some (new_segment number t) ∷ [])
         → (n : ℕ) × IsIn (with_segment t injection memory) n segment
     new_allocated segment le less =
-        let same : length memory.segments ≡ segment = omega (arith, le, less, length-append memory.segments (Some (fresh_segment number (size_of t)) ∷ [])) in
+        let same : length memory.segments ≡ segment = omega (arith, le, less, length-append memory.segments (Some (new_segment number t) ∷ [])) in
         (suc (length injection), ap (option_map (λ (m : Mapped). m.segment)) (slice_get-pushed injection (next_item t memory)) ∙ ap Some same)
 
     stays_hidden : (segment : ℕ) → suc segment ≤ length memory.segments → IsHidden injection segment → (n : ℕ)
@@ -181,13 +191,13 @@ pub grown_same_frames : (t : TypeValue) (injection : Injection) (memory : Memory
     → Grown every_slot injection memory (with_segment t injection memory) (with_variable t number memory.frames memory)
 grown_same_frames t injection memory number = grown_making t injection memory number memory.frames (λ unit k kept. refl)
 
-module _ {declared : Declarations} {G : Image} {injection : Injection} {s : meaning.State} {memory : Memory} (h : Matches declared G injection s memory) (t : TypeValue) (number : ℕ) (described : Describes memory.types number t) (valid : IsTypeValue t) where
+module _ {declared : Declarations} {G : Image} {injection : Injection} {s : meaning.State} {memory : Memory} (h : Matches declared G injection s memory) (t : TypeValue) (number : ℕ) (described : Describes memory.types number t) (valid : IsTypeValue t) (starts : AreStarts t) where
   -- the allocation of the new variable
   abbrev pub new_allocation : Allocation
-  new_allocation = record { type_value = t; value = Undefined; ended = false }
+  new_allocation = record { type_value = t; value = start_of t; ended = false }
 
   abbrev pub its_segment : Option Segment
-  its_segment = Some (fresh_segment number (size_of t))
+  its_segment = Some (new_segment number t)
 
   -- as many allocations as items of the injection
   made_same : length injection ≡ length s.allocations
@@ -215,11 +225,11 @@ module _ {declared : Declarations} {G : Image} {injection : Injection} {s : mean
           (subst (λ b. IsRepresented (with_segment t injection memory) (memory.segments ++ its_segment ∷ []) memory.types (length memory.segments) b) (sym last.1)
           (living_represented (with_segment t injection memory) (memory.segments ++ its_segment ∷ []) memory.types (length memory.segments) new_allocation refl (record {
             type_number = number;
-            words = replicate (size_of t) undefined;
+            words = start_words t;
             stands = slice_get-pushed memory.segments its_segment;
             described = described;
-            sized = length-replicate (size_of t) undefined;
-            holds = fresh_holds (with_segment t injection memory) t valid;
+            sized = starts_length t starts;
+            holds = fresh_holds (with_segment t injection memory) t valid starts;
           })))
 
   -- no two allocations are in one segment
@@ -235,11 +245,11 @@ module _ {declared : Declarations} {G : Image} {injection : Injection} {s : mean
   new_spot =
       record {
         is_in = subst (λ j. option_map (λ (m : Mapped). m.segment) (slice_get (with_segment t injection memory) j) ≡ Some (length memory.segments)) made_same (ap (option_map (λ (m : Mapped). m.segment)) (slice_get-pushed injection (next_item t memory)));
-        root = t;
-        is_of = subst (λ j. option_map (λ (m : Mapped). m.type_value) (slice_get (with_segment t injection memory) j) ≡ Some t) made_same (ap (option_map (λ (m : Mapped). m.type_value)) (slice_get-pushed injection (next_item t memory)));
-        type_value = t;
+        root = bare_of t;
+        is_of = subst (λ j. option_map (λ (m : Mapped). m.type_value) (slice_get (with_segment t injection memory) j) ≡ Some (bare_of t)) made_same (ap (option_map (λ (m : Mapped). m.type_value)) (slice_get-pushed injection (next_item t memory)));
+        type_value = bare_of t;
         leads = refl;
-        described = described;
+        described = (t, refl, described);
       }
 
   -- `output` lives as before
@@ -264,18 +274,18 @@ module _ {declared : Declarations} {G : Image} {injection : Injection} {s : mean
         typed = λ n u p. typed_as n u (is_of-either t injection memory n u p);
       }
     where
-      typed_as : (n : ℕ) (u : TypeValue) → IsOf injection n u ⊎ ((n ≡ suc (length injection)) × (u ≡ t))
-          → type_in (allocation_at (s.allocations ++ new_allocation ∷ []) n) ≡ Some u
-      typed_as n u (inl old) = let injected = h.injected in type_more s.allocations new_allocation n u (injected.typed n u old)
+      typed_as : (n : ℕ) (u : TypeValue) → IsOf injection n u ⊎ ((n ≡ suc (length injection)) × (u ≡ bare_of t))
+          → option_map bare_of (type_in (allocation_at (s.allocations ++ new_allocation ∷ []) n)) ≡ Some u
+      typed_as n u (inl old) = let injected = h.injected in bare_more s.allocations new_allocation n u (injected.typed n u old)
       typed_as n u (inr new) =
           let newest : n ≡ suc (length s.allocations) = new.0 ∙ ap suc made_same in
-          ap (λ i. type_in (allocation_at (s.allocations ++ new_allocation ∷ []) i)) newest ∙ (ap type_in (slice_get-pushed s.allocations new_allocation) ∙ ap Some (sym new.1))
+          ap (λ i. option_map bare_of (type_in (allocation_at (s.allocations ++ new_allocation ∷ []) i))) newest ∙ (ap (λ o. option_map bare_of (type_in o)) (slice_get-pushed s.allocations new_allocation) ∙ ap Some (sym new.1))
 
   -- its words are counted on both sides
   pub counts_making : MatchesCounts (with_segment t injection memory) (counted t s).resources (memory.segments ++ its_segment ∷ []) memory.types (memory.live + (size_of t + 1))
   counts_making =
       let counts = h.counts in
-      let same : hidden_words (with_segment t injection memory) (memory.segments ++ its_segment ∷ []) ≡ hidden_words injection memory.segments = hidden_words-pushed injection memory.segments (fresh_segment number (size_of t)) t in
+      let same : hidden_words (with_segment t injection memory) (memory.segments ++ its_segment ∷ []) ≡ hidden_words injection memory.segments = hidden_words-pushed injection memory.segments (new_segment number t) (bare_of t) in
       record { words = omega (arith, counts.words, same); hidden = omega (arith, counts.hidden, same); number = counts.number }
 
   module _ (x : ImageUnit) (k : ℕ) (is_unit : slice_get G.units memory.frames.unit ≡ Some x) where
@@ -292,7 +302,7 @@ module _ {declared : Declarations} {G : Image} {injection : Injection} {s : mean
     abbrev pub later_state : meaning.State
     later_state = made x.name k t (counted t s)
 
-    module _ (within : k < x.slots) (declared_so : (v : UnitVariable) → declared.variables x.name k ≡ Some v → HasType declared x.name v t) where
+    module _ (within : k < x.slots) (declared_so : (v : UnitVariable) → declared.variables x.name k ≡ Some v → HasType declared x.name v (bare_of t)) where
       -- the slot has the place of the new variable, and the others have theirs
       slot_making : (j : ℕ) (v : UnitVariable) (slot : Option Place) → declared.variables x.name j ≡ Some v
           → slice_get new_slots j ≡ Some slot
@@ -321,18 +331,18 @@ module _ {declared : Declarations} {G : Image} {injection : Injection} {s : mean
       -- the type of the new place describes the declaration's, and those of the others theirs
       described_making : (j : ℕ) (v : UnitVariable) (place : Place) (u : TypeValue)
           → declared.variables x.name j ≡ Some v → slice_get new_slots j ≡ Some (Some place)
-          → HasType declared x.name v u → Describes memory.types place.type_number u
+          → HasType declared x.name v u → IsLike memory.types place.type_number u
       described_making j v place u is_declared q has_type = elim (ℕ_discrete k j) [ yes e ↦ same e | no e ↦ frame_here.described j v place u is_declared (sym (slice_get-set-other frame_here.slots k j (Some (new_place memory number)) e) ∙ q) has_type ]
         where
-          same : k ≡ j → Describes memory.types place.type_number u
+          same : k ≡ j → IsLike memory.types place.type_number u
           same e =
               let old = slice_get-some frame_here.slots k (omega (arith, within, frame_here.count)) in
               let now = slice_get-set-same frame_here.slots k (Some (new_place memory number)) old.0 old.1 in
               let here : slice_get new_slots k ≡ Some (Some place) = subst (λ i. slice_get new_slots i ≡ Some (Some place)) (sym e) q in
               let place_is : Some (new_place memory number) ≡ Some place = same_Some (Some (new_place memory number)) (Some place) (sym now ∙ here) in
               let number_is : number ≡ place.type_number = ap (λ (p : Place). p.type_number) (same_Some (new_place memory number) place place_is) in
-              let its_type : t ≡ u = one_type (declared_so v (subst (λ i. declared.variables x.name i ≡ Some v) (sym e) is_declared)) has_type in
-              subst (λ n. Describes memory.types n u) number_is (subst (λ w. Describes memory.types number w) its_type described)
+              let its_type : bare_of t ≡ u = one_type_of v (declared_so v (subst (λ i. declared.variables x.name i ≡ Some v) (sym e) is_declared)) has_type in
+              subst (λ n. IsLike memory.types n u) number_is (subst (λ w. IsLike memory.types number w) its_type (t, refl, described))
 
       -- the frame has the place of the new variable, and those of the others
       frame_making : MatchesFrame declared (with_segment t injection memory) later_state.variables later.frames.units later.types memory.frames.unit x
@@ -380,8 +390,8 @@ module _ {declared : Declarations} {G : Image} {injection : Injection} {s : mean
             same p q =
                 let here : later_state.variables x.name k ≡ Some c = subst (λ u. later_state.variables u k ≡ Some c) (sym p) (subst (λ i. later_state.variables unit i ≡ Some c) (sym q) is) in
                 let c_is : whole (suc (length s.allocations)) ≡ c = same_Some (whole (suc (length s.allocations))) c (sym (bound-same x.name k (whole (suc (length s.allocations))) s.variables) ∙ here) in
-                let has_type : HasType declared unit v t = subst (λ u. HasType declared u v t) p (declared_so v (subst (λ u. declared.variables u k ≡ Some v) (sym p) (subst (λ i. declared.variables unit i ≡ Some v) (sym q) is_declared))) in
-                subst (λ i. IsOfType later_state.allocations i (HasType declared unit v)) c_is (record { type_value = t; is = ap type_in (slice_get-pushed s.allocations new_allocation); holds = has_type })
+                let has_type : HasType declared unit v (bare_of t) = subst (λ u. HasType declared u v (bare_of t)) p (declared_so v (subst (λ u. declared.variables u k ≡ Some v) (sym p) (subst (λ i. declared.variables unit i ≡ Some v) (sym q) is_declared))) in
+                subst (λ i. IsOfType later_state.allocations i (HasType declared unit v)) c_is (record { type_value = bare_of t; is = ap (λ o. option_map bare_of (type_in o)) (slice_get-pushed s.allocations new_allocation); holds = has_type })
 
             other : (x.name ≡ unit → k ≡ j → ⊥) → IsOfType later_state.allocations c (HasType declared unit v)
             other different =

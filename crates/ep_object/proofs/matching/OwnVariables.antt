@@ -1,5 +1,6 @@
 -- What a routine knows of its own variables goes on holding, and a variable of its own is made.
 use Rattle.std.proofs.Common.{◌≡◌, ℕ, suc, ◌≤◌, ◌<◌, Bool, true, false, ◌&&◌, List, [], ◌∷◌, ◌++◌, length, Option, Some, slice_get, slice_set, refl, sym, ap, ◌∙◌, subst, arith}
+use Rattle.ep_object.proofs.matching.Starting.{AreStarts}
 use Rattle.std.specs.Prelude.{nat_le, if◌then◌else◌}
 use Rattle.std.proofs.lemmas.Bool.Decides.{nat_tests}
 use Rattle.std.proofs.lemmas.Option.{same_Some}
@@ -7,7 +8,7 @@ use native.Mathlib.Decide.{ℕ_discrete}
 use Rattle.ep_outside.specs.Known.{IsPrefix}
 use Rattle.ep_object.specs.Activations.{OwnSlot, MatchesOwn, MatchesAround, AreMade, InActivation}
 use Rattle.ep_object.specs.Follows.{IsSameCall, IsStillCall, StillRuns, HasGrown, Lasts}
-use Rattle.ep_object.specs.Matching.{Memory, Injection, IsIn, Describes, Slots, own_slot, MatchesSlot, HasOwnType, Matches, Grown}
+use Rattle.ep_object.specs.Matching.{Memory, Injection, IsIn, Describes, Slots, own_slot, MatchesSlot, HasOwnType, Matches, Grown, IsLike}
 use Rattle.ep_object.specs.State.{Frame, Frames}
 use Rattle.ep_object.specs.declared.code.Image.{Image}
 use Rattle.ep_object.specs.declared.state.Place.{Place}
@@ -16,13 +17,13 @@ use Rattle.ep_object.proofs.matching.Elements.{slice_get-set-same, slice_get-set
 use Rattle.ep_object.proofs.matching.Growing.{is_in-longer, describes-grown, grown_trans, still_routine, still_runs-trans, is_of-longer}
 use Rattle.ep_object.proofs.matching.Levels.{level-same, around-lasts}
 use Rattle.ep_object.proofs.matching.NewVariables.{new_place, with_variable, with_segment, next_item, grown_making, grown_same_frames, of_type-more, new_allocation, represented_making, new_spot, output_lives, injected_making, counts_making}
-use Rattle.ep_object.proofs.matching.Standing.{slice_get-some, mapped_within, both, one_type}
+use Rattle.ep_object.proofs.matching.Standing.{slice_get-some, mapped_within, both, one_type_of}
 use Rattle.ep_typed.specs.Steps.{Component, whole, Call, Variables, named_in, bound_own, own_in, own_variable, with_own, counted, made_own}
 use Rattle.ep_typed.specs.Steps as meaning
 use Rattle.ep_typed.specs.Valid.{Declarations, IsTypeValue, variables_up}
 use Rattle.ep_typed.specs.declared.unit.UnitVariable.{UnitVariable}
 use Rattle.ep_typed.specs.TypeValues as type
-use Rattle.ep_typed.specs.TypeValues.{TypeValue}
+use Rattle.ep_typed.specs.TypeValues.{TypeValue, bare_of}
 
 -- ---- what lasts
 
@@ -119,7 +120,7 @@ abbrev pub with_own_place : ℕ → ℕ → Frame → List Frame → Memory → 
 with_own_place number k frame below memory =
     record memory.frames { calls = record frame { slots = slice_set frame.slots k (Some (new_place memory number)); made = frame.made ++ length memory.segments ∷ [] } ∷ below }
 
-module _ {declared : Declarations} {G : Image} {injection : Injection} {s : meaning.State} {memory : Memory} (h : Matches declared G injection s memory) (t : TypeValue) (number : ℕ) (described : Describes memory.types number t) (valid : IsTypeValue t) (k : ℕ) (frame : Frame) (below : List Frame) (frames : memory.frames.calls ≡ frame ∷ below) (call : Call) (others : List Call) (calls : s.calls ≡ call ∷ others) where
+module _ {declared : Declarations} {G : Image} {injection : Injection} {s : meaning.State} {memory : Memory} (h : Matches declared G injection s memory) (t : TypeValue) (number : ℕ) (described : Describes memory.types number t) (valid : IsTypeValue t) (starts : AreStarts t) (k : ℕ) (frame : Frame) (below : List Frame) (frames : memory.frames.calls ≡ frame ∷ below) (call : Call) (others : List Call) (calls : s.calls ≡ call ∷ others) where
   abbrev pub own_later : Memory
   own_later = with_variable t number (with_own_place number k frame below memory) memory
 
@@ -139,17 +140,17 @@ module _ {declared : Declarations} {G : Image} {injection : Injection} {s : mean
       let units = h.units in
       let outside = h.outside in
       record {
-        injected = injected_making h t number described valid;
-        store = record { represented = represented_making h t number described valid };
+        injected = injected_making h t number described valid starts;
+        store = record { represented = represented_making h t number described valid starts };
         types = h.types;
         units = record {
           frames = λ unit u e.
               let f = matches_frame-grown {before = s.variables} {later = s.variables} {memory = memory} {after = with_variable t number memory.frames memory} unit u (grown_same_frames t injection memory number) refl (λ j. refl) (units.frames unit u e) in
               record { slots = f.slots; is = f.is; count = f.count; matches = f.matches; described = f.described };
-          typed = λ unit j c v is is_declared. of_type-more s.allocations (new_allocation h t number described valid) c (units.typed unit j c v is is_declared);
+          typed = λ unit j c v is is_declared. of_type-more s.allocations (new_allocation h t number described valid starts) c (units.typed unit j c v is is_declared);
         };
-        outside = record { output = is_in-longer injection longer 2 2 (record { rest = next_item t memory ∷ []; is = refl }) outside.output; file = is_of-longer injection longer 2 type.Text (record { rest = next_item t memory ∷ []; is = refl }) outside.file; lives = output_lives h t number described valid };
-        counts = counts_making h t number described valid;
+        outside = record { output = is_in-longer injection longer 2 2 (record { rest = next_item t memory ∷ []; is = refl }) outside.output; file = is_of-longer injection longer 2 type.Text (record { rest = next_item t memory ∷ []; is = refl }) outside.file; lives = output_lives h t number described valid starts };
+        counts = counts_making h t number described valid starts;
         depth = subst (λ cs. suc (length below) ≤ length (with_own k (suc (length s.allocations)) cs)) (sym calls) (omega (arith, h.depth, ap length frames, ap length calls));
       }
 
@@ -163,7 +164,7 @@ module _ {declared : Declarations} {G : Image} {injection : Injection} {s : mean
 
   -- the slot has its place, and the others have theirs
   pub own_making : MatchesOwn declared injection s memory → k < length frame.slots
-      → ((v : UnitVariable) → slice_get (variables_up declared 0) k ≡ Some v → HasOwnType declared v t)
+      → ((v : UnitVariable) → slice_get (variables_up declared 0) k ≡ Some v → HasOwnType declared v (bare_of t))
       → MatchesOwn declared longer own_state own_later
   own_making own within declared_so j v is = elim (ℕ_discrete k j) [ yes e ↦ same e | no e ↦ other e (own j v is) ]
     where
@@ -183,11 +184,11 @@ module _ {declared : Declarations} {G : Image} {injection : Injection} {s : mean
           (record {
             slot = Some place;
             is = slice_get-set-same frame.slots k (Some place) old.0 old.1;
-            matches = subst (λ o. MatchesSlot longer own_later.types o (Some place)) (sym (bound_to k (Some n) (bound_own-same k n call.variables))) (new_spot h t number described valid);
+            matches = subst (λ o. MatchesSlot longer own_later.types o (Some place)) (sym (bound_to k (Some n) (bound_own-same k n call.variables))) (new_spot h t number described valid starts);
             described = λ p u p_is has_type.
-                let its : t ≡ u = one_type (declared_so v (subst (λ i. slice_get (variables_up declared 0) i ≡ Some v) (sym e) is)) has_type in
+                let its : bare_of t ≡ u = one_type_of v (declared_so v (subst (λ i. slice_get (variables_up declared 0) i ≡ Some v) (sym e) is)) has_type in
                 let number_is : number ≡ p.type_number = ap (λ (q : Place). q.type_number) (same_Some place p p_is) in
-                subst (λ i. Describes memory.types i u) number_is (subst (λ w. Describes memory.types number w) its described);
+                subst (λ i. IsLike memory.types i u) number_is (subst (λ w. IsLike memory.types number w) its (t, refl, described));
           })
 
       other : (k ≡ j → ⊥) → OwnSlot declared injection s memory j v → OwnSlot declared longer own_state own_later j v
@@ -207,7 +208,7 @@ module _ {declared : Declarations} {G : Image} {injection : Injection} {s : mean
       → InActivation declared untouched first start longer own_state own_later
   in_activation_making {untouched = untouched} own around grown runs made =
       let injected = h.injected in
-      let spot = new_spot h t number described valid in
+      let spot = new_spot h t number described valid starts in
       record {
         grown = grown_trans grown grown_making_own;
         runs = still_runs-trans runs runs_on;

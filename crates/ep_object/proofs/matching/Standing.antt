@@ -3,13 +3,15 @@ use Rattle.std.proofs.Common.{◌≡◌, ℕ, ℤ, pos, negsuc, zero, suc, ◌<�
 use Rattle.std.proofs.lemmas.Bool.Decides.{nat_tests}
 use Rattle.std.proofs.lemmas.Option.{slice_get_within, same_Some}
 use Rattle.std.specs.Prelude.{int_le, int_lt, neg_ℤ}
-use Rattle.ep_object.specs.Matching.{Memory, Injection, part_along, all_of, IsIn, IsSpot, Describes, OrdinalAt, HasAt, Represents, IsRepresentedWhere, IsRepresented, Matches}
+use Rattle.ep_object.specs.Matching.{Memory, Injection, part_along, all_of, HasTypeUnder, IsIn, IsLike, IsSpot, OrdinalAt, HasAt, Represents, IsRepresentedWhere, IsRepresented, Matches}
 use Rattle.ep_object.specs.State.{Segments, TypeTable, undefined}
 use Rattle.ep_object.specs.declared.code.Image.{Image}
 use Rattle.ep_object.specs.declared.state.Place.{Place}
-use Rattle.ep_object.proofs.matching.Described.{describes_one}
-use Rattle.ep_object.proofs.matching.Words.{has_at-longer, has_along}
+use Rattle.ep_object.proofs.matching.BareValues.{has_bare}
+use Rattle.ep_object.proofs.matching.Likes.{like_one}
+use Rattle.ep_object.proofs.matching.Words.{has_at-longer, has_along, type_is-along}
 use Rattle.ep_outside.specs.Known.{IsPrefix}
+use Rattle.ep_typed.proofs.Bares.{bare_along}
 use Rattle.ep_typed.proofs.Denoters.{instances_are_one}
 use Rattle.ep_typed.specs.Denoters.{IsInstance}
 use Rattle.ep_typed.specs.Operations.{is_integer, maxint}
@@ -19,7 +21,8 @@ use Rattle.ep_typed.specs.Valid.{Declarations, IsTypeOf}
 use Rattle.ep_typed.specs.Hosts.{Host, is_of_host, least, greatest}
 use Rattle.ep_typed.specs.Trees.{Denoter}
 use Rattle.ep_typed.specs.declared.unit.UnitType.{UnitType}
-use Rattle.ep_typed.specs.TypeValues.{TypeValue}
+use Rattle.ep_typed.specs.TypeValues.{TypeValue, bare_of}
+use Rattle.ep_typed.specs.declared.unit.UnitVariable.{UnitVariable}
 use Rattle.ep_typed.specs.TypeValues as type
 
 -- an element that is there
@@ -72,8 +75,8 @@ pub record Stands (injection : Injection) (s : meaning.State) (memory : Memory) 
   pub lives : allocation.ended ≡ false
   pub represents : Represents injection memory.segments memory.types place.segment allocation
   pub type_value : TypeValue
-  pub leads : part_along (Some (all_of allocation.type_value)) v.path ≡ Some (record { offset = place.offset; type_value = type_value })
-  pub described : Describes memory.types place.type_number type_value
+  pub leads : part_along (Some (all_of (bare_of allocation.type_value))) v.path ≡ Some (record { offset = place.offset; type_value = type_value })
+  pub described : IsLike memory.types place.type_number type_value
   pub holds : HasAt injection type_value (value_along allocation.value v.path) (slice_get represents.words) place.offset
 
 -- what is told of an element is of one that is there
@@ -104,8 +107,8 @@ place_stands {injection = injection} {s = s} {memory = memory} {v = v} {place = 
     let a = allocated injection s v.allocation place.segment injected.made spot.is_in in
     let lives : (a.0).ended ≡ false = sym (ap meaning.ended_in a.1) ∙ living in
     let r : Represents injection memory.segments memory.types place.segment a.0 = represents_living injection memory.segments memory.types place.segment a.0 lives (store.represented v.allocation place.segment a.0 spot.is_in a.1) in
-    let root : (a.0).type_value ≡ spot.root = same_Some (a.0).type_value spot.root (sym (ap type_in a.1) ∙ injected.typed v.allocation spot.root spot.is_of) in
-    let leads : part_along (Some (all_of (a.0).type_value)) v.path ≡ Some (record { offset = place.offset; type_value = spot.type_value }) = ap (λ t. part_along (Some (all_of t)) v.path) root ∙ spot.leads in
+    let root : bare_of (a.0).type_value ≡ spot.root = same_Some (bare_of (a.0).type_value) spot.root (sym (ap (λ o. option_map bare_of (type_in o)) a.1) ∙ injected.typed v.allocation spot.root spot.is_of) in
+    let leads : part_along (Some (all_of (bare_of (a.0).type_value))) v.path ≡ Some (record { offset = place.offset; type_value = spot.type_value }) = ap (λ t. part_along (Some (all_of t)) v.path) root ∙ spot.leads in
     record {
       allocation = a.0;
       is = a.1;
@@ -114,7 +117,7 @@ place_stands {injection = injection} {s = s} {memory = memory} {v = v} {place = 
       type_value = spot.type_value;
       leads = leads;
       described = spot.described;
-      holds = has_along injection (a.0).type_value v.path (a.0).value (slice_get r.words) (record { offset = place.offset; type_value = spot.type_value }) leads r.holds;
+      holds = has_along injection (bare_of (a.0).type_value) v.path (a.0).value (slice_get r.words) (record { offset = place.offset; type_value = spot.type_value }) leads (has_bare injection (a.0).type_value (a.0).value (slice_get r.words) 0 r.holds);
     }
 
 -- the segment at the place of a variable whose allocation has ended has ended
@@ -127,6 +130,14 @@ place_ended {injection = injection} {s = s} {memory = memory} {v = v} {place = p
     let a = allocated injection s v.allocation place.segment injected.made spot.is_in in
     represents_ended injection memory.segments memory.types place.segment a.0 (sym (ap meaning.ended_in a.1) ∙ ended) (store.represented v.allocation place.segment a.0 spot.is_in a.1)
 
+-- the type of a variable, without its initial states
+pub type_of_variable : (t : TypeValue) (v : Component) (offset : ℕ) (s : meaning.State) (a : Allocation)
+    → allocation_at s.allocations v.allocation ≡ Some a → part_along (Some (all_of (bare_of a.type_value))) v.path ≡ Some (record { offset = offset; type_value = t })
+    → option_map bare_of (meaning.type_at v s) ≡ Some t
+type_of_variable t v offset s a is leads =
+    ap (λ o. option_map bare_of (meaning.type_along (type_in o) v.path)) is
+    ∙ (sym (bare_along (Some a.type_value) v.path) ∙ type_is-along (bare_of a.type_value) v.path (record { offset = offset; type_value = t }) leads)
+
 -- the variable of an ordinal type at a place, whose allocation lives, and the word that is its value
 pub record StandsOrdinal (injection : Injection) (s : meaning.State) (memory : Memory) (v : Component) (place : Place)
     (low high : ℤ) : Type 0 where
@@ -134,24 +145,24 @@ pub record StandsOrdinal (injection : Injection) (s : meaning.State) (memory : M
   pub is : allocation_at s.allocations v.allocation ≡ Some allocation
   pub lives : allocation.ended ≡ false
   pub represents : Represents injection memory.segments memory.types place.segment allocation
-  pub leads : part_along (Some (all_of allocation.type_value)) v.path ≡ Some (record { offset = place.offset; type_value = type.Ordinal low high })
+  pub leads : part_along (Some (all_of (bare_of allocation.type_value))) v.path ≡ Some (record { offset = place.offset; type_value = type.Ordinal low high })
   pub word : OrdinalAt low high (value_along allocation.value v.path) (slice_get represents.words place.offset)
 
 pub ordinal_stands : {declared : Declarations} {G : Image} {injection : Injection} {s : meaning.State} {memory : Memory} {v : Component} {place : Place} (low high : ℤ)
     → Matches declared G injection s memory → IsSpot injection memory.types v place
-    → Describes memory.types place.type_number (type.Ordinal low high)
+    → IsLike memory.types place.type_number (type.Ordinal low high)
     → meaning.has_ended v.allocation s ≡ false → StandsOrdinal injection s memory v place low high
 ordinal_stands {injection = injection} {s = s} {memory = memory} {v = v} {place = place} low high matches spot described living =
     let x : Stands injection s memory v place = place_stands matches spot living in
     let a : Allocation = x.allocation in
     let r : Represents injection memory.segments memory.types place.segment a = x.represents in
-    let its_type : x.type_value ≡ type.Ordinal low high = describes_one memory.types place.type_number x.type_value (type.Ordinal low high) x.described described in
+    let its_type : x.type_value ≡ type.Ordinal low high = like_one memory.types place.type_number x.type_value (type.Ordinal low high) x.described described in
     record {
       allocation = a;
       is = x.is;
       lives = x.lives;
       represents = r;
-      leads = subst (λ t. part_along (Some (all_of a.type_value)) v.path ≡ Some (record { offset = place.offset; type_value = t })) its_type x.leads;
+      leads = subst (λ t. part_along (Some (all_of (bare_of a.type_value))) v.path ≡ Some (record { offset = place.offset; type_value = t })) its_type x.leads;
       word = subst (λ t. HasAt injection t (value_along a.value v.path) (slice_get r.words) place.offset) its_type x.holds;
     }
 
@@ -176,6 +187,10 @@ both false b h = cc
 pub one_type : {types : List UnitType} {d : Denoter} {t u : TypeValue} → IsInstance types d t
     → IsInstance types d u → t ≡ u
 one_type {types = types} {d = d} {t = t} {u = u} p q = instances_are_one types d t u p q
+
+-- and a variable one type, but for initial states
+pub one_type_of : {types : List UnitType} (v : UnitVariable) {t u : TypeValue} → HasTypeUnder types v t → HasTypeUnder types v u → t ≡ u
+one_type_of v p q = sym p.2 ∙ (ap bare_of (one_type p.1 q.1) ∙ q.2)
 
 -- a value of a type is one of its host
 pub within_host : (h : Host) (low high w : ℤ) → IsTypeOf h (type.Ordinal low high)

@@ -3,13 +3,14 @@ use Rattle.std.proofs.Common.{◌≡◌, ℕ, ℤ, pos, negsuc, zero, suc, ◌+�
 use Rattle.std.specs.Prelude.{int_le}
 use Rattle.std.proofs.lemmas.Bool.Decides.{nat_tests}
 use Rattle.std.proofs.lemmas.List.{length-take-le}
+use Rattle.std.proofs.lemmas.Slice.Eq.{bytes_eq-Decides}
 use Rattle.ep_object.specs.Matching.{Injection, Words, SetAt, HasAt, HaveAt, Part, part_along, all_of}
 use Rattle.ep_object.specs.Places.{words_at, words_replaced}
 use Rattle.ep_object.proofs.matching.Elements.{slice_get-drop}
 use Rattle.ep_object.proofs.matching.Words.{AreSameBut, has_at-same, part_within}
 use Rattle.ep_typed.specs.Steps.{Value, Undefined, component_of}
 use Rattle.ep_typed.specs.Steps as meaning
-use Rattle.ep_typed.specs.TypeValues.{ComponentTypes, TypeValue, same_bounds, same_type, same_types, size_of}
+use Rattle.ep_typed.specs.TypeValues.{ComponentTypes, Start, TypeValue, same_bounds, same_start, same_type, same_types, set_start, simple_start, size_of}
 use Rattle.ep_typed.specs.TypeValues as type
 
 -- ---- elements
@@ -22,13 +23,13 @@ slice_get-take (suc n) (x ∷ xs) zero less = refl
 slice_get-take (suc n) (x ∷ xs) (suc i) less = slice_get-take n xs i (omega (arith, less))
 
 -- the elements of the first of two lists stand first
-slice_get-front : {A : Type 0} (xs ys : List A) (i : ℕ) → i < length xs → slice_get (xs ++ ys) i ≡ slice_get xs i
+pub slice_get-front : {A : Type 0} (xs ys : List A) (i : ℕ) → i < length xs → slice_get (xs ++ ys) i ≡ slice_get xs i
 slice_get-front [] ys i less = absurd (omega (arith, less))
 slice_get-front (x ∷ xs) ys zero less = refl
 slice_get-front (x ∷ xs) ys (suc i) less = slice_get-front xs ys i (omega (arith, less))
 
 -- and behind them those of the other one
-slice_get-behind : {A : Type 0} (xs ys : List A) (i : ℕ) → slice_get (xs ++ ys) (length xs + i) ≡ slice_get ys i
+pub slice_get-behind : {A : Type 0} (xs ys : List A) (i : ℕ) → slice_get (xs ++ ys) (length xs + i) ≡ slice_get ys i
 slice_get-behind [] ys i = ap (slice_get ys) {x = 0 + i} {y = i} (omega arith)
 slice_get-behind (x ∷ xs) ys i = ap (slice_get (x ∷ (xs ++ ys))) {x = suc (length xs) + i} {y = suc (length xs + i)} (omega arith) ∙ slice_get-behind xs ys i
 
@@ -53,6 +54,7 @@ mutual
       (subst (HasAt injection of (component_of value k) words) {x = by + offset + k * size_of of} {y = by + (offset + k * size_of of)} (omega arith) (h k less))
   has_at-moved injection (type.Record ts) value words by offset h = have_at-moved injection ts (component_of value) words by offset h
   has_at-moved injection (type.Set low high) value words by offset h = set_at-moved low high value words by offset h
+  has_at-moved injection (type.Initial of start) value words by offset h = has_at-moved injection of value words by offset h
 
   have_at-moved : (injection : Injection) (ts : ComponentTypes) (values : ℕ → Value) (words : Words) (by offset : ℕ)
       → HaveAt injection ts values words (by + offset) → HaveAt injection ts values (λ i. words (by + i)) offset
@@ -82,6 +84,7 @@ mutual
       (has_at-back injection of (component_of value k) words by (offset + k * size_of of) (h k less))
   has_at-back injection (type.Record ts) value words by offset h = have_at-back injection ts (component_of value) words by offset h
   has_at-back injection (type.Set low high) value words by offset h = set_at-back low high value words by offset h
+  has_at-back injection (type.Initial of start) value words by offset h = has_at-back injection of value words by offset h
 
   have_at-back : (injection : Injection) (ts : ComponentTypes) (values : ℕ → Value) (words : Words) (by offset : ℕ)
       → HaveAt injection ts values (λ i. words (by + i)) offset → HaveAt injection ts values words (by + offset)
@@ -186,6 +189,10 @@ int_le-same (negsuc n) = grind (arith, nat_tests)
 bounds_are : (low high : ℤ) → same_bounds low high low high ≡ true
 bounds_are low high = rw (int_le-same low, int_le-same high) refl
 
+start_is_same : (start : Start) → same_start start start ≡ true
+start_is_same (simple_start w) = rw (int_le-same w) refl
+start_is_same (set_start ms) = (let d = bytes_eq-Decides ms ms in d.1 refl)
+
 mutual
   pub type_is_same : (t : TypeValue) → same_type t t ≡ true
   type_is_same (type.Ordinal low high) = bounds_are low high
@@ -193,6 +200,7 @@ mutual
   type_is_same (type.Array low high of) = rw (bounds_are low high, type_is_same of) refl
   type_is_same (type.Record ts) = types_are_same ts
   type_is_same (type.Set low high) = bounds_are low high
+  type_is_same (type.Initial of start) = rw (type_is_same of, start_is_same start) refl
 
   types_are_same : (ts : ComponentTypes) → same_types ts ts ≡ true
   types_are_same type.no_component = refl

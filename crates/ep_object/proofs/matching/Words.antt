@@ -83,6 +83,7 @@ component_within (type.Array low high of) k p h =
     subst (λ (q : Part). q.offset + size_of q.type_value ≤ count_of low high * size_of of) (sym c.is) (ends_before k (count_of low high) (size_of of) c.less)
 component_within (type.Set low high) k p h = cc
 component_within (type.Record ts) k p h = let x = among_within 0 ts k p h in omega (arith, x.1)
+component_within (type.Initial of start) k p h = component_within of k p h
 
 -- a part lies within that in which it is
 pub part_within : (path : List ℕ) (t : TypeValue) (offset : ℕ) (p : Part)
@@ -119,6 +120,7 @@ component_type-is (type.Array low high of) k p h =
     ap (λ b. cond b (Some of) None) (less_true k (count_of low high) c.less) ∙ ap (λ (q : Part). Some q.type_value) (sym c.is)
 component_type-is (type.Record ts) k p h = among_type 0 ts k p h
 component_type-is (type.Set low high) k p h = cc
+component_type-is (type.Initial of start) k p h = component_type-is of k p h
 
 -- the type at a path is that of the part
 type_is-from : (path : List ℕ) (t : TypeValue) (offset : ℕ) (p : Part)
@@ -146,6 +148,7 @@ mutual
       λ k less. has_at-longer larger of (component_of value k) words (offset + k * size_of of) (h k less)
   has_at-longer larger (type.Record ts) value words offset h = have_at-longer larger ts (component_of value) words offset h
   has_at-longer larger (type.Set low high) value words offset h = h
+  has_at-longer larger (type.Initial of start) value words offset h = has_at-longer larger of value words offset h
 
   have_at-longer : {injection longer : Injection} → IsPrefix injection longer
       → (ts : ComponentTypes) (values : ℕ → Value) (words : Words) (offset : ℕ)
@@ -180,6 +183,7 @@ mutual
       has_at-same injection of (component_of value k) words later (offset + k * size_of of) (λ i from before. same i (omega (arith, from)) (omega (arith, before, ends))) (h k less)
   has_at-same injection (type.Record ts) value words later offset same h = have_at-same injection ts (component_of value) words later offset same h
   has_at-same injection (type.Set low high) value words later offset same h = set_at-same low high value words later offset same h
+  has_at-same injection (type.Initial of start) value words later offset same h = has_at-same injection of value words later offset same h
 
   pub have_at-same : (injection : Injection) (ts : ComponentTypes) (values : ℕ → Value) (words later : Words) (offset : ℕ)
       → AreSame words later offset (sizes_of ts) → HaveAt injection ts values words offset → HaveAt injection ts values later offset
@@ -202,6 +206,7 @@ mutual
       has_undefined injection of words (offset + k * size_of of) valid.1 (λ i from before. each i (omega (arith, from)) (omega (arith, before, ends)))
   has_undefined injection (type.Record ts) words offset valid each = have_undefined injection ts words offset valid each
   has_undefined injection (type.Set low high) words offset valid each = λ k less. each (offset + k) (omega arith) (omega (arith, less))
+  has_undefined injection (type.Initial of start) words offset valid each = has_undefined injection of words offset valid each
 
   have_undefined : (injection : Injection) (ts : ComponentTypes) (words : Words) (offset : ℕ) → AreTypeValues ts
       → ((i : ℕ) → offset ≤ i → i < offset + sizes_of ts → words i ≡ Some undefined) → HaveAt injection ts (λ k. Undefined) words offset
@@ -277,6 +282,7 @@ component_has injection (type.Array low high of) k value words offset p is h =
     let c = array_part low high of k p is in
     subst (λ (q : Part). HasAt injection q.type_value (component_of value k) words (offset + q.offset)) (sym c.is) (h k c.less)
 component_has injection (type.Set low high) k value words offset p is h = cc
+component_has injection (type.Initial of start) k value words offset p is h = component_has injection of k value words offset p is h
 component_has injection (type.Record ts) k value words offset p is h = have_among injection 0 ts k (component_of value) words offset p is (from_start injection ts (component_of value) words offset h)
 
 -- the words at a path hold the value there
@@ -381,6 +387,8 @@ has_with-from injection (k ∷ path) (type.Ordinal low high) value other words l
     let x = first_step (type.Ordinal low high) offset k path p leads in absurd (no_part x.is)
 has_with-from injection (k ∷ path) type.Text value other words later offset p leads same h new =
     let x = first_step type.Text offset k path p leads in absurd (no_part x.is)
+has_with-from injection (k ∷ path) (type.Initial of start) value other words later offset p leads same h new =
+    has_with-from injection (k ∷ path) of value other words later offset p leads same h new
 has_with-from injection (k ∷ path) (type.Set low high) value other words later offset p leads same h new =
     let x = first_step (type.Set low high) offset k path p leads in absurd (no_part x.is)
 has_with-from injection (k ∷ path) (type.Array low high of) value other words later offset p leads same h new =

@@ -1,14 +1,15 @@
 -- How a routine takes its arguments, in its activation: `Arg`, then `Store` or `Bind`.
 use Rattle.std.proofs.Common.{◌≡◌, ℕ, pos, suc, ◌+◌, ◌-◌, ◌*◌, ◌≤◌, ◌<◌, Bool, true, false, List, [], ◌∷◌, length, Option, Some, None, slice_get, slice_set, refl, sym, ap, ◌∙◌, subst, arith}
-use Rattle.std.specs.Prelude.{if◌then◌else◌}
+use Rattle.std.specs.Prelude.{if◌then◌else◌, option_map}
 use Rattle.std.proofs.lemmas.Bool.{lt-ltb}
 use Rattle.std.proofs.lemmas.Option.{slice_get_within, same_Some}
 use native.Mathlib.Decide.{ℕ_discrete}
 use Rattle.ep_object.specs.Activations.{OwnSlot, AreMade, InActivation}
 use Rattle.ep_object.specs.Calls.{argument_at}
 use Rattle.ep_object.specs.Follows.{Facts, After, point, Follows, Fragment, Lasts, IsSameCall, IsStillCall, StillRuns, IsNotLeft, Lands}
-use Rattle.ep_object.specs.Matching.{Memory, at, Injection, IsIn, IsRepresentedWhere, IsSpot, Describes, Slots, own_slot, slot_of_frame, MatchesSlot, HasOwnType, Matches, Grown}
-use Rattle.ep_object.specs.Places.{fresh_segment}
+use Rattle.ep_object.specs.Matching.{Memory, at, Injection, IsIn, IsRepresentedWhere, IsLike, IsSpot, Slots, own_slot, slot_of_frame, MatchesSlot, HasOwnType, Matches, Grown}
+use Rattle.ep_object.proofs.matching.BareValues.{suits_bare}
+use Rattle.ep_object.proofs.matching.NewSegments.{new_segment}
 use Rattle.ep_object.specs.Operands.{Operand, weight}
 use Rattle.ep_object.specs.Operands as operand
 use Rattle.ep_object.specs.Frames.{slots_over}
@@ -24,7 +25,7 @@ use Rattle.ep_object.proofs.matching.Elements.{slice_get-set-same, slice_get-set
 use Rattle.ep_object.proofs.matching.Growing.{grown_refl, grown_trans, not_left-here, still_runs-trans, still_routine, unit_in-still}
 use Rattle.ep_object.proofs.matching.Levels.{level-same}
 use Rattle.ep_object.proofs.matching.OwnVariables.{bound_own-same, bound_own-other}
-use Rattle.ep_object.proofs.matching.Standing.{slice_get-some, one_type, allocated}
+use Rattle.ep_object.proofs.matching.Standing.{slice_get-some, one_type_of, allocated}
 use Rattle.ep_object.proofs.rows.ChangeRows.{may_take, value_does, value_fails, variable_type}
 use Rattle.ep_object.proofs.rows.FrameRows.{own_slots, slot_pushes}
 use Rattle.ep_object.proofs.rows.Rows.{instr, outcome_at}
@@ -37,7 +38,7 @@ use Rattle.ep_typed.specs.Steps.{Component, whole, Call, named_in, Allocation, C
 use Rattle.ep_typed.specs.Steps as meaning
 use Rattle.ep_typed.specs.Valid.{Declarations, IsTypeOfKind, Kind, variables_up}
 use Rattle.ep_typed.specs.declared.unit.UnitVariable.{UnitVariable}
-use Rattle.ep_typed.specs.TypeValues.{TypeValue, size_of}
+use Rattle.ep_typed.specs.TypeValues.{TypeValue, bare_of}
 use Rattle.ep_object.specs.declared.op.TheConstants as op
 
 -- ---- memory in which the innermost call is another one
@@ -128,7 +129,7 @@ module _ (declared : Declarations) (G : Image) (untouched : Slots) (first : Inje
 
   -- the variable of the routine is the allocation at the place
   pub knows_bound : (s : meaning.State) (n : Component) (p : Place) (t : TypeValue) → InActivation declared untouched first start injection s memory → k < length frame.slots
-      → IsSpot injection memory.types n p → Describes memory.types p.type_number t
+      → IsSpot injection memory.types n p → IsLike memory.types p.type_number t
       → ((v : UnitVariable) → slice_get (variables_up declared 0) k ≡ Some v → HasOwnType declared v t)
       → InActivation declared untouched first start injection (with_own_bound k n s) (with_innermost (with_slot k p frame) others memory)
   knows_bound s n p t h within spot described declared_so =
@@ -166,8 +167,8 @@ module _ (declared : Declarations) (G : Image) (untouched : Slots) (first : Inje
             is = slice_get-set-same frame.slots k (Some p) old.0 old.1;
             matches = subst (λ o. MatchesSlot injection memory.types o (Some p)) (sym (bound_to k (Some n) (bound_own-same k n (h.call).variables))) spot;
             described = λ q u q_is has_type.
-                let its : t ≡ u = one_type (declared_so v (subst (λ i. slice_get (variables_up declared 0) i ≡ Some v) (sym e) is)) has_type in
-                subst (λ (x : Place). Describes memory.types x.type_number u) (same_Some p q q_is) (subst (λ u. Describes memory.types p.type_number u) its described);
+                let its : t ≡ u = one_type_of v (declared_so v (subst (λ i. slice_get (variables_up declared 0) i ≡ Some v) (sym e) is)) has_type in
+                subst (λ (x : Place). IsLike memory.types x.type_number u) (same_Some p q q_is) (subst (λ u. IsLike memory.types p.type_number u) its described);
           })
 
       other_slot : (j : ℕ) (v : UnitVariable) → slice_get (variables_up declared 0) j ≡ Some v → (k ≡ j → ⊥) → OwnSlot declared injection s memory j v → OwnSlot declared injection (with_own_bound k n s) later j v
@@ -235,7 +236,7 @@ module _ (declared : Declarations) (G : Image) (untouched : Slots) (first : Inje
   -- a variable of the caller, by `Bind`
   pub variable_taken : (n : ℕ) (m : Component) (d : ℕ) (p : Place) (t : TypeValue) (v : UnitVariable)
       → slice_get G.instructions place ≡ Some (instr op.ARG (pos k) 0 line) → slice_get G.instructions (place + 1) ≡ Some (instr op.BIND (pos k) 0 line)
-      → argument_at frame.arguments k ≡ Some (operand.Place p) → IsSpot injection memory.types m p → Describes memory.types p.type_number t
+      → argument_at frame.arguments k ≡ Some (operand.Place p) → IsSpot injection memory.types m p → IsLike memory.types p.type_number t
       → slice_get (variables_up declared 0) k ≡ Some v → ((w : UnitVariable) → slice_get (variables_up declared 0) k ≡ Some w → HasOwnType declared w t) → 2 ≤ d
       → Fragment declared G Here (suc n) (point injection memory place below) (spend 1 (change (with_own_bound k m))) (place + 1 + 1) (λ a. Taken untouched injection memory left below) d (λ a. d)
   variable_taken n m d p t v has_arg has_bind there spot described is_declared declared_so enough =
@@ -265,12 +266,12 @@ module _ (declared : Declarations) (G : Image) (untouched : Slots) (first : Inje
             post = record { grown = grown_trans (grown_innermost injection memory (taken_from k frame) others) (grown_innermost injection lighter (with_slot k p (taken_from k frame)) others); runs = still_runs-trans lighter_runs final_runs; left_are = refl; operands_are = refl };
           }))
 
-  -- A value, by `Store` in the variable of the routine that was made last.
-  pub value_taken : (n d : ℕ) (kind : Kind) (t : TypeValue) (r : Result) (o : Operand) (number : ℕ) (p : Place) → IsTypeOfKind kind t
+  -- A value, by `Store` in the variable of the routine that was made last, whatever that begins with.
+  pub value_taken : (n d : ℕ) (kind : Kind) (t : TypeValue) (r : Result) (o : Operand) (number : ℕ) (p : Place) → IsTypeOfKind kind (bare_of t)
       → slice_get G.instructions (place - 1) ≡ Some (instr op.SLOT (pos k) 0 line) → 1 ≤ place
       → slice_get G.instructions place ≡ Some (instr op.ARG (pos k) 0 line) → slice_get G.instructions (place + 1) ≡ Some (instr op.STORE (pos 0) 0 line)
       → argument_at frame.arguments k ≡ Some o → IsValueOf injection memory kind r o → own_slot memory.frames k ≡ Some (Some p)
-      → IsSpot injection memory.types (whole (length injection)) p → slice_get memory.segments p.segment ≡ Some (Some (fresh_segment number (size_of t))) → Describes memory.types p.type_number t → 3 + 2 * weight_of r ≤ d
+      → IsSpot injection memory.types (whole (length injection)) p → slice_get memory.segments p.segment ≡ Some (Some (new_segment number t)) → IsLike memory.types p.type_number (bare_of t) → 3 + 2 * weight_of r ≤ d
       → Fragment declared G Here n (point injection memory (place - 1) below) (initialized unit line t r) (place + 1 + 1) (λ a. Taken untouched injection memory left below) d (λ a. d - (3 + 2 * weight_of r))
   value_taken n d kind t r o number p of_kind has_slot later has_arg has_store there value slot spot stands described enough =
       fragment_waits {d1 = d - 1} (λ s matches. slot_pushes G (place - 1) line k 0 below frame.slots memory s.trace has_slot (own_slots memory frame others frames) p (sym (ap (λ cs. slot_of_frame (slots_over cs None) k) frames) ∙ slot)) (omega (arith, enough))
@@ -286,15 +287,20 @@ module _ (declared : Declarations) (G : Image) (untouched : Slots) (first : Inje
       newest_of s h = let injected = h.injected in subst (λ m. IsSpot injection memory.types (whole m) p) injected.made spot
 
       living : (s : meaning.State) → Matches declared G injection s lighter → has_ended (length s.allocations) s ≡ false
-      living s h = let q = newest_of s h in lives_where (length s.allocations) p.segment (fresh_segment number (size_of t)) h q.is_in stands
+      living s h = let q = newest_of s h in lives_where (length s.allocations) p.segment (new_segment number t) h q.is_in stands
 
-      its_type : (s : meaning.State) → Matches declared G injection s lighter → type_at (whole (length s.allocations)) s ≡ Some t
-      its_type s h = variable_type declared G (place + 1) line below t (whole (length s.allocations)) p injection lighter (newest_of s h) described s h (living s h)
+      its_type : (s : meaning.State) → Matches declared G injection s lighter → option_map bare_of (type_at (whole (length s.allocations)) s) ≡ Some (bare_of t)
+      its_type s h = variable_type declared G (place + 1) line below (bare_of t) (whole (length s.allocations)) p injection lighter (newest_of s h) described s h (living s h)
+
+      -- which values it may have
+      suits_it : (s : meaning.State) → Matches declared G injection s lighter → suits (type_at (whole (length s.allocations)) s) r ≡ suits (Some t) r
+      suits_it s h =
+          sym (suits_bare (type_at (whole (length s.allocations)) s) r) ∙ (ap (λ u. suits u r) (its_type s h) ∙ suits_bare (Some t) r)
 
       given : (s : meaning.State) → Matches declared G injection s lighter → Here injection s lighter → suits (Some t) r ≡ true
           → Follows (λ j. IsNotLeft lighter.frames j.frames) G n (at (place + 1) at_store lighter s.trace) s (change (newest_assigned (value_of r))) (λ a. Lands declared G Here (place + 1 + 1) (Taken untouched injection memory left below)) (d - (2 + weight_of r)) (λ a. d - (3 + 2 * weight_of r))
       given s h here e =
-          let does = value_does declared G (place + 1) line below kind t r o (whole (length s.allocations)) p (may_take kind t of_kind) has_store injection lighter given_value (newest_of s h) described s h (living s h) lasts here (ap (λ u. suits u r) (its_type s h) ∙ e) in
+          let does = value_does declared G (place + 1) line below kind (bare_of t) r o (whole (length s.allocations)) p (may_take kind (bare_of t) of_kind) has_store injection lighter given_value (newest_of s h) described s h (living s h) lasts here (suits_it s h ∙ e) in
           let inside = does.post in
           let routine = inside.routine in
           follows_credit {d = suc (weight_of r) + (d - (3 + 2 * weight_of r))} {e = λ a. d - (3 + 2 * weight_of r)} (omega (arith, enough)) (λ a. omega (arith, enough)) (follows_waits (not_left-here lighter.frames) does.does
@@ -311,7 +317,7 @@ module _ (declared : Declarations) (G : Image) (untouched : Slots) (first : Inje
       refused : (s : meaning.State) → Matches declared G injection s lighter → suits (Some t) r ≡ false
           → Follows (λ j. IsNotLeft lighter.frames j.frames) G n (at (place + 1) at_store lighter s.trace) s (stop {A = Unit {0}} (meaning.Error (misfit r) unit line)) (λ a. Lands declared G Here (place + 1 + 1) (Taken untouched injection memory left below)) (d - (2 + weight_of r)) (λ a. d - (3 + 2 * weight_of r))
       refused s h e =
-          let fails = value_fails declared G (place + 1) line below kind t r o (whole (length s.allocations)) p (may_take kind t of_kind) has_store injection lighter given_value (newest_of s h) described s h (living s h) (ap (λ u. suits u r) (its_type s h) ∙ e) in
+          let fails = value_fails declared G (place + 1) line below kind (bare_of t) r o (whole (length s.allocations)) p (may_take kind (bare_of t) of_kind) has_store injection lighter given_value (newest_of s h) described s h (living s h) (suits_it s h ∙ e) in
           follows_stop (not_left-here lighter.frames) (subst (λ u. outcome G (at (place + 1) at_store lighter s.trace) ≡ record { weight = weight_of r; to = Stopped (Error (misfit r) u line) s.trace }) lighter_home fails.fails) (omega (arith, enough))
 
       stored : (b : Bool) → suits (Some t) r ≡ b

@@ -1,13 +1,14 @@
 -- `Bind` of the variable of a `with`: in the activation of a routine, or in the frame of a unit, the variable of a slot is the
 -- one whose place is on top.
-use Rattle.std.proofs.Common.{◌≡◌, ℕ, pos, suc, ◌+◌, ◌≤◌, ◌<◌, inl, inr, IsTrue, List, [], ◌∷◌, length, Option, Some, None, slice_get, slice_set, refl, sym, ap, ◌∙◌, subst, arith}
+use Rattle.std.proofs.Common.{◌≡◌, ℕ, pos, suc, ◌+◌, ◌≤◌, ◌<◌, inl, inr, IsTrue, List, [], ◌∷◌, length, Option, Some, None, slice_get, slice_set, refl, sym, ap, ◌∙◌, subst, arith, option_map}
+use Rattle.ep_object.proofs.matching.Likes.{like_one}
 use Rattle.std.proofs.lemmas.Bool.{lt-ltb}
 use Rattle.std.proofs.lemmas.Option.{same_Some, slice_get_within}
 use native.Mathlib.Decide.{ℕ_discrete}
 use Rattle.ep_object.specs.Activations.{InActivation}
 use Rattle.ep_object.specs.Follows.{Facts, Lasts, Bare, Inside, IsSameCall, SameRoutine}
 use Rattle.ep_object.specs.Frames.{slots_over}
-use Rattle.ep_object.specs.Matching.{Memory, at, Injection, IsSpot, IsOfType, Describes, Slots, own_slot, slot_of_frame, slot_in, MatchesSlot, MatchesFrame, HasType, HasOwnType, Matches, Grown}
+use Rattle.ep_object.specs.Matching.{Memory, at, Injection, IsSpot, IsOfType, Slots, own_slot, slot_of_frame, slot_in, MatchesSlot, MatchesFrame, HasType, HasOwnType, Matches, Grown, IsLike}
 use Rattle.ep_object.specs.Operands.{Operand}
 use Rattle.ep_object.specs.Operands as operand
 use Rattle.ep_object.specs.Placing.{HasDistinctNames}
@@ -18,20 +19,20 @@ use Rattle.ep_object.specs.declared.code.ImageUnit.{ImageUnit}
 use Rattle.ep_object.specs.declared.op.TheConstants as op
 use Rattle.ep_object.specs.declared.state.Place.{Place}
 use Rattle.ep_object.proofs.following.Fragments.{Does}
-use Rattle.ep_object.proofs.matching.Described.{describes_one}
 use Rattle.ep_object.proofs.matching.Elements.{slice_get-set-same, slice_get-set-other, length-set}
 use Rattle.ep_object.proofs.matching.Growing.{grown_refl, same_call-refl}
 use Rattle.ep_object.proofs.matching.NewVariables.{bound-same, bound-other, same_name}
-use Rattle.ep_object.proofs.matching.Standing.{slice_get-some, one_type}
+use Rattle.ep_object.proofs.matching.Standing.{slice_get-some, one_type_of}
 use Rattle.ep_object.proofs.matching.Words.{type_is-along}
 use Rattle.ep_object.proofs.rows.ArgumentRows.{with_innermost, with_slot, grown_innermost, bind_outcome, knows_bound}
 use Rattle.ep_object.proofs.rows.MakeRow.{RunsInUnit}
 use Rattle.ep_object.proofs.rows.Rows.{instr, outcome_at}
+use Rattle.ep_typed.proofs.Bares.{bare_along}
 use Rattle.ep_typed.specs.Events.{Trace}
 use Rattle.ep_typed.specs.Steps.{Component, allocation_at, type_in, type_along, own_bound_in, with_bound, with_own_bound}
 use Rattle.ep_typed.specs.Steps as meaning
 use Rattle.ep_typed.specs.Valid.{Declarations, variables_up}
-use Rattle.ep_typed.specs.TypeValues.{TypeValue}
+use Rattle.ep_typed.specs.TypeValues.{TypeValue, bare_of}
 use Rattle.ep_typed.specs.declared.unit.UnitVariable.{UnitVariable}
 
 -- ---- in the activation of a routine
@@ -43,7 +44,7 @@ pub own_binds : {untouched kept : Slots} {first : Injection} {start : Memory} (d
     → ((w : UnitVariable) → slice_get (variables_up declared 0) k ≡ Some w → HasOwnType declared w t)
     → (IsTrue (untouched.own k) → ⊥)
     → (injection : Injection) (memory : Memory) (s : meaning.State) → Matches declared G injection s memory → InActivation declared kept first start injection s memory
-    → (c : Component) (p : Place) → IsSpot injection memory.types c p → Describes memory.types p.type_number t
+    → (c : Component) (p : Place) → IsSpot injection memory.types c p → IsLike memory.types p.type_number t
     → Does declared G (InActivation declared kept first start) (at place (operand.Place p ∷ below) memory s.trace) 0 (place + 1) (Inside untouched injection memory (Bare below tt)) (with_own_bound k c s)
 own_binds {untouched = untouched} {kept = kept} {first = first} {start = start} declared G place line k below v t has is_declared declared_so free injection memory s matches known c p spot described =
     record {
@@ -82,7 +83,7 @@ own_binds {untouched = untouched} {kept = kept} {first = first} {start = start} 
 
 -- ---- in the frame of a unit
 
-module _ {declared : Declarations} {G : Image} {injection : Injection} {s : meaning.State} {memory : Memory} (h : Matches declared G injection s memory) (c : Component) (p : Place) (spot : IsSpot injection memory.types c p) (t : TypeValue) (described : Describes memory.types p.type_number t) (x : ImageUnit) (k : ℕ) (is_unit : slice_get G.units memory.frames.unit ≡ Some x) (within : k < x.slots) (declared_so : (v : UnitVariable) → declared.variables x.name k ≡ Some v → HasType declared x.name v t) where
+module _ {declared : Declarations} {G : Image} {injection : Injection} {s : meaning.State} {memory : Memory} (h : Matches declared G injection s memory) (c : Component) (p : Place) (spot : IsSpot injection memory.types c p) (t : TypeValue) (described : IsLike memory.types p.type_number t) (x : ImageUnit) (k : ℕ) (is_unit : slice_get G.units memory.frames.unit ≡ Some x) (within : k < x.slots) (declared_so : (v : UnitVariable) → declared.variables x.name k ≡ Some v → HasType declared x.name v t) where
   -- the frame of the unit
   frame : MatchesFrame declared injection s.variables memory.frames.units memory.types memory.frames.unit x
   frame = let units = h.units in units.frames memory.frames.unit x is_unit
@@ -118,14 +119,14 @@ module _ {declared : Declarations} {G : Image} {injection : Injection} {s : mean
 
   -- the type of the place describes the declaration's, and those of the others theirs
   described_binding : (j : ℕ) (v : UnitVariable) (q : Place) (u : TypeValue) → declared.variables x.name j ≡ Some v → slice_get new_slots j ≡ Some (Some q)
-      → HasType declared x.name v u → Describes memory.types q.type_number u
+      → HasType declared x.name v u → IsLike memory.types q.type_number u
   described_binding j v q u is_declared is has_type = elim (ℕ_discrete k j) [ yes e ↦ same e | no e ↦ frame.described j v q u is_declared (sym (slice_get-set-other frame.slots k j (Some p) e) ∙ is) has_type ]
     where
-      same : k ≡ j → Describes memory.types q.type_number u
+      same : k ≡ j → IsLike memory.types q.type_number u
       same e =
           let place_is : Some p ≡ Some q = same_Some (Some p) (Some q) (sym there_now ∙ subst (λ i. slice_get new_slots i ≡ Some (Some q)) (sym e) is) in
-          let its_type : t ≡ u = one_type (declared_so v (subst (λ i. declared.variables x.name i ≡ Some v) (sym e) is_declared)) has_type in
-          subst (λ (y : Place). Describes memory.types y.type_number u) (same_Some p q place_is) (subst (λ w. Describes memory.types p.type_number w) its_type described)
+          let its_type : t ≡ u = one_type_of v (declared_so v (subst (λ i. declared.variables x.name i ≡ Some v) (sym e) is_declared)) has_type in
+          subst (λ (y : Place). IsLike memory.types y.type_number u) (same_Some p q place_is) (subst (λ w. IsLike memory.types p.type_number w) its_type described)
 
   frame_binding : MatchesFrame declared injection later_state.variables later.frames.units memory.types memory.frames.unit x
   frame_binding =
@@ -138,11 +139,11 @@ module _ {declared : Declarations} {G : Image} {injection : Injection} {s : mean
       }
 
   -- the variable is of the type
-  its_type : type_along (type_in (allocation_at s.allocations c.allocation)) c.path ≡ Some t
+  its_type : option_map bare_of (type_along (type_in (allocation_at s.allocations c.allocation)) c.path) ≡ Some t
   its_type =
       let injected = h.injected in
-      let its : spot.type_value ≡ t = describes_one memory.types p.type_number spot.type_value t spot.described described in
-      ap (λ o. type_along o c.path) (injected.typed c.allocation spot.root spot.is_of) ∙ (type_is-along spot.root c.path (record { offset = p.offset; type_value = spot.type_value }) spot.leads ∙ ap Some its)
+      let its : spot.type_value ≡ t = like_one memory.types p.type_number spot.type_value t spot.described described in
+      sym (bare_along (type_in (allocation_at s.allocations c.allocation)) c.path) ∙ (ap (λ o. type_along o c.path) (injected.typed c.allocation spot.root spot.is_of) ∙ type_is-along spot.root c.path (record { offset = p.offset; type_value = spot.type_value }) spot.leads ∙ ap Some its)
 
   module _ (distinct : HasDistinctNames G) where
     -- the frames of other units stay what they are
@@ -212,7 +213,7 @@ pub unit_binds : {untouched : Slots} {Here : Facts} (declared : Declarations) (G
     → (injection : Injection) (memory : Memory) (s : meaning.State)
     → RunsInUnit G memory.frames x → k < x.slots → (IsTrue (untouched.of_units memory.frames.unit k) → ⊥) → Lasts untouched Here
     → Matches declared G injection s memory → Here injection s memory
-    → (c : Component) (p : Place) → IsSpot injection memory.types c p → Describes memory.types p.type_number t
+    → (c : Component) (p : Place) → IsSpot injection memory.types c p → IsLike memory.types p.type_number t
     → Does declared G Here (at place (operand.Place p ∷ below) memory s.trace) 0 (place + 1) (Inside untouched injection memory (Bare below tt)) (with_bound x.name k c s)
 unit_binds {untouched = untouched} declared G place line k below t x has distinct declared_so injection memory s home within free lasts matches known c p spot described =
     record {

@@ -1,10 +1,11 @@
 -- What `Field` leads to, where the machine matches.
 use Rattle.std.proofs.Common.{leb, ◌≡◌, ℕ, ℤ, pos, zero, suc, ◌+◌, ◌≤◌, true, false, List, [], ◌∷◌, length, Some, slice_get, refl, sym, ap, ◌∙◌, subst, arith}
+use Rattle.ep_object.proofs.matching.Likes.{AreLike, LikeRecord, like_one, like_record, like_there}
 use Rattle.std.proofs.lemmas.Bool.Decides.{nat_tests}
 use Rattle.std.proofs.lemmas.Option.{same_Some}
 use Rattle.ep_object.specs.Effects.{provided, Continues}
 use Rattle.ep_object.specs.Follows.{Facts, PlaceOnTop, Inside}
-use Rattle.ep_object.specs.Matching.{Memory, at, Injection, Part, part_along, part_among, part_behind, all_of, IsSpot, DescribeEach, Describes, Represents, Matches, Slots}
+use Rattle.ep_object.specs.Matching.{Memory, at, Injection, Part, part_along, part_among, part_behind, all_of, IsSpot, IsLike, Represents, Matches, Slots}
 use Rattle.ep_object.specs.Operands.{Operand}
 use Rattle.ep_object.specs.Operands as operand
 use Rattle.ep_object.specs.Places as row
@@ -16,16 +17,16 @@ use Rattle.ep_object.specs.declared.state.Place.{Place}
 use Rattle.ep_object.specs.declared.state.RecordPart.{RecordPart}
 use Rattle.ep_object.specs.declared.state.TypeEntry.{TypeEntry}
 use Rattle.ep_object.proofs.following.Fragments.{Does, FailsWith}
-use Rattle.ep_object.proofs.matching.Described.{described_entry, describes_one, entry_size}
 use Rattle.ep_object.proofs.matching.Growing.{inside_here}
 use Rattle.ep_object.proofs.matching.Standing.{Stands, place_stands, place_ended}
 use Rattle.ep_object.proofs.matching.Words.{among_within, part_along-on, part_within}
 use Rattle.ep_object.proofs.rows.Rows.{instr, in_one, outcome_at}
+use Rattle.ep_typed.proofs.Bares.{bare_size}
 use Rattle.ep_typed.specs.Events.{Trace}
 use Rattle.ep_typed.specs.Steps.{Component, component, has_ended}
 use Rattle.ep_typed.specs.Steps as meaning
 use Rattle.ep_typed.specs.TypeValues as type
-use Rattle.ep_typed.specs.TypeValues.{ComponentTypes, TypeValue, size_of, type_among}
+use Rattle.ep_typed.specs.TypeValues.{ComponentTypes, TypeValue, size_of, type_among, bare_of}
 use Rattle.ep_typed.specs.Valid.{Declarations}
 use Rattle.ep_object.specs.declared.op.TheConstants as op
 use Rattle.ep_typed.specs.declared.run_error.TheConstants as run_error
@@ -47,9 +48,9 @@ pub record IsEntered (types : TypeTable) (ps : List RecordPart) (k : ℕ) (part 
   pub entered : RecordPart
   pub is : slice_get ps k ≡ Some entered
   pub offset : entered.offset ≡ part.offset
-  pub described : Describes types entered.type_number part.type_value
+  pub described : IsLike types entered.type_number part.type_value
 
-pub part_entered : (types : TypeTable) (before : ℕ) (ps : List RecordPart) (ts : ComponentTypes) (k : ℕ) (part : Part) → DescribeEach types before ps ts → part_among before ts k ≡ Some part → IsEntered types ps k part
+pub part_entered : (types : TypeTable) (before : ℕ) (ps : List RecordPart) (ts : ComponentTypes) (k : ℕ) (part : Part) → AreLike types before ps ts → part_among before ts k ≡ Some part → IsEntered types ps k part
 part_entered types before ps type.no_component k part h is = cc
 part_entered types before [] (type.next_component t ts) k part h is = absurd h
 part_entered types before (p ∷ ps) (type.next_component t ts) zero part h is =
@@ -61,32 +62,36 @@ part_entered types before (p ∷ ps) (type.next_component t ts) (suc k) part h i
 pub record LeadsTo (declared : Declarations) (G : Image) (place : ℕ) (below : List Operand) (k : ℕ) (of : TypeValue) (v : Component) (p : Place) (injection : Injection) (memory : Memory) : Type 0 where
   pub its_place : Place
   pub spot : IsSpot injection memory.types (component v k) its_place
-  pub described : Describes memory.types its_place.type_number of
+  pub described : IsLike memory.types its_place.type_number of
   pub leads : (s : meaning.State) → Matches declared G injection s memory → has_ended v.allocation s ≡ false
       → outcome G (at place (operand.Place p ∷ below) memory s.trace) ≡ record { weight = 0; to = Running 0 (at (place + 1) (operand.Place its_place ∷ below) memory s.trace) }
 
-module _ (declared : Declarations) (G : Image) (place line : ℕ) (below : List Operand) (ts : ComponentTypes) (k : ℕ) (of : TypeValue) (v : Component) (p : Place) (has : slice_get G.instructions place ≡ Some (instr op.FIELD (pos k) 0 line)) (injection : Injection) (memory : Memory) (spot : IsSpot injection memory.types v p) (described : Describes memory.types p.type_number (type.Record ts)) (among : IsAmong 0 ts k of) where
+module _ (declared : Declarations) (G : Image) (place line : ℕ) (below : List Operand) (ts : ComponentTypes) (k : ℕ) (of : TypeValue) (v : Component) (p : Place) (has : slice_get G.instructions place ≡ Some (instr op.FIELD (pos k) 0 line)) (injection : Injection) (memory : Memory) (spot : IsSpot injection memory.types v p) (described : IsLike memory.types p.type_number (type.Record ts)) (among : IsAmong 0 ts k of) where
+  -- the entry of its type
+  pub fields : LikeRecord memory.types p.type_number ts
+  fields = like_record memory.types p.type_number ts described
+
   -- the state before it
   abbrev pub before : Trace → State
   before trace = at place (operand.Place p ∷ below) memory trace
 
-  pub in_table : IsEntered memory.types described.0 k among.part
-  in_table = part_entered memory.types 0 described.0 ts k among.part described.2 among.is
+  pub in_table : IsEntered memory.types fields.parts k among.part
+  in_table = part_entered memory.types 0 fields.parts ts k among.part fields.like among.is
 
   pub entry_there : (e : TypeEntry) × (slice_get memory.types in_table.entered.type_number ≡ Some e) × (e.size ≡ size_of among.part.type_value)
-  entry_there = let e = described_entry memory.types in_table.entered.type_number among.part.type_value in_table.described in (e.0, e.1, entry_size memory.types among.part.type_value e.0 e.2)
+  entry_there = like_there memory.types in_table.entered.type_number among.part.type_value in_table.described
 
   -- what it leads to in a segment that lives
   field_outcome : (trace : Trace) (type_number : ℕ) (words : List ℤ) → slice_get memory.segments p.segment ≡ Some (Some (record { type_number = type_number; words = words }))
       → outcome G (before trace) ≡ in_one (after G (instr op.FIELD (pos k) 0 line) (before trace) (on_operands (before trace) (row.part_behind (record { type_number = type_number; words = words }) p in_table.entered entry_there.0.size below)))
   field_outcome trace type_number words stands =
-      outcome_at G (instr op.FIELD (pos k) 0 line) place (operand.Place p ∷ below) memory trace has ∙ rw (described.1, in_table.is, entry_there.1, stands) refl
+      outcome_at G (instr op.FIELD (pos k) 0 line) place (operand.Place p ∷ below) memory trace has ∙ rw (fields.stands, in_table.is, entry_there.1, stands) refl
 
   -- of a variable that has ended
   pub field_fails : (s : meaning.State) → Matches declared G injection s memory → has_ended v.allocation s ≡ true
       → FailsWith G (before s.trace) 0 run_error.DISPOSED (unit_in G memory.frames) line s
   field_fails s matches ended =
-      record { fails = outcome_at G (instr op.FIELD (pos k) 0 line) place (operand.Place p ∷ below) memory s.trace has ∙ rw (described.1, in_table.is, entry_there.1, place_ended matches spot ended) refl }
+      record { fails = outcome_at G (instr op.FIELD (pos k) 0 line) place (operand.Place p ∷ below) memory s.trace has ∙ rw (fields.stands, in_table.is, entry_there.1, place_ended matches spot ended) refl }
 
   -- the place of the component
   abbrev pub component_place : Place
@@ -95,7 +100,7 @@ module _ (declared : Declarations) (G : Image) (place line : ℕ) (below : List 
   -- it is that of the component of the variable
   component_spot : IsSpot injection memory.types (component v k) component_place
   component_spot =
-      let its_type : spot.type_value ≡ type.Record ts = describes_one memory.types p.type_number spot.type_value (type.Record ts) spot.described described in
+      let its_type : spot.type_value ≡ type.Record ts = like_one memory.types p.type_number spot.type_value (type.Record ts) spot.described described in
       let leads : part_along (Some (all_of spot.root)) v.path ≡ Some (record { offset = p.offset; type_value = type.Record ts }) = subst (λ t. part_along (Some (all_of spot.root)) v.path ≡ Some (record { offset = p.offset; type_value = t })) its_type spot.leads in
       record {
         is_in = spot.is_in;
@@ -109,8 +114,8 @@ module _ (declared : Declarations) (G : Image) (place line : ℕ) (below : List 
       }
 
   -- and of its type
-  component_described : Describes memory.types component_place.type_number of
-  component_described = subst (λ t. Describes memory.types in_table.entered.type_number t) among.type_is in_table.described
+  component_described : IsLike memory.types component_place.type_number of
+  component_described = subst (λ t. IsLike memory.types in_table.entered.type_number t) among.type_is in_table.described
 
   -- of a variable that lives: the place of the component is there
   field_leads : (s : meaning.State) → Matches declared G injection s memory → has_ended v.allocation s ≡ false
@@ -125,16 +130,16 @@ module _ (declared : Declarations) (G : Image) (place line : ℕ) (below : List 
       r = x.represents
 
       its_type : x.type_value ≡ type.Record ts
-      its_type = describes_one memory.types p.type_number x.type_value (type.Record ts) x.described described
+      its_type = like_one memory.types p.type_number x.type_value (type.Record ts) x.described described
 
-      leads : part_along (Some (all_of (x.allocation).type_value)) v.path ≡ Some (record { offset = p.offset; type_value = type.Record ts })
-      leads = subst (λ t. part_along (Some (all_of (x.allocation).type_value)) v.path ≡ Some (record { offset = p.offset; type_value = t })) its_type x.leads
+      leads : part_along (Some (all_of (bare_of (x.allocation).type_value))) v.path ≡ Some (record { offset = p.offset; type_value = type.Record ts })
+      leads = subst (λ t. part_along (Some (all_of (bare_of (x.allocation).type_value))) v.path ≡ Some (record { offset = p.offset; type_value = t })) its_type x.leads
 
       within : leb (p.offset + in_table.entered.offset + entry_there.0.size) (length r.words) ≡ true
       within =
-          let whole = part_within v.path (x.allocation).type_value 0 (record { offset = p.offset; type_value = type.Record ts }) leads in
+          let whole = part_within v.path (bare_of (x.allocation).type_value) 0 (record { offset = p.offset; type_value = type.Record ts }) leads in
           let inner = among_within 0 ts k among.part among.is in
-          let fits : p.offset + in_table.entered.offset + entry_there.0.size ≤ length r.words = omega (arith, whole.1, inner.1, in_table.offset, entry_there.2, r.sized) in
+          let fits : p.offset + in_table.entered.offset + entry_there.0.size ≤ length r.words = omega (arith, whole.1, inner.1, in_table.offset, entry_there.2, r.sized, bare_size (x.allocation).type_value) in
           grind (arith, nat_tests)
 
   -- which is that of the component of the variable

@@ -22,12 +22,13 @@ use Rattle.ep_object.proofs.rows.Rows.{instr, in_one, outcome_at}
 use Rattle.ep_typed.specs.Events.{Trace}
 use Rattle.ep_typed.specs.Steps.{Resources, counted, made}
 use Rattle.ep_typed.specs.Steps as meaning
-use Rattle.ep_typed.specs.TypeValues.{TypeValue, size_of}
+use Rattle.ep_typed.specs.TypeValues.{TypeValue, bare_of, size_of}
 use Rattle.ep_typed.specs.Valid.{Declarations, IsTypeValue}
 use Rattle.ep_typed.specs.declared.unit.UnitVariable.{UnitVariable}
 use Rattle.ep_object.specs.declared.op.TheConstants as op
 use Rattle.ep_typed.specs.declared.run_error.TheConstants as run_error
-use Rattle.ep_object.proofs.matching.NewSegments.{has_entry, described_within}
+use Rattle.ep_object.proofs.matching.NewSegments.{has_entry, described_within, size_is}
+use Rattle.ep_object.proofs.matching.Starting.{AreStarts, begun_words}
 use Rattle.ep_object.proofs.matching.NewVariables.{new_place, with_variable, with_place, with_segment, grown_making, frame_here, matches_making}
 
 -- ---- the row
@@ -41,31 +42,31 @@ pub record RunsInUnit (G : Image) (frames : Frames) (x : ImageUnit) : Type 0 whe
 make_outcome : (G : Image) (place line : ℕ) (below : List Operand) (t : TypeValue) (number k : ℕ) (slots : List (Option Place)) (memory : Memory) (trace : Trace) (b : Bool)
     → slice_get G.instructions place ≡ Some (instr op.MAKE (pos k) 0 line)
     → memory.frames.calls ≡ [] → slice_get memory.frames.units memory.frames.unit ≡ Some slots
-    → Describes memory.types number t → k < length slots
+    → Describes memory.types number t → AreStarts t → k < length slots
     → leb (memory.live + (size_of t + 1)) live_limit ≡ b
     → outcome G (at place (Word (pos number) ∷ below) memory trace) ≡ cond b (record { weight = size_of t; to = Running 0 (at (place + 1) below (with_variable t number (with_place number k slots memory) memory) trace) }) (in_one (Stopped (Error run_error.STORAGE_LIMIT (unit_in G memory.frames) line) trace))
-make_outcome G place line below t number k slots memory trace true has alone frame described within fits =
+make_outcome G place line below t number k slots memory trace true has alone frame described starts within fits =
     let entry = has_entry memory.types number t described in
-    outcome_at G (instr op.MAKE (pos k) 0 line) place (Word (pos number) ∷ below) memory trace has ∙ rw (alone, frame, lt-ltb number (length memory.types) (described_within memory.types number t described), entry.is, lt-ltb k (length slots) within, fits) refl
-make_outcome G place line below t number k slots memory trace false has alone frame described within fits =
+    outcome_at G (instr op.MAKE (pos k) 0 line) place (Word (pos number) ∷ below) memory trace has ∙ rw (alone, frame, lt-ltb number (length memory.types) (described_within memory.types number t described), entry.is, lt-ltb k (length slots) within, begun_words t, size_is t starts, fits) refl
+make_outcome G place line below t number k slots memory trace false has alone frame described starts within fits =
     let entry = has_entry memory.types number t described in
-    outcome_at G (instr op.MAKE (pos k) 0 line) place (Word (pos number) ∷ below) memory trace has ∙ rw (alone, frame, lt-ltb number (length memory.types) (described_within memory.types number t described), entry.is, lt-ltb k (length slots) within, fits) refl
+    outcome_at G (instr op.MAKE (pos k) 0 line) place (Word (pos number) ∷ below) memory trace has ∙ rw (alone, frame, lt-ltb number (length memory.types) (described_within memory.types number t described), entry.is, lt-ltb k (length slots) within, begun_words t, size_is t starts, fits) refl
 
 -- `Make` of a type in a slot of the unit's frame, over the number of the type
 pub make_does : {untouched : Slots} {Here : Facts} (declared : Declarations) (G : Image) (place line : ℕ) (below : List Operand) (t : TypeValue) (number k : ℕ) (x : ImageUnit)
     → slice_get G.instructions place ≡ Some (instr op.MAKE (pos k) 0 line)
-    → HasDistinctNames G → IsTypeValue t
-    → ((v : UnitVariable) → declared.variables x.name k ≡ Some v → HasType declared x.name v t)
+    → HasDistinctNames G → IsTypeValue t → AreStarts t
+    → ((v : UnitVariable) → declared.variables x.name k ≡ Some v → HasType declared x.name v (bare_of t))
     → (injection : Injection) (memory : Memory) (s : meaning.State)
     → RunsInUnit G memory.frames x → k < x.slots
     → (IsTrue (untouched.of_units memory.frames.unit k) → ⊥)
     → Describes memory.types number t → Lasts untouched Here
     → Matches declared G injection s memory → Here injection s memory
     → Does declared G Here (at place (Word (pos number) ∷ below) memory s.trace) (size_of t) (place + 1) (Inside untouched injection memory (Bare below tt)) (made x.name k t (counted t s)) ⊎ GivesUp G (at place (Word (pos number) ∷ below) memory s.trace) 0 1 (counted t s)
-make_does {untouched = untouched} {Here = Here} declared G place line below t number k x has distinct valid declared_so injection memory s home within free described lasts matches known = go (leb (memory.live + (size_of t + 1)) live_limit) refl
+make_does {untouched = untouched} {Here = Here} declared G place line below t number k x has distinct valid starts declared_so injection memory s home within free described lasts matches known = go (leb (memory.live + (size_of t + 1)) live_limit) refl
   where
     frame : MatchesFrame declared (with_segment t injection memory) s.variables memory.frames.units memory.types memory.frames.unit x
-    frame = frame_here matches t number described valid x k home.unit
+    frame = frame_here matches t number described valid starts x k home.unit
 
     -- the slots that are kept are what they were
     kept : (unit j : ℕ) → IsTrue (untouched.of_units unit j)
@@ -88,7 +89,7 @@ make_does {untouched = untouched} {Here = Here} declared G place line below t nu
 
     leads : (b : Bool) → leb (memory.live + (size_of t + 1)) live_limit ≡ b
         → outcome G (at place (Word (pos number) ∷ below) memory s.trace) ≡ cond b (record { weight = size_of t; to = Running 0 (at (place + 1) below (with_variable t number (with_place number k frame.slots memory) memory) s.trace) }) (in_one (Stopped (Error run_error.STORAGE_LIMIT (unit_in G memory.frames) line) s.trace))
-    leads b e = make_outcome G place line below t number k frame.slots memory s.trace b has home.calls frame.is described (omega (arith, within, frame.count)) e
+    leads b e = make_outcome G place line below t number k frame.slots memory s.trace b has home.calls frame.is described starts (omega (arith, within, frame.count)) e
 
     go : (b : Bool) → leb (memory.live + (size_of t + 1)) live_limit ≡ b
         → Does declared G Here (at place (Word (pos number) ∷ below) memory s.trace) (size_of t) (place + 1) (Inside untouched injection memory (Bare below tt)) (made x.name k t (counted t s)) ⊎ GivesUp G (at place (Word (pos number) ∷ below) memory s.trace) 0 1 (counted t s)
@@ -98,7 +99,7 @@ make_does {untouched = untouched} {Here = Here} declared G place line below t nu
           memory = with_variable t number (with_place number k frame.slots memory) memory;
           operands = below;
           does = leads true e;
-          matches = matches_making matches t number described valid x k home.unit within declared_so distinct;
+          matches = matches_making matches t number described valid starts x k home.unit within declared_so distinct;
           here = lasts.by injection (with_segment t injection memory) s (made x.name k t (counted t s)) memory (with_variable t number (with_place number k frame.slots memory) memory) (record { grown = grown_making t injection memory number (with_place number k frame.slots memory) kept; routine = record { turn = refl; routine = refl; unit = refl; calls = same_call-refl memory.frames.calls; slots = λ j kept. refl }; own = λ j. refl; calls = refl }) known;
           post = record { grown = grown_making t injection memory number (with_place number k frame.slots memory) kept; routine = record { turn = refl; routine = refl; unit = refl; calls = same_call-refl memory.frames.calls; slots = λ j kept. refl }; operands_are = refl };
         })

@@ -1,41 +1,47 @@
 -- A type is elaborated: the machine goes on matching, or ends for want of room where it was lost.
-use Rattle.std.proofs.Common.{length-append, append-nil, leb, ltb, ◌≡◌, ℕ, ℤ, pos, suc, ◌+◌, ◌⊎◌, inl, inr, Bool, true, false, IsTrue, List, [], ◌∷◌, ◌++◌, length, map, Option, Some, None, slice_get, refl, sym, ap, subst, ◌∙◌, arith, cond}
-use Rattle.std.specs.Prelude.{int_le, ◌&&◌, ⊤}
+use Rattle.std.proofs.Common.{append-nil, leb, ◌≡◌, ℕ, ℤ, pos, suc, ◌+◌, ◌⊎◌, inl, inr, Bool, true, false, IsTrue, List, [], ◌∷◌, ◌++◌, length, map, Option, Some, None, slice_get, refl, sym, ap, subst, ◌∙◌, arith, cond, ◌*◌, ◌≤◌}
+use Rattle.ep_object.specs.Sets.{words_of_set}
+use Rattle.ep_object.specs.declared.state.Kind.{Kind}
+use Rattle.ep_object.specs.declared.state.RecordPart.{RecordPart}
+use Rattle.ep_object.proofs.SetWords.{set_words_defined}
+use Rattle.ep_object.proofs.matching.Standing.{word_defined}
+use Rattle.ep_typed.specs.Bounds.{count_of}
+use Rattle.ep_object.specs.Starts.{start_words, start_words_of_each, words_kept, words_of_start}
+use Rattle.ep_object.proofs.matching.Likes.{like_ordinal}
+use Rattle.ep_object.proofs.matching.Starting.{AreStarts, AreStartsOfEach, begun_words, starts_length, IsStartOf}
+use Rattle.ep_object.proofs.rows.Meeting.{Interns, IsFull, counts_met, interns_one, interns_two}
+use Rattle.std.specs.Prelude.{int_le, ⊤, is_some, option_map, ◌||◌}
 use Rattle.std.proofs.lemmas.Bool.{lt-ltb}
 use Rattle.std.proofs.lemmas.Bool.Decides.{nat_tests}
-use Rattle.std.proofs.lemmas.Option.{slice_get_within}
-use Rattle.ep_object.specs.Matching.{Memory, at, Injection, DescribeEach, Describes, MatchesCounts, Matches, Slots, own_slot, Grown}
+use Rattle.std.proofs.lemmas.Option.{slice_get_within, same_Some}
+use Rattle.ep_object.specs.Matching.{Memory, at, Injection, AreBare, AreEntries, Describes, MatchesCounts, Matches, Slots, own_slot, Grown, HasSize, IsBare, IsKindOf, IsLike, HaveSize}
 use Rattle.ep_object.specs.Follows.{GivesUp, SameRoutine, Facts, Lasts, Inside}
 use Rattle.ep_object.specs.Operands.{Operand, Word}
+use Rattle.ep_object.specs.Operands as operand
 use Rattle.ep_object.specs.Runs.{Outcome, outcome, outcome_of, after}
-use Rattle.ep_object.specs.State.{State, TypeTable, Going, Running, live_limit, size_limit, type_limit}
-use Rattle.ep_object.specs.Types.{Numbered, Typing, and_numbered, entries_of, lowest_first, parts_behind, record_entry, record_of, words_behind, interned, interned_as, kind_number, words_of_kind, ordinal_entry, array_entry, array_of, bounds_of, entry_in, entry_of, numbered_entry, set_entry, set_of}
+use Rattle.ep_object.specs.State.{State, TypeTable, Running, size_limit, Segments, bare_number}
+use Rattle.ep_object.specs.Types.{Numbered, Typing, and_numbered, any_bare, any_start, array_met, array_over, bare_forms, entries_of, interned_over, lowest_first, parts_behind, record_entry, record_met, record_of, record_over, record_start, repeated, starts_joined, words_behind, interned, ordinal_entry, array_entry, array_of, bounds_of, entry_in, entry_of, numbered_entry, set_entry, set_of, all_undefined, initial_as, words_for}
 use Rattle.ep_typed.specs.Sets.{is_ordinal}
 use Rattle.ep_object.specs.Table.{typing, with_typing}
-use Rattle.ep_object.specs.Effects.{Work, mapped, having, having_weighed, weighing, Fails, Continues}
+use Rattle.ep_object.specs.Effects.{Effect, Work, mapped, having, having_weighed, weighing, Fails, Continues}
 use Rattle.ep_object.specs.declared.code.Instr.{Instr}
+use Rattle.ep_object.specs.declared.state.Kind.TheVariants as kind
 use Rattle.ep_object.specs.declared.state.TypeEntry.{TypeEntry}
 use Rattle.ep_object.proofs.Grows.{is_prefix}
 use Rattle.ep_object.proofs.following.Bind.{gives_up}
-use Rattle.ep_object.proofs.matching.Described.{IsEntryOf, described_entry, entry_describes, entry-longer, entry_size}
-use Rattle.ep_object.proofs.matching.Growing.{grown_refl, same_routine-refl}
-use Rattle.ep_object.proofs.matching.Elements.{slice_get-pushed}
+use Rattle.ep_object.proofs.matching.Growing.{entry_as, same_routine-refl}
 use Rattle.ep_typed.specs.Steps.{Resources, held, words_of_type, met, watched, same_type, Allocation, with_type}
 use Rattle.ep_typed.specs.Steps as meaning
-use Rattle.ep_typed.specs.Valid.{Declarations}
+use Rattle.ep_typed.specs.Valid.{Declarations, IsTypeValue}
 use Rattle.ep_object.specs.declared.code.Image.{Image}
-use Rattle.ep_typed.specs.TypeValues.{ComponentTypes, TypeValue, size_of, sizes_of}
+use Rattle.ep_typed.specs.TypeValues.{ComponentTypes, TypeValue, size_of, sizes_of, is_started, Start, are_started, set_start, simple_start}
 use Rattle.ep_typed.specs.TypeValues as type
 use Rattle.ep_object.specs.declared.op.TheConstants as op
 use Rattle.ep_typed.specs.declared.run_error.TheConstants as run_error
 use Rattle.ep_object.proofs.following.Fragments.{Does}
 use Rattle.ep_object.proofs.rows.Rows.{instr}
-use Rattle.ep_object.proofs.matching.TypeTables.{described-found, not_known, new_words, types-found, types-added, matches-types, grown-types}
-use Rattle.ep_object.proofs.matching.Counts.{met-typed, met-held, met_types-le, met_new, met_lost, met_large, live_bounded}
-
--- the memory with one more type
-abbrev pub with_entry : TypeEntry → Memory → Memory
-with_entry e memory = record memory { types = memory.types ++ e ∷ []; live = memory.live + words_of_kind e.kind }
+use Rattle.ep_object.proofs.matching.TypeTables.{matches-types, grown-types}
+use Rattle.ep_object.proofs.matching.Counts.{met_large, live_bounded}
 
 -- what a row on types leads to: the type's number on top, and the state that has met the type
 pub record Elaborates (untouched : Slots) (declared : Declarations) (G : Image) (injection : Injection)
@@ -50,96 +56,43 @@ pub record Elaborates (untouched : Slots) (declared : Declarations) (G : Image) 
   pub routine : SameRoutine untouched memory.frames final.frames
   pub own : (k : ℕ) → own_slot final.frames k ≡ own_slot memory.frames k
 
--- what an instruction leads to that makes a type of this entry
-abbrev interns : Image → Instr → State → TypeEntry → List Operand → Option ℕ → Going
-interns G i k e below o = after G i k (mapped (with_typing k) (interned_as o e below (typing k)))
-
-abbrev fits_one_more : State → TypeEntry → Bool
-fits_one_more k e = ltb (length k.types) type_limit && leb (k.live + words_of_kind e.kind) live_limit
-
--- what it leads to where the type has no number yet
-abbrev adds : Image → Instr → State → TypeEntry → List Operand → Bool → Going
-adds G i k e below b = after G i k (mapped (with_typing k) (cond b (Continues (record { operands = Word (pos (length k.types)) ∷ below; types = k.types ++ e ∷ []; live = k.live + words_of_kind e.kind })) (Fails run_error.STORAGE_LIMIT)))
-
--- The type is met, or the machine ends for want of storage where room is lost.
-elaborates : {untouched : Slots} {declared : Declarations} {G : Image} {injection : Injection} {memory : Memory} (weight place : ℕ) (i : Instr) (operands below : List Operand) (t : TypeValue) (e : TypeEntry) (s : meaning.State)
-    → IsEntryOf memory.types t e
-    → outcome G (at place operands memory s.trace) ≡ record { weight = weight; to = interns G i (at place operands memory s.trace) e below (kind_number e.kind memory.types) }
+-- an instruction whose effect this is, which makes a type or has no room for it
+elaborates : {untouched : Slots} {declared : Declarations} {G : Image} {injection : Injection} {memory : Memory} (weight place : ℕ) (i : Instr) (operands below : List Operand) (t : TypeValue) (effect : Effect Typing) (s : meaning.State)
+    → outcome G (at place operands memory s.trace) ≡ record { weight = weight; to = after G i (at place operands memory s.trace) (mapped (with_typing (at place operands memory s.trace)) effect) }
     → Matches declared G injection s memory
+    → Interns t s.resources below (typing (at place operands memory s.trace)) effect ⊎ IsFull t s.resources effect
     → Elaborates untouched declared G injection memory weight place below t (at place operands memory s.trace) s ⊎ GivesUp G (at place operands memory s.trace) 0 (suc weight) (meaning.with_type t s)
-elaborates {untouched} {declared} {G} {injection} {memory} weight place i operands below t e s is leads m = by_number (kind_number e.kind memory.types) refl
-  where
-    from : State
-    from = at place operands memory s.trace
+elaborates {declared = declared} {G} {injection} {memory} weight place i operands below t effect s leads m (inl x) =
+    inl (record {
+      number = x.number;
+      final = record memory { types = x.left.types; live = x.left.live };
+      does = leads ∙ ap (λ e. record { weight = weight; to = after G i (at place operands memory s.trace) (mapped (with_typing (at place operands memory s.trace)) e) }) x.leads;
+      matches = matches-types (met t s.resources) x.left.types x.left.live x.longer x.matches (counts_met t s.resources (typing (at place operands memory s.trace)) x.left m.counts x.counted) m;
+      described = x.described;
+      grown = grown-types injection memory x.left.types x.left.live x.longer;
+      routine = same_routine-refl memory.frames;
+      own = λ k. refl;
+    })
+elaborates {G = G} {memory = memory} weight place i operands below t effect s leads m (inr x) =
+    inr (gives_up (leads ∙ ap (λ e. record { weight = weight; to = after G i (at place operands memory s.trace) (mapped (with_typing (at place operands memory s.trace)) e) }) x.leads) (inl refl) (is_prefix s.trace) x.lost)
 
-    numbers : MatchesCounts injection s.resources memory.segments memory.types memory.live
-    numbers = m.counts
+-- what is bounded where counts match
+module _ {injection : Injection} {r : Resources} {segments : Segments} {types : TypeTable} {live : ℕ} (c : MatchesCounts injection r segments types live) where
+  few : length types ≤ 2 * length r.types + 5
+  few = c.number
 
-    leads_as : (o : Option ℕ) → kind_number e.kind memory.types ≡ o
-        → outcome G (at place operands memory s.trace) ≡ record { weight = weight; to = interns G i (at place operands memory s.trace) e below o }
-    leads_as o found = leads ∙ ap (λ x. record { weight = weight; to = interns G i (at place operands memory s.trace) e below x }) found
+  bounded : live ≤ held r + 4 * r.typed
+  bounded = live_bounded c
 
-    -- one more type was added, and its words are counted for it
-    counts_added : kind_number e.kind memory.types ≡ None
-        → MatchesCounts injection (met t s.resources) memory.segments (memory.types ++ e ∷ []) (memory.live + words_of_kind e.kind)
-    counts_added none =
-        let new = met_new t s.resources (not_known t e m.types is none) in
-        let same = met-held t s.resources in
-        record {
-          words = omega (arith, numbers.words, new.1, new_words t e m.types is none, same.0);
-          hidden = omega (arith, numbers.hidden, same.1);
-          number = omega (arith, numbers.number, new.0, length-append memory.types (e ∷ []));
-        }
-
-    -- nothing was added
-    counts_found : MatchesCounts injection (met t s.resources) memory.segments memory.types memory.live
-    counts_found =
-        let same = met-held t s.resources in
-        record {
-          words = omega (arith, numbers.words, met-typed t s.resources, same.0);
-          hidden = omega (arith, numbers.hidden, same.1);
-          number = omega (arith, numbers.number, met_types-le t s.resources);
-        }
-
-    added : (b : Bool) → fits_one_more (at place operands memory s.trace) e ≡ b → kind_number e.kind memory.types ≡ None
-        → Elaborates untouched declared G injection memory weight place below t (at place operands memory s.trace) s ⊎ GivesUp G (at place operands memory s.trace) 0 (suc weight) (meaning.with_type t s)
-    added true fits none =
-        inl (record {
-          number = length memory.types;
-          final = with_entry e memory;
-          does = leads_as None none ∙ ap (λ b. record { weight = weight; to = adds G i (at place operands memory s.trace) e below b }) fits;
-          matches = matches-types (met t s.resources) (memory.types ++ e ∷ []) (memory.live + words_of_kind e.kind) (record { rest = e ∷ []; is = refl }) (types-added s.resources t e m.types is none) (counts_added none) m;
-          described = entry_describes (memory.types ++ e ∷ []) (length memory.types) t e (slice_get-pushed memory.types e) (entry-longer memory.types (memory.types ++ e ∷ []) t e (record { rest = e ∷ []; is = refl }) is);
-          grown = grown-types injection memory (memory.types ++ e ∷ []) (memory.live + words_of_kind e.kind) (record { rest = e ∷ []; is = refl });
-          routine = same_routine-refl memory.frames;
-          own = λ k. refl;
-        })
-    added false full none =
-        inr (gives_up (leads_as None none ∙ ap (λ b. record { weight = weight; to = adds G i (at place operands memory s.trace) e below b }) full) (inl refl) (is_prefix s.trace)
-        (met_lost (length memory.types) memory.live (words_of_kind e.kind) t s.resources (not_known t e m.types is none) full numbers.number (live_bounded numbers) (new_words t e m.types is none)))
-
-    by_number : (o : Option ℕ) → kind_number e.kind memory.types ≡ o
-        → Elaborates untouched declared G injection memory weight place below t (at place operands memory s.trace) s ⊎ GivesUp G (at place operands memory s.trace) 0 (suc weight) (meaning.with_type t s)
-    by_number (Some n) found =
-        inl (record {
-          number = n;
-          final = memory;
-          does = leads_as (Some n) found;
-          matches = matches-types (met t s.resources) memory.types memory.live (record { rest = []; is = sym (append-nil memory.types) }) (types-found s.resources t e n m.types is found) counts_found m;
-          described = described-found t e n m.types is found;
-          grown = grown_refl injection memory;
-          routine = same_routine-refl memory.frames;
-          own = λ k. refl;
-        })
-    by_number None none = added (fits_one_more (at place operands memory s.trace) e) refl none
-
--- the type value is given, and the number of a type that describes it is on top
+-- the type value is given, of which all initial states are values of their types, and the number of a type that describes it is
+-- on top
 pub record TypeOnTop (t : TypeValue) (below : List Operand) (given : TypeValue) (injection : Injection)
     (memory : Memory) (operands : List Operand) : Type 0 where
   pub type_is : given ≡ t
   pub number : ℕ
   pub is : operands ≡ Word (pos number) ∷ below
   pub described : Describes memory.types number t
+  pub starts : AreStarts t
 
 -- what an instruction of a weight does that makes the type, or ends for want of storage
 abbrev pub MakesBy : ℕ → Slots → Declarations → Image → Facts → ℕ → List Operand → List Operand → TypeValue → Injection → Memory → meaning.State → Type 0
@@ -152,10 +105,10 @@ abbrev pub Makes : Slots → Declarations → Image → Facts → ℕ → List O
 Makes = MakesBy 0
 
 elaborated : {untouched : Slots} {Here : Facts} {declared : Declarations} {G : Image} {weight place : ℕ} {operands below : List Operand} {t : TypeValue}
-    → Lasts untouched Here → (injection : Injection) (memory : Memory) (s : meaning.State) → Here injection s memory
+    → AreStarts t → Lasts untouched Here → (injection : Injection) (memory : Memory) (s : meaning.State) → Here injection s memory
     → Elaborates untouched declared G injection memory weight place below t (at place operands memory s.trace) s ⊎ GivesUp G (at place operands memory s.trace) 0 (suc weight) (with_type t s)
     → MakesBy weight untouched declared G Here place operands below t injection memory s
-elaborated {below = below} {t = t} lasts injection memory s known (inl x) =
+elaborated {below = below} {t = t} starts lasts injection memory s known (inl x) =
     inl (record {
       injection = injection;
       memory = x.final;
@@ -163,9 +116,9 @@ elaborated {below = below} {t = t} lasts injection memory s known (inl x) =
       does = x.does;
       matches = x.matches;
       here = lasts.by injection injection s (with_type t s) memory x.final (record { grown = x.grown; routine = x.routine; own = x.own; calls = refl }) known;
-      post = record { grown = x.grown; routine = x.routine; operands_are = record { type_is = refl; number = x.number; is = refl; described = x.described } };
+      post = record { grown = x.grown; routine = x.routine; operands_are = record { type_is = refl; number = x.number; is = refl; described = x.described; starts = starts } };
     })
-elaborated lasts injection memory s known (inr x) = inr x
+elaborated starts lasts injection memory s known (inr x) = inr x
 
 -- `TOrd`, over its bounds
 pub ord_does : {untouched : Slots} {Here : Facts} (declared : Declarations) (G : Image) (place line : ℕ) (below : List Operand) (low high : ℤ)
@@ -177,24 +130,33 @@ ord_does declared G place line below low high ordered has lasts injection memory
     let i = instr op.T_ORD (pos 0) 0 line in
     let k = at place (Word high ∷ Word low ∷ below) memory s.trace in
     let e = ordinal_entry low high in
-    elaborated lasts injection memory s known
-    (elaborates 0 place i (Word high ∷ Word low ∷ below) below (type.Ordinal low high) e s refl
-    (ap (λ x. outcome_of G x k) has ∙ ap (λ b. record { weight = 0; to = after G i k (mapped (with_typing k) (cond b (interned e below (typing k)) (Fails run_error.OUTSIDE_DOMAIN))) }) ordered) matches)
+    elaborated tt lasts injection memory s known
+    (elaborates 0 place i (Word high ∷ Word low ∷ below) below (type.Ordinal low high) (interned e below (typing k)) s
+    (ap (λ x. outcome_of G x k) has ∙ ap (λ b. record { weight = 0; to = after G i k (mapped (with_typing k) (cond b (interned e below (typing k)) (Fails run_error.OUTSIDE_DOMAIN))) }) ordered) matches
+    (interns_one (type.Ordinal low high) s.resources below (kind.Ord low high) refl None (typing k) matches.types (record { is_kind = refl; other = refl; form = λ b e. cc }) refl (few matches.counts) (bounded matches.counts)))
 
 -- the number of a type that is in the table
-numbered_there : (types : TypeTable) (n : ℕ) (e : TypeEntry) → slice_get types n ≡ Some e
+pub numbered_there : (types : TypeTable) (n : ℕ) (e : TypeEntry) → slice_get types n ≡ Some e
     → entry_of types (pos n) ≡ Some (record { number = n; entry = e })
 numbered_there types n e there =
     ap (λ b. entry_in types (cond b (Some n) None)) (lt-ltb n (length types) (slice_get_within types n e there)) ∙ ap (numbered_entry n) there
 
--- `TArr`, over the numbers of its index type and the type of its components
+-- what an array begins with
+array_begins : (low high : ℤ) (of : TypeValue) → option_map (repeated (count_of low high)) (words_kept of) ≡ words_kept (type.Array low high of)
+array_begins low high of = go (is_started of)
+  where
+    go : (b : Bool) → option_map (repeated (count_of low high)) (cond b (Some (start_words of)) None) ≡ cond b (Some (repeated (count_of low high) (start_words of))) None
+    go true = refl
+    go false = refl
+
+-- `TArr`, over the numbers of its index type, whatever that begins with, and the type of its components
 pub arr_does : {untouched : Slots} {Here : Facts} (declared : Declarations) (G : Image) (place line : ℕ) (below : List Operand) (low high : ℤ) (of : TypeValue) (index component : ℕ)
     → slice_get G.instructions place ≡ Some (instr op.T_ARR (pos 0) 0 line)
     → Lasts untouched Here → (injection : Injection) (memory : Memory) (s : meaning.State)
-    → Describes memory.types index (type.Ordinal low high) → Describes memory.types component of
+    → IsLike memory.types index (type.Ordinal low high) → Describes memory.types component of → AreStarts of
     → Matches declared G injection s memory → Here injection s memory
     → Makes untouched declared G Here place (Word (pos component) ∷ Word (pos index) ∷ below) below (type.Array low high of) injection memory s
-arr_does {untouched = untouched} {Here = Here} declared G place line below low high of index component has lasts injection memory s index_is component_is matches known =
+arr_does {untouched = untouched} {Here = Here} declared G place line below low high of index component has lasts injection memory s index_is component_is starts matches known =
     go (leb (size_of (type.Array low high of)) size_limit) refl
   where
     i : Instr
@@ -206,29 +168,52 @@ arr_does {untouched = untouched} {Here = Here} declared G place line below low h
     k : State
     k = at place operands memory s.trace
 
-    e : TypeEntry
-    e = array_entry low high component (size_of (type.Array low high of))
+    size : ℕ
+    size = size_of (type.Array low high of)
+
+    c : Numbered
+    c = record { number = component; entry = entry_as of component_is.kind component_is.bare }
+
+    -- what it makes
+    makes : Effect Typing
+    makes = array_met low high size c below (typing k)
 
     -- what it leads to, by whether a variable may have so many words
-    leads : (b : Bool) → leb (size_of (type.Array low high of)) size_limit ≡ b
-        → outcome G k ≡ record { weight = 0; to = after G i k (mapped (with_typing k) (cond b (interned e below (typing k)) (Fails run_error.STORAGE_LIMIT))) }
+    leads : (b : Bool) → leb size size_limit ≡ b
+        → outcome G k ≡ record { weight = 0; to = after G i k (mapped (with_typing k) (cond b makes (Fails run_error.STORAGE_LIMIT))) }
     leads b fits =
-        let c = described_entry memory.types component of component_is in
+        let o = like_ordinal memory.types index low high index_is in
         ap (λ x. outcome_of G x k) has
-        ∙ ap (λ o. row_to o (entry_of memory.types (pos component))) (numbered_there memory.types index (ordinal_entry low high) index_is)
-        ∙ ap (λ o. row_to (Some (record { number = index; entry = ordinal_entry low high })) o) (numbered_there memory.types component c.0 c.1)
-        ∙ ap (λ size. sized_to size) (entry_size memory.types of c.0 c.2)
-        ∙ ap (λ x. record { weight = 0; to = after G i k (mapped (with_typing k) (cond x (interned e below (typing k)) (Fails run_error.STORAGE_LIMIT))) }) fits
+        ∙ ap (λ x. row_to x (entry_of memory.types (pos component))) (numbered_there memory.types index (record { kind = kind.Ord low high; size = 1; start = o.0; bare = o.1 }) o.2)
+        ∙ ap (λ x. row_to (Some (record { number = index; entry = record { kind = kind.Ord low high; size = 1; start = o.0; bare = o.1 } })) x) (numbered_there memory.types component c.entry component_is.stands)
+        ∙ ap (λ x. record { weight = 0; to = after G i k (mapped (with_typing k) (cond x makes (Fails run_error.STORAGE_LIMIT))) }) fits
       where
-        sized_to : ℕ → Outcome
-        sized_to size = record { weight = 0; to = after G i k (mapped (with_typing k) (array_of low high component size below (typing k))) }
-
         row_to : Option Numbered → Option Numbered → Outcome
-        row_to x y = record { weight = 0; to = after G i k (mapped (with_typing k) (having x (λ n. having (bounds_of n.entry.kind) (λ b. having y (λ c. array_of b.0 b.1 c.number c.entry.size below (typing k)))))) }
+        row_to x y = record { weight = 0; to = after G i k (mapped (with_typing k) (having x (λ n. having (bounds_of n.entry.kind) (λ b. having y (λ c. array_of b.0 b.1 c below (typing k)))))) }
 
-    go : (b : Bool) → leb (size_of (type.Array low high of)) size_limit ≡ b
+    begins : array_over low high component size (words_kept of) ≡ entry_as (type.Array low high of) (kind.Array low high component)
+    begins = λ i bare. record { kind = kind.Array low high component; size = size; start = array_begins low high of i; bare = bare }
+
+    sized : HasSize memory.types (kind.Array low high component) size
+    sized = (c.entry, component_is.stands, refl)
+
+    is_kind : IsKindOf memory.types (type.Array low high of) (kind.Array low high component)
+    is_kind = (component, refl, component_is)
+
+    -- the type, by the bare form of that of its components
+    met_by : (bare : Option ℕ) → is_some bare ≡ is_started of → IsBare memory.types (bare_number component bare) of
+        → Interns (type.Array low high of) s.resources below (typing k) (interned_over (option_map (λ b. array_entry low high b size) bare) (array_over low high component size (words_kept of)) below (typing k))
+        ⊎ IsFull (type.Array low high of) s.resources (interned_over (option_map (λ b. array_entry low high b size) bare) (array_over low high component size (words_kept of)) below (typing k))
+    met_by None other form =
+        subst (λ whole. Interns (type.Array low high of) s.resources below (typing k) (interned (whole None) below (typing k)) ⊎ IsFull (type.Array low high of) s.resources (interned (whole None) below (typing k))) (sym begins)
+        (interns_one (type.Array low high of) s.resources below (kind.Array low high component) (starts_length (type.Array low high of) starts) None (typing k) matches.types (record { is_kind = is_kind; other = other; form = λ b e. cc }) sized (few matches.counts) (bounded matches.counts))
+    met_by (Some b) other form =
+        subst (λ whole. Interns (type.Array low high of) s.resources below (typing k) (interned_over (Some (array_entry low high b size)) whole below (typing k)) ⊎ IsFull (type.Array low high of) s.resources (interned_over (Some (array_entry low high b size)) whole below (typing k))) (sym begins)
+        (interns_two (type.Array low high of) s.resources below (kind.Array low high component) (starts_length (type.Array low high of) starts) (sym other) (array_entry low high b size) (typing k) matches.types (b, refl, form) is_kind sized (few matches.counts) (bounded matches.counts))
+
+    go : (b : Bool) → leb size size_limit ≡ b
         → Makes untouched declared G Here place operands below (type.Array low high of) injection memory s
-    go true fits = elaborated lasts injection memory s known (elaborates 0 place i operands below (type.Array low high of) e s (component, refl, component_is) (leads true fits) matches)
+    go true fits = elaborated starts lasts injection memory s known (elaborates 0 place i operands below (type.Array low high of) makes s (leads true fits) matches (met_by component_is.bare component_is.other component_is.form))
     go false large = inr (gives_up (leads false large) (inl refl) (is_prefix s.trace) (met_large (type.Array low high of) s.resources (grind (arith, nat_tests))))
 
 -- ---- sets
@@ -238,11 +223,13 @@ pub set_does : {untouched : Slots} {Here : Facts} (declared : Declarations) (G :
     → IsTrue (is_ordinal low) → IsTrue (is_ordinal high)
     → slice_get G.instructions place ≡ Some (instr op.T_SET (pos 0) 0 line)
     → Lasts untouched Here → (injection : Injection) (memory : Memory) (s : meaning.State)
-    → Describes memory.types base (type.Ordinal low high)
+    → IsLike memory.types base (type.Ordinal low high)
     → Matches declared G injection s memory → Here injection s memory
     → Makes untouched declared G Here place (Word (pos base) ∷ below) below (type.Set low high) injection memory s
 set_does declared G place line below low high base from to has lasts injection memory s base_is matches known =
-    elaborated lasts injection memory s known (elaborates 0 place i (Word (pos base) ∷ below) below (type.Set low high) (set_entry low high) s refl leads matches)
+    elaborated tt lasts injection memory s known
+    (elaborates 0 place i (Word (pos base) ∷ below) below (type.Set low high) (interned (set_entry low high) below (typing k)) s leads matches
+    (interns_one (type.Set low high) s.resources below (kind.Set low high) (starts_length (type.Set low high) tt) None (typing k) matches.types (record { is_kind = refl; other = refl; form = λ b e. cc }) refl (few matches.counts) (bounded matches.counts)))
   where
     i : Instr
     i = instr op.T_SET (pos 0) 0 line
@@ -255,8 +242,9 @@ set_does declared G place line below low high base from to has lasts injection m
 
     leads : outcome G k ≡ record { weight = 0; to = after G i k (mapped (with_typing k) (interned (set_entry low high) below (typing k))) }
     leads =
+        let o = like_ordinal memory.types base low high base_is in
         ap (λ x. outcome_of G x k) has
-        ∙ (ap row_to (numbered_there memory.types base (ordinal_entry low high) base_is)
+        ∙ (ap row_to (numbered_there memory.types base (record { kind = kind.Ord low high; size = 1; start = o.0; bare = o.1 }) o.2)
         ∙ rw (from, to) refl)
 
 -- ---- records
@@ -289,31 +277,50 @@ popped ns below =
 record Entered (types : TypeTable) (before : ℕ) (ns : List ℕ) (ts : ComponentTypes) : Type 0 where
   entries : List Numbered
   are : entries_of types (map pos ns) ≡ Some entries
-  described : DescribeEach types before (parts_behind before entries) ts
+  described : AreEntries types before (parts_behind before entries) ts
+  forms : AreBare types before (parts_behind before (bare_forms entries)) ts
+  sized : HaveSize types before (parts_behind before entries) (before + sizes_of ts)
   words : words_behind before entries ≡ before + sizes_of ts
+  any_other : any_bare entries ≡ are_started ts
+  any_kept : any_start entries ≡ are_started ts
+  begin : starts_joined entries ≡ start_words_of_each ts
 
 entered : (types : TypeTable) (before : ℕ) (ns : List ℕ) (ts : ComponentTypes) → AreDescribed types ns ts → Entered types before ns ts
-entered types before [] type.no_component h = record { entries = []; are = refl; described = tt; words = omega arith }
+entered types before [] type.no_component h =
+    record { entries = []; are = refl; described = tt; forms = tt; sized = omega arith; words = omega arith; any_other = refl; any_kept = refl; begin = refl }
 entered types before [] (type.next_component t ts) h = absurd h
 entered types before (n ∷ ns) type.no_component h = absurd h
 entered types before (n ∷ ns) (type.next_component t ts) h =
-    let c = described_entry types n t h.0 in
-    let size : c.0.size ≡ size_of t = entry_size types t c.0 c.2 in
-    let rest = entered types (before + c.0.size) ns ts h.1 in
+    let d = h.0 in
+    let e : TypeEntry = entry_as t d.kind d.bare in
+    let rest = entered types (before + size_of t) ns ts h.1 in
+    let total : before + size_of t + sizes_of ts ≡ before + (size_of t + sizes_of ts) = omega arith in
     record {
-      entries = record { number = n; entry = c.0 } ∷ rest.entries;
-      are = ap (λ o. and_numbered o (entries_of types (map pos ns))) (numbered_there types n c.0 c.1) ∙ ap (and_numbered (Some (record { number = n; entry = c.0 }))) rest.are;
-      described = (refl, h.0, subst (λ m. DescribeEach types (before + m) (parts_behind (before + c.0.size) rest.entries) ts) size rest.described);
-      words = omega (arith, rest.words, size);
+      entries = record { number = n; entry = e } ∷ rest.entries;
+      are = ap (λ o. and_numbered o (entries_of types (map pos ns))) (numbered_there types n e d.stands) ∙ ap (and_numbered (Some (record { number = n; entry = e }))) rest.are;
+      described = (refl, d, rest.described);
+      forms = (refl, d.form, rest.forms);
+      sized = (refl, e, d.stands, subst (HaveSize types (before + size_of t) (parts_behind (before + size_of t) rest.entries)) total rest.sized);
+      words = omega (arith, rest.words);
+      any_other = (let first = d.other in let others = rest.any_other in λ i. first i || others i);
+      any_kept = (let first = kept_some t in let others = rest.any_kept in λ i. first i || others i);
+      begin = (let first = begun_words t in let others = rest.begin in λ i. first i ++ others i);
     }
+  where
+    kept_some : (t : TypeValue) → is_some (words_kept t) ≡ is_started t
+    kept_some t = go (is_started t)
+      where
+        go : (b : Bool) → is_some (cond b (Some (start_words t)) None) ≡ b
+        go true = refl
+        go false = refl
 
 -- `TRec`, over the numbers of the types of its components
 pub rec_does : {untouched : Slots} {Here : Facts} (declared : Declarations) (G : Image) (place line : ℕ) (below : List Operand) (ns : List ℕ) (ts : ComponentTypes)
     → slice_get G.instructions place ≡ Some (instr op.T_REC (pos (length ns)) 0 line)
     → Lasts untouched Here → (injection : Injection) (memory : Memory) (s : meaning.State)
-    → AreDescribed memory.types ns ts → Matches declared G injection s memory → Here injection s memory
+    → AreDescribed memory.types ns ts → AreStartsOfEach ts → Matches declared G injection s memory → Here injection s memory
     → MakesBy (length ns) untouched declared G Here place (stacked ns below) below (type.Record ts) injection memory s
-rec_does {untouched = untouched} {Here = Here} declared G place line below ns ts has lasts injection memory s described matches known =
+rec_does {untouched = untouched} {Here = Here} declared G place line below ns ts has lasts injection memory s described starts matches known =
     go (leb (size_of (type.Record ts)) size_limit) refl
   where
     i : Instr
@@ -325,27 +332,31 @@ rec_does {untouched = untouched} {Here = Here} declared G place line below ns ts
     x : Entered memory.types 0 ns ts
     x = entered memory.types 0 ns ts described
 
-    words : words_behind 0 x.entries ≡ size_of (type.Record ts)
+    size : ℕ
+    size = size_of (type.Record ts)
+
+    words : words_behind 0 x.entries ≡ size
     words = omega (arith, x.words)
 
-    e : TypeEntry
-    e = record_entry (parts_behind 0 x.entries) (size_of (type.Record ts))
+    -- what it makes
+    makes : Effect Typing
+    makes = record_met x.entries size below (typing k)
 
     -- what it leads to, by whether a variable may have so many words
-    leads : (b : Bool) → leb (size_of (type.Record ts)) size_limit ≡ b
-        → outcome G k ≡ record { weight = length ns; to = after G i k (mapped (with_typing k) (cond b (interned e below (typing k)) (Fails run_error.STORAGE_LIMIT))) }
+    leads : (b : Bool) → leb size size_limit ≡ b
+        → outcome G k ≡ record { weight = length ns; to = after G i k (mapped (with_typing k) (cond b makes (Fails run_error.STORAGE_LIMIT))) }
     leads b fits =
         ap (λ y. outcome_of G y k) has
         ∙ ap (λ o. row_to o) (popped ns below)
         ∙ ap (λ o. entries_to o) x.are
-        ∙ ap (λ size. sized_to size) words
-        ∙ ap (λ y. record { weight = length ns; to = after G i k (mapped (with_typing k) (cond y (interned e below (typing k)) (Fails run_error.STORAGE_LIMIT))) }) fits
+        ∙ ap (λ n. sized_to n) words
+        ∙ ap (λ y. record { weight = length ns; to = after G i k (mapped (with_typing k) (cond y makes (Fails run_error.STORAGE_LIMIT))) }) fits
       where
         led : Work Typing → Outcome
         led w = record { weight = w.weight; to = after G i k (mapped (with_typing k) w.effect) }
 
         sized_to : ℕ → Outcome
-        sized_to size = led (weighing (length ns) (cond (leb size size_limit) (interned (record_entry (parts_behind 0 x.entries) size) below (typing k)) (Fails run_error.STORAGE_LIMIT)))
+        sized_to n = led (weighing (length ns) (cond (leb n size_limit) (record_met x.entries n below (typing k)) (Fails run_error.STORAGE_LIMIT)))
 
         entries_to : Option (List Numbered) → Outcome
         entries_to o = led (having_weighed o (λ es. weighing (length ns) (record_of es below (typing k))))
@@ -353,7 +364,124 @@ rec_does {untouched = untouched} {Here = Here} declared G place line below ns ts
         row_to : Option (List ℤ × List Operand) → Outcome
         row_to o = led (having_weighed o (λ p. having_weighed (entries_of memory.types p.0) (λ es. weighing (length ns) (record_of es p.1 (typing k)))))
 
-    go : (b : Bool) → leb (size_of (type.Record ts)) size_limit ≡ b
+    parts : List RecordPart
+    parts = parts_behind 0 x.entries
+
+    begins : record_over parts size (record_start x.entries) ≡ entry_as (type.Record ts) (kind.Record parts)
+    begins = (let any = x.any_kept in let all = x.begin in λ j bare. record { kind = kind.Record parts; size = size; start = cond (any j) (Some (all j)) None; bare = bare })
+
+    sized : HasSize memory.types (kind.Record parts) size
+    sized = let total : 0 + sizes_of ts ≡ sizes_of ts = omega arith in subst (HaveSize memory.types 0 parts) total x.sized
+
+    is_kind : IsKindOf memory.types (type.Record ts) (kind.Record parts)
+    is_kind = (parts, refl, x.described)
+
+    Made : Option TypeEntry → Type 0
+    Made bare =
+        Interns (type.Record ts) s.resources below (typing k) (interned_over bare (entry_as (type.Record ts) (kind.Record parts)) below (typing k))
+        ⊎ IsFull (type.Record ts) s.resources (interned_over bare (entry_as (type.Record ts) (kind.Record parts)) below (typing k))
+
+    -- the type, by whether one of the components has another bare form
+    met_by : (b : Bool) → are_started ts ≡ b → Made (cond b (Some (record_entry (parts_behind 0 (bare_forms x.entries)) size)) None)
+    met_by false own =
+        interns_one (type.Record ts) s.resources below (kind.Record parts) (starts_length (type.Record ts) starts) None (typing k) matches.types (record { is_kind = is_kind; other = sym own; form = λ b e. cc }) sized (few matches.counts) (bounded matches.counts)
+    met_by true started =
+        interns_two (type.Record ts) s.resources below (kind.Record parts) (starts_length (type.Record ts) starts) started (record_entry (parts_behind 0 (bare_forms x.entries)) size) (typing k) matches.types (parts_behind 0 (bare_forms x.entries), refl, x.forms) is_kind sized (few matches.counts) (bounded matches.counts)
+
+    is_met : Interns (type.Record ts) s.resources below (typing k) makes ⊎ IsFull (type.Record ts) s.resources makes
+    is_met =
+        subst (λ whole. Interns (type.Record ts) s.resources below (typing k) (interned_over bare whole below (typing k)) ⊎ IsFull (type.Record ts) s.resources (interned_over bare whole below (typing k))) (sym begins)
+        (subst (λ b. Made (cond b (Some (record_entry (parts_behind 0 (bare_forms x.entries)) size)) None)) (sym x.any_other) (met_by (are_started ts) refl))
+      where
+        bare : Option TypeEntry
+        bare = cond (any_bare x.entries) (Some (record_entry (parts_behind 0 (bare_forms x.entries)) size)) None
+
+    go : (b : Bool) → leb size size_limit ≡ b
         → MakesBy (length ns) untouched declared G Here place (stacked ns below) below (type.Record ts) injection memory s
-    go true fits = elaborated lasts injection memory s known (elaborates (length ns) place i (stacked ns below) below (type.Record ts) e s (parts_behind 0 x.entries, refl, x.described) (leads true fits) matches)
+    go true fits = elaborated starts lasts injection memory s known (elaborates (length ns) place i (stacked ns below) below (type.Record ts) makes s (leads true fits) matches is_met)
     go false large = inr (gives_up (leads false large) (inl refl) (is_prefix s.trace) (met_large (type.Record ts) s.resources (grind (arith, nat_tests))))
+
+-- ---- initial states
+
+-- an operand is that of an initial state
+abbrev pub IsStartOperand : Start → Operand → Type 0
+IsStartOperand (simple_start w) o = o ≡ Word w
+IsStartOperand (set_start ms) o = o ≡ operand.Set ms
+
+-- the words that a kind takes of an initial state
+kind_takes : (types : TypeTable) (of : TypeValue) (k : Kind) (start : Start) (x : Operand) → IsKindOf types of k → IsStartOperand start x → IsStartOf of start → words_for k x ≡ Continues (words_of_start start)
+kind_takes types (type.Ordinal low high) k (simple_start w) x is same fits =
+    (λ i. words_for (is i) (same i)) ∙ ap (λ b. cond b (Continues (w ∷ [])) (Fails run_error.OUTSIDE_TYPE)) fits
+kind_takes types (type.Set low high) k (set_start ms) x is same fits =
+    (λ i. words_for (is i) (same i)) ∙ ap (λ b. cond b (Continues (words_of_set ms)) (Fails run_error.SET_MEMBER)) fits.1
+kind_takes types (type.Initial of other) k (simple_start w) x is same fits = kind_takes types of k (simple_start w) x is same fits
+kind_takes types (type.Initial of other) k (set_start ms) x is same fits = kind_takes types of k (set_start ms) x is same fits
+kind_takes types (type.Ordinal low high) k (set_start ms) x is same fits = cc
+kind_takes types (type.Set low high) k (simple_start w) x is same fits = cc
+kind_takes types type.Text k (simple_start w) x is same fits = cc
+kind_takes types type.Text k (set_start ms) x is same fits = cc
+kind_takes types (type.Array low high of) k (simple_start w) x is same fits = cc
+kind_takes types (type.Array low high of) k (set_start ms) x is same fits = cc
+kind_takes types (type.Record ts) k (simple_start w) x is same fits = cc
+kind_takes types (type.Record ts) k (set_start ms) x is same fits = cc
+
+-- of which not all are undefined
+start_defined : (of : TypeValue) (start : Start) → IsTypeValue of → IsStartOf of start → all_undefined (words_of_start start) ≡ false
+start_defined (type.Ordinal low high) (simple_start w) valid fits = rw (word_defined low high w valid.1 fits) refl
+start_defined (type.Set low high) (set_start ms) valid fits = set_words_defined ms
+start_defined (type.Initial of other) (simple_start w) valid fits = start_defined of (simple_start w) valid fits
+start_defined (type.Initial of other) (set_start ms) valid fits = start_defined of (set_start ms) valid fits
+start_defined (type.Ordinal low high) (set_start ms) valid fits = cc
+start_defined (type.Set low high) (simple_start w) valid fits = cc
+start_defined type.Text start valid fits = absurd valid
+start_defined (type.Array low high of) (simple_start w) valid fits = cc
+start_defined (type.Array low high of) (set_start ms) valid fits = cc
+start_defined (type.Record ts) (simple_start w) valid fits = cc
+start_defined (type.Record ts) (set_start ms) valid fits = cc
+
+-- `TInit`, over the number of a type and a value that a variable of it could take
+pub init_does : {untouched : Slots} {Here : Facts} (declared : Declarations) (G : Image) (place line : ℕ) (below : List Operand) (of : TypeValue) (start : Start) (number : ℕ) (x : Operand)
+    → slice_get G.instructions place ≡ Some (instr op.T_INIT (pos 0) 0 line)
+    → Lasts untouched Here → (injection : Injection) (memory : Memory) (s : meaning.State)
+    → IsTypeValue of → Describes memory.types number of → AreStarts of → IsStartOf of start → IsStartOperand start x
+    → Matches declared G injection s memory → Here injection s memory
+    → MakesBy (size_of of) untouched declared G Here place (x ∷ Word (pos number) ∷ below) below (type.Initial of start) injection memory s
+init_does {untouched = untouched} {Here = Here} declared G place line below of start number x has lasts injection memory s valid d starts fits is matches known =
+    elaborated (fits, starts) lasts injection memory s known
+    (elaborates (size_of of) place i (x ∷ Word (pos number) ∷ below) below (type.Initial of start) makes s leads matches
+    (interns_one (type.Initial of start) s.resources below d.kind (starts_length (type.Initial of start) (fits, starts)) (Some (bare_number number d.bare)) (typing k) matches.types
+    (record { is_kind = d.is_kind; other = refl; form = λ b e. subst (λ n. IsBare memory.types n of) (same_Some (bare_number number d.bare) b e) d.form }) (matches.types.sized number (entry_as of d.kind d.bare) d.stands) (few matches.counts) (bounded matches.counts)))
+  where
+    i : Instr
+    i = instr op.T_INIT (pos 0) 0 line
+
+    k : State
+    k = at place (x ∷ Word (pos number) ∷ below) memory s.trace
+
+    e : TypeEntry
+    e = entry_as of d.kind d.bare
+
+    makes : Effect Typing
+    makes = interned (entry_as (type.Initial of start) d.kind (Some (bare_number number d.bare))) below (typing k)
+
+    led : Work Typing → Outcome
+    led w = record { weight = w.weight; to = after G i k (mapped (with_typing k) w.effect) }
+
+    words : List ℤ
+    words = words_of_start start
+
+    leads : outcome G k ≡ led (weighing (size_of of) makes)
+    leads =
+        ap (λ y. outcome_of G y k) has
+        ∙ (ap entry_to (numbered_there memory.types number e d.stands)
+        ∙ (ap words_to (kind_takes memory.types of d.kind start x d.is_kind is fits)
+        ∙ ap begun_to (start_defined of start valid fits)))
+      where
+        entry_to : Option Numbered → Outcome
+        entry_to o = led (having_weighed o (λ n. initial_as n (words_for n.entry.kind x) below (typing k)))
+
+        words_to : Effect (List ℤ) → Outcome
+        words_to w = led (initial_as (record { number = number; entry = e }) w below (typing k))
+
+        begun_to : Bool → Outcome
+        begun_to b = led (weighing (size_of of) (interned (cond b (record e { start = None }) (record e { start = Some words; bare = Some (bare_number number d.bare) })) below (typing k)))

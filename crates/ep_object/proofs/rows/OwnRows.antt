@@ -1,15 +1,15 @@
 -- What the rows on a routine's own variables lead to, where the machine matches: `Slot`, and `Make` in its activation.
 use Rattle.std.proofs.Common.{leb, cond, ◌≡◌, ℕ, pos, suc, ◌+◌, ◌<◌, ◌⊎◌, inl, inr, Bool, true, false, List, [], ◌∷◌, length, length-append, Option, Some, None, slice_get, refl, sym, ap, ◌∙◌, subst, arith}
+use Rattle.ep_object.proofs.matching.Starting.{AreStarts, begun_words}
 use Rattle.std.proofs.lemmas.Bool.Decides.{nat_tests}
 use Rattle.std.proofs.lemmas.Bool.{lt-ltb}
 use Rattle.std.proofs.lemmas.Option.{slice_get_within}
 use Rattle.ep_object.specs.Activations.{OwnSlot, LevelMatches, InActivation}
 use Rattle.ep_object.specs.Follows.{GivesUp, Facts, IsStillCall, StillRuns, Inside, PlaceOnTop}
-use Rattle.ep_object.specs.Matching.{Memory, at, Injection, IsSpot, Grown, Describes, Slots, own_slot, slot_of_frame, MatchesSlot, HasOwnType, Matches}
+use Rattle.ep_object.specs.Matching.{Memory, at, Injection, IsSpot, Grown, Describes, Slots, own_slot, slot_of_frame, MatchesSlot, HasOwnType, Matches, IsLike}
 use Rattle.ep_object.specs.Operands.{Operand, Word}
 use Rattle.ep_object.specs.Operands as operand
 use Rattle.ep_object.specs.Frames.{slots_over, slots_up}
-use Rattle.ep_object.specs.Places.{fresh_segment}
 use Rattle.ep_object.specs.Runs.{outcome, unit_in}
 use Rattle.ep_object.specs.State.{Frame, Running, Stopped, Error, live_limit}
 use Rattle.ep_object.specs.declared.code.Image.{Image}
@@ -24,7 +24,7 @@ use Rattle.ep_object.proofs.matching.Elements.{slice_get-set-same, slice_get-pus
 use Rattle.ep_object.proofs.matching.Growing.{inside_here}
 use Rattle.ep_object.proofs.matching.Levels.{level_up}
 use Rattle.ep_object.proofs.matching.Standing.{slice_get-some}
-use Rattle.ep_object.proofs.matching.NewSegments.{has_entry, described_within}
+use Rattle.ep_object.proofs.matching.NewSegments.{has_entry, described_within, new_segment, size_is}
 use Rattle.ep_object.proofs.matching.NewVariables.{next_item, new_place, new_spot, with_variable, with_segment}
 use Rattle.ep_object.proofs.matching.OwnVariables.{with_own_place, grown_making_own, matches_making_own, own_making, in_activation_making}
 use Rattle.ep_object.proofs.rows.FrameRows.{own_slots, slot_pushes, slot_misses}
@@ -34,7 +34,7 @@ use Rattle.ep_typed.specs.Steps.{Component, whole, Resources, variable_in, own_v
 use Rattle.ep_typed.specs.Steps as meaning
 use Rattle.ep_typed.specs.Valid.{Declarations, IsTypeValue, Level, variables_up}
 use Rattle.ep_typed.specs.declared.unit.UnitVariable.{UnitVariable}
-use Rattle.ep_typed.specs.TypeValues.{TypeValue, size_of}
+use Rattle.ep_typed.specs.TypeValues.{TypeValue, size_of, bare_of}
 use Rattle.ep_object.specs.declared.op.TheConstants as op
 use Rattle.ep_typed.specs.declared.run_error.TheConstants as run_error
 
@@ -65,7 +65,7 @@ own_reads {untouched = untouched} {Here = Here} declared G place line below k v 
     go f.frame f.below f.frames own.slot f.holds (λ p e. own.described p t e has_type) (own_variable 0 k s) refl own.matches
   where
     go : (frame : Frame) (others : List Frame) → memory.frames.calls ≡ frame ∷ others → (slot : Option Place) → slice_get frame.slots k ≡ Some slot
-        → ((p : Place) → slot ≡ Some p → Describes memory.types p.type_number t)
+        → ((p : Place) → slot ≡ Some p → IsLike memory.types p.type_number t)
         → (o : Option Component) → own_variable 0 k s ≡ o → MatchesSlot injection memory.types o slot
         → Reads declared G Here (at place below memory s.trace) 1 (unit_in G memory.frames) line (place + 1) (λ n. Inside untouched injection memory (PlaceOnTop t below n)) s (own_variable 0 k s)
     go frame others frames None holds described None is h =
@@ -96,7 +96,7 @@ level_reads {untouched = untouched} {Here = Here} declared G place line below up
     frame : slots_up memory.frames up ≡ Some l.slots
     frame = level_up memory.frames up l.slots l.are
 
-    go : (slot : Option Place) → slice_get l.slots k ≡ Some slot → ((p : Place) → slot ≡ Some p → Describes memory.types p.type_number t)
+    go : (slot : Option Place) → slice_get l.slots k ≡ Some slot → ((p : Place) → slot ≡ Some p → IsLike memory.types p.type_number t)
         → (o : Option Component) → own_variable up k s ≡ o → MatchesSlot injection memory.types o slot
         → Reads declared G Here (at place below memory s.trace) 1 (unit_in G memory.frames) line (place + 1) (λ n. Inside untouched injection memory (PlaceOnTop t below n)) s (own_variable up k s)
     go None holds described None is h = Misses is (record { fails = slot_misses G place line k up below l.slots memory s.trace has frame holds })
@@ -130,35 +130,35 @@ pub record MadeOwn (untouched : Slots) (k : ℕ) (t : TypeValue) (injection : In
   pub place : Place
   pub slot : own_slot after.frames k ≡ Some (Some place)
   pub spot : IsSpot longer after.types (whole (length longer)) place
-  pub stands : slice_get after.segments place.segment ≡ Some (Some (fresh_segment number (size_of t)))
-  pub described : Describes after.types place.type_number t
+  pub stands : slice_get after.segments place.segment ≡ Some (Some (new_segment number t))
+  pub described : IsLike after.types place.type_number (bare_of t)
   pub operands_are : operands ≡ below
 
 -- what `Make` leads to: one more variable, or an error where too many words would live
 make_own_outcome : (G : Image) (place line : ℕ) (below : List Operand) (t : TypeValue) (number k : ℕ) (frame : Frame) (others : List Frame) (memory : Memory) (trace : Trace) (b : Bool)
     → slice_get G.instructions place ≡ Some (instr op.MAKE (pos k) 0 line)
     → memory.frames.calls ≡ frame ∷ others
-    → Describes memory.types number t → k < length frame.slots
+    → Describes memory.types number t → AreStarts t → k < length frame.slots
     → leb (memory.live + (size_of t + 1)) live_limit ≡ b
     → outcome G (at place (Word (pos number) ∷ below) memory trace) ≡ cond b (record { weight = size_of t; to = Running 0 (at (place + 1) below (with_variable t number (with_own_place number k frame others memory) memory) trace) }) (in_one (Stopped (Error run_error.STORAGE_LIMIT (unit_in G memory.frames) line) trace))
-make_own_outcome G place line below t number k frame others memory trace true has frames described within fits =
+make_own_outcome G place line below t number k frame others memory trace true has frames described starts within fits =
     let entry = has_entry memory.types number t described in
-    outcome_at G (instr op.MAKE (pos k) 0 line) place (Word (pos number) ∷ below) memory trace has ∙ rw (frames, lt-ltb number (length memory.types) (described_within memory.types number t described), entry.is, lt-ltb k (length frame.slots) within, fits) refl
-make_own_outcome G place line below t number k frame others memory trace false has frames described within fits =
+    outcome_at G (instr op.MAKE (pos k) 0 line) place (Word (pos number) ∷ below) memory trace has ∙ rw (frames, lt-ltb number (length memory.types) (described_within memory.types number t described), entry.is, lt-ltb k (length frame.slots) within, begun_words t, size_is t starts, fits) refl
+make_own_outcome G place line below t number k frame others memory trace false has frames described starts within fits =
     let entry = has_entry memory.types number t described in
-    outcome_at G (instr op.MAKE (pos k) 0 line) place (Word (pos number) ∷ below) memory trace has ∙ rw (frames, lt-ltb number (length memory.types) (described_within memory.types number t described), entry.is, lt-ltb k (length frame.slots) within, fits) refl
+    outcome_at G (instr op.MAKE (pos k) 0 line) place (Word (pos number) ∷ below) memory trace has ∙ rw (frames, lt-ltb number (length memory.types) (described_within memory.types number t described), entry.is, lt-ltb k (length frame.slots) within, begun_words t, size_is t starts, fits) refl
 
 -- `Make` of a type in a slot of the routine's activation, over the number of the type
 pub make_own_does : {untouched : Slots} {first : Injection} {start : Memory} (declared : Declarations) (G : Image) (place line : ℕ) (below : List Operand) (t : TypeValue) (number k : ℕ) (v : UnitVariable)
     → slice_get G.instructions place ≡ Some (instr op.MAKE (pos k) 0 line)
-    → IsTypeValue t
+    → IsTypeValue t → AreStarts t
     → slice_get (variables_up declared 0) k ≡ Some v
-    → ((w : UnitVariable) → slice_get (variables_up declared 0) k ≡ Some w → HasOwnType declared w t)
+    → ((w : UnitVariable) → slice_get (variables_up declared 0) k ≡ Some w → HasOwnType declared w (bare_of t))
     → (injection : Injection) (memory : Memory) (s : meaning.State)
     → Describes memory.types number t
     → Matches declared G injection s memory → InActivation declared untouched first start injection s memory
     → Does declared G (InActivation declared untouched first start) (at place (Word (pos number) ∷ below) memory s.trace) (size_of t) (place + 1) (MadeOwn untouched k t injection memory below) (made_own k t (counted t s)) ⊎ GivesUp G (at place (Word (pos number) ∷ below) memory s.trace) 0 1 (counted t s)
-make_own_does {untouched = untouched} {first = first} {start = start} declared G place line below t number k v has valid is_declared declared_so injection memory s described matches known = go (leb (memory.live + (size_of t + 1)) live_limit) refl
+make_own_does {untouched = untouched} {first = first} {start = start} declared G place line below t number k v has valid starts is_declared declared_so injection memory s described matches known = go (leb (memory.live + (size_of t + 1)) live_limit) refl
   where
     frame : Frame
     frame = known.frame
@@ -183,15 +183,15 @@ make_own_does {untouched = untouched} {first = first} {start = start} declared G
 
     again : InActivation declared untouched first start (with_segment t injection memory) (made_own k t (counted t s)) later
     again =
-        in_activation_making matches t number described valid k frame others known.frames known.call known.others known.calls
-        (own_making matches t number described valid k frame others known.frames known.call known.others known.calls known.own within declared_so) known.around known.grown known.runs known.made
+        in_activation_making matches t number described valid starts k frame others known.frames known.call known.others known.calls
+        (own_making matches t number described valid starts k frame others known.frames known.call known.others known.calls known.own within declared_so) known.around known.grown known.runs known.made
 
     still : StillRuns memory.frames later.frames
     still = record { turn = refl; routine = refl; unit = refl; calls = subst (λ cs. IsStillCall cs later.frames.calls) (sym known.frames) (refl, refl, refl, refl) }
 
     leads : (b : Bool) → leb (memory.live + (size_of t + 1)) live_limit ≡ b
         → outcome G (at place (Word (pos number) ∷ below) memory s.trace) ≡ cond b (record { weight = size_of t; to = Running 0 (at (place + 1) below later s.trace) }) (in_one (Stopped (Error run_error.STORAGE_LIMIT (unit_in G memory.frames) line) s.trace))
-    leads b e = make_own_outcome G place line below t number k frame others memory s.trace b has known.frames described within e
+    leads b e = make_own_outcome G place line below t number k frame others memory s.trace b has known.frames described starts within e
 
     go : (b : Bool) → leb (memory.live + (size_of t + 1)) live_limit ≡ b
         → Does declared G (InActivation declared untouched first start) (at place (Word (pos number) ∷ below) memory s.trace) (size_of t) (place + 1) (MadeOwn untouched k t injection memory below) (made_own k t (counted t s)) ⊎ GivesUp G (at place (Word (pos number) ∷ below) memory s.trace) 0 1 (counted t s)
@@ -201,18 +201,18 @@ make_own_does {untouched = untouched} {first = first} {start = start} declared G
           memory = later;
           operands = below;
           does = leads true e;
-          matches = matches_making_own matches t number described valid k frame others known.frames known.call known.others known.calls;
+          matches = matches_making_own matches t number described valid starts k frame others known.frames known.call known.others known.calls;
           here = again;
           post = record {
-            grown = grown_making_own matches t number described valid k frame others known.frames known.call known.others known.calls;
+            grown = grown_making_own matches t number described valid starts k frame others known.frames known.call known.others known.calls;
             runs = still;
             left_are = sym (ap arguments_in known.frames);
             number = number;
             place = new_place memory number;
             slot = slice_get-set-same frame.slots k (Some (new_place memory number)) old.0 old.1;
-            spot = subst (λ j. IsSpot (with_segment t injection memory) later.types (whole j) (new_place memory number)) newest (new_spot matches t number described valid);
-            stands = slice_get-pushed memory.segments (Some (fresh_segment number (size_of t)));
-            described = described;
+            spot = subst (λ j. IsSpot (with_segment t injection memory) later.types (whole j) (new_place memory number)) newest (new_spot matches t number described valid starts);
+            stands = slice_get-pushed memory.segments (Some (new_segment number t));
+            described = (t, refl, described);
             operands_are = refl;
           };
         })

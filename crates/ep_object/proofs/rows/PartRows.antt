@@ -1,30 +1,34 @@
 -- What `Field` and `Index` lead to on the value of a record or an array, where the machine matches.
-use Rattle.std.proofs.Common.{◌≡◌, ℕ, ℤ, pos, ◌+◌, ◌*◌, ◌<◌, ◌≤◌, Option, Some, None, List, ◌∷◌, length, option_map, slice_get, true, refl, sym, ap, ◌∙◌, subst, arith}
+use Rattle.std.proofs.Common.{◌≡◌, ℕ, ℤ, pos, zero, suc, ◌+◌, ◌*◌, ◌<◌, ◌≤◌, Option, Some, None, List, [], ◌∷◌, length, option_map, slice_get, true, refl, sym, ap, ◌∙◌, subst, arith}
+use Rattle.std.proofs.lemmas.Option.{same_Some}
 use Rattle.std.specs.Prelude.{cond, int_lt}
 use Rattle.ep_object.specs.Effects.{Work}
 use Rattle.ep_object.specs.Follows.{Facts, Inside, IsStructure, OnTop}
-use Rattle.ep_object.specs.Matching.{Describes, HasAt, Injection, Matches, Memory, OrdinalAt, SetAt, Part, Slots, at, part_of}
+use Rattle.ep_object.specs.Matching.{AreBare, HasAt, Injection, IsBare, Matches, Memory, OrdinalAt, SetAt, Part, Slots, at, part_among, part_of}
 use Rattle.ep_object.specs.Operands.{Operand}
 use Rattle.ep_object.specs.Operands as operand
 use Rattle.ep_object.specs.Parts as row
 use Rattle.ep_object.specs.Sets.{set_size}
 use Rattle.ep_object.specs.Runs.{Outcome, after, outcome, unit_in}
-use Rattle.ep_object.specs.State.{Error, Running, State, Stopped, undefined}
+use Rattle.ep_object.specs.State.{Error, Running, State, Stopped, TypeTable, undefined}
 use Rattle.ep_object.specs.Table.{on_operands}
 use Rattle.ep_object.specs.declared.code.Image.{Image}
 use Rattle.ep_object.specs.declared.code.Instr.{Instr}
+use Rattle.ep_object.specs.declared.state.RecordPart.{RecordPart}
 use Rattle.ep_object.specs.declared.state.TypeEntry.{TypeEntry}
 use Rattle.ep_object.proofs.following.Choices.{Nothing, ReadsResult, Result_of}
 use Rattle.ep_object.proofs.following.Fragments.{FailsWith}
-use Rattle.ep_object.proofs.matching.Described.{described_entry, entry_size}
+use Rattle.ep_object.proofs.matching.BareValues.{structure_given}
+use Rattle.ep_object.proofs.matching.Described.{bare_entry, entry_size}
 use Rattle.ep_object.proofs.matching.Growing.{inside_here}
 use Rattle.ep_object.proofs.matching.SetValues.{members_loaded, undefined_loaded}
 use Rattle.ep_object.proofs.matching.Standing.{within_host, word_defined}
 use Rattle.ep_object.proofs.matching.Values.{taken, taken_holds, taken_length, taken_there}
 use Rattle.ep_object.proofs.matching.Words.{component_has, component_type-is, component_within, less_true}
-use Rattle.ep_object.proofs.rows.FieldRow.{IsAmong, IsEntered, among_there, part_entered}
+use Rattle.ep_object.proofs.rows.FieldRow.{IsAmong, among_there}
 use Rattle.ep_object.proofs.rows.IndexRow.{is_within_count}
 use Rattle.ep_object.proofs.rows.Rows.{instr, outcome_at}
+use Rattle.ep_typed.proofs.Bares.{bare_component}
 use Rattle.ep_typed.specs.Bounds.{component_at, count_of, gap}
 use Rattle.ep_typed.specs.Events.{Trace}
 use Rattle.ep_typed.specs.Printing.{Number, Result, Structure, Members}
@@ -34,7 +38,7 @@ use Rattle.ep_typed.specs.Steps.{Undefined, Value, component_of, set_of, word_of
 use Rattle.ep_typed.specs.Steps as meaning
 use Rattle.ep_typed.specs.Hosts.{Host}
 use Rattle.ep_typed.specs.TypeValues as type
-use Rattle.ep_typed.specs.TypeValues.{ComponentTypes, TypeValue, size_of, type_among}
+use Rattle.ep_typed.specs.TypeValues.{ComponentTypes, TypeValue, bare_of, component_type, size_of, type_among}
 use Rattle.ep_typed.specs.Valid as kind
 use Rattle.ep_typed.specs.Valid.{Declarations, IsStructured, IsTypeOf, IsTypeOfKind, Kind}
 use Rattle.ep_object.specs.declared.op.TheConstants as op
@@ -57,7 +61,7 @@ module _ (declared : Declarations) (G : Image) (i : Instr) (place : ℕ) (operan
 
   -- one of an ordinal type of the host: its word, which is defined
   word_left : {untouched : Slots} {Here : Facts} (host : Host) (low high : ℤ) → IsTypeOf host (type.Ordinal low high)
-      → (c : ℕ) → Describes memory.types c (type.Ordinal low high)
+      → (c : ℕ) → IsBare memory.types c (type.Ordinal low high)
       → (words : List ℤ) (offset : ℕ) (fits : offset + size_of (type.Ordinal low high) ≤ length words) → Leaves c words offset
       → (value : Value) → OrdinalAt low high value (slice_get (taken words offset 1 fits) 0)
       → (s : meaning.State) → Matches declared G injection s memory → Here injection s memory
@@ -81,7 +85,7 @@ module _ (declared : Declarations) (G : Image) (i : Instr) (place : ℕ) (operan
 
   -- one of a set type: its set, which is defined
   set_left : {untouched : Slots} {Here : Facts} (host : Host) (low high : ℤ)
-      → (c : ℕ) → Describes memory.types c (type.Set low high)
+      → (c : ℕ) → IsBare memory.types c (type.Set low high)
       → (words : List ℤ) (offset : ℕ) (fits : offset + set_size ≤ length words) → Leaves c words offset
       → (value : Value) → SetAt low high value (slice_get (taken words offset set_size fits)) 0
       → (s : meaning.State) → Matches declared G injection s memory → Here injection s memory
@@ -102,12 +106,13 @@ module _ (declared : Declarations) (G : Image) (i : Instr) (place : ℕ) (operan
       })
 
   -- what it leads to where the component is of an array or record type
-  structure_outcome : (t : TypeValue) → IsStructured t → (c : ℕ) → Describes memory.types c t
+  structure_outcome : (t : TypeValue) → IsStructured t → (c : ℕ) → IsBare memory.types c t
       → (words : List ℤ) (offset : ℕ) (fits : offset + size_of t ≤ length words) → Leaves c words offset → (trace : Trace)
       → outcome G (before trace) ≡ record { weight = length words + size_of t; to = Running 0 (at (place + 1) (operand.Value c (taken words offset (size_of t) fits) ∷ below) memory trace) }
   structure_outcome (type.Ordinal low high) structured c described words offset fits leaves trace = absurd structured
   structure_outcome type.Text structured c described words offset fits leaves trace = absurd structured
   structure_outcome (type.Set low high) structured c described words offset fits leaves trace = absurd structured
+  structure_outcome (type.Initial of start) structured c described words offset fits leaves trace = absurd structured
   structure_outcome (type.Array low high of) structured c (n, entry, component) words offset fits leaves trace =
       let size : ℕ = size_of (type.Array low high of) in
       let many : length words + length (taken words offset size fits) ≡ length words + size = omega (arith, taken_length words offset size fits) in
@@ -117,23 +122,16 @@ module _ (declared : Declarations) (G : Image) (i : Instr) (place : ℕ) (operan
       let many : length words + length (taken words offset size fits) ≡ length words + size = omega (arith, taken_length words offset size fits) in
       leaves trace ∙ rw (entry, taken_there words offset size fits) (ap (λ n. record { weight = n; to = Running 0 (at (place + 1) (operand.Value c (taken words offset size fits) ∷ below) memory trace) }) many)
 
-  given_structure : (t : TypeValue) (value : Value) → IsStructured t → given_by (Some t) value ≡ Some (Structure t value)
-  given_structure (type.Ordinal low high) value structured = absurd structured
-  given_structure type.Text value structured = absurd structured
-  given_structure (type.Set low high) value structured = absurd structured
-  given_structure (type.Array low high of) value structured = refl
-  given_structure (type.Record ts) value structured = refl
-
   -- one of an array or record type: all its words
-  structure_left : {untouched : Slots} {Here : Facts} (t : TypeValue) → IsStructured t
-      → (c : ℕ) → Describes memory.types c t
+  structure_left : {untouched : Slots} {Here : Facts} (t : TypeValue) → IsStructured t → bare_of t ≡ t
+      → (c : ℕ) → IsBare memory.types c t
       → (words : List ℤ) (offset : ℕ) (fits : offset + size_of t ≤ length words) → Leaves c words offset
       → (value : Value) → HasAt injection t value (slice_get words) offset
       → (s : meaning.State) → Matches declared G injection s memory → Here injection s memory
       → ReadsResult declared G Here (before s.trace) (length words) run_error.UNDEFINED_VALUE (unit_in G memory.frames) i.line (place + 1) (λ r. Inside untouched injection memory (OnTop (kind.Structured t) below r)) s (given_by (Some t) value)
-  structure_left t structured c described words offset fits leaves value holds s matches known =
+  structure_left t structured bare c described words offset fits leaves value holds s matches known =
       let own : List ℤ = taken words offset (size_of t) fits in
-      Result_of (Structure t value) (given_structure t value structured) (length words + size_of t) (omega arith) (record {
+      Result_of (Structure t value) (structure_given t value structured ∙ ap (λ u. Some (Structure u value)) bare) (length words + size_of t) (omega arith) (record {
         injection = injection;
         memory = memory;
         operands = operand.Value c own ∷ below;
@@ -148,6 +146,7 @@ module _ (declared : Declarations) (G : Image) (i : Instr) (place : ℕ) (operan
             type_number = c;
             words = own;
             is = refl;
+            bare = bare;
             described = described;
             sized = taken_length words offset (size_of t) fits;
             holds = taken_holds words offset (size_of t) fits injection t value refl holds;
@@ -157,36 +156,60 @@ module _ (declared : Declarations) (G : Image) (i : Instr) (place : ℕ) (operan
       })
 
   -- one of a type whose values are of the kind
-  found_left : {untouched : Slots} {Here : Facts} (k : Kind) (t : TypeValue) → IsTypeOfKind k t
-      → (c : ℕ) → Describes memory.types c t
+  found_left : {untouched : Slots} {Here : Facts} (k : Kind) (t : TypeValue) → IsTypeOfKind k t → bare_of t ≡ t
+      → (c : ℕ) → IsBare memory.types c t
       → (words : List ℤ) (offset : ℕ) → offset + size_of t ≤ length words → Leaves c words offset
       → (value : Value) → HasAt injection t value (slice_get words) offset
       → (s : meaning.State) → Matches declared G injection s memory → Here injection s memory
       → ReadsResult declared G Here (before s.trace) (length words) run_error.UNDEFINED_VALUE (unit_in G memory.frames) i.line (place + 1) (λ r. Inside untouched injection memory (OnTop k below r)) s (given_by (Some t) value)
-  found_left (kind.Ordinal h) (type.Ordinal low high) of_kind c described words offset fits leaves value holds s matches known =
+  found_left (kind.Ordinal h) (type.Ordinal low high) of_kind bare c described words offset fits leaves value holds s matches known =
       word_left h low high of_kind c described words offset fits leaves value (taken_holds words offset 1 fits injection (type.Ordinal low high) value refl holds) s matches known
-  found_left (kind.Ordinal h) type.Text of_kind c described words offset fits leaves value holds s matches known = absurd of_kind
-  found_left (kind.Ordinal h) (type.Array low high of) of_kind c described words offset fits leaves value holds s matches known = absurd of_kind
-  found_left (kind.Ordinal h) (type.Record ts) of_kind c described words offset fits leaves value holds s matches known = absurd of_kind
-  found_left (kind.Ordinal h) (type.Set low high) of_kind c described words offset fits leaves value holds s matches known = absurd of_kind
-  found_left (kind.Set h) (type.Ordinal low high) of_kind c described words offset fits leaves value holds s matches known = absurd of_kind
-  found_left (kind.Set h) type.Text of_kind c described words offset fits leaves value holds s matches known = absurd of_kind
-  found_left (kind.Set h) (type.Array low high of) of_kind c described words offset fits leaves value holds s matches known = absurd of_kind
-  found_left (kind.Set h) (type.Record ts) of_kind c described words offset fits leaves value holds s matches known = absurd of_kind
-  found_left (kind.Set h) (type.Set low high) of_kind c described words offset fits leaves value holds s matches known =
+  found_left (kind.Ordinal h) type.Text of_kind bare c described words offset fits leaves value holds s matches known = absurd of_kind
+  found_left (kind.Ordinal h) (type.Array low high of) of_kind bare c described words offset fits leaves value holds s matches known = absurd of_kind
+  found_left (kind.Ordinal h) (type.Record ts) of_kind bare c described words offset fits leaves value holds s matches known = absurd of_kind
+  found_left (kind.Ordinal h) (type.Set low high) of_kind bare c described words offset fits leaves value holds s matches known = absurd of_kind
+  found_left (kind.Ordinal h) (type.Initial of start) of_kind bare c described words offset fits leaves value holds s matches known = absurd of_kind
+  found_left (kind.Set h) (type.Initial of start) of_kind bare c described words offset fits leaves value holds s matches known = absurd of_kind
+  found_left (kind.Set h) (type.Ordinal low high) of_kind bare c described words offset fits leaves value holds s matches known = absurd of_kind
+  found_left (kind.Set h) type.Text of_kind bare c described words offset fits leaves value holds s matches known = absurd of_kind
+  found_left (kind.Set h) (type.Array low high of) of_kind bare c described words offset fits leaves value holds s matches known = absurd of_kind
+  found_left (kind.Set h) (type.Record ts) of_kind bare c described words offset fits leaves value holds s matches known = absurd of_kind
+  found_left (kind.Set h) (type.Set low high) of_kind bare c described words offset fits leaves value holds s matches known =
       set_left h low high c described words offset fits leaves value (taken_holds words offset set_size fits injection (type.Set low high) value refl holds) s matches known
-  found_left kind.Bytes t of_kind c described words offset fits leaves value holds s matches known = absurd of_kind
-  found_left {untouched = untouched} {Here = Here} (kind.Structured u) t (same, structured) c described words offset fits leaves value holds s matches known =
+  found_left kind.Bytes t of_kind bare c described words offset fits leaves value holds s matches known = absurd of_kind
+  found_left {untouched = untouched} {Here = Here} (kind.Structured u) t (same, structured) bare c described words offset fits leaves value holds s matches known =
       subst (λ x. ReadsResult declared G Here (before s.trace) (length words) run_error.UNDEFINED_VALUE (unit_in G memory.frames) i.line (place + 1) (λ r. Inside untouched injection memory (OnTop (kind.Structured x) below r)) s (given_by (Some t) value)) (sym same)
-      (structure_left t (subst IsStructured same structured) c described words offset fits leaves value holds s matches known)
+      (structure_left t (subst IsStructured same structured) bare c described words offset fits leaves value holds s matches known)
 
 -- ---- a component of a value
+
+-- where a type has no initial states, neither has the type of a component
+part_bare : (t : TypeValue) (number : ℕ) (p : Part) → bare_of t ≡ t → part_of t number ≡ Some p → bare_of p.type_value ≡ p.type_value
+part_bare t number p bare is =
+    let component : component_type t number ≡ Some p.type_value = component_type-is t number p is in
+    let same : component_type t number ≡ option_map bare_of (component_type t number) = ap (λ u. component_type u number) (sym bare) ∙ bare_component t number in
+    same_Some (bare_of p.type_value) p.type_value (sym (ap (option_map bare_of) component) ∙ (sym same ∙ component))
+
+-- the table has the bare form of a component where the component is
+record IsBareThere (types : TypeTable) (ps : List RecordPart) (k : ℕ) (part : Part) : Type 0 where
+  entered : RecordPart
+  is : slice_get ps k ≡ Some entered
+  offset : entered.offset ≡ part.offset
+  form : IsBare types entered.type_number part.type_value
+
+bare_there : (types : TypeTable) (before : ℕ) (ps : List RecordPart) (ts : ComponentTypes) (k : ℕ) (part : Part) → AreBare types before ps ts → part_among before ts k ≡ Some part → IsBareThere types ps k part
+bare_there types before ps type.no_component k part h is = cc
+bare_there types before [] (type.next_component t ts) k part h is = absurd h
+bare_there types before (p ∷ ps) (type.next_component t ts) zero part h is =
+    subst (λ (q : Part). IsBareThere types (p ∷ ps) 0 q) (same_Some (record { offset = before; type_value = t }) part is) (record { entered = p; is = refl; offset = h.0; form = h.1 })
+bare_there types before (p ∷ ps) (type.next_component t ts) (suc k) part h is =
+    let x = bare_there types (before + size_of t) ps ts k part h.2 is in record { entered = x.entered; is = x.is; offset = x.offset; form = x.form }
 
 -- The component of this number of the value on an operand: the machine leaves it and spends the words of the value besides,
 -- or both end with the error.
 part_left : {untouched : Slots} {Here : Facts} (declared : Declarations) (G : Image) (i : Instr) (place : ℕ) (operands below : List Operand) (injection : Injection) (memory : Memory)
     → (t : TypeValue) (r : Result) (o : Operand) (v : IsStructure t r injection memory o) (number : ℕ) (p : Part) → part_of t number ≡ Some p
-    → (k : Kind) → IsTypeOfKind k p.type_value → (c : ℕ) → Describes memory.types c p.type_value
+    → (k : Kind) → IsTypeOfKind k p.type_value → (c : ℕ) → IsBare memory.types c p.type_value
     → ((trace : Trace) → outcome G (at place operands memory trace) ≡ working G i (at place operands memory trace) (row.part_at memory.types v.words p.offset c below))
     → (s : meaning.State) → Matches declared G injection s memory → Here injection s memory
     → ReadsResult declared G Here (at place operands memory s.trace) (weight_of r) run_error.UNDEFINED_VALUE (unit_in G memory.frames) i.line (place + 1) (λ x. Inside untouched injection memory (OnTop k below x)) s (meaning_of.part_of r number)
@@ -200,7 +223,7 @@ part_left {untouched = untouched} {Here = Here} declared G i place operands belo
     = ap (λ x. given_by x (component_of v.value number)) (sym (component_type-is t number p is)) ∙ ap (λ x. meaning_of.part_of x number) (sym v.is_structure) in
     subst (λ n. ReadsResult declared G Here (at place operands memory s.trace) n run_error.UNDEFINED_VALUE (unit_in G memory.frames) i.line (place + 1) (λ x. Inside untouched injection memory (OnTop k below x)) s (meaning_of.part_of r number)) many
     (subst (λ x. ReadsResult declared G Here (at place operands memory s.trace) (length v.words) run_error.UNDEFINED_VALUE (unit_in G memory.frames) i.line (place + 1) (λ x. Inside untouched injection memory (OnTop k below x)) s x) given
-    (found_left declared G i place operands below injection memory k p.type_value of_kind c described v.words p.offset fits leaves (component_of v.value number) holds s matches known))
+    (found_left declared G i place operands below injection memory k p.type_value of_kind (part_bare t number p v.bare is) c described v.words p.offset fits leaves (component_of v.value number) holds s matches known))
 
 module _ (declared : Declarations) (G : Image) (place line : ℕ) (below : List Operand) (injection : Injection) (memory : Memory) where
   -- `Field`, of a record
@@ -214,8 +237,8 @@ module _ (declared : Declarations) (G : Image) (place line : ℕ) (below : List 
       let component : IsAmong 0 ts number of = among_there 0 ts number of among in
       let part : Part = component.part in
       let parts = v.described in
-      let entered : IsEntered memory.types parts.0 number part = part_entered memory.types 0 parts.0 ts number part parts.2 component.is in
-      part_left declared G i place (o ∷ below) below injection memory (type.Record ts) r o v number part component.is k (subst (IsTypeOfKind k) (sym component.type_is) of_kind) entered.entered.type_number entered.described
+      let entered : IsBareThere memory.types parts.0 number part = bare_there memory.types 0 parts.0 ts number part parts.2 component.is in
+      part_left declared G i place (o ∷ below) below injection memory (type.Record ts) r o v number part component.is k (subst (IsTypeOfKind k) (sym component.type_is) of_kind) entered.entered.type_number entered.form
       (λ trace.
       ap (λ x. outcome G (at place (x ∷ below) memory trace)) v.is
       ∙ (outcome_at G i place (operand.Value v.type_number v.words ∷ below) memory trace has
@@ -225,7 +248,7 @@ module _ (declared : Declarations) (G : Image) (place line : ℕ) (below : List 
 
   module _ (low high : ℤ) (of : TypeValue) (r : Result) (o : Operand) (v : IsStructure (type.Array low high of) r injection memory o) (z : ℤ) (has : slice_get G.instructions place ≡ Some (instr op.INDEX (pos 0) 0 line)) where
     component_entry : (e : TypeEntry) × (slice_get memory.types (v.described).0 ≡ Some e) × (e.size ≡ size_of of)
-    component_entry = let e = described_entry memory.types (v.described).0 of (v.described).2 in (e.0, e.1, entry_size memory.types of e.0 e.2)
+    component_entry = let e = bare_entry memory.types (v.described).0 of (v.described).2 in (e.0, e.1, entry_size memory.types of e.0 e.2)
 
     -- what it leads to by the number of the component
     index_outcome : (at_number : Option ℕ) → component_at low high z ≡ at_number → (trace : Trace)

@@ -3,15 +3,14 @@ use Rattle.std.proofs.Common.{◌≡◌, ℕ, ℤ, pos, negsuc, ◌+◌, ◌≤�
 use Rattle.std.proofs.lemmas.Option.{same_Some}
 use Rattle.std.specs.Prelude.{int_lt, is_some}
 use Rattle.ep_object.specs.Follows.{Facts, OnTop, PlaceOnTop, Inside}
-use Rattle.ep_object.specs.Matching.{Memory, at, Injection, MatchesSlot, MatchesFrame, IsSpot, Describes, HasAt, OrdinalAt, SetAt, part_along, all_of, Represents, HasType, Matches, Slots}
+use Rattle.ep_object.specs.Matching.{Memory, at, Injection, MatchesSlot, MatchesFrame, IsBare, IsLike, IsSpot, HasAt, OrdinalAt, SetAt, part_along, all_of, Represents, HasType, Matches, Slots}
 use Rattle.ep_object.specs.Operands.{Operand, Word, Text}
 use Rattle.ep_object.specs.Operands as operand
 use Rattle.ep_object.specs.Places.{loaded, set_loaded}
 use Rattle.ep_object.specs.Sets.{set_size}
 use Rattle.ep_object.specs.Runs.{outcome, after, unit_in}
-use Rattle.ep_object.specs.State.{Running, undefined, output_place}
+use Rattle.ep_object.specs.State.{Running, bare_number, undefined, output_place}
 use Rattle.ep_object.specs.Table.{on_operands}
-use Rattle.ep_object.specs.Types.{ordinal_entry, set_entry}
 use Rattle.ep_object.specs.WordRows.{bit}
 use Rattle.ep_object.specs.declared.code.Image.{Image}
 use Rattle.ep_object.specs.declared.code.ImageUnit.{ImageUnit}
@@ -20,53 +19,47 @@ use Rattle.ep_object.proofs.following.Choices.{Reads, Misses, Finds, ReadsResult
 use Rattle.ep_object.proofs.following.Fragments.{Does, FailsWith}
 use Rattle.ep_object.proofs.matching.Growing.{inside_here}
 use Rattle.ep_object.proofs.rows.Rows.{instr, in_one, RowPushes, outcome_at}
-use Rattle.ep_object.proofs.matching.Described.{describes_one}
+use Rattle.ep_object.proofs.matching.BareValues.{own_bare, result_by, structure_given}
+use Rattle.ep_object.proofs.matching.Likes.{like_array, like_one, like_ordinal, like_record, like_set}
+use Rattle.ep_typed.proofs.Bares.{bare_size}
 use Rattle.ep_object.proofs.matching.Values.{taken, taken_length, taken_there, taken_holds, part_fits}
-use Rattle.ep_object.proofs.matching.Words.{type_is-along}
-use Rattle.ep_object.proofs.matching.Standing.{slice_get-some, Stands, place_stands, StandsOrdinal, ordinal_stands, place_ended, within_host, word_defined}
+use Rattle.ep_object.proofs.matching.Standing.{slice_get-some, Stands, place_stands, StandsOrdinal, ordinal_stands, place_ended, type_of_variable, within_host, word_defined}
 use Rattle.ep_typed.specs.Events.{Trace}
 use Rattle.ep_object.proofs.matching.SetValues.{members_loaded, undefined_loaded}
 use Rattle.ep_typed.specs.Printing.{Number, Structure, Members, Result}
-use Rattle.ep_typed.specs.Steps.{Component, has_ended, type_along, type_at, type_in, value_along, value_at, value_in, Value, Undefined, Allocation, allocation_at, set_of, word_of}
-use Rattle.ep_typed.specs.Results.{given_by, result_of}
+use Rattle.ep_typed.specs.Steps.{Component, has_ended, type_at, value_along, value_at, value_in, Value, Undefined, Allocation, allocation_at, set_of, word_of}
+use Rattle.ep_typed.specs.Results.{result_of}
 use Rattle.ep_typed.specs.Steps as meaning
 use Rattle.ep_typed.specs.Valid as kind
 use Rattle.ep_typed.specs.Valid.{Declarations, IsStructured, IsTypeOf, IsTypeOfKind, Kind}
 use Rattle.ep_typed.specs.Hosts.{Host}
-use Rattle.ep_typed.specs.TypeValues.{TypeValue, size_of}
+use Rattle.ep_typed.specs.TypeValues.{TypeValue, bare_of, size_of}
 use Rattle.ep_typed.specs.TypeValues as type
 use Rattle.ep_typed.specs.declared.unit.UnitVariable.{UnitVariable}
 use Rattle.ep_object.specs.declared.op.TheConstants as op
 
 -- ---- the result that a variable gives
 
-type_of_variable : (t : TypeValue) (v : Component) (p : Place) (s : meaning.State) (a : Allocation)
-    → allocation_at s.allocations v.allocation ≡ Some a → part_along (Some (all_of a.type_value)) v.path ≡ Some (record { offset = p.offset; type_value = t })
-    → type_at v s ≡ Some t
-type_of_variable t v p s a is leads = ap (λ o. type_along (type_in o) v.path) is ∙ type_is-along a.type_value v.path (record { offset = p.offset; type_value = t }) leads
-
 ordinal_result : (low high : ℤ) (v : Component) (p : Place) (s : meaning.State) (a : Allocation)
-    → allocation_at s.allocations v.allocation ≡ Some a → part_along (Some (all_of a.type_value)) v.path ≡ Some (record { offset = p.offset; type_value = type.Ordinal low high })
+    → allocation_at s.allocations v.allocation ≡ Some a → part_along (Some (all_of (bare_of a.type_value))) v.path ≡ Some (record { offset = p.offset; type_value = type.Ordinal low high })
     → result_of v s ≡ option_map Number (word_of (value_along a.value v.path))
 ordinal_result low high v p s a is leads =
-    ap (λ t. given_by t (value_at v s)) (type_of_variable (type.Ordinal low high) v p s a is leads) ∙ ap (λ o. option_map Number (word_of (value_in o v.path))) is
+    result_by (type.Ordinal low high) v s (type_of_variable (type.Ordinal low high) v p.offset s a is leads) ∙ ap (λ o. option_map Number (word_of (value_in o v.path))) is
 
 set_result : (low high : ℤ) (v : Component) (p : Place) (s : meaning.State) (a : Allocation)
-    → allocation_at s.allocations v.allocation ≡ Some a → part_along (Some (all_of a.type_value)) v.path ≡ Some (record { offset = p.offset; type_value = type.Set low high })
+    → allocation_at s.allocations v.allocation ≡ Some a → part_along (Some (all_of (bare_of a.type_value))) v.path ≡ Some (record { offset = p.offset; type_value = type.Set low high })
     → result_of v s ≡ option_map Members (set_of (value_along a.value v.path))
 set_result low high v p s a is leads =
-    ap (λ t. given_by t (value_at v s)) (type_of_variable (type.Set low high) v p s a is leads) ∙ ap (λ o. option_map Members (set_of (value_in o v.path))) is
+    result_by (type.Set low high) v s (type_of_variable (type.Set low high) v p.offset s a is leads) ∙ ap (λ o. option_map Members (set_of (value_in o v.path))) is
 
 structure_result : (t : TypeValue) (v : Component) (p : Place) (s : meaning.State) (a : Allocation) → IsStructured t
-    → allocation_at s.allocations v.allocation ≡ Some a → part_along (Some (all_of a.type_value)) v.path ≡ Some (record { offset = p.offset; type_value = t })
+    → allocation_at s.allocations v.allocation ≡ Some a → part_along (Some (all_of (bare_of a.type_value))) v.path ≡ Some (record { offset = p.offset; type_value = t })
     → result_of v s ≡ Some (Structure t (value_along a.value v.path))
-structure_result (type.Ordinal low high) v p s a structured is leads = absurd structured
-structure_result type.Text v p s a structured is leads = absurd structured
-structure_result (type.Set low high) v p s a structured is leads = absurd structured
-structure_result (type.Array low high of) v p s a structured is leads =
-    ap (λ t. given_by t (value_at v s)) (type_of_variable (type.Array low high of) v p s a is leads) ∙ ap (λ o. Some (Structure (type.Array low high of) (value_in o v.path))) is
-structure_result (type.Record ts) v p s a structured is leads =
-    ap (λ t. given_by t (value_at v s)) (type_of_variable (type.Record ts) v p s a is leads) ∙ ap (λ o. Some (Structure (type.Record ts) (value_in o v.path))) is
+structure_result t v p s a structured is leads =
+    let of : option_map bare_of (type_at v s) ≡ Some t = type_of_variable t v p.offset s a is leads in
+    result_by t v s of
+    ∙ (structure_given t (value_at v s) structured
+    ∙ (ap (λ u. Some (Structure u (value_at v s))) (own_bare t (type_at v s) of) ∙ ap (λ o. Some (Structure t (value_in o v.path))) is))
 
 module _ (declared : Declarations) (G : Image) (place line : ℕ) (below : List Operand) where
   -- `Unit`, for `output`
@@ -89,7 +82,7 @@ module _ (declared : Declarations) (G : Image) (place line : ℕ) (below : List 
     where
       go : (slots : List (Option Place)) → slice_get memory.frames.units u ≡ Some slots → (slot : Option Place)
           → slice_get slots k ≡ Some slot
-          → ((p : Place) → slice_get slots k ≡ Some (Some p) → Describes memory.types p.type_number t) → (o : Option Component) → s.variables unit.name k ≡ o
+          → ((p : Place) → slice_get slots k ≡ Some (Some p) → IsLike memory.types p.type_number t) → (o : Option Component) → s.variables unit.name k ≡ o
           → MatchesSlot injection memory.types o slot
           → Reads declared G Here (at place below memory s.trace) 1 (unit_in G memory.frames) line (place + 1) (λ n. Inside untouched injection memory (PlaceOnTop t below n)) s (s.variables unit.name k)
       go slots is None slot_is described None o_is h =
@@ -110,58 +103,78 @@ module _ (declared : Declarations) (G : Image) (place line : ℕ) (below : List 
   -- what `Load` finds
   load_outcome : (memory : Memory) (trace : Trace) (p : Place) (low high : ℤ) (type_number : ℕ) (words : List ℤ) (w : ℤ)
       → slice_get G.instructions place ≡ Some (instr op.LOAD (pos 0) 0 line)
-      → slice_get memory.types p.type_number ≡ Some (ordinal_entry low high)
+      → IsLike memory.types p.type_number (type.Ordinal low high)
       → slice_get memory.segments p.segment ≡ Some (Some (record { type_number = type_number; words = words }))
       → slice_get words p.offset ≡ Some w
       → outcome G (at place (operand.Place p ∷ below) memory trace) ≡ in_one (after G (instr op.LOAD (pos 0) 0 line) (at place (operand.Place p ∷ below) memory trace) (on_operands (at place (operand.Place p ∷ below) memory trace) (loaded w below)))
   load_outcome memory trace p low high type_number words w has typed stands there =
-      outcome_at G (instr op.LOAD (pos 0) 0 line) place (operand.Place p ∷ below) memory trace has ∙ rw (typed, stands, there) refl
+      let e = like_ordinal memory.types p.type_number low high typed in
+      outcome_at G (instr op.LOAD (pos 0) 0 line) place (operand.Place p ∷ below) memory trace has ∙ rw (e.2, stands, there) refl
 
-  -- what it finds of an array or a record
+  -- what it finds of an array or a record: its words, with the number of its bare form
   structure_outcome : (memory : Memory) (trace : Trace) (p : Place) (t : TypeValue) (type_number : ℕ) (words : List ℤ) → IsStructured t
       → slice_get G.instructions place ≡ Some (instr op.LOAD (pos 0) 0 line)
-      → Describes memory.types p.type_number t
+      → IsLike memory.types p.type_number t
       → slice_get memory.segments p.segment ≡ Some (Some (record { type_number = type_number; words = words }))
       → (fits : p.offset + size_of t ≤ length words)
-      → outcome G (at place (operand.Place p ∷ below) memory trace) ≡ record { weight = size_of t; to = Running 0 (at (place + 1) (operand.Value p.type_number (taken words p.offset (size_of t) fits) ∷ below) memory trace) }
+      → (b : ℕ) × IsBare memory.types b t × (outcome G (at place (operand.Place p ∷ below) memory trace) ≡ record { weight = size_of t; to = Running 0 (at (place + 1) (operand.Value b (taken words p.offset (size_of t) fits) ∷ below) memory trace) })
   structure_outcome memory trace p (type.Ordinal low high) type_number words structured has described stands fits = absurd structured
   structure_outcome memory trace p type.Text type_number words structured has described stands fits = absurd structured
   structure_outcome memory trace p (type.Set low high) type_number words structured has described stands fits = absurd structured
-  structure_outcome memory trace p (type.Array low high of) type_number words structured has (c, entry, component) stands fits =
-      let size : ℕ = size_of (type.Array low high of) in
-      outcome_at G (instr op.LOAD (pos 0) 0 line) place (operand.Place p ∷ below) memory trace has ∙ rw (entry, stands, taken_there words p.offset size fits)
-      (ap (λ n. record { weight = n; to = Running 0 (at (place + 1) (operand.Value p.type_number (taken words p.offset size fits) ∷ below) memory trace) }) (taken_length words p.offset size fits))
-  structure_outcome memory trace p (type.Record ts) type_number words structured has (ps, entry, components) stands fits =
-      let size : ℕ = size_of (type.Record ts) in
-      outcome_at G (instr op.LOAD (pos 0) 0 line) place (operand.Place p ∷ below) memory trace has ∙ rw (entry, stands, taken_there words p.offset size fits)
-      (ap (λ n. record { weight = n; to = Running 0 (at (place + 1) (operand.Value p.type_number (taken words p.offset size fits) ∷ below) memory trace) }) (taken_length words p.offset size fits))
+  structure_outcome memory trace p (type.Initial of start) type_number words structured has described stands fits = absurd structured
+  structure_outcome memory trace p (type.Array low high of) type_number words structured has described stands fits =
+      let e = like_array memory.types p.type_number low high of described in
+      let b : ℕ = bare_number p.type_number e.bare in
+      let size : ℕ = size_of (type.Array low high of) in (
+        b,
+        e.form,
+        outcome_at G (instr op.LOAD (pos 0) 0 line) place (operand.Place p ∷ below) memory trace has ∙ rw (e.stands, stands, taken_there words p.offset size fits)
+            (ap (λ n. record { weight = n; to = Running 0 (at (place + 1) (operand.Value b (taken words p.offset size fits) ∷ below) memory trace) }) (taken_length words p.offset size fits)),
+      )
+  structure_outcome memory trace p (type.Record ts) type_number words structured has described stands fits =
+      let e = like_record memory.types p.type_number ts described in
+      let b : ℕ = bare_number p.type_number e.bare in
+      let size : ℕ = size_of (type.Record ts) in (
+        b,
+        e.form,
+        outcome_at G (instr op.LOAD (pos 0) 0 line) place (operand.Place p ∷ below) memory trace has ∙ rw (e.stands, stands, taken_there words p.offset size fits)
+            (ap (λ n. record { weight = n; to = Running 0 (at (place + 1) (operand.Value b (taken words p.offset size fits) ∷ below) memory trace) }) (taken_length words p.offset size fits)),
+      )
 
   -- `Load`, of a variable that has ended
   pub load_fails : (k : Kind) (t : TypeValue) (v : Component) (p : Place) → IsTypeOfKind k t
       → slice_get G.instructions place ≡ Some (instr op.LOAD (pos 0) 0 line)
       → (injection : Injection) (memory : Memory) → IsSpot injection memory.types v p
-      → Describes memory.types p.type_number t → (s : meaning.State)
+      → IsLike memory.types p.type_number t → (s : meaning.State)
       → Matches declared G injection s memory → has_ended v.allocation s ≡ true
       → FailsWith G (at place (operand.Place p ∷ below) memory s.trace) 0 11 (unit_in G memory.frames) line s
   load_fails k (type.Ordinal low high) v p of_kind has injection memory spot described s matches ended =
-      record { fails = outcome_at G (instr op.LOAD (pos 0) 0 line) place (operand.Place p ∷ below) memory s.trace has ∙ rw (described, place_ended matches spot ended) refl }
+      let e = like_ordinal memory.types p.type_number low high described in
+      record { fails = outcome_at G (instr op.LOAD (pos 0) 0 line) place (operand.Place p ∷ below) memory s.trace has ∙ rw (e.2, place_ended matches spot ended) refl }
   load_fails (kind.Ordinal h) type.Text v p of_kind has injection memory spot described s matches ended = absurd of_kind
   load_fails (kind.Set h) type.Text v p of_kind has injection memory spot described s matches ended = absurd of_kind
   load_fails k (type.Set low high) v p of_kind has injection memory spot described s matches ended =
-      record { fails = outcome_at G (instr op.LOAD (pos 0) 0 line) place (operand.Place p ∷ below) memory s.trace has ∙ rw (described, place_ended matches spot ended) refl }
+      let e = like_set memory.types p.type_number low high described in
+      record { fails = outcome_at G (instr op.LOAD (pos 0) 0 line) place (operand.Place p ∷ below) memory s.trace has ∙ rw (e.2, place_ended matches spot ended) refl }
+  load_fails (kind.Ordinal h) (type.Initial of start) v p of_kind has injection memory spot described s matches ended = absurd of_kind
+  load_fails (kind.Set h) (type.Initial of start) v p of_kind has injection memory spot described s matches ended = absurd of_kind
+  load_fails kind.Bytes (type.Initial of start) v p of_kind has injection memory spot described s matches ended = absurd of_kind
+  load_fails (kind.Structured u) (type.Initial of start) v p (same, structured) has injection memory spot described s matches ended = absurd (subst IsStructured same structured)
   load_fails kind.Bytes type.Text v p of_kind has injection memory spot described s matches ended = absurd of_kind
   load_fails (kind.Structured u) type.Text v p (same, structured) has injection memory spot described s matches ended = absurd (subst IsStructured same structured)
-  load_fails k (type.Array low high of) v p of_kind has injection memory spot (c, entry, component) s matches ended =
-      record { fails = outcome_at G (instr op.LOAD (pos 0) 0 line) place (operand.Place p ∷ below) memory s.trace has ∙ rw (entry, place_ended matches spot ended) refl }
-  load_fails k (type.Record ts) v p of_kind has injection memory spot (ps, entry, components) s matches ended =
-      record { fails = outcome_at G (instr op.LOAD (pos 0) 0 line) place (operand.Place p ∷ below) memory s.trace has ∙ rw (entry, place_ended matches spot ended) refl }
+  load_fails k (type.Array low high of) v p of_kind has injection memory spot described s matches ended =
+      let e = like_array memory.types p.type_number low high of described in
+      record { fails = outcome_at G (instr op.LOAD (pos 0) 0 line) place (operand.Place p ∷ below) memory s.trace has ∙ rw (e.stands, place_ended matches spot ended) refl }
+  load_fails k (type.Record ts) v p of_kind has injection memory spot described s matches ended =
+      let e = like_record memory.types p.type_number ts described in
+      record { fails = outcome_at G (instr op.LOAD (pos 0) 0 line) place (operand.Place p ∷ below) memory s.trace has ∙ rw (e.stands, place_ended matches spot ended) refl }
 
   -- `Load`, of a variable of an ordinal type of the host, which lives
   word_reads : {untouched : Slots} {Here : Facts} (host : Host) (low high : ℤ) (v : Component) (p : Place)
       → IsTypeOf host (type.Ordinal low high)
       → slice_get G.instructions place ≡ Some (instr op.LOAD (pos 0) 0 line)
       → (injection : Injection) (memory : Memory) → IsSpot injection memory.types v p
-      → Describes memory.types p.type_number (type.Ordinal low high) → (s : meaning.State)
+      → IsLike memory.types p.type_number (type.Ordinal low high) → (s : meaning.State)
       → Matches declared G injection s memory → Here injection s memory → has_ended v.allocation s ≡ false
       → ReadsResult declared G Here (at place (operand.Place p ∷ below) memory s.trace) 0 1 (unit_in G memory.frames) line (place + 1) (λ r. Inside untouched injection memory (OnTop (kind.Ordinal host) below r)) s (result_of v s)
   word_reads {untouched = untouched} {Here = Here} host low high v p of_host has injection memory spot described s matches known living =
@@ -195,35 +208,37 @@ module _ (declared : Declarations) (G : Image) (place line : ℕ) (below : List 
   pub structure_found : {untouched : Slots} {Here : Facts} (t : TypeValue) (v : Component) (p : Place) → IsStructured t
       → slice_get G.instructions place ≡ Some (instr op.LOAD (pos 0) 0 line)
       → (injection : Injection) (memory : Memory) → IsSpot injection memory.types v p
-      → Describes memory.types p.type_number t → (s : meaning.State)
+      → IsLike memory.types p.type_number t → (s : meaning.State)
       → Matches declared G injection s memory → Here injection s memory → has_ended v.allocation s ≡ false
       → (value : Value) × (result_of v s ≡ Some (Structure t value)) × Does declared G Here (at place (operand.Place p ∷ below) memory s.trace) (size_of t) (place + 1) (Inside untouched injection memory (OnTop (kind.Structured t) below (Structure t value))) s
   structure_found t v p structured has injection memory spot described s matches known living =
       let x : Stands injection s memory v p = place_stands matches spot living in
       let a : Allocation = x.allocation in
       let r : Represents injection memory.segments memory.types p.segment a = x.represents in
-      let its_type : x.type_value ≡ t = describes_one memory.types p.type_number x.type_value t x.described described in
-      let leads : part_along (Some (all_of a.type_value)) v.path ≡ Some (record { offset = p.offset; type_value = t }) = subst (λ u. part_along (Some (all_of a.type_value)) v.path ≡ Some (record { offset = p.offset; type_value = u })) its_type x.leads in
+      let its_type : x.type_value ≡ t = like_one memory.types p.type_number x.type_value t x.described described in
+      let leads : part_along (Some (all_of (bare_of a.type_value))) v.path ≡ Some (record { offset = p.offset; type_value = t }) = subst (λ u. part_along (Some (all_of (bare_of a.type_value))) v.path ≡ Some (record { offset = p.offset; type_value = u })) its_type x.leads in
       let holds : HasAt injection t (value_along a.value v.path) (slice_get r.words) p.offset = subst (λ u. HasAt injection u (value_along a.value v.path) (slice_get r.words) p.offset) its_type x.holds in
-      let fits : p.offset + size_of t ≤ length r.words = (let within = part_fits a.type_value v.path (record { offset = p.offset; type_value = t }) leads in omega (arith, within, r.sized)) in (
+      let fits : p.offset + size_of t ≤ length r.words = (let within = part_fits (bare_of a.type_value) v.path (record { offset = p.offset; type_value = t }) leads in omega (arith, within, r.sized, bare_size a.type_value)) in
+      let o = structure_outcome memory s.trace p t r.type_number r.words structured has described r.stands fits in (
         value_along a.value v.path,
         structure_result t v p s a structured x.is leads,
         record {
           injection = injection;
           memory = memory;
-          operands = operand.Value p.type_number (taken r.words p.offset (size_of t) fits) ∷ below;
-          does = structure_outcome memory s.trace p t r.type_number r.words structured has described r.stands fits;
+          operands = operand.Value o.0 (taken r.words p.offset (size_of t) fits) ∷ below;
+          does = o.2;
           matches = matches;
           here = known;
           post = inside_here (record {
-            operand = operand.Value p.type_number (taken r.words p.offset (size_of t) fits);
+            operand = operand.Value o.0 (taken r.words p.offset (size_of t) fits);
             holds = record {
               value = value_along a.value v.path;
               is_structure = refl;
-              type_number = p.type_number;
+              type_number = o.0;
               words = taken r.words p.offset (size_of t) fits;
               is = refl;
-              described = described;
+              bare = own_bare t (type_at v s) (type_of_variable t v p.offset s a x.is leads);
+              described = o.1;
               sized = taken_length r.words p.offset (size_of t) fits;
               holds = taken_holds r.words p.offset (size_of t) fits injection t (value_along a.value v.path) refl holds;
             };
@@ -235,28 +250,29 @@ module _ (declared : Declarations) (G : Image) (place line : ℕ) (below : List 
   -- what it finds of a set
   set_outcome : (memory : Memory) (trace : Trace) (p : Place) (low high : ℤ) (type_number : ℕ) (words : List ℤ)
       → slice_get G.instructions place ≡ Some (instr op.LOAD (pos 0) 0 line)
-      → slice_get memory.types p.type_number ≡ Some (set_entry low high)
+      → IsLike memory.types p.type_number (type.Set low high)
       → slice_get memory.segments p.segment ≡ Some (Some (record { type_number = type_number; words = words }))
       → (fits : p.offset + set_size ≤ length words)
       → outcome G (at place (operand.Place p ∷ below) memory trace) ≡ in_one (after G (instr op.LOAD (pos 0) 0 line) (at place (operand.Place p ∷ below) memory trace) (on_operands (at place (operand.Place p ∷ below) memory trace) (set_loaded (taken words p.offset set_size fits) below)))
   set_outcome memory trace p low high type_number words has typed stands fits =
-      outcome_at G (instr op.LOAD (pos 0) 0 line) place (operand.Place p ∷ below) memory trace has ∙ rw (typed, stands, taken_there words p.offset set_size fits) refl
+      let e = like_set memory.types p.type_number low high typed in
+      outcome_at G (instr op.LOAD (pos 0) 0 line) place (operand.Place p ∷ below) memory trace has ∙ rw (e.2, stands, taken_there words p.offset set_size fits) refl
 
   -- of one of a set type, which lives
   set_reads : {untouched : Slots} {Here : Facts} (host : Host) (low high : ℤ) (v : Component) (p : Place)
       → slice_get G.instructions place ≡ Some (instr op.LOAD (pos 0) 0 line)
       → (injection : Injection) (memory : Memory) → IsSpot injection memory.types v p
-      → Describes memory.types p.type_number (type.Set low high) → (s : meaning.State)
+      → IsLike memory.types p.type_number (type.Set low high) → (s : meaning.State)
       → Matches declared G injection s memory → Here injection s memory → has_ended v.allocation s ≡ false
       → ReadsResult declared G Here (at place (operand.Place p ∷ below) memory s.trace) 0 1 (unit_in G memory.frames) line (place + 1) (λ r. Inside untouched injection memory (OnTop (kind.Set host) below r)) s (result_of v s)
   set_reads {untouched = untouched} {Here = Here} host low high v p has injection memory spot described s matches known living =
       let x : Stands injection s memory v p = place_stands matches spot living in
       let a : Allocation = x.allocation in
       let r : Represents injection memory.segments memory.types p.segment a = x.represents in
-      let its_type : x.type_value ≡ type.Set low high = describes_one memory.types p.type_number x.type_value (type.Set low high) x.described described in
-      let leads : part_along (Some (all_of a.type_value)) v.path ≡ Some (record { offset = p.offset; type_value = type.Set low high }) = subst (λ u. part_along (Some (all_of a.type_value)) v.path ≡ Some (record { offset = p.offset; type_value = u })) its_type x.leads in
+      let its_type : x.type_value ≡ type.Set low high = like_one memory.types p.type_number x.type_value (type.Set low high) x.described described in
+      let leads : part_along (Some (all_of (bare_of a.type_value))) v.path ≡ Some (record { offset = p.offset; type_value = type.Set low high }) = subst (λ u. part_along (Some (all_of (bare_of a.type_value))) v.path ≡ Some (record { offset = p.offset; type_value = u })) its_type x.leads in
       let holds : HasAt injection (type.Set low high) (value_along a.value v.path) (slice_get r.words) p.offset = subst (λ u. HasAt injection u (value_along a.value v.path) (slice_get r.words) p.offset) its_type x.holds in
-      let fits : p.offset + set_size ≤ length r.words = (let within = part_fits a.type_value v.path (record { offset = p.offset; type_value = type.Set low high }) leads in omega (arith, within, r.sized)) in
+      let fits : p.offset + set_size ≤ length r.words = (let within = part_fits (bare_of a.type_value) v.path (record { offset = p.offset; type_value = type.Set low high }) leads in omega (arith, within, r.sized, bare_size a.type_value)) in
       go (value_along a.value v.path) (taken r.words p.offset set_size fits) (taken_length r.words p.offset set_size fits)
       (set_outcome memory s.trace p low high r.type_number r.words has described r.stands fits)
       (set_result low high v p s a x.is leads) (taken_holds r.words p.offset set_size fits injection (type.Set low high) (value_along a.value v.path) refl holds)
@@ -283,49 +299,53 @@ module _ (declared : Declarations) (G : Image) (place line : ℕ) (below : List 
   pub load_reads : {untouched : Slots} {Here : Facts} (k : Kind) (t : TypeValue) (v : Component) (p : Place) → IsTypeOfKind k t
       → slice_get G.instructions place ≡ Some (instr op.LOAD (pos 0) 0 line)
       → (injection : Injection) (memory : Memory) → IsSpot injection memory.types v p
-      → Describes memory.types p.type_number t → (s : meaning.State)
+      → IsLike memory.types p.type_number t → (s : meaning.State)
       → Matches declared G injection s memory → Here injection s memory → has_ended v.allocation s ≡ false
       → ReadsResult declared G Here (at place (operand.Place p ∷ below) memory s.trace) 0 1 (unit_in G memory.frames) line (place + 1) (λ r. Inside untouched injection memory (OnTop k below r)) s (result_of v s)
   load_reads (kind.Ordinal h) (type.Ordinal low high) v p of_kind has injection memory spot described s matches known living = word_reads h low high v p of_kind has injection memory spot described s matches known living
   load_reads (kind.Ordinal h) type.Text v p of_kind has injection memory spot described s matches known living = absurd of_kind
   load_reads (kind.Ordinal h) (type.Array low high of) v p of_kind has injection memory spot described s matches known living = absurd of_kind
   load_reads (kind.Ordinal h) (type.Record ts) v p of_kind has injection memory spot described s matches known living = absurd of_kind
+  load_reads (kind.Ordinal h) (type.Initial of start) v p of_kind has injection memory spot described s matches known living = absurd of_kind
   load_reads (kind.Ordinal h) (type.Set low high) v p of_kind has injection memory spot described s matches known living = absurd of_kind
   load_reads (kind.Set h) (type.Ordinal low high) v p of_kind has injection memory spot described s matches known living = absurd of_kind
   load_reads (kind.Set h) type.Text v p of_kind has injection memory spot described s matches known living = absurd of_kind
   load_reads (kind.Set h) (type.Array low high of) v p of_kind has injection memory spot described s matches known living = absurd of_kind
   load_reads (kind.Set h) (type.Record ts) v p of_kind has injection memory spot described s matches known living = absurd of_kind
+  load_reads (kind.Set h) (type.Initial of start) v p of_kind has injection memory spot described s matches known living = absurd of_kind
   load_reads (kind.Set h) (type.Set low high) v p of_kind has injection memory spot described s matches known living = set_reads h low high v p has injection memory spot described s matches known living
   load_reads kind.Bytes t v p of_kind has injection memory spot described s matches known living = absurd of_kind
   load_reads (kind.Structured u) t v p (same, structured) has injection memory spot described s matches known living =
-      let x = structure_found u v p structured has injection memory spot (subst (Describes memory.types p.type_number) (sym same) described) s matches known living in
+      let x = structure_found u v p structured has injection memory spot (subst (IsLike memory.types p.type_number) (sym same) described) s matches known living in
       Result_of (Structure u x.0) x.1 (size_of u) (omega arith) x.2
 
   -- what `Defined` finds
   defined_outcome : (memory : Memory) (trace : Trace) (p : Place) (low high : ℤ) (type_number : ℕ) (words : List ℤ) (w : ℤ)
       → slice_get G.instructions place ≡ Some (instr op.DEFINED (pos 0) 0 line)
-      → slice_get memory.types p.type_number ≡ Some (ordinal_entry low high)
+      → IsLike memory.types p.type_number (type.Ordinal low high)
       → slice_get memory.segments p.segment ≡ Some (Some (record { type_number = type_number; words = words }))
       → slice_get words p.offset ≡ Some w
       → outcome G (at place (operand.Place p ∷ below) memory trace) ≡ record { weight = 0; to = Running 0 (at (place + 1) (Word (bit (int_lt undefined w)) ∷ below) memory trace) }
   defined_outcome memory trace p low high type_number words w has typed stands there =
-      outcome_at G (instr op.DEFINED (pos 0) 0 line) place (operand.Place p ∷ below) memory trace has ∙ rw (typed, stands, there) refl
+      let e = like_ordinal memory.types p.type_number low high typed in
+      outcome_at G (instr op.DEFINED (pos 0) 0 line) place (operand.Place p ∷ below) memory trace has ∙ rw (e.2, stands, there) refl
 
   -- `Defined`, of a variable that has ended
   pub defined_fails : (low high : ℤ) (v : Component) (p : Place)
       → slice_get G.instructions place ≡ Some (instr op.DEFINED (pos 0) 0 line)
       → (injection : Injection) (memory : Memory) → IsSpot injection memory.types v p
-      → Describes memory.types p.type_number (type.Ordinal low high) → (s : meaning.State)
+      → IsLike memory.types p.type_number (type.Ordinal low high) → (s : meaning.State)
       → Matches declared G injection s memory → has_ended v.allocation s ≡ true
       → FailsWith G (at place (operand.Place p ∷ below) memory s.trace) 0 11 (unit_in G memory.frames) line s
   defined_fails low high v p has injection memory spot described s matches ended =
-      record { fails = outcome_at G (instr op.DEFINED (pos 0) 0 line) place (operand.Place p ∷ below) memory s.trace has ∙ rw (described, place_ended matches spot ended) refl }
+      let e = like_ordinal memory.types p.type_number low high described in
+      record { fails = outcome_at G (instr op.DEFINED (pos 0) 0 line) place (operand.Place p ∷ below) memory s.trace has ∙ rw (e.2, place_ended matches spot ended) refl }
 
   -- `Defined`, of a variable of an ordinal type that lives: whether it has a value
   pub defined_tells : (low high : ℤ) (v : Component) (p : Place)
       → slice_get G.instructions place ≡ Some (instr op.DEFINED (pos 0) 0 line)
       → (injection : Injection) (memory : Memory) → IsSpot injection memory.types v p
-      → Describes memory.types p.type_number (type.Ordinal low high) → (s : meaning.State)
+      → IsLike memory.types p.type_number (type.Ordinal low high) → (s : meaning.State)
       → Matches declared G injection s memory → has_ended v.allocation s ≡ false
       → outcome G (at place (operand.Place p ∷ below) memory s.trace) ≡ record { weight = 0; to = Running 0 (at (place + 1) (Word (bit (is_some (result_of v s))) ∷ below) memory s.trace) }
   defined_tells low high v p has injection memory spot described s matches living =
@@ -354,7 +374,7 @@ module _ (declared : Declarations) (G : Image) (place line : ℕ) (below : List 
   pub load_leads : (low high : ℤ) (v : Component) (p : Place)
       → slice_get G.instructions place ≡ Some (instr op.LOAD (pos 0) 0 line)
       → (injection : Injection) (memory : Memory) → IsSpot injection memory.types v p
-      → Describes memory.types p.type_number (type.Ordinal low high) → (s : meaning.State)
+      → IsLike memory.types p.type_number (type.Ordinal low high) → (s : meaning.State)
       → Matches declared G injection s memory → has_ended v.allocation s ≡ false → (r : Result) → result_of v s ≡ Some r
       → (z : ℤ) × (r ≡ Number z) × (outcome G (at place (operand.Place p ∷ below) memory s.trace) ≡ record { weight = 0; to = Running 0 (at (place + 1) (Word z ∷ below) memory s.trace) })
   load_leads low high v p has injection memory spot described s matches living r result =

@@ -1,4 +1,4 @@
-use Rattle.ep_check_expr.proofs.Lawful.{variables_are_sound, accesses_are_sound, arguments_are_sound, expressions_are_sound, values_are_sound, constants_are_sound, bounds_are_sound, labels_are_sound, expressions_are_known, constants_are_known, bounds_are_known}
+use Rattle.ep_check_expr.proofs.Lawful.{variables_are_sound, accesses_are_sound, arguments_are_sound, expressions_are_sound, values_are_sound, constants_are_sound, bounds_are_sound, labels_are_sound, initial_states_are_sound, expressions_are_known, constants_are_known, bounds_are_known}
 use Rattle.ep_check_expr.proofs.laws.laws_of_expressions.Goals as goal
 
 pub returns-clause-expressions : goal.returns-clause-expressions
@@ -24,6 +24,9 @@ returns-clause-bounds c = bounds_are_sound
 
 pub returns-clause-labels : goal.returns-clause-labels
 returns-clause-labels c = labels_are_sound
+
+pub returns-clause-initial_states : goal.returns-clause-initial_states
+returns-clause-initial_states c = initial_states_are_sound
 
 pub returns-clause-hosts : goal.returns-clause-hosts
 returns-clause-hosts c = expressions_are_known

@@ -3,4 +3,4 @@ use Rattle.ep_check_unit.specs.Routines.{parameters_added}
 use Rattle.ep_check_unit.proofs.formals.with_names.Given as goal
 
 abbrev pub invariant-loop-name : goal.invariant-loop-name
-invariant-loop-name l = parameters_added l.mode l.section l.named.of l.named.kind (drop l.name-index l.names) l.all ≡ parameters_added l.mode l.section l.named.of l.named.kind l.names l.fn.before
+invariant-loop-name l = parameters_added l.mode l.section l.of l.kind (drop l.name-index l.names) l.all ≡ parameters_added l.mode l.section l.of l.kind l.names l.fn.before

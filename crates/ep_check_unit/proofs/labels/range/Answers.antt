@@ -1,7 +1,6 @@
 use Rattle.std.proofs.Common.{◌≡◌, Some}
 use Rattle.std.proofs.lemmas.Result.{err_from_is_err_and}
 use Rattle.ep_tree.specs.declared.expression.Label.{out-Label}
-use Rattle.ep_check_unit.specs.Labels.{end_judged}
 use Rattle.ep_check_unit.proofs.VariantParts.{high_refused, low_refused}
 use Rattle.ep_check_unit.proofs.labels.range.Goals as goal
 

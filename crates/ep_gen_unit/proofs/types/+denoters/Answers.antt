@@ -4,7 +4,7 @@ use Rattle.ep_gen_unit.specs.TypeCode.{code_within, each_code}
 use Rattle.std.proofs.lemmas.Int.{to_z_pos}
 use Rattle.ep_gen_expr.proofs.Forms.{on_ok}
 use Rattle.ep_typed.specs.Viewed.{denoter_of, field_of, selector_of, variant_of, variants_of, components_of}
-use Rattle.ep_gen_unit.proofs.TypeForms.{found, no_definition, by_base, by_components, by_definition, by_one, by_parts, components_both, components_first, components_more, components_one, how_many-of, part_some, variants_some}
+use Rattle.ep_gen_unit.proofs.TypeForms.{found, no_definition, by_base, by_components, by_definition, by_one, by_parts, by_start, components_both, components_first, components_more, components_one, how_many-of, part_some, variants_some}
 use Rattle.ep_typed.specs.Trees.{denoters, Denoter, Record}
 use Rattle.ep_typed.specs.declared.denoter.FieldPart.{FieldPart, out-FieldPart}
 use Rattle.ep_typed.specs.declared.denoter.VariantPart.{VariantPart, out-VariantPart}
@@ -59,6 +59,9 @@ variant_part_code-returns-in-Some t c =
     on_ok c.record_code.result (λ g. subst (λ l. Grows c.args.code.now c.record_code.new.code (each_code c.args.types.now c.args.code.now.line (code_within c.args.types.now c.args.code.now.line c.args.left) (denoters l))) (sym all)
     (components_first c.args.types.now c.args.code.now c.args.left (selector_of (out-VariantPart part).selector) (variants ++ last ∷ []) c.in_ok-selector_code.ensures
     (components_one c.args.types.now c.selector_code.new.code c.args.left variants last (rw c.items.ensures at c.in_ok-variants_code.ensures) g))) (rw c.get.ensures at c.record_code.ensures)
+
+pub initial_code-returns : goal.initial_code-returns
+initial_code-returns t c = on_ok c.emit.result (by_start c.args.types.now c.args.code.now c.args.left (denoter_of c.args.of.now) c.args.value.now c.in_ok-elaborate_within.ensures c.in_ok-start_code.ensures) c.emit.ensures
 
 pub set_code-returns : goal.set_code-returns
 set_code-returns t c = on_ok c.emit.result (by_base c.args.types.now c.args.code.now c.args.left (denoter_of c.args.base.now) c.in_ok-elaborate_within.ensures) c.emit.ensures

@@ -56,3 +56,6 @@ invariant-variants_code-loop-variant l = Grows l.fn.code l.code (each_code l.typ
 
 abbrev pub decreases-set_code : goal.decreases-set_code
 decreases-set_code l = 2 * (names_left l.types.now l.left + size-Denoter l.base.now) + 2
+
+abbrev pub decreases-initial_code : goal.decreases-initial_code
+decreases-initial_code l = 2 * (names_left l.types.now l.left + size-Denoter l.of.now) + 2

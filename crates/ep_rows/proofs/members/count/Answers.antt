@@ -1,4 +1,4 @@
-use Rattle.std.proofs.Common.{◌≡◌, ◌<◌, ◌≤◌, ◌+◌, true, false, add-zero, ap, sym, ◌∙◌, arith}
+use Rattle.std.proofs.Common.{◌≡◌, ◌+◌, true, false, add-zero, ap, sym, ◌∙◌, arith}
 use Rattle.ep_frames.specs.Members.{is_told}
 use Rattle.ep_object.specs.Sets.{member_limit}
 use Rattle.ep_object.proofs.Sets.{count_all, count_below, count_more, count_none}

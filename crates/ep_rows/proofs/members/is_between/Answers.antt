@@ -1,4 +1,4 @@
-use Rattle.std.proofs.Common.{◌<◌, sym, ◌∙◌, arith, w64}
+use Rattle.std.proofs.Common.{sym, ◌∙◌, arith, w64}
 use Rattle.std.proofs.lemmas.Int.{to_z-of_z}
 use Rattle.ep_rows.proofs.SetBits.{inside_told, outside_told, next_false}
 use Rattle.ep_rows.proofs.members.is_between.Goals as goal

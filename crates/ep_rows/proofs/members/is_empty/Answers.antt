@@ -1,4 +1,4 @@
-use Rattle.std.proofs.Common.{◌<◌, arith}
+use Rattle.std.proofs.Common.{arith}
 use Rattle.ep_rows.proofs.SetBits.{none_in, told_at, next_zero}
 use Rattle.ep_rows.proofs.members.is_empty.Goals as goal
 

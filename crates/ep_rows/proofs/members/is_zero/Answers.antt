@@ -1,4 +1,3 @@
-use Rattle.std.proofs.Common.{◌≡◌}
 use Rattle.ep_rows.proofs.SetBits.{zero_told}
 use Rattle.ep_rows.proofs.members.is_zero.Goals as goal
 

@@ -1,4 +1,4 @@
-use Rattle.std.proofs.Common.{◌≡◌, ◌<◌, pos, to_z, of_z, sym, ◌∙◌, arith, rules, w64}
+use Rattle.std.proofs.Common.{◌≡◌, pos, to_z, of_z, sym, ◌∙◌, arith, rules, w64}
 use Rattle.std.proofs.lemmas.Int.{to_z-of_z}
 use Rattle.ep_rows.proofs.SetBits.{least_found, least_missing, next_false}
 use Rattle.ep_rows.proofs.members.next.Goals as goal

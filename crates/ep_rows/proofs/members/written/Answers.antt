@@ -1,4 +1,4 @@
-use Rattle.std.proofs.Common.{◌≡◌, ◌<◌, ◌^◌, ℕ, pos, get_or, to_z, of_z, w64, refl, sym, ap, ◌∙◌, arith, rules}
+use Rattle.std.proofs.Common.{◌≡◌, ◌<◌, ◌^◌, pos, get_or, to_z, of_z, w64, refl, ◌∙◌, arith, rules}
 use Rattle.std.proofs.lemmas.List.{length-set}
 use Rattle.ep_rows.proofs.SetBits.{set_each, written_is}
 use Rattle.ep_rows.proofs.members.written.Goals as goal

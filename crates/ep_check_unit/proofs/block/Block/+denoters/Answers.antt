@@ -20,8 +20,8 @@ index_types-loop-plain-preserved t c = record {
       c.loop-plain.all c.push.new.self c.in_ok-index.index c.in_ok-host.host (block_of c.loop-plain.self) (block_of c.settled_plain.new.self) _ c.in_ok-push.ensures.ok c.in_ok-index.ensures c.in_ok-host.ensures c.loop-plain.invariant.same;
 }
 
-pub settled_type-returns : goal.settled_type-returns
-settled_type-returns t c =
+pub settled_core-returns : goal.settled_core-returns
+settled_core-returns t c =
     rw (other_settled (core_part c.args.core.now) c.args.line (block_of c.args.self.now) (written_in (block_of c.written_type.new.self) c.in_ok-written.written) (unnamed c.args.core.now c.in_default.not-Named) c.in_ok-written.ensures) c.settle.ensures
 
 pub structure-returns-in_err-made-in-Array : goal.structure-returns-in_err-made-in-Array
@@ -52,12 +52,12 @@ pub sections-returns-in_err-add_fields : goal.sections-returns-in_err-add_fields
 sections-returns-in_err-add_fields t c =
     let p = err_from_is_err_and c.from_residual-in_err-add_fields.result c.from_residual-in_err-add_fields.ensures.1 in
     rw (p.1, p.2, ← c.loop-section.invariant.same)
-    (names_refused c.args.line c.args.sections.now c.loop-section.section-index c.section-item.result c.loop-section-test.true c.section-item.is (block_of c.loop-section.self) c.loop-section.all c.in_ok-of.of (block_of c.settled_plain.new.self) (rw c.get.ensures at c.in_ok-of.ensures) c.in_err-add_fields.field-0.0 (rw c.items.ensures at c.in_err-add_fields.ensures))
+    (names_refused c.args.line c.args.sections.now c.loop-section.section-index c.section-item.result c.loop-section-test.true c.section-item.is (block_of c.loop-section.self) c.loop-section.all c.in_ok-of.of (block_of c.settled_denoter.new.self) c.in_ok-of.ensures c.in_err-add_fields.field-0.0 (rw c.items.ensures at c.in_err-add_fields.ensures))
 
 pub sections-loop-section-preserved : goal.sections-loop-section-preserved
 sections-loop-section-preserved t c = record {
   built = rest_built field_section_unbuilt c.args.sections.now c.loop-section.section-index c.section-item.result c.loop-section-test.true c.section-item.is c.loop-section.invariant.built;
-  same = next_section c.args.line c.args.sections.now c.loop-section.section-index c.section-item.result c.loop-section-test.true c.section-item.is (block_of c.loop-section.self) c.loop-section.all c.in_ok-of.of (block_of c.settled_plain.new.self) (rw c.get.ensures at c.in_ok-of.ensures) c.add_fields.new.fields (rw c.items.ensures at c.in_ok-add_fields.ensures) ∙ c.loop-section.invariant.same;
+  same = next_section c.args.line c.args.sections.now c.loop-section.section-index c.section-item.result c.loop-section-test.true c.section-item.is (block_of c.loop-section.self) c.loop-section.all c.in_ok-of.of (block_of c.settled_denoter.new.self) c.in_ok-of.ensures c.add_fields.new.fields (rw c.items.ensures at c.in_ok-add_fields.ensures) ∙ c.loop-section.invariant.same;
 }
 
 pub completing-returns : goal.completing-returns
