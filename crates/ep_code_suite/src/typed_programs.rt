@@ -4,7 +4,8 @@ mod builder;
 
 use builder::{Builder, Step, Unbuilt};
 use ep_base::{Boxed, Line, List, Name};
-use ep_gen_expr::{Code, expression_code, laws_of_code};
+use ep_gen_code::Code;
+use ep_gen_expr::{expression_code, laws_of_code};
 use ep_gen_unit::{laws_of_programs, laws_of_statements, program_code, statement_code};
 use ep_object::{Instr, Object, op};
 use ep_typed::{
@@ -362,7 +363,7 @@ fn unit_of(
 /// No code yet, at line 3.
 fn no_code(alloc: Global) -> Result<Code, Unbuilt> {
     let unit = unit_of(alloc, List::new(alloc), List::new(alloc), List::new(alloc))?;
-    let mut code = Code::new(alloc, &unit);
+    let mut code = Code::new(alloc, &unit)?;
     code.line = 3;
     Ok(code)
 }
@@ -466,31 +467,33 @@ fn program(alloc: Global) -> Result<Unit, Unbuilt> {
     unit_of(alloc, types, variables, statements)
 }
 
-/// The code of that program.
+/// The code of that program, with that of its type behind it.
 const PROGRAM: &[Row] = &[
-    (op::PUSH, 0, 0, 1),
-    (op::PUSH, 9, 0, 1),
-    (op::T_ORD, 0, 0, 1),
+    (op::CALL, 0, 0, 1),
     (op::MAKE, 0, 0, 1),
     (op::PUSH, 0, 0, 2),
     (op::PUSH, 9, 0, 2),
     (op::T_ORD, 0, 0, 2),
     (op::MAKE, 1, 0, 2),
-    (op::UNIT, 0, 0, 4),
+    (op::UNIT, 1, 0, 4),
     (op::PUSH, 7, 0, 4),
     (op::STORE, 0, 0, 4),
     (op::RETURN, 0, 0, 0),
     (op::RETURN, 0, 0, 0),
+    (op::PUSH, 0, 0, 1),
+    (op::PUSH, 9, 0, 1),
+    (op::T_ORD, 0, 0, 1),
+    (op::RETURN, 0, 0, 1),
 ];
 
-/// Whether an object has this code, its start at 0 and its stop at 12.
+/// Whether an object has this code, its start at 0, its stop at 10 and the routine of its type at 11.
 fn is_program(object: &Object) -> bool {
-    let [start, stop] = object.routines.items() else {
+    let [start, stop, digit] = object.routines.items() else {
         return false;
     };
-    let entries = start.entry == 0 && stop.entry == 12;
+    let entries = start.entry == 0 && stop.entry == 10 && digit.entry == 11;
     let numbers = object.start == 0 && object.stop == 1 && object.unit_slots == 2;
-    let references = object.references.items().len() == 1;
+    let references = object.references.items().len() == 2;
     entries && numbers && references && are(object.instructions.items(), PROGRAM)
 }
 

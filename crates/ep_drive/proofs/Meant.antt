@@ -7,11 +7,11 @@ use Rattle.ep_object.specs.State.{Going, Running, Stopped, Normal, Halt, Error, 
 use Rattle.ep_object.specs.Tells.{Tells}
 use Rattle.ep_typed.proofs.Lasting.{meanings_last}
 use Rattle.ep_typed.specs.Auxiliaries.{block_auxiliaries}
-use Rattle.ep_typed.specs.Calls.{Argument, Handler, in_call}
+use Rattle.ep_typed.specs.Calls.{Argument, Handler, activation_words, in_call}
 use Rattle.ep_typed.specs.Trees.{Callee}
 use Rattle.ep_typed.specs.Events.{Trace, Does}
 use Rattle.ep_typed.specs.Laws.{IsLonger}
-use Rattle.ep_typed.specs.Meaning.{activation, takes_all, make_all_own, results_given, found_among, routine_does, routine_of, meaning, make_all, exec, weights_of}
+use Rattle.ep_typed.specs.Meaning.{activation, takes_all, make_all_own, results_given, routine_does, type_does, handler_of, meaning, make_all, exec, weights_of}
 use Rattle.ep_typed.specs.Printing.{Result}
 use Rattle.ep_typed.specs.Routines.{result_variable}
 use Rattle.ep_typed.specs.Viewed.{stmt_of}
@@ -156,19 +156,19 @@ settled_status units ticks m l e s (Stopped end trace) (inr t) h room few = absu
 
 -- ---- texts and units
 
--- what a routine of a unit with these types does, by its form
-abbrev form_does : Handler → ℕ → List ℕ → ℕ → Callee → List UnitType → Option RoutineForm → List Argument → Computation (List Result)
-form_does call g from line callee types None xs = cut
-form_does call g from line callee types (Some f) xs =
-    in_call callee.levels (activation f.name from line)
-    (spend (suc (weights_of xs)) (bind (takes_all call g callee.unit types f.line 0 f.formals xs)
-    (λ _. bind (make_all_own call g callee.unit types (length f.formals) (result_variable f.name f.line f.result ++ (f.variables ++ block_auxiliaries f.block)))
+-- what a routine does, by its form
+abbrev form_does : Handler → ℕ → List ℕ → ℕ → Callee → Option RoutineForm → List Argument → Computation (List Result)
+form_does call g from line callee None xs = cut
+form_does call g from line callee (Some f) xs =
+    in_call activation_words callee.levels (activation f.name from line)
+    (spend (suc (weights_of xs)) (bind (takes_all call g callee.unit f.line 0 f.formals xs)
+    (λ _. bind (make_all_own call g callee.unit (length f.formals) (result_variable f.name f.line f.result ++ (f.variables ++ block_auxiliaries f.block)))
     (λ _. bind (exec call g callee.unit f.block) (λ _. results_given callee.unit f.line (length f.formals) f.result)))))
 
-does_form : (call : Handler) (g : ℕ) (from : List ℕ) (line : ℕ) (callee : Callee) (types : List UnitType) (o : Option UnitRoutine) (xs : List Argument)
-    → routine_does call g from line callee (found_among types o) xs ≡ form_does call g from line callee types (option_map routine_form o) xs
-does_form call g from line callee types None xs = refl
-does_form call g from line callee types (Some r) xs = refl
+does_form : (call : Handler) (g : ℕ) (from : List ℕ) (line : ℕ) (callee : Callee) (o : Option UnitRoutine) (xs : List Argument)
+    → routine_does call g from line callee o xs ≡ form_does call g from line callee (option_map routine_form o) xs
+does_form call g from line callee None xs = refl
+does_form call g from line callee (Some r) xs = refl
 
 -- the form of this number
 form_at : (rs : List UnitRoutine) (number : ℕ) → option_map routine_form (slice_get rs number) ≡ slice_get (map routine_form rs) number
@@ -176,28 +176,34 @@ form_at [] number = refl
 form_at (r ∷ rs) zero = refl
 form_at (r ∷ rs) (suc n) = form_at rs n
 
-does_if : (b : Bool) (call : Handler) (g : ℕ) (from : List ℕ) (line : ℕ) (callee : Callee) (number : ℕ) (types : List UnitType) (rs : List UnitRoutine) (xs : List Argument)
-    → routine_does call g from line callee (if b then found_among types (slice_get rs number) else None) xs ≡ form_does call g from line callee types (if b then slice_get (map routine_form rs) number else None) xs
-does_if true call g from line callee number types rs xs =
-    does_form call g from line callee types (slice_get rs number) xs ∙ ap (λ o. form_does call g from line callee types o xs) (form_at rs number)
-does_if false call g from line callee number types rs xs = refl
+does_if : (b : Bool) (call : Handler) (g : ℕ) (from : List ℕ) (line : ℕ) (callee : Callee) (number : ℕ) (rs : List UnitRoutine) (xs : List Argument)
+    → routine_does call g from line callee (if b then slice_get rs number else None) xs ≡ form_does call g from line callee (if b then slice_get (map routine_form rs) number else None) xs
+does_if true call g from line callee number rs xs = does_form call g from line callee (slice_get rs number) xs ∙ ap (λ o. form_does call g from line callee o xs) (form_at rs number)
+does_if false call g from line callee number rs xs = refl
 
 -- a call of two units alike, where the calls in it are
-call_alike : (u v : TypedUnit) (d : ℕ) → routine_of (u ∷ []) d ≡ routine_of (v ∷ []) d → u.name ≡ v.name → u.types ≡ v.types → map routine_form u.routines ≡ map routine_form v.routines → (from : List ℕ) (line : ℕ) (callee : Callee) (xs : List Argument)
-    → routine_does (routine_of (u ∷ []) d) d from line callee (if bytes_eq u.name callee.unit then found_among u.types (slice_get u.routines callee.number) else None) xs ≡ routine_does (routine_of (v ∷ []) d) d from line callee (if bytes_eq v.name callee.unit then found_among v.types (slice_get v.routines callee.number) else None) xs
-call_alike u v d calls a t r from line callee xs =
-    let inner : form_does (routine_of (u ∷ []) d) d from line callee u.types (if bytes_eq u.name callee.unit then slice_get (map routine_form u.routines) callee.number else None) xs ≡ form_does (routine_of (v ∷ []) d) d from line callee v.types (if bytes_eq v.name callee.unit then slice_get (map routine_form v.routines) callee.number else None) xs =
-    λ j. form_does (calls j) d from line callee (t j) (if bytes_eq (a j) callee.unit then slice_get (r j) callee.number else None) xs in
-    does_if (bytes_eq u.name callee.unit) (routine_of (u ∷ []) d) d from line callee callee.number u.types u.routines xs ∙ (inner ∙ sym (does_if (bytes_eq v.name callee.unit) (routine_of (v ∷ []) d) d from line callee callee.number v.types v.routines xs))
+call_alike : (u v : TypedUnit) (d : ℕ) → handler_of (u ∷ []) d ≡ handler_of (v ∷ []) d → u.name ≡ v.name → map routine_form u.routines ≡ map routine_form v.routines → (from : List ℕ) (line : ℕ) (callee : Callee) (xs : List Argument)
+    → routine_does (handler_of (u ∷ []) d) d from line callee (if bytes_eq u.name callee.unit then slice_get u.routines callee.number else None) xs ≡ routine_does (handler_of (v ∷ []) d) d from line callee (if bytes_eq v.name callee.unit then slice_get v.routines callee.number else None) xs
+call_alike u v d calls a r from line callee xs =
+    let inner : form_does (handler_of (u ∷ []) d) d from line callee (if bytes_eq u.name callee.unit then slice_get (map routine_form u.routines) callee.number else None) xs ≡ form_does (handler_of (v ∷ []) d) d from line callee (if bytes_eq v.name callee.unit then slice_get (map routine_form v.routines) callee.number else None) xs =
+    λ j. form_does (calls j) d from line callee (if bytes_eq (a j) callee.unit then slice_get (r j) callee.number else None) xs in
+    does_if (bytes_eq u.name callee.unit) (handler_of (u ∷ []) d) d from line callee callee.number u.routines xs ∙ (inner ∙ sym (does_if (bytes_eq v.name callee.unit) (handler_of (v ∷ []) d) d from line callee callee.number v.routines xs))
+
+-- the elaboration of a type of them
+type_alike : (u v : TypedUnit) (d : ℕ) → handler_of (u ∷ []) d ≡ handler_of (v ∷ []) d → u.name ≡ v.name → u.types ≡ v.types → (from : List ℕ) (line index : ℕ)
+    → type_does (handler_of (u ∷ []) d) d from line (if bytes_eq u.name from then slice_get u.types index else None) ≡ type_does (handler_of (v ∷ []) d) d from line (if bytes_eq v.name from then slice_get v.types index else None)
+type_alike u v d calls a t from line index = λ j. type_does (calls j) d from line (if bytes_eq (a j) from then slice_get (t j) index else None)
 
 -- the calls of a unit are those of its name, its types and its routines' forms
-same_calls : (u v : TypedUnit) (n : ℕ) → u.name ≡ v.name → u.types ≡ v.types → map routine_form u.routines ≡ map routine_form v.routines → routine_of (u ∷ []) n ≡ routine_of (v ∷ []) n
-same_calls u v zero a t r = λ i from line callee arguments. cut
-same_calls u v (suc d) a t r = λ i from line callee arguments. call_alike u v d (same_calls u v d a t r) a t r from line callee arguments i
+same_calls : (u v : TypedUnit) (n : ℕ) → u.name ≡ v.name → u.types ≡ v.types → map routine_form u.routines ≡ map routine_form v.routines → handler_of (u ∷ []) n ≡ handler_of (v ∷ []) n
+same_calls u v zero a t r = refl
+same_calls u v (suc d) a t r =
+    let below = same_calls u v d a t r in
+    λ i. record { routine = λ from line callee arguments. call_alike u v d below a r from line callee arguments i; named_type = λ from line index. type_alike u v d below a t from line index i }
 
 -- the meaning is that of the name, the types, the variables, the routines and the statements
 same_meaning : (u v : TypedUnit) (m : ℕ) → AreAlike u v → meaning (u ∷ []) m ≡ meaning (v ∷ []) m
-same_meaning u v m s = let call = same_calls u v m s.names s.types s.routines in λ i. go_on (spend 1 (bind (make_all (call i) m (s.names i) (s.types i) 0 (s.variables i ++ block_auxiliaries (s.starts i))) (λ _. exec (call i) m (s.names i) (s.starts i))) m first_state) (λ _. stop meant.Normal)
+same_meaning u v m s = let call = same_calls u v m s.names s.types s.routines in λ i. go_on (spend 1 (bind (make_all (call i) m (s.names i) 0 (s.variables i ++ block_auxiliaries (s.starts i))) (λ _. exec (call i) m (s.names i) (s.starts i))) m first_state) (λ _. stop meant.Normal)
 
 -- a text has one meaning
 text_means : (text : List ℕ) (u v : TypedUnit) (m : ℕ) → IsProgramText text u → IsProgramText text v → meaning (u ∷ []) m ≡ meaning (v ∷ []) m

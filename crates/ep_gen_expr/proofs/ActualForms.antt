@@ -5,13 +5,16 @@ use Rattle.ep_object.specs.declared.code.Instr.{Instr}
 use Rattle.ep_object.specs.declared.code.Reference.{Reference}
 use Rattle.ep_object.specs.declared.op.TheConstants as op
 use Rattle.ep_typed.specs.Trees.{Callee, Place, Expr, Function, Actual, Evaluated, Accessed, Actuals, actuals}
-use Rattle.ep_gen_expr.specs.ExprCode.{IsActualCode, AreActualsCode, instr, reference}
-use Rattle.ep_gen_expr.specs.Growth.{Grows, NumbersReference, AppendsPlace, AppendsExpr, AppendsActual, AppendsActuals}
-use Rattle.ep_gen_expr.specs.Jumps.{IsNextPlace}
-use Rattle.ep_gen_expr.specs.declared.code.Code.{Code}
-use Rattle.ep_gen_expr.proofs.Landing.{grows_length}
-use Rattle.ep_gen_expr.proofs.Forms.{grows_none, grows_then, grows_at, whole_expr}
-use Rattle.ep_gen_expr.proofs.Pushed.{get_later}
+use Rattle.ep_gen_expr.specs.ExprCode.{IsActualCode, AreActualsCode}
+use Rattle.ep_gen_code.specs.Instructions.{instr, reference}
+use Rattle.ep_gen_code.specs.Growth.{Grows}
+use Rattle.ep_gen_expr.specs.Growth.{NumbersReference, AppendsPlace, AppendsExpr, AppendsActual, AppendsActuals}
+use Rattle.ep_gen_code.specs.Jumps.{IsNextPlace}
+use Rattle.ep_gen_code.specs.declared.code.Code.{Code}
+use Rattle.ep_gen_code.proofs.Landing.{grows_length}
+use Rattle.ep_gen_code.proofs.Growing.{grows_none, grows_then, grows_at}
+use Rattle.ep_gen_expr.proofs.Forms.{whole_expr}
+use Rattle.ep_gen_code.proofs.Pushed.{get_later}
 use Rattle.ep_gen_expr.proofs.Stays.{actuals_code_stays}
 
 -- a value

@@ -1,6 +1,6 @@
 -- The machine follows an operation, by the instruction that gives its answer.
 use Rattle.std.proofs.Common.{◌≡◌, ℕ, ℤ, suc, ◌+◌, ◌≤◌, IsTrue, List, length, refl, ap, ◌∙◌, arith}
-use Rattle.ep_object.specs.Follows.{point, Facts, Fragment, After, OnTop, PlaceOnTop, Inside}
+use Rattle.ep_object.specs.Follows.{point, Facts, Fragment, OnTop, PlaceOnTop, Inside}
 use Rattle.ep_object.specs.Matching.{Slots, Memory, Injection}
 use Rattle.ep_object.specs.Runs.{unit_in}
 use Rattle.ep_object.specs.Operands.{Operand}
@@ -8,11 +8,11 @@ use Rattle.ep_object.specs.Placing.{Placement}
 use Rattle.ep_object.specs.declared.code.Image.{Image}
 use Rattle.ep_object.specs.declared.code.Instr.{Instr}
 use Rattle.ep_object.proofs.following.Choices.{going_of, fragment_answer}
-use Rattle.ep_object.proofs.following.Fragments.{fragment_less, fragment_waits}
+use Rattle.ep_object.proofs.following.Fragments.{fragment_less}
 use Rattle.ep_object.proofs.matching.Growing.{inside_here}
-use Rattle.ep_object.proofs.rows.Rows.{RowAnswers, RowPushes}
+use Rattle.ep_object.proofs.rows.Rows.{RowAnswers}
 use Rattle.ep_typed.specs.Calls.{Handler}
-use Rattle.ep_gen_expr.specs.Following.{least_credit}
+use Rattle.ep_gen_code.specs.Credit.{least_credit}
 use Rattle.ep_typed.specs.Meaning.{answered, eval, place}
 use Rattle.ep_typed.specs.Results.{weight_of}
 use Rattle.ep_typed.specs.Trees.{Place, Expr}
@@ -58,10 +58,3 @@ module _ {declared : Declarations} {G : Image} {untouched : Slots} {Here : Facts
       → Evaluates declared G untouched Here n injection memory place operands (answering call g unit line a) (place + 1) (Ordinal host) below d e
   answer_follows n place operands below a row host of_host injection memory d e unit_is le le2 =
       fragment_less {n = suc n} (omega arith) (fragment_answer {n = n} call g unit line below a (λ z. result.Number z) (λ s matches. row memory s.trace ∙ ap (λ u. record { weight = 0; to = going_of (place + 1) below memory u line s.trace a }) unit_is) (λ z is. inside_here (record { number = z; is_number = refl; of_host = of_host z is; is = refl })) le (λ z. omega (arith, le2)))
-
--- an instruction of one tick that changes the operands alone, and spends of the credit
-pub row_waits : {A : Type 0} {declared : Declarations} {G : Image} {Here : Facts} {c : Computation A} {n place to d d1 : ℕ} {injection : Injection} {memory : Memory} {operands operands1 : List Operand} {P : A → After} {e : A → ℕ}
-    → RowPushes G place operands 0 operands1 → 1 + d1 ≤ d
-    → Fragment declared G Here n (point injection memory (place + 1) operands1) c to P d1 e
-    → Fragment declared G Here n (point injection memory place operands) c to P d e
-row_waits {memory = memory} row le h = fragment_waits (λ s matches. row memory s.trace) le h

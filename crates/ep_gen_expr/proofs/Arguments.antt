@@ -1,7 +1,7 @@
 -- The machine follows the actual parameters of a call, and leaves on the operands what the formal ones take.
 use Rattle.std.proofs.Common.{◌≡◌, ℕ, ◌+◌, ◌≤◌, List, [], ◌∷◌, ◌++◌, length, refl, sym, ap, ◌∙◌, subst, arith, length-append}
 use Rattle.std.proofs.lemmas.Option.{same_Some}
-use Rattle.ep_gen_expr.specs.Following.{least_credit}
+use Rattle.ep_gen_code.specs.Credit.{least_credit}
 use Rattle.ep_gen_expr.proofs.Answering.{IsFollowed, IsPlaceFollowed}
 use Rattle.ep_object.proofs.following.Fragments.{fragment_to, fragment_give, inside_bind, fragment_bind_place}
 use Rattle.ep_object.proofs.matching.Growing.{unit_in-same, is_spot-grown, describes-grown, inside_here}

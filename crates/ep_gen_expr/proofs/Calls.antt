@@ -1,11 +1,11 @@
 -- The machine follows calls, where the routines keep their promises.
 use Rattle.std.proofs.Common.{◌≡◌, ℕ, pos, suc, ◌+◌, ◌*◌, ◌≤◌, ◌<◌, List, [], ◌∷◌, ◌++◌, Option, None, Some, length, slice_get, refl, sym, ap, ◌∙◌, subst, arith, length-append}
 use Rattle.std.proofs.lemmas.Option.{same_Some}
-use Rattle.ep_gen_expr.specs.ExprCode.{instr, reference}
-use Rattle.ep_gen_expr.specs.Following.{least_credit}
+use Rattle.ep_gen_code.specs.Instructions.{instr, reference}
+use Rattle.ep_gen_code.specs.Credit.{least_credit}
 use Rattle.ep_gen_expr.proofs.Answering.{IsFollowed}
 use Rattle.ep_gen_expr.proofs.Arguments.{AreArgumentsFollowed}
-use Rattle.ep_gen_expr.proofs.Placed.{code_back, jump_has}
+use Rattle.ep_gen_code.proofs.Placed.{code_back, jump_has}
 use Rattle.ep_object.proofs.following.Fragments.{fragment_to, fragment_credit, fragment_less, fragment_one, fragment_paid, fragment_give, inside_bind}
 use Rattle.ep_object.proofs.following.Promising.{call_follows}
 use Rattle.ep_object.proofs.matching.Awaiting.{on_top}
@@ -93,13 +93,13 @@ module _ {declared : Declarations} {G : Image} {untouched : Slots} {Here : Facts
         → (injection : Injection) (memory : Memory) (below operands : List Operand) (xs : List Argument) → AreArguments injection memory keeps.formals xs below operands
         → (d : ℕ) → unit_in G memory.frames ≡ unit → ((rs : List Result) → Steady (rest rs))
         → ((rs : List Result) (longer : Injection) (after : Memory) (pushed : List Operand) → Grown untouched injection memory longer after → SameRoutine untouched memory.frames after.frames → ResultsOnTop keeps.results below rs longer after pushed → Fragment declared G Here n (point longer after (p.instructions.before + (at + 1)) pushed) (rest rs) to (λ b. Inside untouched longer after (Then b)) (d + credit_of rs) e)
-        → Fragment declared G Here n (point injection memory (p.instructions.before + at) operands) (bind (call unit line callee xs) rest) to (λ b. Inside untouched injection memory (Then b)) d e
+        → Fragment declared G Here n (point injection memory (p.instructions.before + at) operands) (bind (call.routine unit line callee xs) rest) to (λ b. Inside untouched injection memory (Then b)) d e
     call_passes line at callee k r keeps is_declared named is stands injection memory below operands xs are d home steady behind =
         let place : ℕ = p.instructions.before + at in
         let calls : CallsAt G place keeps.routine callee.levels line =
         record { instruction = instr op.CALL (pos keeps.routine) callee.levels line; stands = stands.0 ∙ ap (λ i. Some i) (rw named (keeps.placed (instr op.CALL (pos k) callee.levels line))); is_call = refl; names = refl; parent = refl; at_line = refl } in
-        let called : Fragment declared G Here n (point injection memory place operands) (call unit line callee xs) (place + 1) (λ rs. Inside untouched injection memory (ResultsOnTop keeps.results below rs)) 0 credit_of =
-        subst (λ u. Fragment declared G Here n (point injection memory place operands) (call u line callee xs) (place + 1) (λ rs. Inside untouched injection memory (ResultsOnTop keeps.results below rs)) 0 credit_of) home
+        let called : Fragment declared G Here n (point injection memory place operands) (call.routine unit line callee xs) (place + 1) (λ rs. Inside untouched injection memory (ResultsOnTop keeps.results below rs)) 0 credit_of =
+        subst (λ u. Fragment declared G Here n (point injection memory place operands) (call.routine u line callee xs) (place + 1) (λ rs. Inside untouched injection memory (ResultsOnTop keeps.results below rs)) 0 credit_of) home
         (call_follows keeps.promise lasts among place callee.levels line calls injection memory (λ s held. callable (knows injection s memory held) types_are callee callee.levels is_declared) below operands xs are) in
         inside_bind {e = λ rs. d + credit_of rs} steady (fragment_to {to2 = p.instructions.before + (at + 1)} (omega arith) (fragment_credit {d = 0} {e = credit_of} (omega arith) (λ rs. omega arith) called)) behind
 
@@ -110,9 +110,9 @@ module _ {declared : Declarations} {G : Image} {untouched : Slots} {Here : Facts
         → (injection : Injection) (memory : Memory) (below : List Operand) (d : ℕ) → least_credit ≤ d → unit_in G memory.frames ≡ unit
         → (rest : List Result → Computation B) → ((rs : List Result) → Steady (rest rs))
         → ((rs : List Result) (longer : Injection) (after : Memory) (pushed : List Operand) → Grown untouched injection memory longer after → SameRoutine untouched memory.frames after.frames → ResultsOnTop keeps.results below rs longer after pushed → Fragment declared G Here n (point longer after (p.instructions.before + (at + length xs + 1)) pushed) (rest rs) to (λ b. Inside untouched longer after (Then b)) (d + credit_of rs) e)
-        → Fragment declared G Here n (point injection memory (p.instructions.before + at) below) (bind (arguments call g unit line given) (λ vs. bind (call unit line callee vs) rest)) to (λ b. Inside untouched injection memory (Then b)) d e
+        → Fragment declared G Here n (point injection memory (p.instructions.before + at) below) (bind (arguments call g unit line given) (λ vs. bind (call.routine unit line callee vs) rest)) to (λ b. Inside untouched injection memory (Then b)) d e
     passed_then line at callee k given xs r keeps follows is_declared named is stands injection memory below d enough home rest steady behind =
-        inside_bind {First = λ values last final operands. AreArguments last final keeps.formals values below operands} {e = λ values. d} (λ values. steady_bind (steady_call unit line callee values) steady)
+        inside_bind {First = λ values last final operands. AreArguments last final keeps.formals values below operands} {e = λ values. d} (λ values. steady_bind (steady_call.routine unit line callee values) steady)
         (follows injection memory below d enough home)
         (λ values longer after operands grown routine are.
         call_passes line (at + length xs) callee k r keeps is_declared named is (code_back G ps p references at xs (instr op.CALL (pos k) callee.levels line ∷ is) stands) longer after below operands values are d (unit_in-same G routine ∙ home) steady

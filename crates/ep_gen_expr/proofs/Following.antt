@@ -49,15 +49,17 @@ use Rattle.ep_typed.specs.TypeValues.{ComponentTypes, TypeValue, type_among}
 use Rattle.ep_typed.specs.TypeValues as type
 use Rattle.ep_typed.specs.declared.tree.Selection.{Selection}
 use Rattle.ep_typed.specs.declared.unit.UnitVariable.{UnitVariable}
-use Rattle.ep_gen_expr.specs.Following.{least_credit, HasPlaceType, IsValidPlace}
-use Rattle.ep_gen_expr.specs.ExprCode.{IsPlaceCode, IsExprCode, IsActualCode, AreActualsCode, IsDesignatorCode, AreDesignatorsCode, reference, instr, push, bare, one_code, set_code, two_code, keep_code, members_code, step_code, variant_code}
+use Rattle.ep_gen_code.specs.Credit.{least_credit}
+use Rattle.ep_gen_expr.specs.Following.{HasPlaceType, IsValidPlace}
+use Rattle.ep_gen_expr.specs.ExprCode.{IsPlaceCode, IsExprCode, IsActualCode, AreActualsCode, IsDesignatorCode, AreDesignatorsCode, one_code, set_code, two_code, keep_code, step_code, variant_code}
+use Rattle.ep_gen_code.specs.Instructions.{reference, instr, push, bare, members_code}
 use Rattle.ep_gen_expr.proofs.Answering.{Evaluates, IsFollowed, IsPlaceFollowed}
 use Rattle.ep_gen_expr.proofs.Arguments.{Fits, fits, IsArgumentFollowed, AreArgumentsFollowed, value_follows, accessed_follows, none_follows, next_follows}
 use Rattle.ep_gen_expr.proofs.Calls.{passed_then, function_follows}
-use Rattle.ep_gen_expr.proofs.Constants.{set_follows, word_follows}
+use Rattle.ep_gen_code.proofs.Constants.{set_follows, word_follows}
 use Rattle.ep_gen_expr.proofs.ShortCircuit.{kept_follows}
 use Rattle.ep_gen_expr.proofs.OneOperand.{UnaryFollows, unary_follows}
-use Rattle.ep_gen_expr.proofs.Placed.{code_front, code_back, text_at, variable_at}
+use Rattle.ep_gen_code.proofs.Placed.{code_front, code_back, text_at, variable_at}
 use Rattle.ep_gen_expr.proofs.VariantMoves.{active_follows, bad_place, tag_record}
 use Rattle.ep_gen_expr.proofs.Stays.{variant_length}
 use Rattle.ep_gen_expr.proofs.PlaceTypes.{IsArrayWhere, IsRecordWhere, IsVariantWhere, valid_place, typed_place, kind_place, variable_type}
@@ -373,7 +375,7 @@ module _ {declared : Declarations} {G : Image} {untouched : Slots} {Here : Facts
         expression_follows kind (Function callee given) (r, is_callee, is_function, are_given) line at code (xs, k, given_code, named, is) stands inside =
             let all : CodeStands G ps p references at (xs ++ instr op.CALL (pos k) callee.levels line ∷ instr op.JUMP (pos (at + length xs + 2)) 0 line ∷ []) = subst (λ c. CodeStands G ps p references at c) is stands in
             let ends : length code ≡ length xs + 2 = omega (arith, ap length is, length-append xs (instr op.CALL (pos k) callee.levels line ∷ instr op.JUMP (pos (at + length xs + 2)) 0 line ∷ [])) in
-            let keeps : RoutineKeeps declared G ps call n callee.unit callee.number r = kept callee.unit callee.number r is_callee.there in
+            let keeps : RoutineKeeps declared G ps call n callee.unit callee.number r = kept.routines callee.unit callee.number r is_callee.there in
             followed_as n kind kind (Function callee given) line at code (xs ++ instr op.CALL (pos k) callee.levels line ∷ instr op.JUMP (pos (at + length xs + 2)) 0 line ∷ []) refl is
             (function_follows ps p references room knows scene.own_types_are lasts among call steady_call g unit n kind line at callee k given xs r keeps is_function
             (arguments_follow (declared.types callee.unit) r.formals keeps.formals given keeps.passed are_given line at xs given_code (code_front G ps p references at xs (instr op.CALL (pos k) callee.levels line ∷ instr op.JUMP (pos (at + length xs + 2)) 0 line ∷ []) all) (omega (arith, ends, inside)))
@@ -491,7 +493,7 @@ module _ {declared : Declarations} {G : Image} {untouched : Slots} {Here : Facts
           → (injection : Injection) (memory : Memory) (below : List Operand) (d : ℕ) → least_credit ≤ d → unit_in G memory.frames ≡ unit
           → (rest : List Result → Computation B) → ((rs : List Result) → Steady (rest rs))
           → ((rs : List Result) (longer : Injection) (after : Memory) (pushed : List Operand) → Grown untouched injection memory longer after → SameRoutine untouched memory.frames after.frames → ResultsOnTop keeps.results below rs longer after pushed → Fragment declared G Here n (point longer after (p.instructions.before + (at + length xs + 1)) pushed) (rest rs) to (λ b. Inside untouched longer after (Then b)) (d + credit_of rs) e)
-          → Fragment declared G Here n (point injection memory (p.instructions.before + at) below) (bind (arguments call g unit line given) (λ vs. bind (call unit line callee vs) rest)) to (λ b. Inside untouched injection memory (Then b)) d e
+          → Fragment declared G Here n (point injection memory (p.instructions.before + at) below) (bind (arguments call g unit line given) (λ vs. bind (call.routine unit line callee vs) rest)) to (λ b. Inside untouched injection memory (Then b)) d e
       call_then line at callee k given xs r keeps valid is_code is_declared named stands inside injection memory below d enough home rest steady behind =
           passed_then ps p references room knows scene.own_types_are lasts among call steady_call g unit n line at callee k given xs r keeps
           (arguments_follow (declared.types callee.unit) r.formals keeps.formals given keeps.passed valid line at xs is_code (code_front G ps p references at xs (instr op.CALL (pos k) callee.levels line ∷ instr op.JUMP (pos (at + length xs + 2)) 0 line ∷ []) stands) (omega (arith, inside)))

@@ -1,5 +1,5 @@
 -- The code of each form, from that of its parts.
-use Rattle.std.proofs.Common.{◌≡◌, ℕ, ℤ, pos, ◌+◌, ◌<◌, ◌-◌, ◌^◌, length, slice_get, Some, arith, Result, Ok, Err, OnOk, Bool, List, [], ◌∷◌, ◌++◌, refl, sym, ap, ◌∙◌, subst, append_assoc, append-nil, length-append}
+use Rattle.std.proofs.Common.{◌≡◌, ℕ, ℤ, pos, ◌+◌, ◌<◌, ◌-◌, ◌^◌, length, slice_get, Some, arith, Bool, List, [], ◌∷◌, ◌++◌, refl, sym, ap, ◌∙◌, subst, append_assoc, append-nil, length-append}
 use Rattle.ep_object.specs.declared.code.Instr.{Instr}
 use Rattle.ep_object.specs.declared.code.Reference.{Reference}
 use Rattle.ep_typed.specs.Operations.{last_char}
@@ -11,35 +11,18 @@ use Rattle.ep_typed.specs.declared.operations.ShortOperation.{ShortOperation}
 use Rattle.ep_typed.specs.declared.operations.ShortOperation.TheVariants as short
 use Rattle.ep_typed.specs.declared.tree.Selection.{Selection}
 use Rattle.ep_typed.specs.declared.tree.StandardFile.{StandardFile}
-use Rattle.ep_gen_expr.specs.ExprCode.{IsPlaceCode, IsExprCode, instr, reference, standard_code, push, bare, one_code, two_code, keep_code, count_code, step_code, variant_code}
-use Rattle.ep_gen_expr.specs.Growth.{IsNowhere, Grows, NumbersText, NumbersReference, KeepsOperand, AppendsPlace, AppendsExpr}
-use Rattle.ep_gen_expr.specs.Jumps.{LeavesHole, landed}
-use Rattle.ep_gen_expr.specs.declared.code.Code.{Code}
-use Rattle.ep_gen_expr.proofs.Landing.{grows_length, grows_landed}
-use Rattle.ep_gen_expr.proofs.Pushed.{table_same, table_then, table_pushed, get_later, get_last}
+use Rattle.ep_gen_expr.specs.ExprCode.{IsPlaceCode, IsExprCode, standard_code, one_code, two_code, keep_code, count_code, step_code, variant_code}
+use Rattle.ep_gen_code.specs.Instructions.{instr, reference, push, bare}
+use Rattle.ep_gen_code.specs.Growth.{IsNowhere, Grows}
+use Rattle.ep_gen_expr.specs.Growth.{NumbersText, NumbersReference, KeepsOperand, AppendsPlace, AppendsExpr}
+use Rattle.ep_gen_code.specs.Jumps.{LeavesHole, landed}
+use Rattle.ep_gen_code.specs.declared.code.Code.{Code}
+use Rattle.ep_gen_code.proofs.Landing.{grows_length, grows_landed}
+use Rattle.ep_gen_code.proofs.Pushed.{table_same, table_pushed, get_later, get_last}
+use Rattle.ep_gen_code.proofs.Growing.{after_parts, after_two, grows_at, grows_none, grows_then}
 use Rattle.ep_gen_expr.proofs.Stays.{place_code_stays, expr_code_stays, place_code_short, expr_code_short}
 use Rattle.ep_object.specs.declared.op.TheConstants as op
 use Rattle.ep_typed.specs.declared.run_error.TheConstants as run_error
-
-pub grows_none : (a : Code) → Grows a a []
-grows_none a = record { instructions = sym (append-nil a.instructions); texts = table_same a.texts; references = table_same a.references; constant_types = refl; line = refl }
-
-pub grows_then : {a b c : Code} {is js : List Instr} → Grows a b is → Grows b c js → Grows a c (is ++ js)
-grows_then {a = a} {is = is} {js = js} p q = record {
-  instructions = q.instructions ∙ ap (λ l. l ++ js) p.instructions ∙ append_assoc a.instructions is js;
-  texts = table_then p.texts q.texts;
-  references = table_then p.references q.references;
-  constant_types = q.constant_types ∙ p.constant_types;
-  line = q.line ∙ p.line;
-}
-
--- instructions that are determined by the line
-pub grows_at : (f : ℕ → List Instr) {a b c : Code} {is : List Instr} → Grows a b is → Grows b c (f b.line) → Grows a c (is ++ f a.line)
-grows_at f {a = a} {b = b} {c = c} {is = is} p q = subst (λ line. Grows a c (is ++ f line)) p.line (grows_then p q)
-
--- two numbers
-pub grows_pair : {a b c : Code} (low high : ℤ) → Grows a b (push a.line low ∷ []) → Grows b c (push b.line high ∷ []) → Grows a c (push a.line low ∷ push a.line high ∷ [])
-grows_pair low high p q = grows_at (λ line. push line high ∷ []) p q
 
 -- what leaves a value as it is
 pub grows_kept : {a b c : Code} → Grows a b (bare a.line op.DUP ∷ []) → Grows b c (bare b.line op.DROP ∷ []) → Grows a c (bare a.line op.DUP ∷ bare a.line op.DROP ∷ [])
@@ -48,10 +31,6 @@ grows_kept p q = grows_at (λ line. bare line op.DROP ∷ []) p q
 -- what checks a char
 pub grows_character : {a b c : Code} → Grows a b (push a.line (pos 0) ∷ push a.line (pos last_char) ∷ []) → Grows b c (instr op.CHECK (pos run_error.SUCCESSOR) 0 b.line ∷ []) → Grows a c (one_code a.line unary.Character)
 grows_character p q = grows_at (λ line. instr op.CHECK (pos run_error.SUCCESSOR) 0 line ∷ []) p q
-
--- what comes after two parts
-after_two : (f g : ℕ → List Instr) {a b c d : Code} {is : List Instr} → Grows a b is → Grows b c (f b.line) → Grows c d (g c.line) → Grows a d (is ++ (f a.line ++ g a.line))
-after_two f g {a = a} {d = d} {is = is} p q r = subst (λ l. Grows a d l) (append_assoc is (f a.line) (g a.line)) (grows_at g (grows_at f p q) r)
 
 -- what steps
 pub grows_step : {a b c d : Code} (down : Bool) (low high : ℤ) → Grows a b (count_code a.line down) → Grows b c (push b.line low ∷ push b.line high ∷ []) → Grows c d (bare c.line op.STEP ∷ []) → Grows a d (step_code a.line down low high)
@@ -99,10 +78,6 @@ appends_read {a = a} place p q =
 pub appends_one : {a b c : Code} (operation : Unary) (x : Expr) → AppendsExpr a b x → Grows b c (one_code b.line operation) → AppendsExpr a c (One operation x)
 appends_one {a = a} operation x p q =
     whole_expr (One operation x) (p.code ++ one_code a.line operation) (p.code, first_part x p q, refl) (grows_at (λ line. one_code line operation) p.grows q)
-
--- what comes after two operands
-pub after_parts : (f : ℕ → List Instr) {a b c d : Code} {is js : List Instr} → Grows a b is → Grows b c js → Grows c d (f c.line) → Grows a d (is ++ (js ++ f a.line))
-after_parts f {a = a} {d = d} {is = is} {js = js} p q r = subst (λ l. Grows a d l) (append_assoc is js (f a.line)) (grows_at f (grows_then p q) r)
 
 pub appends_indexed : {a b c d : Code} (array : Place) (index : Expr) → AppendsPlace a b array → AppendsExpr b c index → Grows c d (bare c.line op.INDEX ∷ []) → AppendsPlace a d (Indexed array index)
 appends_indexed {a = a} array index p q r =
@@ -219,11 +194,6 @@ numbers_old_text a bytes k there = record { there = there; grows = grows_none a 
 
 pub numbers_old_reference : (a : Code) (r : Reference) (k : ℕ) → slice_get a.references k ≡ Some r → NumbersReference a a r k
 numbers_old_reference a r k there = record { there = there; grows = grows_none a }
-
--- a consequence of what holds on success
-pub on_ok : {T E : Type 0} {P Q : Type 0} (r : Result T E) → (P → Q) → OnOk r P → OnOk r Q
-on_ok (Ok x) f h = f h
-on_ok (Err e) f h = tt
 
 pub ruleset numbers = (numbers_old_text, numbers_old_reference)
 

@@ -4,8 +4,8 @@ use Rattle.std.specs.Bool.{Decides}
 use Rattle.std.proofs.lemmas.Option.{slice_get_read, slice_get_within}
 use borrow.Author.Count.{below_more}
 use Rattle.ep_object.specs.declared.code.Reference.{Reference}
-use Rattle.ep_gen_expr.specs.ExprCode.{reference}
-use Rattle.ep_gen_expr.specs.Growth.{IsNowhere}
+use Rattle.ep_gen_code.specs.Instructions.{reference}
+use Rattle.ep_gen_code.specs.Growth.{IsNowhere}
 
 -- none of the first items is it
 abbrev pub IsNotBefore : {A : Type 0} → List A → ℕ → A → Type 0

@@ -1,10 +1,7 @@
-pub mod Pushed
 pub mod Found
 pub mod Stays
 pub mod Forms
-pub mod Landing
 pub mod ShortCircuit
-pub mod Placed
 pub mod ActualForms
 pub mod SetForms
 pub mod MemberForms
@@ -12,7 +9,6 @@ pub mod Sets
 pub mod PlaceTypes
 pub mod Arguments
 pub mod Calls
-pub mod Constants
 pub mod Following
 pub mod Hosts
 pub mod Answering

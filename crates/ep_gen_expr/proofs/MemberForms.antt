@@ -5,9 +5,11 @@ use Rattle.ep_typed.specs.Controls.{has_more, others}
 use Rattle.ep_typed.specs.Trees.{MemberControl, entire, Read, One, SetOf, Single, no_member, next_member}
 use Rattle.ep_typed.specs.declared.operations.Unary.TheVariants as unary
 use Rattle.ep_typed.specs.declared.operations.SetOperation.TheVariants as set
-use Rattle.ep_gen_expr.specs.ExprCode.{bare, one_code, set_code}
-use Rattle.ep_gen_expr.specs.Growth.{Grows, AppendsExpr}
-use Rattle.ep_gen_expr.specs.declared.code.Code.{Code}
+use Rattle.ep_gen_code.specs.Instructions.{bare}
+use Rattle.ep_gen_expr.specs.ExprCode.{one_code, set_code}
+use Rattle.ep_gen_code.specs.Growth.{Grows}
+use Rattle.ep_gen_expr.specs.Growth.{AppendsExpr}
+use Rattle.ep_gen_code.specs.declared.code.Code.{Code}
 use Rattle.ep_gen_expr.proofs.Forms.{appends_one}
 use Rattle.ep_gen_expr.proofs.SetForms.{appends_on_sets, appends_single, set_none, set_push}
 

@@ -20,9 +20,10 @@ use Rattle.ep_typed.specs.declared.operations.Unary.TheVariants as unary
 use Rattle.ep_typed.specs.Hosts.{Host, is_of_host}
 use Rattle.ep_typed.specs.Hosts as host
 use Rattle.ep_gen_expr.specs.ExprCode.{one_code}
-use Rattle.ep_gen_expr.proofs.Answering.{Evaluates, answering, answer_follows, row_waits}
+use Rattle.ep_gen_expr.proofs.Answering.{Evaluates, answering, answer_follows}
+use Rattle.ep_gen_code.proofs.Waiting.{row_waits}
 use Rattle.ep_gen_expr.proofs.Hosts.{given, integer_answer, within_answer, odd_boolean, not_boolean, host_integer}
-use Rattle.ep_gen_expr.proofs.Placed.{instr_at}
+use Rattle.ep_gen_code.proofs.Placed.{instr_at}
 use Rattle.ep_typed.specs.declared.run_error.TheConstants as run_error
 
 module _ (declared : Declarations) (G : Image) (untouched : Slots) (Here : Facts) (ps : List Placement) (p : Placement) (references : List Reference) (call : Handler) (g : ℕ) (unit : List ℕ) (line : ℕ) where

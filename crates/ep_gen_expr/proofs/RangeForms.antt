@@ -6,12 +6,13 @@ use Rattle.ep_typed.specs.Steps.{is_number, variant_number}
 use Rattle.ep_typed.specs.declared.run_error.TheConstants as run_error
 use Rattle.ep_typed.specs.declared.tree.CaseRange.{CaseRange}
 use Rattle.ep_typed.specs.declared.tree.Selection.{Selection}
-use Rattle.ep_gen_expr.specs.ExprCode.{bare, push, instr, test_code, tests_code, labels_code, labels_count, tag_code, rest_code, ends_code, variant_code}
-use Rattle.ep_gen_expr.specs.Growth.{Grows}
-use Rattle.ep_gen_expr.specs.Jumps.{IsNextPlace}
-use Rattle.ep_gen_expr.specs.declared.code.Code.{Code}
-use Rattle.ep_gen_expr.proofs.Forms.{grows_at}
-use Rattle.ep_gen_expr.proofs.Landing.{grows_length}
+use Rattle.ep_gen_code.specs.Instructions.{bare, push, instr}
+use Rattle.ep_gen_expr.specs.ExprCode.{test_code, tests_code, labels_code, labels_count, tag_code, rest_code, ends_code, variant_code}
+use Rattle.ep_gen_code.specs.Growth.{Grows}
+use Rattle.ep_gen_code.specs.Jumps.{IsNextPlace}
+use Rattle.ep_gen_code.specs.declared.code.Code.{Code}
+use Rattle.ep_gen_code.proofs.Growing.{grows_at}
+use Rattle.ep_gen_code.proofs.Landing.{grows_length}
 use Rattle.ep_gen_expr.proofs.Stays.{tests_length, labels_length}
 use Rattle.ep_object.specs.declared.op.TheConstants as op
 

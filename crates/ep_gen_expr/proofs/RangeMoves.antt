@@ -19,9 +19,10 @@ use Rattle.ep_typed.specs.Operations.{is_in, is_true, ordinal_of}
 use Rattle.ep_typed.specs.Steps.{Computation, is_number, spend}
 use Rattle.ep_typed.specs.Valid.{Declarations}
 use Rattle.ep_typed.specs.declared.tree.CaseRange.{CaseRange}
-use Rattle.ep_gen_expr.specs.ExprCode.{instr, labels_code, labels_count, test_code, tests_code}
-use Rattle.ep_gen_expr.proofs.Answering.{row_waits}
-use Rattle.ep_gen_expr.proofs.Placed.{code_front, code_back, instr_at, jump_has, jump_false_has}
+use Rattle.ep_gen_code.specs.Instructions.{instr}
+use Rattle.ep_gen_expr.specs.ExprCode.{labels_code, labels_count, test_code, tests_code}
+use Rattle.ep_gen_code.proofs.Waiting.{row_waits}
+use Rattle.ep_gen_code.proofs.Placed.{code_front, code_back, instr_at, jump_has, jump_false_has}
 use Rattle.ep_gen_expr.proofs.Stays.{tests_length}
 use Rattle.ep_object.specs.declared.op.TheConstants as op
 

@@ -6,11 +6,14 @@ use Rattle.ep_object.specs.declared.code.Reference.{Reference}
 use Rattle.ep_object.specs.declared.op.TheConstants as op
 use Rattle.ep_typed.specs.Trees.{Expr, SetConstant, SetOf, OnSets, Card, Designator, Single, Range, designators}
 use Rattle.ep_typed.specs.declared.operations.SetOperation.{SetOperation}
-use Rattle.ep_gen_expr.specs.ExprCode.{IsDesignatorCode, AreDesignatorsCode, bare, members_code, push, set_code}
-use Rattle.ep_gen_expr.specs.Growth.{Grows, AppendsExpr, AppendsDesignator}
-use Rattle.ep_gen_expr.specs.declared.code.Code.{Code}
-use Rattle.ep_gen_expr.proofs.Landing.{grows_length}
-use Rattle.ep_gen_expr.proofs.Forms.{after_parts, first_part, grows_at, grows_then, second_part, whole_expr}
+use Rattle.ep_gen_expr.specs.ExprCode.{IsDesignatorCode, AreDesignatorsCode, set_code}
+use Rattle.ep_gen_code.specs.Instructions.{bare, members_code, push}
+use Rattle.ep_gen_code.specs.Growth.{Grows}
+use Rattle.ep_gen_expr.specs.Growth.{AppendsExpr, AppendsDesignator}
+use Rattle.ep_gen_code.specs.declared.code.Code.{Code}
+use Rattle.ep_gen_code.proofs.Landing.{grows_length}
+use Rattle.ep_gen_code.proofs.Growing.{after_parts, grows_at, grows_then}
+use Rattle.ep_gen_expr.proofs.Forms.{first_part, second_part, whole_expr}
 use Rattle.ep_gen_expr.proofs.Stays.{designators_code_stays}
 
 -- a constant that is a set, of no members

@@ -36,8 +36,9 @@ use Rattle.ep_typed.specs.Valid.{Declarations, Kind, Ordinal, IsCombination, IsS
 use Rattle.ep_typed.specs.declared.operations.SetOperation.{SetOperation}
 use Rattle.ep_typed.specs.declared.operations.SetOperation.TheVariants as set
 use Rattle.ep_typed.proofs.Steady.{steady_bind, steady_collected, steady_eval, steady_fetch, steady_give, steady_spend}
-use Rattle.ep_gen_expr.specs.Following.{least_credit}
-use Rattle.ep_gen_expr.specs.ExprCode.{bare, set_code}
+use Rattle.ep_gen_code.specs.Credit.{least_credit}
+use Rattle.ep_gen_code.specs.Instructions.{bare}
+use Rattle.ep_gen_expr.specs.ExprCode.{set_code}
 use Rattle.ep_gen_expr.proofs.Answering.{Evaluates, IsFollowed}
 use Rattle.ep_gen_expr.proofs.Hosts.{ordinal_boolean}
 use Rattle.ep_object.specs.declared.op.TheConstants as op

@@ -30,11 +30,13 @@ use Rattle.ep_typed.specs.declared.operations.ShortOperation.{ShortOperation}
 use Rattle.ep_typed.specs.declared.operations.ShortOperation.TheVariants as short
 use Rattle.ep_typed.specs.Hosts.{is_of_host}
 use Rattle.ep_typed.specs.Hosts as host
-use Rattle.ep_gen_expr.specs.ExprCode.{instr, bare, keep_code}
-use Rattle.ep_gen_expr.specs.Following.{least_credit}
-use Rattle.ep_gen_expr.proofs.Answering.{Evaluates, IsFollowed, row_waits}
+use Rattle.ep_gen_code.specs.Instructions.{instr, bare}
+use Rattle.ep_gen_expr.specs.ExprCode.{keep_code}
+use Rattle.ep_gen_code.specs.Credit.{least_credit}
+use Rattle.ep_gen_expr.proofs.Answering.{Evaluates, IsFollowed}
+use Rattle.ep_gen_code.proofs.Waiting.{row_waits}
 use Rattle.ep_gen_expr.proofs.Hosts.{not_true}
-use Rattle.ep_gen_expr.proofs.Placed.{instr_at, jump_false_has}
+use Rattle.ep_gen_code.proofs.Placed.{instr_at, jump_false_has}
 use Rattle.ep_object.specs.declared.op.TheConstants as op
 
 -- what is left to do after the left operand, by whether it decides

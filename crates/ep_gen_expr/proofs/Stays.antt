@@ -13,8 +13,9 @@ use Rattle.ep_typed.specs.Nodes.{place_nodes, expr_nodes, actual_nodes, actuals_
 use Rattle.ep_typed.specs.Steps.{is_number}
 use Rattle.ep_typed.specs.declared.tree.CaseRange.{CaseRange}
 use Rattle.ep_typed.specs.declared.tree.Selection.{Selection}
-use Rattle.ep_gen_expr.specs.ExprCode.{IsPlaceCode, IsExprCode, IsActualCode, AreActualsCode, IsDesignatorCode, AreDesignatorsCode, instr, reference, members_code, one_code, set_code, two_code, keep_code, step_code, bare, test_code, tests_code, labels_code, labels_count, tag_code, rest_code, ends_code, variant_code}
-use Rattle.ep_gen_expr.proofs.Pushed.{get_later}
+use Rattle.ep_gen_expr.specs.ExprCode.{IsPlaceCode, IsExprCode, IsActualCode, AreActualsCode, IsDesignatorCode, AreDesignatorsCode, one_code, set_code, two_code, keep_code, step_code, test_code, tests_code, labels_code, labels_count, tag_code, rest_code, ends_code, variant_code}
+use Rattle.ep_gen_code.specs.Instructions.{instr, reference, members_code, bare}
+use Rattle.ep_gen_code.proofs.Pushed.{get_later}
 use Rattle.ep_object.specs.declared.op.TheConstants as op
 
 module _ (ts us : List (List ℕ)) (rs ss : List Reference) (line : ℕ) (a : IsPrefix ts us) (b : IsPrefix rs ss) where

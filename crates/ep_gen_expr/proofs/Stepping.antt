@@ -16,10 +16,12 @@ use Rattle.ep_typed.specs.Operations.{step_answer}
 use Rattle.ep_typed.specs.Valid.{Declarations, Ordinal}
 use Rattle.ep_typed.specs.Hosts.{Host, least, greatest, is_of_host}
 use Rattle.ep_typed.specs.Hosts as host
-use Rattle.ep_gen_expr.specs.ExprCode.{push, bare, step_code}
-use Rattle.ep_gen_expr.proofs.Answering.{Evaluates, answering, answer_follows, row_waits}
+use Rattle.ep_gen_code.specs.Instructions.{push, bare}
+use Rattle.ep_gen_expr.specs.ExprCode.{step_code}
+use Rattle.ep_gen_expr.proofs.Answering.{Evaluates, answering, answer_follows}
+use Rattle.ep_gen_code.proofs.Waiting.{row_waits}
 use Rattle.ep_gen_expr.proofs.Hosts.{bounded_answer, negated}
-use Rattle.ep_gen_expr.proofs.Placed.{instr_at}
+use Rattle.ep_gen_code.proofs.Placed.{instr_at}
 use Rattle.ep_object.specs.declared.op.TheConstants as op
 
 -- `Neg` of an integer has no error

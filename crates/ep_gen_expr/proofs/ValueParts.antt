@@ -28,7 +28,7 @@ use Rattle.ep_typed.specs.TypeValues as type
 use Rattle.ep_typed.specs.TypeValues.{ComponentTypes, TypeValue, type_among}
 use Rattle.ep_typed.specs.Valid.{Declarations, IsTypeOfKind, Kind, Ordinal, Structured}
 use Rattle.ep_typed.proofs.Steady.{steady_bind, steady_eval, steady_fetch, steady_give, steady_spend}
-use Rattle.ep_gen_expr.specs.ExprCode.{bare, instr}
+use Rattle.ep_gen_code.specs.Instructions.{bare, instr}
 use Rattle.ep_gen_expr.proofs.Answering.{Evaluates, IsFollowed}
 use Rattle.ep_object.specs.declared.op.TheConstants as op
 use Rattle.ep_typed.specs.declared.run_error.TheConstants as run_error

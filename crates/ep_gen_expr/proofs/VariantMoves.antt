@@ -33,9 +33,10 @@ use Rattle.ep_typed.specs.TypeValues as type
 use Rattle.ep_typed.specs.Valid.{Declarations}
 use Rattle.ep_typed.specs.declared.run_error.TheConstants as run_error
 use Rattle.ep_typed.specs.declared.tree.Selection.{Selection}
-use Rattle.ep_gen_expr.specs.ExprCode.{bare, instr, ends_code, labels_code, labels_count, rest_code, variant_code}
-use Rattle.ep_gen_expr.proofs.Answering.{row_waits}
-use Rattle.ep_gen_expr.proofs.Placed.{code_front, code_back, instr_at, jump_has, jump_false_has}
+use Rattle.ep_gen_code.specs.Instructions.{bare, instr}
+use Rattle.ep_gen_expr.specs.ExprCode.{ends_code, labels_code, labels_count, rest_code, variant_code}
+use Rattle.ep_gen_code.proofs.Waiting.{row_waits}
+use Rattle.ep_gen_code.proofs.Placed.{code_front, code_back, instr_at, jump_has, jump_false_has}
 use Rattle.ep_gen_expr.proofs.RangeMoves.{labels_follow}
 use Rattle.ep_gen_expr.proofs.Stays.{labels_length, variant_length}
 use Rattle.ep_object.specs.declared.op.TheConstants as op

@@ -16,6 +16,7 @@ use Rattle.ep_typed.specs.declared.operations.SetOperation.{SetOperation}
 use Rattle.ep_typed.specs.declared.operations.SetOperation.TheVariants as set
 use Rattle.ep_typed.specs.declared.operations.ShortOperation.{ShortOperation}
 use Rattle.ep_typed.specs.declared.operations.ShortOperation.TheVariants as short
+use Rattle.ep_gen_code.specs.Instructions.{bare, instr, members_code, push, reference}
 use Rattle.ep_object.specs.declared.op.TheConstants as op
 use Rattle.ep_gen_expr.specs.declared.operations.TheConstants as cmp
 use Rattle.ep_gen_expr.specs.declared.standard.TheConstants as constant
@@ -25,42 +26,30 @@ use Rattle.ep_typed.specs.declared.tree.StandardFile.{StandardFile}
 use Rattle.ep_typed.specs.declared.tree.StandardFile.TheVariants as file
 use Rattle.ep_typed.specs.declared.run_error.TheConstants as run_error
 
--- a reference to this routine or slot of a unit
-abbrev pub reference : List ℕ → ℕ → Reference
-reference unit number = record { unit = unit; number = number }
-
 module _ (line : ℕ) where
-  -- an instruction with no field
-  abbrev pub bare : ℕ → Instr
-  bare code = instr code (pos 0) 0 line
-
-  -- `Push`
-  abbrev pub push : ℤ → Instr
-  push z = instr op.PUSH z 0 line
-
   -- `Cmp`, which compares so
   abbrev pub compare : ℤ → Instr
   compare how = instr op.CMP how 0 line
 
   -- after the operand: `Dup` and `Drop`, which leave it and spend ticks for the step, `Neg`, `Not`, `Abs`, `Sqr`, `Odd`, or `Check` of a char
   abbrev pub one_code : Unary → List Instr
-  one_code unary.Same = bare op.DUP ∷ bare op.DROP ∷ []
-  one_code unary.Negate = bare op.NEG ∷ []
-  one_code unary.Not = bare op.NOT ∷ []
-  one_code unary.Absolute = bare op.ABS ∷ []
-  one_code unary.Square = bare op.SQR ∷ []
-  one_code unary.Odd = bare op.ODD ∷ []
-  one_code unary.Character = push (pos 0) ∷ push (pos last_char) ∷ instr op.CHECK (pos run_error.SUCCESSOR) 0 line ∷ []
+  one_code unary.Same = bare line op.DUP ∷ bare line op.DROP ∷ []
+  one_code unary.Negate = bare line op.NEG ∷ []
+  one_code unary.Not = bare line op.NOT ∷ []
+  one_code unary.Absolute = bare line op.ABS ∷ []
+  one_code unary.Square = bare line op.SQR ∷ []
+  one_code unary.Odd = bare line op.ODD ∷ []
+  one_code unary.Character = push line (pos 0) ∷ push line (pos last_char) ∷ instr op.CHECK (pos run_error.SUCCESSOR) 0 line ∷ []
 
   -- after both operands: `Add`, `Sub`, `Mul`, `Div`, `Mod`, `And`, `Or`, or `Cmp`
   abbrev pub two_code : Binary → Instr
-  two_code binary.Add = bare op.ADD
-  two_code binary.Subtract = bare op.SUB
-  two_code binary.Multiply = bare op.MUL
-  two_code binary.Divide = bare op.DIV
-  two_code binary.Modulo = bare op.MOD
-  two_code binary.And = bare op.AND
-  two_code binary.Or = bare op.OR
+  two_code binary.Add = bare line op.ADD
+  two_code binary.Subtract = bare line op.SUB
+  two_code binary.Multiply = bare line op.MUL
+  two_code binary.Divide = bare line op.DIV
+  two_code binary.Modulo = bare line op.MOD
+  two_code binary.And = bare line op.AND
+  two_code binary.Or = bare line op.OR
   two_code binary.Equal = compare cmp.EQUAL
   two_code binary.Unequal = compare cmp.UNEQUAL
   two_code binary.Less = compare cmp.LESS
@@ -78,26 +67,21 @@ module _ (line : ℕ) where
   set_code set.Unequal = instr op.SET_CMP cmp.UNEQUAL 0 line
   set_code set.Subset = instr op.SET_CMP cmp.AT_MOST 0 line
   set_code set.Superset = instr op.SET_CMP cmp.AT_LEAST 0 line
-  set_code set.In = bare op.IN
-
-  -- after a set: `Push` and `SetAdd` of each of these members
-  abbrev pub members_code : List ℕ → List Instr
-  members_code [] = []
-  members_code (m ∷ ms) = push (pos m) ∷ bare op.SET_ADD ∷ members_code ms
+  set_code set.In = bare line op.IN
 
   -- after a left operand: it stands there twice, and the upper one is true where the operand decides nothing
   abbrev pub keep_code : ShortOperation → List Instr
-  keep_code short.AndThen = bare op.DUP ∷ []
-  keep_code short.OrElse = bare op.DUP ∷ bare op.NOT ∷ []
+  keep_code short.AndThen = bare line op.DUP ∷ []
+  keep_code short.OrElse = bare line op.DUP ∷ bare line op.NOT ∷ []
 
   -- `Neg` of a count that is taken away
   abbrev pub count_code : Bool → List Instr
   count_code false = []
-  count_code true = bare op.NEG ∷ []
+  count_code true = bare line op.NEG ∷ []
 
   -- after the value and the count: the count's sign, the bounds and `Step`
   abbrev pub step_code : Bool → ℤ → ℤ → List Instr
-  step_code down low high = count_code down ++ (push low ∷ push high ∷ bare op.STEP ∷ [])
+  step_code down low high = count_code down ++ (push line low ∷ push line high ∷ bare line op.STEP ∷ [])
 
 -- the number of a standard file in the unit that has them
 abbrev pub standard_number : StandardFile → ℕ

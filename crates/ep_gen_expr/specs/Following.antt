@@ -1,5 +1,6 @@
 -- The machine follows expressions and places: wherever their code stands in an image, it does what they mean.
 use Rattle.std.specs.Prelude.{◌≡◌, ℕ, ℤ, ◌+◌, ◌<◌, ◌≤◌, List, length, Some, slice_get, ⊤}
+use Rattle.ep_gen_code.specs.Credit.{least_credit}
 use Rattle.ep_gen_expr.specs.ExprCode.{IsPlaceCode, IsExprCode}
 use Rattle.ep_object.specs.Activations.{MatchesNames}
 use Rattle.ep_object.specs.Follows.{point, Since, Fragment, Inside, Operands, OnTop, PlaceOnTop}
@@ -21,10 +22,6 @@ use Rattle.ep_typed.specs.Trees.{Place, Variable, Own, Standard, Indexed, Field,
 use Rattle.ep_typed.specs.Valid.{Declarations, Kind, IsExpr, IsPlaceWhere, variables_up}
 use Rattle.ep_typed.specs.declared.unit.UnitVariable.{UnitVariable}
 use Rattle.ep_typed.specs.TypeValues.{ComponentTypes, TypeValue, Ordinal, Array, Record, no_component, next_component, type_among}
-
--- the credit that is there before each fragment of code: what instructions without a step may cost within it
-abbrev pub least_credit : ℕ
-least_credit = 32
 
 -- From every memory of a routine of the unit in which its own variables and those of the routines around it match, with any operands below and up to this number of steps, the machine follows the computation through the code at this place of the object. Behind the code the same routine runs, memory has grown, the slots that are named are untouched, and what held and lasts still does, what the computation gives lies on the operands below, and the credit has risen by this gain.
 abbrev pub IsFollowedThrough : {A : Type 0} → Declarations → Image → Placement → List ℕ → Slots → ℕ → ℕ → List Instr → Computation A → (List Operand → A → Operands) → (A → ℕ) → Type 0

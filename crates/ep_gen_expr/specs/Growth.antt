@@ -1,46 +1,16 @@
 -- How code under construction grows.
-use Rattle.std.specs.Prelude.{◌≡◌, ℕ, ◌*◌, ◌^◌, ◌+◌, ◌<◌, ◌≤◌, List, [], ◌∷◌, ◌++◌, Some, length, slice_get}
-use Rattle.ep_outside.specs.Known.{IsPrefix}
+use Rattle.std.specs.Prelude.{◌≡◌, ℕ, ◌*◌, ◌+◌, ◌≤◌, List, [], ◌∷◌, ◌++◌, Some, length, slice_get}
 use Rattle.ep_object.specs.declared.code.Instr.{Instr}
 use Rattle.ep_object.specs.declared.code.Reference.{Reference}
 use Rattle.ep_typed.specs.Trees.{Place, Expr, Actual, Actuals, Designator}
-use Rattle.ep_gen_expr.specs.ExprCode.{bare, keep_code, IsPlaceCode, IsExprCode, IsActualCode, AreActualsCode, IsDesignatorCode}
+use Rattle.ep_gen_code.specs.Instructions.{bare}
+use Rattle.ep_gen_code.specs.Growth.{Grows}
+use Rattle.ep_gen_expr.specs.ExprCode.{keep_code, IsPlaceCode, IsExprCode, IsActualCode, AreActualsCode, IsDesignatorCode}
 use Rattle.ep_typed.specs.declared.operations.ShortOperation.{ShortOperation}
 use Rattle.ep_object.specs.declared.op.TheConstants as op
 use Rattle.ep_typed.specs.Nodes.{place_nodes, expr_nodes}
-use Rattle.ep_gen_expr.specs.declared.code.Code.{Code}
-use Rattle.ep_gen_expr.specs.declared.code.TheConstants as code
-pub use Rattle.ep_gen_expr.specs.ExprCode.{reference}
-
--- no code yet
-abbrev pub empty_code : Code
-empty_code = record { instructions = []; texts = []; references = []; constant_types = []; line = code.NO_LINE }
-
--- the item is none of the list
-abbrev pub IsNowhere : {A : Type 0} → List A → A → Type 0
-IsNowhere xs x = (k : ℕ) → slice_get xs k ≡ Some x → ⊥
-
--- no item stands at two places
-abbrev pub AreDistinct : {A : Type 0} → List A → Type 0
-AreDistinct {A} xs = (j k : ℕ) (x : A) → slice_get xs j ≡ Some x → slice_get xs k ≡ Some x → j ≡ k
-
--- a table has fewer than 2 ^ 32 items
-abbrev pub IsTable : {A : Type 0} → List A → Type 0
-IsTable xs = length xs < 2 ^ 32
-
--- a table has new items at its end, stays small, and has each item once
-pub record TableGrows {A : Type 0} (old new : List A) : Type 0 where
-  pub begins : IsPrefix old new
-  pub small : IsTable old → IsTable new
-  pub distinct : AreDistinct old → AreDistinct new
-
--- these instructions are appended, and all else is as before but for new items of the two tables
-pub record Grows (old new : Code) (is : List Instr) : Type 0 where
-  pub instructions : new.instructions ≡ old.instructions ++ is
-  pub texts : TableGrows old.texts new.texts
-  pub references : TableGrows old.references new.references
-  pub constant_types : new.constant_types ≡ old.constant_types
-  pub line : new.line ≡ old.line
+use Rattle.ep_gen_code.specs.declared.code.Code.{Code}
+pub use Rattle.ep_gen_code.specs.Instructions.{reference}
 
 -- the text has this number, and no instruction is appended
 pub record NumbersText (old new : Code) (bytes : List ℕ) (k : ℕ) : Type 0 where

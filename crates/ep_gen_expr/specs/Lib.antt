@@ -1,5 +1,4 @@
 pub mod ExprCode
 pub mod Growth
-pub mod Jumps
 pub mod Laws
 pub mod Following

@@ -5,12 +5,13 @@ ghost use Rattle.ep_typed.specs.Controls.{has_more, in_order, next_value, others
 ghost use Rattle.ep_typed.specs.Viewed.{control_of, member_control_of};
 ghost use Rattle.ep_typed.specs.declared.operations.Binary.TheVariants as binary;
 ghost use Rattle.ep_gen_expr.specs.ExprCode.{step_code};
-ghost use Rattle.ep_gen_expr.specs.Growth.{AppendsExpr, Grows};
+ghost use Rattle.ep_gen_expr.specs.Growth.{AppendsExpr};
+ghost use Rattle.ep_gen_code.specs.Growth.{Grows};
 
-use crate::code::{Code, emit};
 use crate::expressions::{constant_code, entire_value_code};
 use crate::operations::{apply_binary, apply_on_sets, apply_step, apply_unary};
 use ep_base::NoMemory;
+use ep_gen_code::{Code, emit};
 use ep_object::op;
 use ep_typed::{Binary, ForControl, MemberControl, SetOperation, Unary};
 use std::alloc::Global;

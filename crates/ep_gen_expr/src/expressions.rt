@@ -6,13 +6,12 @@ ghost use Rattle.ep_typed.specs.Trees.{entire, Card, Constant, Field, FieldValue
 ghost use Rattle.ep_typed.specs.Viewed.{actual_of, callee_of, designator_of, entire_of, expr_of, place_of};
 ghost use Rattle.ep_gen_expr.specs.Growth.{AppendsActual, AppendsActuals, AppendsDesignator, AppendsExpr, AppendsPlace};
 
-use crate::code::{Code, emit};
-use crate::jumps::{land, next_place};
 use crate::operations::{apply_binary, apply_on_sets, apply_step, apply_unary, keep_operand};
 use crate::standard::standard_code;
 use crate::tables::{reference_number, text_number};
 use crate::variants::active_code;
 use ep_base::{Name, NoMemory};
+use ep_gen_code::{Code, emit, land, next_place};
 use ep_object::op;
 use ep_typed::{
     Actual, Binary, Callee, EntireVariable, MemberDesignator, Selection, SetOperation,

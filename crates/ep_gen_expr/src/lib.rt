@@ -4,10 +4,8 @@
 //! tables grow. specs/Growth.antt says how code grows. The functions append the code of one tree to what stands.
 #![tactic(auto)]
 
-mod code;
 mod controls;
 mod expressions;
-mod jumps;
 mod laws;
 mod operations;
 mod ranges;
@@ -15,10 +13,8 @@ mod standard;
 mod tables;
 mod variants;
 
-pub use code::{Code, NO_LINE, emit};
 pub use controls::{has_more_code, in_order_code, next_value_code, others_code};
 pub use expressions::{call_code, entire_code, entire_value_code, expression_code, place_code};
-pub use jumps::{field_number, land, leave_hole, next_place, place_number};
 pub use laws::{laws_of_code, laws_of_following};
 pub use operations::apply_binary;
 pub use ranges::{TEST_LENGTH, tests_code};

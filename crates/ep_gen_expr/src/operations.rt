@@ -1,13 +1,14 @@
 //! The instructions of operations, after the code of their operands.
 
 ghost use Rattle.std.specs.Prelude.{[], ◌∷◌, IfOk, OnOk};
-ghost use Rattle.ep_gen_expr.specs.ExprCode.{bare, push, one_code, set_code, two_code, keep_code, count_code, step_code};
-ghost use Rattle.ep_gen_expr.specs.Growth.{Grows, KeepsOperand};
+ghost use Rattle.ep_gen_code.specs.Instructions.{bare, push};
+ghost use Rattle.ep_gen_expr.specs.ExprCode.{one_code, set_code, two_code, keep_code, count_code, step_code};
+ghost use Rattle.ep_gen_code.specs.Growth.{Grows};
+ghost use Rattle.ep_gen_expr.specs.Growth.{KeepsOperand};
 ghost use Rattle.ep_object.specs.declared.op.TheConstants.{DROP, DUP};
 
-use crate::code::{Code, emit};
-use crate::jumps::leave_hole;
 use ep_base::NoMemory;
+use ep_gen_code::{Code, emit, leave_hole};
 use ep_object::op;
 use ep_typed::{Binary, SetOperation, ShortOperation, Unary, run_error};
 

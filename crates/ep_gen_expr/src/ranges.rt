@@ -2,11 +2,10 @@
 
 ghost use Rattle.std.specs.Prelude.{length, OnOk};
 ghost use Rattle.ep_gen_expr.specs.ExprCode.{test_code, tests_code};
-ghost use Rattle.ep_gen_expr.specs.Growth.{Grows};
+ghost use Rattle.ep_gen_code.specs.Growth.{Grows};
 
-use crate::code::{Code, emit};
-use crate::jumps::next_place;
 use ep_base::NoMemory;
+use ep_gen_code::{Code, emit, next_place};
 use ep_object::op;
 use ep_typed::CaseRange;
 

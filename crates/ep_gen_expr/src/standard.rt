@@ -2,10 +2,10 @@
 
 ghost use Rattle.std.specs.Prelude.{[], ◌∷◌, OnOk};
 ghost use Rattle.ep_gen_expr.specs.ExprCode as code_of;
-ghost use Rattle.ep_gen_expr.specs.Growth.{Grows};
+ghost use Rattle.ep_gen_code.specs.Growth.{Grows};
 
-use crate::code::{Code, emit};
 use ep_base::NoMemory;
+use ep_gen_code::{Code, emit};
 use ep_object::op;
 use ep_typed::StandardFile;
 

@@ -6,11 +6,12 @@
 
 ghost use Rattle.std.specs.Prelude.{◌≡◌, IfOk, MatchOption, slice_get, Some};
 ghost use Rattle.std.specs.Bool.{Decides};
-ghost use Rattle.ep_gen_expr.specs.Growth.{NumbersText, NumbersReference, IsNowhere, reference};
+ghost use Rattle.ep_gen_expr.specs.Growth.{NumbersText, NumbersReference};
+ghost use Rattle.ep_gen_code.specs.Growth.{IsNowhere};
+ghost use Rattle.ep_gen_code.specs.Instructions.{reference};
 
-use crate::code::Code;
-use crate::jumps::field_number;
 use ep_base::{Bytes, Name, NoMemory};
+use ep_gen_code::{Code, field_number};
 use ep_object::Reference;
 use std::alloc::Global;
 

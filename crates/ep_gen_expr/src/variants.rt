@@ -6,12 +6,11 @@
 ghost use Rattle.std.specs.Prelude.{◌≡◌, ◌&&◌, if◌then◌else◌, length, IfOk, OnOk};
 ghost use Rattle.ep_typed.specs.Steps.{is_number};
 ghost use Rattle.ep_gen_expr.specs.ExprCode.{labels_code, labels_count, tag_code, variant_code};
-ghost use Rattle.ep_gen_expr.specs.Growth.{Grows};
+ghost use Rattle.ep_gen_code.specs.Growth.{Grows};
 
-use crate::code::{Code, emit};
-use crate::jumps::{next_place, place_number};
 use crate::ranges::{TEST_LENGTH, tests_code};
 use ep_base::NoMemory;
+use ep_gen_code::{Code, emit, next_place, place_number};
 use ep_object::op;
 use ep_typed::{CaseRanges, Selection, run_error};
 

@@ -2,8 +2,9 @@
 use Rattle.std.proofs.Common.{◌≡◌, ℕ, pos, suc, ◌+◌, ◌≤◌, ◌<◌, List, [], ◌∷◌, length, refl, sym, ap, ◌∙◌, arith}
 use Rattle.ep_object.specs.Follows.{Facts}
 use Rattle.ep_object.specs.Matching.{Slots}
-use Rattle.ep_gen_expr.specs.ExprCode.{instr, IsExprCode}
-use Rattle.ep_gen_expr.proofs.Placed.{jump_has, jump_false_has}
+use Rattle.ep_gen_code.specs.Instructions.{instr}
+use Rattle.ep_gen_expr.specs.ExprCode.{IsExprCode}
+use Rattle.ep_gen_code.proofs.Placed.{jump_has, jump_false_has}
 use Rattle.ep_gen_unit.proofs.Parts.{Moves, ExpressionsFollow}
 use Rattle.ep_object.specs.Placing.{Placement, CodeStands}
 use Rattle.ep_object.specs.declared.code.Image.{Image}

@@ -6,11 +6,13 @@ use Rattle.ep_object.specs.declared.code.Reference.{Reference}
 use Rattle.ep_typed.specs.Trees.{Expr, Stmt, Stmts, Case, Arm, Arms, Other, no_other, otherwise_do, arms}
 use Rattle.ep_typed.specs.declared.run_error.TheConstants as run_error
 use Rattle.ep_typed.specs.declared.tree.CaseRange.{CaseRange}
-use Rattle.ep_gen_expr.specs.ExprCode.{bare, instr, tests_code}
+use Rattle.ep_gen_code.specs.Instructions.{bare, instr}
+use Rattle.ep_gen_expr.specs.ExprCode.{tests_code}
 use Rattle.ep_gen_expr.proofs.Stays.{tests_length}
-use Rattle.ep_gen_expr.specs.Growth.{Grows, AppendsExpr}
-use Rattle.ep_gen_expr.specs.Jumps.{IsNextPlace, LeavesHole, landed}
-use Rattle.ep_gen_expr.specs.declared.code.Code.{Code}
+use Rattle.ep_gen_code.specs.Growth.{Grows}
+use Rattle.ep_gen_expr.specs.Growth.{AppendsExpr}
+use Rattle.ep_gen_code.specs.Jumps.{IsNextPlace, LeavesHole, landed}
+use Rattle.ep_gen_code.specs.declared.code.Code.{Code}
 use Rattle.ep_gen_unit.specs.StmtCode.{IsStmtCode, AreStmtsCode, AreArmsCode, IsOtherCode}
 use Rattle.ep_gen_unit.specs.StmtGrowth.{Follows, AppendsStmt, AppendsStmts, AppendsArms, AppendsOther, AppendsTests, OpensCase, ClosesCase}
 use Rattle.ep_gen_unit.proofs.StmtStays.{stmt_code_short, arms_code_stays, other_code_stays}

@@ -26,9 +26,10 @@ use Rattle.ep_typed.specs.Valid.{Declarations, IsExpr}
 use Rattle.ep_typed.specs.declared.run_error.TheConstants as run_error
 use Rattle.ep_typed.specs.declared.tree.CaseRange.{CaseRange}
 use Rattle.ep_typed.proofs.Steady.{steady_spend, steady_give, steady_exec_arms, steady_exec_other}
-use Rattle.ep_gen_expr.specs.ExprCode.{instr, bare, IsExprCode}
-use Rattle.ep_gen_expr.proofs.Answering.{row_waits}
-use Rattle.ep_gen_expr.proofs.Placed.{jump_has}
+use Rattle.ep_gen_code.specs.Instructions.{instr, bare}
+use Rattle.ep_gen_expr.specs.ExprCode.{IsExprCode}
+use Rattle.ep_gen_code.proofs.Waiting.{row_waits}
+use Rattle.ep_gen_code.proofs.Placed.{jump_has}
 use Rattle.ep_gen_expr.proofs.RangeMoves.{tests_follow}
 use Rattle.ep_gen_expr.specs.ExprCode.{tests_code}
 use Rattle.ep_gen_unit.proofs.Parts.{statement_credit, Moves, ExpressionsFollow}

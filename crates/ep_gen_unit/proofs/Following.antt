@@ -2,12 +2,13 @@
 use Rattle.std.proofs.Common.{◌≡◌, ℕ, pos, ◌+◌, List, [], ◌∷◌, ◌++◌, length, slice_set, refl, sym, ap, ◌∙◌, subst, append_assoc, append-nil, length-append}
 use Rattle.ep_object.specs.declared.code.Instr.{Instr}
 use Rattle.ep_typed.specs.Trees.{Expr, Stmt}
-use Rattle.ep_gen_expr.specs.ExprCode.{IsExprCode, instr}
-use Rattle.ep_gen_expr.specs.Growth.{TableGrows, Grows}
-use Rattle.ep_gen_expr.specs.Jumps.{landed}
-use Rattle.ep_gen_expr.specs.declared.code.Code.{Code}
-use Rattle.ep_gen_expr.proofs.Landing.{set_after, set_length}
-use Rattle.ep_gen_expr.proofs.Pushed.{table_same, table_then}
+use Rattle.ep_gen_expr.specs.ExprCode.{IsExprCode}
+use Rattle.ep_gen_code.specs.Instructions.{instr}
+use Rattle.ep_gen_code.specs.Growth.{TableGrows, Grows}
+use Rattle.ep_gen_code.specs.Jumps.{landed}
+use Rattle.ep_gen_code.specs.declared.code.Code.{Code}
+use Rattle.ep_gen_code.proofs.Landing.{set_after, set_length}
+use Rattle.ep_gen_code.proofs.Pushed.{table_same, table_then}
 use Rattle.ep_gen_expr.proofs.Stays.{expr_code_stays}
 use Rattle.ep_gen_unit.specs.StmtCode.{IsStmtCode}
 use Rattle.ep_gen_unit.specs.StmtGrowth.{Follows}

@@ -4,11 +4,13 @@ use Rattle.ep_object.specs.declared.code.Instr.{Instr}
 use Rattle.ep_typed.specs.declared.operations.Binary.TheVariants as binary
 use Rattle.ep_typed.specs.Controls.{in_order, next_value}
 use Rattle.ep_typed.specs.Trees.{Entire, entire, Expr, Read, Control, Stmt, Assign, For}
-use Rattle.ep_gen_expr.specs.ExprCode.{IsExprCode, bare, instr, two_code}
-use Rattle.ep_gen_expr.specs.Growth.{Grows, AppendsPlace, AppendsExpr}
-use Rattle.ep_gen_expr.specs.Jumps.{IsNextPlace, LeavesHole, landed}
-use Rattle.ep_gen_expr.specs.declared.code.Code.{Code}
-use Rattle.ep_gen_expr.proofs.Forms.{grows_at}
+use Rattle.ep_gen_expr.specs.ExprCode.{IsExprCode, two_code}
+use Rattle.ep_gen_code.specs.Instructions.{bare, instr}
+use Rattle.ep_gen_code.specs.Growth.{Grows}
+use Rattle.ep_gen_expr.specs.Growth.{AppendsPlace, AppendsExpr}
+use Rattle.ep_gen_code.specs.Jumps.{IsNextPlace, LeavesHole, landed}
+use Rattle.ep_gen_code.specs.declared.code.Code.{Code}
+use Rattle.ep_gen_code.proofs.Growing.{grows_at}
 use Rattle.ep_gen_expr.proofs.Stays.{place_code_stays}
 use Rattle.ep_gen_unit.specs.StmtCode.{IsStmtCode, IsFirstCode, IsTestCode, IsUndefineCode, for_code}
 use Rattle.ep_gen_unit.specs.StmtGrowth.{Follows, AppendsBounds, AppendsFirst, AppendsTest, AppendsUndefine, AppendsStmt}

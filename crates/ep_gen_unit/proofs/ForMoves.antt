@@ -1,9 +1,10 @@
 -- The machine follows `for`.
 use Rattle.std.proofs.Common.{◌≡◌, ℕ, ℤ, pos, zero, suc, ◌+◌, ◌-◌, ◌≤◌, ◌<◌, Bool, true, false, not, List, [], ◌∷◌, ◌++◌, length, length-append, refl, sym, ap, ◌∙◌, subst, arith}
 use Rattle.std.specs.Prelude.{if◌then◌else◌}
-use Rattle.ep_gen_expr.specs.ExprCode.{instr, bare, two_code, IsExprCode}
+use Rattle.ep_gen_code.specs.Instructions.{instr, bare}
+use Rattle.ep_gen_expr.specs.ExprCode.{two_code, IsExprCode}
 use Rattle.ep_gen_expr.proofs.PlaceTypes.{kind_place}
-use Rattle.ep_gen_expr.proofs.Placed.{jump_has, jump_false_has}
+use Rattle.ep_gen_code.proofs.Placed.{jump_has, jump_false_has}
 use Rattle.ep_gen_unit.proofs.Parts.{code_stands-parts, Moves, ExpressionsFollow, PlacesFollow, statement_credit, ordinal_of_host}
 use Rattle.ep_object.specs.Follows.{point, Facts, Lasts, Fragment, Follows, Lands, Inside, Bare, IsNotLeft}
 use Rattle.ep_object.specs.Matching.{Slots, Memory, Injection, IsLike, IsSpot, at as standing}

@@ -5,11 +5,13 @@ use Rattle.ep_object.specs.declared.code.Instr.{Instr}
 use Rattle.ep_object.specs.declared.code.Reference.{Reference}
 use Rattle.ep_typed.specs.Trees.{Expr, Item, Plain, Wide}
 use Rattle.ep_typed.specs.declared.operations.Print.{Print}
-use Rattle.ep_gen_expr.specs.ExprCode.{IsExprCode, bare, push}
-use Rattle.ep_gen_expr.specs.Growth.{Grows, AppendsExpr}
-use Rattle.ep_gen_expr.specs.declared.code.Code.{Code}
-use Rattle.ep_gen_expr.proofs.Landing.{grows_length}
-use Rattle.ep_gen_expr.proofs.Forms.{grows_none, grows_then, grows_at}
+use Rattle.ep_gen_expr.specs.ExprCode.{IsExprCode}
+use Rattle.ep_gen_code.specs.Instructions.{bare, push}
+use Rattle.ep_gen_code.specs.Growth.{Grows}
+use Rattle.ep_gen_expr.specs.Growth.{AppendsExpr}
+use Rattle.ep_gen_code.specs.declared.code.Code.{Code}
+use Rattle.ep_gen_code.proofs.Landing.{grows_length}
+use Rattle.ep_gen_code.proofs.Growing.{grows_none, grows_then, grows_at}
 use Rattle.ep_gen_unit.specs.StmtCode.{IsItemCode, AreItemsCode, output_code, plain_code, before_width, wide_code, line_end_code}
 use Rattle.ep_gen_unit.specs.StmtGrowth.{AppendsItem, AppendsItems}
 use Rattle.ep_gen_unit.proofs.Following.{IsLater, later_grows, expr_later}

@@ -3,11 +3,9 @@ pub mod CaseForms
 pub mod CaseMoves
 pub mod Compounds
 pub mod Declared
-pub mod Elaborating
 pub mod Following
 pub mod ForForms
 pub mod ForMoves
-pub mod InitialStates
 pub mod ItemForms
 pub mod Makes
 pub mod MemberForms
@@ -15,6 +13,7 @@ pub mod MemberMoves
 pub mod OwnMakes
 mod Parts
 mod ProcedureMoves
+mod Referred
 pub mod ProgramForms
 pub mod Programs
 mod Results
@@ -28,8 +27,7 @@ pub mod StmtStays
 pub mod TagForms
 pub mod TagLengths
 pub mod TagMoves
-pub mod TypeForms
-pub mod TypeNames
+mod TypeRoutines
 pub mod Units
 pub mod WithMoves
 pub mod Writing

@@ -1,16 +1,17 @@
 -- The machine follows the making of variables.
 use Rattle.std.proofs.Common.{◌≡◌, ℕ, pos, suc, ◌+◌, ◌≤◌, ◌<◌, IsTrue, List, [], ◌∷◌, ◌++◌, length, length-append, Some, slice_get, refl, sym, ap, ◌∙◌, subst, arith}
 use Rattle.std.proofs.lemmas.Option.{same_Some}
-use Rattle.ep_gen_expr.specs.Following.{least_credit}
-use Rattle.ep_gen_expr.specs.ExprCode.{instr}
+use Rattle.ep_gen_code.specs.Credit.{least_credit}
+use Rattle.ep_gen_code.specs.Instructions.{instr}
 use Rattle.ep_gen_unit.specs.StmtCode.{make_code, make_all_code}
-use Rattle.ep_gen_unit.specs.TypeCode.{type_code}
-use Rattle.ep_gen_unit.proofs.Elaborating.{elaborates}
+use Rattle.ep_gen_type.specs.TypeCode.{type_code}
+use Rattle.ep_gen_type.proofs.Elaborating.{AreReferred, elaborates}
+use Rattle.ep_object.specs.Promises.{CallsAreKept}
 use Rattle.ep_gen_unit.specs.UnitLaws.{AreDeclared}
 use Rattle.ep_gen_unit.proofs.Sized.{fragment_sized, sized_gains}
 use Rattle.ep_gen_unit.proofs.Parts.{code_stands-parts}
-use Rattle.ep_object.specs.Follows.{point, Facts, Lasts, Fragment, Inside, Bare, SameRoutine}
-use Rattle.ep_object.specs.Matching.{Slots, Memory, Injection, Describes, HasType}
+use Rattle.ep_object.specs.Follows.{point, Facts, Lasts, Fragment, Inside, Bare, SameRoutine, TypeOnTop}
+use Rattle.ep_object.specs.Matching.{AreAmong, Slots, Memory, Injection, Describes, HasType, kept_slots}
 use Rattle.ep_object.specs.Operands.{Operand, Word}
 use Rattle.ep_object.specs.Placing.{Placement, CodeStands, HasDistinctNames}
 use Rattle.ep_object.specs.Runs.{unit_in}
@@ -20,10 +21,9 @@ use Rattle.ep_object.specs.declared.code.ImageUnit.{ImageUnit}
 use Rattle.ep_object.specs.declared.code.Reference.{Reference}
 use Rattle.ep_object.proofs.following.Fragments.{inside_bind, fragment_bind_bare, fragment_credit, fragment_give, fragment_to}
 use Rattle.ep_object.proofs.matching.Growing.{inside_here, no_calls, unit_in-same}
-use Rattle.ep_object.proofs.matching.Starting.{AreStarts}
+use Rattle.ep_object.specs.Starts.{AreStarts}
 use Rattle.ep_object.proofs.rows.MakeRow.{RunsInUnit, make_does}
 use Rattle.ep_object.specs.Scene.{HaveValidTypes}
-use Rattle.ep_object.proofs.rows.NewTypes.{TypeOnTop}
 use Rattle.ep_object.specs.declared.code.Instr.{Instr}
 use Rattle.ep_typed.specs.Steady.{IsSteadyHandler}
 use Rattle.ep_typed.specs.Calls.{Handler}
@@ -35,7 +35,6 @@ use Rattle.ep_typed.specs.Steps.{Computation, counted, made, allocate, size_of}
 use Rattle.ep_typed.specs.Valid.{Declarations, IsDenoter, IsTypeValue}
 use Rattle.ep_typed.specs.Viewed.{denoter_of}
 use Rattle.ep_typed.specs.TypeValues.{TypeValue, bare_of}
-use Rattle.ep_typed.specs.declared.unit.UnitType.{UnitType}
 use Rattle.ep_typed.specs.declared.unit.UnitVariable.{UnitVariable}
 use Rattle.ep_object.specs.declared.op.TheConstants as op
 
@@ -58,7 +57,8 @@ MovesIn declared G untouched Here p n x at to c =
     → RunsInUnit G memory.frames x → unit_in G memory.frames ≡ x.name
     → Fragment declared G Here n (point injection memory (p.instructions.before + at) below) c (p.instructions.before + to) (λ a. Inside untouched injection memory (Bare below a)) d (λ a. d)
 
-module _ (declared : Declarations) (G : Image) (untouched : Slots) (Here : Facts) (lasts : Lasts untouched Here) (ps : List Placement) (p : Placement) (references : List Reference) (call : Handler) (steady_call : IsSteadyHandler call) (n : ℕ) (x : ImageUnit) (free : VariablesAreFree declared G untouched x) (distinct : HasDistinctNames G) (types_valid : HaveValidTypes declared) where
+module _ (declared : Declarations) (G : Image) (untouched : Slots) (Here : Facts) (lasts : Lasts untouched Here) (ps : List Placement) (p : Placement) (references : List Reference) (call : Handler) (steady_call : IsSteadyHandler call) (n : ℕ) (x : ImageUnit) (free : VariablesAreFree declared G untouched x) (distinct : HasDistinctNames G) (types_valid : HaveValidTypes declared)
+    (among : AreAmong untouched (kept_slots declared G)) (kept : CallsAreKept declared G ps call n) (referred : AreReferred declared x.name (declared.types x.name) references) where
   module _ (number line at : ℕ) (v : UnitVariable) (is_declared : declared.variables x.name number ≡ Some v) (within : number < x.slots) where
     -- `Make`, over the number of the type
     make_row_moves : (t : TypeValue) (type_number : ℕ) → IsTypeValue t → AreStarts t
@@ -72,19 +72,19 @@ module _ (declared : Declarations) (G : Image) (untouched : Slots) (Here : Facts
 
   -- a variable is made in its slot
   one_moves : (g number at : ℕ) (v : UnitVariable) → declared.variables x.name number ≡ Some v
-      → number < x.slots → CodeStands G ps p references at (make_code (declared.types x.name) number v)
-      → MovesIn declared G untouched Here p n x at (at + length (make_code (declared.types x.name) number v)) (make call g x.name (declared.types x.name) number v)
+      → number < x.slots → CodeStands G ps p references at (make_code number v)
+      → MovesIn declared G untouched Here p n x at (at + length (make_code number v)) (make call g x.name number v)
   one_moves g number at v is_declared within stands injection memory below d enough home named =
       let types = declared.types x.name in
       let valid : IsDenoter types (denoter_of v.denoter) = types_valid x.name number v is_declared in
       let t : TypeValue = valid.type_value in
-      let code : List Instr = type_code types v.line (denoter_of v.denoter) in
+      let code : List Instr = type_code v.line (denoter_of v.denoter) in
       let is_type : IsTypeValue t = typed_value types (denoter_of v.denoter) t valid.typed in
       let parts = code_stands-parts G ps p references at code (instr op.MAKE (pos number) 0 v.line ∷ []) stands in
       let ends : p.instructions.before + (at + length code) + 1 ≡ p.instructions.before + (at + length (code ++ instr op.MAKE (pos number) 0 v.line ∷ [])) = omega (arith, length-append code (instr op.MAKE (pos number) 0 v.line ∷ [])) in
       let has_type : ((w : UnitVariable) → declared.variables x.name number ≡ Some w → HasType declared x.name w (bare_of t)) = λ w e. subst (λ (u : UnitVariable). HasType declared x.name u (bare_of t)) (same_Some v w (sym is_declared ∙ e)) (t, types_are_instances types (denoter_of v.denoter) t valid.has_type, refl) in
       inside_bind {First = TypeOnTop t below} {e = λ a. d + 4} (λ a. steady_allocate x.name number a)
-      (elaborates declared G untouched Here lasts ps p references call steady_call n g x.name v.line types at (denoter_of v.denoter) t valid.has_type valid.typed parts.0 injection memory below d enough named)
+      (elaborates declared G untouched Here lasts ps p references call steady_call n g x.name v.line types refl among kept referred at (denoter_of v.denoter) t valid.typed parts.0 injection memory below d enough named)
       (λ a longer after pushed grown routine top.
       subst (λ u. Fragment declared G Here n (point longer after (p.instructions.before + (at + length code)) pushed) (allocate x.name number u) (p.instructions.before + (at + length (code ++ instr op.MAKE (pos number) 0 v.line ∷ []))) (λ b. Inside untouched longer after (Bare below b)) (d + 4) (λ b. d)) (sym top.type_is)
       (subst (λ o. Fragment declared G Here n (point longer after (p.instructions.before + (at + length code)) o) (allocate x.name number t) (p.instructions.before + (at + length (code ++ instr op.MAKE (pos number) 0 v.line ∷ []))) (λ b. Inside untouched longer after (Bare below b)) (d + 4) (λ b. d)) (sym top.is)
@@ -94,25 +94,22 @@ module _ (declared : Declarations) (G : Image) (untouched : Slots) (Here : Facts
   -- and so are the variables from this number on
   all_moves : (g number at : ℕ) (vs : List UnitVariable) → AreDeclared declared x.name number vs
       → number + length vs ≤ x.slots
-      → CodeStands G ps p references at (make_all_code (declared.types x.name) number vs)
-      → MovesIn declared G untouched Here p n x at (at + length (make_all_code (declared.types x.name) number vs)) (make_all call g x.name (declared.types x.name) number vs)
+      → CodeStands G ps p references at (make_all_code number vs)
+      → MovesIn declared G untouched Here p n x at (at + length (make_all_code number vs)) (make_all call g x.name number vs)
   all_moves g number at [] are_declared within stands injection memory below d enough home named = fragment_to (omega arith) (fragment_give (omega arith) (inside_here refl))
   all_moves g number at (v ∷ vs) are_declared within stands injection memory below d enough home named =
-      let types = declared.types x.name in
-      let parts = code_stands-parts G ps p references at (make_code types number v) (make_all_code types (suc number) vs) stands in
-      let ends : at + length (make_code types number v) + length (make_all_code types (suc number) vs) ≡ at + length (make_code types number v ++ make_all_code types (suc number) vs) = omega (arith, length-append (make_code types number v) (make_all_code types (suc number) vs)) in
+      let parts = code_stands-parts G ps p references at (make_code number v) (make_all_code (suc number) vs) stands in
+      let ends : at + length (make_code number v) + length (make_all_code (suc number) vs) ≡ at + length (make_code number v ++ make_all_code (suc number) vs) = omega (arith, length-append (make_code number v) (make_all_code (suc number) vs)) in
       let first : declared.variables x.name number ≡ Some v = subst (λ k. declared.variables x.name k ≡ Some v) (omega arith) (are_declared 0 v refl) in
       fragment_to (ap (λ k. p.instructions.before + k) ends)
-      (fragment_bind_bare {e = λ a. d} (λ a. steady_make_all call steady_call g x.name types (suc number) vs) (one_moves g number at v first (omega (arith, within)) parts.0 injection memory below d enough home named) (λ a longer after grown routine.
-      all_moves g (suc number) (at + length (make_code types number v)) vs (λ i w e. subst (λ k. declared.variables x.name k ≡ Some w) (omega arith) (are_declared (suc i) w e)) (omega (arith, within)) parts.1 longer after below d enough (same_frame G x memory.frames after.frames routine home) (unit_in-same G routine ∙ named)))
+      (fragment_bind_bare {e = λ a. d} (λ a. steady_make_all call steady_call g x.name (suc number) vs) (one_moves g number at v first (omega (arith, within)) parts.0 injection memory below d enough home named) (λ a longer after grown routine.
+      all_moves g (suc number) (at + length (make_code number v)) vs (λ i w e. subst (λ k. declared.variables x.name k ≡ Some w) (omega arith) (are_declared (suc i) w e)) (omega (arith, within)) parts.1 longer after below d enough (same_frame G x memory.frames after.frames routine home) (unit_in-same G routine ∙ named)))
 
-  -- the machine follows the making of the variables of a unit with these types, from this number on
-  pub make_all_moves : (unit : List ℕ) → x.name ≡ unit → (types : List UnitType) → declared.types unit ≡ types
+  -- the machine follows the making of the variables of a unit, from this number on
+  pub make_all_moves : (unit : List ℕ) → x.name ≡ unit
       → (g number at : ℕ) (vs : List UnitVariable) → AreDeclared declared unit number vs
-      → number + length vs ≤ x.slots → CodeStands G ps p references at (make_all_code types number vs)
-      → MovesIn declared G untouched Here p n x at (at + length (make_all_code types number vs)) (make_all call g unit types number vs)
-  make_all_moves unit named types same g number at vs are_declared within stands =
-      subst (λ ts. CodeStands G ps p references at (make_all_code ts number vs) → MovesIn declared G untouched Here p n x at (at + length (make_all_code ts number vs)) (make_all call g unit ts number vs)) same
-      (subst (λ u. CodeStands G ps p references at (make_all_code (declared.types u) number vs) → MovesIn declared G untouched Here p n x at (at + length (make_all_code (declared.types u) number vs)) (make_all call g u (declared.types u) number vs)) named
-      (all_moves g number at vs (subst (λ u. AreDeclared declared u number vs) (sym named) are_declared) within))
-      stands
+      → number + length vs ≤ x.slots → CodeStands G ps p references at (make_all_code number vs)
+      → MovesIn declared G untouched Here p n x at (at + length (make_all_code number vs)) (make_all call g unit number vs)
+  make_all_moves unit named g number at vs are_declared within stands =
+      subst (λ u. MovesIn declared G untouched Here p n x at (at + length (make_all_code number vs)) (make_all call g u number vs)) named
+      (all_moves g number at vs (subst (λ u. AreDeclared declared u number vs) (sym named) are_declared) within stands)

@@ -3,11 +3,13 @@ use Rattle.std.proofs.Common.{◌≡◌, ℕ, pos, ◌+◌, ◌<◌, List, [], �
 use Rattle.ep_object.specs.declared.code.Instr.{Instr}
 use Rattle.ep_typed.specs.Controls.{has_more, others}
 use Rattle.ep_typed.specs.Trees.{entire, Expr, Read, MemberControl, Stmt, Assign, ForIn}
-use Rattle.ep_gen_expr.specs.ExprCode.{IsExprCode, bare, instr, push}
-use Rattle.ep_gen_expr.specs.Growth.{Grows, AppendsPlace, AppendsExpr}
-use Rattle.ep_gen_expr.specs.Jumps.{IsNextPlace, LeavesHole, landed}
-use Rattle.ep_gen_expr.specs.declared.code.Code.{Code}
-use Rattle.ep_gen_expr.proofs.Forms.{grows_at}
+use Rattle.ep_gen_expr.specs.ExprCode.{IsExprCode}
+use Rattle.ep_gen_code.specs.Instructions.{bare, instr, push}
+use Rattle.ep_gen_code.specs.Growth.{Grows}
+use Rattle.ep_gen_expr.specs.Growth.{AppendsPlace, AppendsExpr}
+use Rattle.ep_gen_code.specs.Jumps.{IsNextPlace, LeavesHole, landed}
+use Rattle.ep_gen_code.specs.declared.code.Code.{Code}
+use Rattle.ep_gen_code.proofs.Growing.{grows_at}
 use Rattle.ep_gen_expr.proofs.Stays.{place_code_stays}
 use Rattle.ep_gen_unit.specs.StmtCode.{IsStmtCode, IsLeastCode, IsKeptCode, IsUndefineCode, for_in_code}
 use Rattle.ep_gen_unit.specs.StmtGrowth.{Follows, AppendsMore, AppendsLeast, AppendsKept, AppendsUndefine, AppendsStmt}

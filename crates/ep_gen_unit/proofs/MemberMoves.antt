@@ -1,9 +1,10 @@
 -- The machine follows `for` over members.
 use Rattle.std.proofs.Common.{◌≡◌, ℕ, pos, ◌+◌, ◌≤◌, ◌<◌, IsTrue, List, [], ◌∷◌, ◌++◌, length, length-append, refl, sym, ap, ◌∙◌, subst, arith}
 use Rattle.std.proofs.lemmas.Bool.Decides.{nat_tests}
-use Rattle.ep_gen_expr.specs.ExprCode.{instr, bare, push, IsExprCode}
+use Rattle.ep_gen_code.specs.Instructions.{instr, bare, push}
+use Rattle.ep_gen_expr.specs.ExprCode.{IsExprCode}
 use Rattle.ep_gen_expr.proofs.PlaceTypes.{kind_place}
-use Rattle.ep_gen_expr.proofs.Placed.{jump_has, jump_false_has}
+use Rattle.ep_gen_code.proofs.Placed.{jump_has, jump_false_has}
 use Rattle.ep_gen_unit.specs.StmtCode.{IsAssignCode, IsLeastCode, IsKeptCode, IsUndefineCode, for_in_code}
 use Rattle.ep_gen_unit.proofs.ForMoves.{undefine_moves}
 use Rattle.ep_gen_unit.proofs.Parts.{code_stands-parts, Moves, ExpressionsFollow, PlacesFollow, ordinal_of_host}

@@ -1,22 +1,22 @@
 -- The machine follows how a routine takes its arguments and makes its variables, in its activation.
 use Rattle.std.proofs.Common.{◌≡◌, ℕ, pos, suc, ◌+◌, ◌-◌, ◌*◌, ◌≤◌, List, [], ◌∷◌, ◌++◌, length, length-append, Option, Some, slice_get, refl, sym, ap, ◌∙◌, subst, arith}
 use Rattle.std.proofs.lemmas.Option.{same_Some}
-use Rattle.ep_gen_expr.specs.Following.{least_credit}
-use Rattle.ep_gen_expr.specs.ExprCode.{instr, bare}
-use Rattle.ep_gen_expr.proofs.Placed.{instr_at}
+use Rattle.ep_gen_code.specs.Credit.{least_credit}
+use Rattle.ep_gen_code.specs.Instructions.{instr, bare}
+use Rattle.ep_gen_code.proofs.Placed.{instr_at}
 use Rattle.ep_gen_expr.proofs.PlaceTypes.{has_bare_type}
 use Rattle.ep_gen_unit.specs.StmtCode.{make_code, make_all_code, value_code, place_taken, take_code, take_all_code}
-use Rattle.ep_gen_unit.specs.TypeCode.{type_code}
-use Rattle.ep_gen_unit.proofs.Elaborating.{elaborates}
+use Rattle.ep_gen_type.specs.TypeCode.{type_code}
+use Rattle.ep_gen_type.proofs.Elaborating.{AreReferred, elaborates}
 use Rattle.ep_gen_unit.proofs.Sized.{fragment_sized}
 use Rattle.ep_gen_unit.proofs.Parts.{code_stands-parts}
 use Rattle.ep_object.specs.Activations.{InActivation}
-use Rattle.ep_object.specs.Follows.{point, Fragment, Lasts, StillRuns, Inside}
-use Rattle.ep_object.specs.Matching.{Slots, Memory, Injection, IsSpot, Describes, IsLike, HasOwnType}
+use Rattle.ep_object.specs.Follows.{point, Fragment, Lasts, StillRuns, Inside, TypeOnTop}
+use Rattle.ep_object.specs.Matching.{AreAmong, Slots, Memory, Injection, IsSpot, Describes, IsLike, HasOwnType, kept_slots}
 use Rattle.ep_object.specs.Calls.{argument_at}
 use Rattle.ep_object.specs.Operands.{Operand, Word}
 use Rattle.ep_object.specs.Operands as operand
-use Rattle.ep_object.specs.Promises.{Passing, ByValue, ByReference, IsPassed, ArePassed, IsArgument, IsValueOf}
+use Rattle.ep_object.specs.Promises.{CallsAreKept, Passing, ByValue, ByReference, IsPassed, ArePassed, IsArgument, IsValueOf}
 use Rattle.ep_object.specs.Runs.{unit_in}
 use Rattle.ep_object.specs.State.{Frame}
 use Rattle.ep_object.specs.declared.code.Instr.{Instr}
@@ -27,9 +27,8 @@ use Rattle.ep_object.specs.declared.code.Image.{Image}
 use Rattle.ep_object.specs.declared.code.Reference.{Reference}
 use Rattle.ep_object.proofs.following.Fragments.{fragment_bind, fragment_credit, fragment_weaken, fragment_post, fragment_give, fragment_from, fragment_to, fragment_less}
 use Rattle.ep_object.proofs.matching.Growing.{same_routine-refl, still_routine, still_runs-trans, unit_in-still}
-use Rattle.ep_object.proofs.matching.Starting.{AreStarts}
+use Rattle.ep_object.specs.Starts.{AreStarts}
 use Rattle.ep_object.proofs.matching.Awaiting.{arguments_in, AreAwaited, awaited-grown, awaited-taken, value-grown, without_argument}
-use Rattle.ep_object.proofs.rows.NewTypes.{TypeOnTop}
 use Rattle.ep_object.proofs.rows.ArgumentRows.{Taken, taken-later, same_arguments, value_taken, variable_taken}
 use Rattle.ep_object.proofs.rows.OwnRows.{StillBare, MadeOwn, in_frame, make_own_does}
 use Rattle.ep_typed.specs.Steady.{IsSteadyHandler}
@@ -80,7 +79,8 @@ still_later : {before memory : Memory} {below : List Operand} → StillRuns befo
     → StillBare memory below longer after operands → StillBare before below longer after operands
 still_later runs longer after operands h = record { runs = still_runs-trans runs h.runs; operands_are = h.operands_are }
 
-module _ (declared : Declarations) (G : Image) (untouched : Slots) (first : Injection) (start : Memory) (lasts : Lasts untouched (InActivation declared untouched first start)) (ps : List Placement) (p : Placement) (references : List Reference) (call : Handler) (steady_call : IsSteadyHandler call) (n : ℕ) (unit : List ℕ) (own_valid : HaveValidOwnTypes declared) where
+module _ (declared : Declarations) (G : Image) (untouched : Slots) (first : Injection) (start : Memory) (lasts : Lasts untouched (InActivation declared untouched first start)) (ps : List Placement) (p : Placement) (references : List Reference) (call : Handler) (steady_call : IsSteadyHandler call) (n : ℕ) (unit : List ℕ) (own_valid : HaveValidOwnTypes declared)
+    (types_are : declared.types unit ≡ declared.routine_types) (among : AreAmong untouched (kept_slots declared G)) (kept : CallsAreKept declared G ps call n) (referred : AreReferred declared unit declared.routine_types references) where
   module _ (number line at : ℕ) (v : UnitVariable) (is_declared : slice_get (variables_up declared 0) number ≡ Some v) where
     -- `Make`, over the number of the type
     make_row_moves : (t : TypeValue) (type_number : ℕ) → IsTypeValue t → AreStarts t
@@ -94,20 +94,20 @@ module _ (declared : Declarations) (G : Image) (untouched : Slots) (first : Inje
 
   -- A variable is made in its slot. Each of its words leaves a credit.
   pub sized_moves : (g number at : ℕ) (v : UnitVariable) (is_declared : slice_get (variables_up declared 0) number ≡ Some v)
-      → CodeStands G ps p references at (make_code declared.routine_types number v)
+      → CodeStands G ps p references at (make_code number v)
       → (injection : Injection) (memory : Memory) (below : List Operand) (d : ℕ) → least_credit ≤ d → unit_in G memory.frames ≡ unit
-      → Fragment declared G (InActivation declared untouched first start) n (point injection memory (p.instructions.before + at) below) (make_own call g unit declared.routine_types number v) (p.instructions.before + (at + length (make_code declared.routine_types number v))) (λ a. StillBare memory below) d (λ a. d + 3 * size_of (own_valid 0 number v is_declared).type_value)
+      → Fragment declared G (InActivation declared untouched first start) n (point injection memory (p.instructions.before + at) below) (make_own call g unit number v) (p.instructions.before + (at + length (make_code number v))) (λ a. StillBare memory below) d (λ a. d + 3 * size_of (own_valid 0 number v is_declared).type_value)
   sized_moves g number at v is_declared stands injection memory below d enough home =
       let types = declared.routine_types in
       let valid : IsDenoter types (denoter_of v.denoter) = own_valid 0 number v is_declared in
       let t : TypeValue = valid.type_value in
-      let code : List Instr = type_code types v.line (denoter_of v.denoter) in
+      let code : List Instr = type_code v.line (denoter_of v.denoter) in
       let is_type : IsTypeValue t = typed_value types (denoter_of v.denoter) t valid.typed in
       let parts = code_stands-parts G ps p references at code (instr op.MAKE (pos number) 0 v.line ∷ []) stands in
       let ends : p.instructions.before + (at + length code) + 1 ≡ p.instructions.before + (at + length (code ++ instr op.MAKE (pos number) 0 v.line ∷ [])) = omega (arith, length-append code (instr op.MAKE (pos number) 0 v.line ∷ [])) in
       let has_type : ((w : UnitVariable) → slice_get (variables_up declared 0) number ≡ Some w → HasOwnType declared w (bare_of t)) = λ w e. subst (λ (u : UnitVariable). HasOwnType declared u (bare_of t)) (same_Some v w (sym is_declared ∙ e)) (t, types_are_instances types (denoter_of v.denoter) t valid.has_type, refl) in
       fragment_bind {P = λ a. Inside untouched injection memory (TypeOnTop t below a)} {e = λ a. d + 4} (λ a. steady_allocate_own number a)
-      (elaborates declared G untouched (InActivation declared untouched first start) lasts ps p references call steady_call n g unit v.line types at (denoter_of v.denoter) t valid.has_type valid.typed parts.0 injection memory below d enough home)
+      (elaborates declared G untouched (InActivation declared untouched first start) lasts ps p references call steady_call n g unit v.line types types_are among kept referred at (denoter_of v.denoter) t valid.typed parts.0 injection memory below d enough home)
       (λ a longer after pushed inside.
       let top = inside.operands_are in
       let runs : StillRuns memory.frames after.frames = still_routine inside.routine in (
@@ -119,48 +119,48 @@ module _ (declared : Declarations) (G : Image) (untouched : Slots) (first : Inje
       ))
 
   one_moves : (g number at : ℕ) (v : UnitVariable) → slice_get (variables_up declared 0) number ≡ Some v
-      → CodeStands G ps p references at (make_code declared.routine_types number v)
-      → MovesOwn declared G untouched first start p n unit at (at + length (make_code declared.routine_types number v)) (make_own call g unit declared.routine_types number v)
+      → CodeStands G ps p references at (make_code number v)
+      → MovesOwn declared G untouched first start p n unit at (at + length (make_code number v)) (make_own call g unit number v)
   one_moves g number at v is_declared stands injection memory below d enough home =
       fragment_credit {d = d} {e = λ a. d + 3 * size_of (own_valid 0 number v is_declared).type_value} (omega arith) (λ a. omega arith) (sized_moves g number at v is_declared stands injection memory below d enough home)
 
   -- and so are the variables from this number on
   pub make_all_own_moves : (g number at : ℕ) (vs : List UnitVariable) → ((i : ℕ) (v : UnitVariable) → slice_get vs i ≡ Some v → slice_get (variables_up declared 0) (number + i) ≡ Some v)
-      → CodeStands G ps p references at (make_all_code declared.routine_types number vs)
-      → MovesOwn declared G untouched first start p n unit at (at + length (make_all_code declared.routine_types number vs)) (make_all_own call g unit declared.routine_types number vs)
+      → CodeStands G ps p references at (make_all_code number vs)
+      → MovesOwn declared G untouched first start p n unit at (at + length (make_all_code number vs)) (make_all_own call g unit number vs)
   make_all_own_moves g number at [] are_declared stands injection memory below d enough home =
       fragment_to (omega arith) (fragment_give (omega arith) (record { runs = still_routine (same_routine-refl {untouched = untouched} memory.frames); operands_are = refl }))
   make_all_own_moves g number at (v ∷ vs) are_declared stands injection memory below d enough home =
       let types = declared.routine_types in
-      let parts = code_stands-parts G ps p references at (make_code types number v) (make_all_code types (suc number) vs) stands in
-      let ends : at + length (make_code types number v) + length (make_all_code types (suc number) vs) ≡ at + length (make_code types number v ++ make_all_code types (suc number) vs) = omega (arith, length-append (make_code types number v) (make_all_code types (suc number) vs)) in
+      let parts = code_stands-parts G ps p references at (make_code number v) (make_all_code (suc number) vs) stands in
+      let ends : at + length (make_code number v) + length (make_all_code (suc number) vs) ≡ at + length (make_code number v ++ make_all_code (suc number) vs) = omega (arith, length-append (make_code number v) (make_all_code (suc number) vs)) in
       let this : slice_get (variables_up declared 0) number ≡ Some v = subst (λ k. slice_get (variables_up declared 0) k ≡ Some v) (omega arith) (are_declared 0 v refl) in
       fragment_to (ap (λ k. p.instructions.before + k) ends)
-      (fragment_bind {e = λ a. d} (λ a. steady_make_all_own call steady_call g unit types (suc number) vs) (one_moves g number at v this parts.0 injection memory below d enough home) (λ a longer after pushed still. (
+      (fragment_bind {e = λ a. d} (λ a. steady_make_all_own call steady_call g unit (suc number) vs) (one_moves g number at v this parts.0 injection memory below d enough home) (λ a longer after pushed still. (
         still.runs,
-        subst (λ o. Fragment declared G (InActivation declared untouched first start) n (point longer after (p.instructions.before + (at + length (make_code types number v))) o) (make_all_own call g unit types (suc number) vs) (p.instructions.before + (at + length (make_code types number v) + length (make_all_code types (suc number) vs))) (λ b. StillBare memory below) d (λ b. d)) (sym still.operands_are)
-            (fragment_post (λ b. still_later still.runs) (make_all_own_moves g (suc number) (at + length (make_code types number v)) vs (λ i w e. subst (λ k. slice_get (variables_up declared 0) k ≡ Some w) (omega arith) (are_declared (suc i) w e)) parts.1 longer after below d enough (unit_in-still G still.runs ∙ home))),
+        subst (λ o. Fragment declared G (InActivation declared untouched first start) n (point longer after (p.instructions.before + (at + length (make_code number v))) o) (make_all_own call g unit (suc number) vs) (p.instructions.before + (at + length (make_code number v) + length (make_all_code (suc number) vs))) (λ b. StillBare memory below) d (λ b. d)) (sym still.operands_are)
+            (fragment_post (λ b. still_later still.runs) (make_all_own_moves g (suc number) (at + length (make_code number v)) vs (λ i w e. subst (λ k. slice_get (variables_up declared 0) k ≡ Some w) (omega arith) (are_declared (suc i) w e)) parts.1 longer after below d enough (unit_in-still G still.runs ∙ home))),
       )))
 
   -- The same, where the first one is of a type whose words leave a credit.
   pub make_sized_moves : (g number at : ℕ) (v : UnitVariable) (vs : List UnitVariable) (t : TypeValue) → type_of declared.routine_types (denoter_of v.denoter) ≡ Some t
       → ((i : ℕ) (w : UnitVariable) → slice_get (v ∷ vs) i ≡ Some w → slice_get (variables_up declared 0) (number + i) ≡ Some w)
-      → CodeStands G ps p references at (make_all_code declared.routine_types number (v ∷ vs))
+      → CodeStands G ps p references at (make_all_code number (v ∷ vs))
       → (injection : Injection) (memory : Memory) (below : List Operand) (d : ℕ) → least_credit ≤ d → unit_in G memory.frames ≡ unit
-      → Fragment declared G (InActivation declared untouched first start) n (point injection memory (p.instructions.before + at) below) (make_all_own call g unit declared.routine_types number (v ∷ vs)) (p.instructions.before + (at + length (make_all_code declared.routine_types number (v ∷ vs)))) (λ a. StillBare memory below) d (λ a. d + 3 * size_of t)
+      → Fragment declared G (InActivation declared untouched first start) n (point injection memory (p.instructions.before + at) below) (make_all_own call g unit number (v ∷ vs)) (p.instructions.before + (at + length (make_all_code number (v ∷ vs)))) (λ a. StillBare memory below) d (λ a. d + 3 * size_of t)
   make_sized_moves g number at v vs t has_type are_declared stands injection memory below d enough home =
       let types = declared.routine_types in
-      let parts = code_stands-parts G ps p references at (make_code types number v) (make_all_code types (suc number) vs) stands in
-      let ends : at + length (make_code types number v) + length (make_all_code types (suc number) vs) ≡ at + length (make_code types number v ++ make_all_code types (suc number) vs) = omega (arith, length-append (make_code types number v) (make_all_code types (suc number) vs)) in
+      let parts = code_stands-parts G ps p references at (make_code number v) (make_all_code (suc number) vs) stands in
+      let ends : at + length (make_code number v) + length (make_all_code (suc number) vs) ≡ at + length (make_code number v ++ make_all_code (suc number) vs) = omega (arith, length-append (make_code number v) (make_all_code (suc number) vs)) in
       let this : slice_get (variables_up declared 0) number ≡ Some v = subst (λ k. slice_get (variables_up declared 0) k ≡ Some v) (omega arith) (are_declared 0 v refl) in
       let valid : IsDenoter types (denoter_of v.denoter) = own_valid 0 number v this in
       let same : size_of valid.type_value ≡ size_of t = ap size_of (same_Some valid.type_value t (sym valid.has_type ∙ has_type)) in
       fragment_to (ap (λ k. p.instructions.before + k) ends)
-      (fragment_bind {e = λ a. d + 3 * size_of t} (λ a. steady_make_all_own call steady_call g unit types (suc number) vs)
+      (fragment_bind {e = λ a. d + 3 * size_of t} (λ a. steady_make_all_own call steady_call g unit (suc number) vs)
       (fragment_credit {d = d} {e = λ a. d + 3 * size_of valid.type_value} (omega arith) (λ a. omega (arith, same)) (sized_moves g number at v this parts.0 injection memory below d enough home)) (λ a longer after pushed still. (
         still.runs,
-        subst (λ o. Fragment declared G (InActivation declared untouched first start) n (point longer after (p.instructions.before + (at + length (make_code types number v))) o) (make_all_own call g unit types (suc number) vs) (p.instructions.before + (at + length (make_code types number v) + length (make_all_code types (suc number) vs))) (λ b. StillBare memory below) (d + 3 * size_of t) (λ b. d + 3 * size_of t)) (sym still.operands_are)
-            (fragment_post (λ b. still_later still.runs) (make_all_own_moves g (suc number) (at + length (make_code types number v)) vs (λ i w e. subst (λ k. slice_get (variables_up declared 0) k ≡ Some w) (omega arith) (are_declared (suc i) w e)) parts.1 longer after below (d + 3 * size_of t) (omega (arith, enough)) (unit_in-still G still.runs ∙ home))),
+        subst (λ o. Fragment declared G (InActivation declared untouched first start) n (point longer after (p.instructions.before + (at + length (make_code number v))) o) (make_all_own call g unit (suc number) vs) (p.instructions.before + (at + length (make_code number v) + length (make_all_code (suc number) vs))) (λ b. StillBare memory below) (d + 3 * size_of t) (λ b. d + 3 * size_of t)) (sym still.operands_are)
+            (fragment_post (λ b. still_later still.runs) (make_all_own_moves g (suc number) (at + length (make_code number v)) vs (λ i w e. subst (λ k. slice_get (variables_up declared 0) k ≡ Some w) (omega arith) (are_declared (suc i) w e)) parts.1 longer after below (d + 3 * size_of t) (omega (arith, enough)) (unit_in-still G still.runs ∙ home))),
       )))
 
   -- ---- formal parameters
@@ -174,17 +174,17 @@ module _ (declared : Declarations) (G : Image) (untouched : Slots) (first : Inje
 
     -- a value formal takes a value of its kind
     value_moves : (kind : Kind) (r : Result) (o : Operand) → IsOfKind kind declared.routine_types (denoter_of f.denoter)
-        → CodeStands G ps p references at (value_code declared.routine_types line number f)
+        → CodeStands G ps p references at (value_code line number f)
         → (injection : Injection) (memory : Memory) (below : List Operand) (d : ℕ) → least_credit ≤ d → unit_in G memory.frames ≡ unit
         → argument_at (arguments_in memory.frames.calls) number ≡ Some o → suc number ≤ length (arguments_in memory.frames.calls) → IsValueOf injection memory kind r o
-        → Fragment declared G (InActivation declared untouched first start) n (point injection memory (p.instructions.before + at) below) (bind (elaborate call g unit line declared.routine_types (denoter_of f.denoter)) (λ a. bind (allocate_own number a) (λ _. initialized unit line a r))) (p.instructions.before + (at + length (value_code declared.routine_types line number f))) (λ a. Taken untouched injection memory (without_argument number (arguments_in memory.frames.calls)) below) d (λ a. d)
+        → Fragment declared G (InActivation declared untouched first start) n (point injection memory (p.instructions.before + at) below) (bind (elaborate call g unit line (denoter_of f.denoter)) (λ a. bind (allocate_own number a) (λ _. initialized unit line a r))) (p.instructions.before + (at + length (value_code line number f))) (λ a. Taken untouched injection memory (without_argument number (arguments_in memory.frames.calls)) below) d (λ a. d)
     value_moves kind r o is_kind stands injection memory below d enough home there within value =
         let types = declared.routine_types in
         let t : TypeValue = its.type_value in
         let of_kind : IsTypeOfKind kind (bare_of t) = typed_of_kind types (denoter_of f.denoter) t kind its.typed is_kind in
         let valid : IsTypeValue t = typed_value types (denoter_of f.denoter) t its.typed in
         let weighs : weight_of r ≤ size_of t = value_fits injection memory kind t r o of_kind value in
-        let code : List Instr = type_code types line (denoter_of f.denoter) in
+        let code : List Instr = type_code line (denoter_of f.denoter) in
         let k : ℕ = at + length code in
         let rest : List Instr = instr op.MAKE (pos number) 0 line ∷ instr op.SLOT (pos number) 0 line ∷ instr op.ARG (pos number) 0 line ∷ bare line op.STORE ∷ [] in
         let ends : p.instructions.before + (k + 4) ≡ p.instructions.before + (at + length (code ++ rest)) = omega (arith, length-append code rest) in
@@ -192,7 +192,7 @@ module _ (declared : Declarations) (G : Image) (untouched : Slots) (first : Inje
         let parts = code_stands-parts G ps p references at code rest stands in
         fragment_to ends
         (fragment_bind {middle = p.instructions.before + k} {P = λ a. Inside untouched injection memory (TypeOnTop t below a)} {e = λ a. d + 4} (λ a. steady_bind (steady_allocate_own number a) (λ u. steady_initialized unit line a r))
-        (elaborates declared G untouched (InActivation declared untouched first start) lasts ps p references call steady_call n g unit line types at (denoter_of f.denoter) t its.has_type its.typed parts.0 injection memory below d enough home)
+        (elaborates declared G untouched (InActivation declared untouched first start) lasts ps p references call steady_call n g unit line types types_are among kept referred at (denoter_of f.denoter) t its.typed parts.0 injection memory below d enough home)
         (λ a longer after pushed inside.
         let top = inside.operands_are in
         let runs : StillRuns memory.frames after.frames = still_routine inside.routine in
@@ -239,10 +239,10 @@ module _ (declared : Declarations) (G : Image) (untouched : Slots) (first : Inje
 
     -- a formal parameter takes its argument
     take_moves : (w : FormalMode) (q : Passing) (x : Argument) → IsPassed declared.routine_types w f q
-        → CodeStands G ps p references at (take_code declared.routine_types line number w f)
+        → CodeStands G ps p references at (take_code line number w f)
         → (o : Operand) (injection : Injection) (memory : Memory) (below : List Operand) (d : ℕ) → least_credit ≤ d → unit_in G memory.frames ≡ unit
         → argument_at (arguments_in memory.frames.calls) number ≡ Some o → suc number ≤ length (arguments_in memory.frames.calls) → IsArgument injection memory q x o
-        → Fragment declared G (InActivation declared untouched first start) n (point injection memory (p.instructions.before + at) below) (takes_by call g unit declared.routine_types w line number f x) (p.instructions.before + (at + length (take_code declared.routine_types line number w f))) (λ a. Taken untouched injection memory (without_argument number (arguments_in memory.frames.calls)) below) d (λ a. d)
+        → Fragment declared G (InActivation declared untouched first start) n (point injection memory (p.instructions.before + at) below) (takes_by call g unit w line number f x) (p.instructions.before + (at + length (take_code line number w f))) (λ a. Taken untouched injection memory (without_argument number (arguments_in memory.frames.calls)) below) d (λ a. d)
     take_moves mode.Value (ByValue k) (Value r) is_kind stands o injection memory below d enough home there within is =
         value_moves k r o is_kind stands injection memory below d enough home there within is
     take_moves mode.Value (ByValue k) (argument_is.Variable m) passed stands o injection memory below d enough home there within is = absurd is
@@ -263,10 +263,10 @@ module _ (declared : Declarations) (G : Image) (untouched : Slots) (first : Inje
   -- the formal parameters take their arguments, from this number on
   pub takes_all_moves : (g line number at : ℕ) (fs : List Formal) (qs : List Passing) (xs : List Argument) → ArePassed declared.routine_types fs qs
       → ((i : ℕ) (f : Formal) → slice_get fs i ≡ Some f → slice_get (variables_up declared 0) (number + i) ≡ Some (formal_variable line f))
-      → CodeStands G ps p references at (take_all_code declared.routine_types line number fs)
+      → CodeStands G ps p references at (take_all_code line number fs)
       → (injection : Injection) (memory : Memory) (below : List Operand) (d : ℕ) → least_credit ≤ d → unit_in G memory.frames ≡ unit
       → AreAwaited injection memory qs xs number (arguments_in memory.frames.calls)
-      → Fragment declared G (InActivation declared untouched first start) n (point injection memory (p.instructions.before + at) below) (takes_all call g unit declared.routine_types line number fs xs) (p.instructions.before + (at + length (take_all_code declared.routine_types line number fs))) (λ a. StillBare memory below) d (λ a. d)
+      → Fragment declared G (InActivation declared untouched first start) n (point injection memory (p.instructions.before + at) below) (takes_all call g unit line number fs xs) (p.instructions.before + (at + length (take_all_code line number fs))) (λ a. StillBare memory below) d (λ a. d)
   takes_all_moves g line number at [] [] [] passed are_declared stands injection memory below d enough home awaited =
       fragment_to (omega arith) (fragment_give (omega arith) (record { runs = still_routine (same_routine-refl {untouched = untouched} memory.frames); operands_are = refl }))
   takes_all_moves g line number at [] [] (x ∷ xs) passed are_declared stands injection memory below d enough home awaited = absurd awaited
@@ -275,18 +275,18 @@ module _ (declared : Declarations) (G : Image) (untouched : Slots) (first : Inje
   takes_all_moves g line number at (f ∷ fs) (q ∷ qs) [] passed are_declared stands injection memory below d enough home awaited = absurd awaited
   takes_all_moves g line number at (f ∷ fs) (q ∷ qs) (x ∷ xs) passed are_declared stands injection memory below d enough home (o, there, within, is, rest) =
       let types = declared.routine_types in
-      let code : List Instr = take_code types line number f.mode f in
-      let more : List Instr = take_all_code types line (suc number) fs in
+      let code : List Instr = take_code line number f.mode f in
+      let more : List Instr = take_all_code line (suc number) fs in
       let inside : List (Option Operand) = arguments_in memory.frames.calls in
       let parts = code_stands-parts G ps p references at code more stands in
       let ends : at + length code + length more ≡ at + length (code ++ more) = omega (arith, length-append code more) in
       let this : slice_get (variables_up declared 0) number ≡ Some (formal_variable line f) = subst (λ k. slice_get (variables_up declared 0) k ≡ Some (formal_variable line f)) (omega arith) (are_declared 0 f refl) in
       fragment_to (ap (λ k. p.instructions.before + k) ends)
-      (fragment_bind {P = λ a. Taken untouched injection memory (without_argument number inside) below} {e = λ a. d} (λ a. steady_takes_all call steady_call g unit types line (suc number) fs xs)
+      (fragment_bind {P = λ a. Taken untouched injection memory (without_argument number inside) below} {e = λ a. d} (λ a. steady_takes_all call steady_call g unit line (suc number) fs xs)
       (take_moves g line number at f this f.mode q x passed.0 parts.0 o injection memory below d enough home there within is)
       (λ a longer after pushed taken. (
         taken.runs,
-        subst (λ st. Fragment declared G (InActivation declared untouched first start) n (point longer after (p.instructions.before + (at + length code)) st) (takes_all call g unit types line (suc number) fs xs) (p.instructions.before + (at + length code + length more)) (λ b. StillBare memory below) d (λ b. d)) (sym taken.operands_are)
+        subst (λ st. Fragment declared G (InActivation declared untouched first start) n (point longer after (p.instructions.before + (at + length code)) st) (takes_all call g unit line (suc number) fs xs) (p.instructions.before + (at + length code + length more)) (λ b. StillBare memory below) d (λ b. d)) (sym taken.operands_are)
             (fragment_post (λ b. still_later taken.runs) (takes_all_moves g line (suc number) (at + length code) fs qs xs passed.1 (λ i w e. subst (λ k. slice_get (variables_up declared 0) k ≡ Some (formal_variable line w)) (omega arith) (are_declared (suc i) w e)) parts.1 longer after below d enough (unit_in-still G taken.runs ∙ home)
             (subst (λ l. AreAwaited longer after qs xs (suc number) l) (sym taken.left_are) (awaited-grown taken.grown qs xs (suc number) (without_argument number inside) (awaited-taken injection memory number inside within qs xs (suc number) (omega arith) rest))))),
       )))

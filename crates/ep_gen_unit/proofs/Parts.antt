@@ -1,8 +1,10 @@
 -- What the proofs about statements share: where parts of code stand, and what is known of expressions.
 use Rattle.std.proofs.Common.{◌≡◌, ℕ, ℤ, pos, ◌+◌, ◌<◌, ◌≤◌, List, [], ◌∷◌, ◌++◌, Some, length, slice_get, refl}
-use Rattle.ep_gen_expr.specs.Following.{least_credit, HasPlaceType, IsValidPlace}
-use Rattle.ep_gen_expr.specs.ExprCode.{IsPlaceCode, IsExprCode, AreActualsCode, instr, reference}
-use Rattle.ep_gen_expr.proofs.Placed.{code_front, code_back}
+use Rattle.ep_gen_code.specs.Credit.{least_credit}
+use Rattle.ep_gen_expr.specs.Following.{HasPlaceType, IsValidPlace}
+use Rattle.ep_gen_expr.specs.ExprCode.{IsPlaceCode, IsExprCode, AreActualsCode}
+use Rattle.ep_gen_code.specs.Instructions.{instr, reference}
+use Rattle.ep_gen_code.proofs.Placed.{code_front, code_back}
 use Rattle.ep_object.specs.Follows.{point, Facts, Fragment, Inside, Bare, OnTop, PlaceOnTop, SameRoutine}
 use Rattle.ep_object.specs.Matching.{Slots, Memory, Injection, Grown}
 use Rattle.ep_object.specs.Operands.{Operand}
@@ -80,4 +82,4 @@ module _ (declared : Declarations) (G : Image) (untouched : Slots) (Here : Facts
       → (rest : List Result → Computation (Unit {0})) → ((rs : List Result) → Steady (rest rs))
       → ((rs : List Result) (longer : Injection) (after : Memory) (pushed : List Operand) → Grown untouched injection memory longer after → SameRoutine untouched memory.frames after.frames → ResultsOnTop keeps.results below rs longer after pushed
       → Fragment declared G Here n (point longer after (p.instructions.before + (at + length xs + 1)) pushed) (rest rs) to (λ b. Inside untouched longer after (Bare below b)) d (λ b. d))
-      → Fragment declared G Here n (point injection memory (p.instructions.before + at) below) (bind (arguments call n unit line given) (λ vs. bind (call unit line callee vs) rest)) to (λ b. Inside untouched injection memory (Bare below b)) d (λ b. d)
+      → Fragment declared G Here n (point injection memory (p.instructions.before + at) below) (bind (arguments call n unit line given) (λ vs. bind (call.routine unit line callee vs) rest)) to (λ b. Inside untouched injection memory (Bare below b)) d (λ b. d)

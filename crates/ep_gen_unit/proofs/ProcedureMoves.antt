@@ -1,8 +1,9 @@
 -- The machine follows procedure statements, where the routines keep their promises.
 use Rattle.std.proofs.Common.{◌≡◌, ℕ, pos, ◌+◌, ◌<◌, ◌≤◌, List, [], ◌∷◌, ◌++◌, Option, None, Some, length, slice_get, refl, arith}
-use Rattle.ep_gen_expr.specs.ExprCode.{AreActualsCode, instr, reference}
+use Rattle.ep_gen_expr.specs.ExprCode.{AreActualsCode}
+use Rattle.ep_gen_code.specs.Instructions.{instr, reference}
 use Rattle.ep_gen_expr.proofs.Calls.{call_ends}
-use Rattle.ep_gen_expr.proofs.Placed.{code_back}
+use Rattle.ep_gen_code.proofs.Placed.{code_back}
 use Rattle.ep_gen_unit.proofs.Parts.{Moves, CallsFollow}
 use Rattle.ep_object.specs.Follows.{Facts}
 use Rattle.ep_object.specs.Matching.{Memory, Injection, Slots}
@@ -47,7 +48,7 @@ module _ {declared : Declarations} {G : Image} {untouched : Slots} {Here : Facts
       → Moves declared G untouched Here ps p texts references call n unit at (at + length xs + 2) (exec call n unit (Procedure line callee given))
   procedure_moves calls kept line at callee k given xs valid codes named stands inside injection memory below d enough home =
       let called = valid.1 in
-      let keeps = kept callee.unit callee.number valid.0 called.there in
+      let keeps = kept.routines callee.unit callee.number valid.0 called.there in
       let none : keeps.results ≡ [] = no_kinds (declared.types callee.unit) (valid.0).result keeps.results valid.2 keeps.given in
       let behind : CodeStands G ps p references (at + length xs) (instr op.CALL (pos k) callee.levels line ∷ instr op.JUMP (pos (at + length xs + 2)) 0 line ∷ []) = code_back G ps p references at xs (instr op.CALL (pos k) callee.levels line ∷ instr op.JUMP (pos (at + length xs + 2)) 0 line ∷ []) stands in
       calls line at (p.instructions.before + (at + length xs + 2)) callee k given xs valid.0 keeps valid.3 codes called.declared_up named stands inside injection memory below d (omega (arith, enough)) home

@@ -1,5 +1,5 @@
 -- The object of a program, from the code of its parts.
-use Rattle.std.proofs.Common.{◌≡◌, ℕ, ℤ, suc, pos, ◌+◌, ◌<◌, List, [], ◌∷◌, ◌++◌, map, take, length, length-append, get_or, slice_get, ◌⊎◌, inl, inr, Option, None, Some, Result, Ok, Err, IfOk, refl, sym, ap, ◌∙◌, subst, append_assoc, append-nil, arith}
+use Rattle.std.proofs.Common.{◌≡◌, ℕ, suc, pos, ◌+◌, ◌<◌, List, [], ◌∷◌, ◌++◌, map, take, length, length-append, get_or, slice_get, ◌⊎◌, inl, inr, Option, None, Some, Result, Ok, Err, IfOk, refl, sym, ap, ◌∙◌, subst, append_assoc, append-nil, arith}
 use Rattle.std.proofs.lemmas.List.{take_more, length-map, length-take-le}
 use Rattle.std.proofs.lemmas.Option.{slice_get_within}
 use Rattle.ep_object.proofs.matching.Elements.{slice_get-push}
@@ -16,52 +16,54 @@ use Rattle.ep_typed.specs.declared.interface.Formal.{Formal}
 use Rattle.ep_typed.specs.declared.interface.RoutineResult.{RoutineResult}
 use Rattle.ep_typed.specs.declared.run_error.TheConstants as run_error
 use Rattle.ep_typed.specs.declared.unit.UnitVariable.{UnitVariable}
-use Rattle.ep_gen_expr.specs.ExprCode.{instr, bare, push}
-use Rattle.ep_gen_expr.specs.Growth.{Grows, IsTable, AreDistinct, empty_code}
+use Rattle.ep_gen_code.specs.Instructions.{instr, bare}
+use Rattle.ep_gen_code.specs.Growth.{Grows, IsTable, AreDistinct, begun_code}
+use Rattle.ep_gen_code.proofs.Named.{named_distinct}
+use Rattle.ep_gen_type.specs.TypeCode.{type_code}
+use Rattle.ep_object.specs.Promises.{type_routine}
+use Rattle.ep_typed.specs.Denoters.{definition_of}
+use Rattle.ep_typed.specs.Meaning.{line_where}
 use Rattle.ep_typed.specs.declared.unit.UnitType.{UnitType}
-use Rattle.ep_gen_expr.specs.declared.code.Code.{Code}
-use Rattle.ep_gen_expr.specs.declared.code.TheConstants as code
-use Rattle.ep_gen_expr.proofs.Forms.{grows_at}
-use Rattle.ep_gen_unit.specs.TypeCode.{ordinal_code, type_code}
+use Rattle.ep_gen_code.specs.declared.code.Code.{Code}
+use Rattle.ep_gen_code.specs.declared.code.TheConstants as code
+use Rattle.ep_gen_code.proofs.Growing.{grows_at}
+use Rattle.ep_gen_type.specs.TypeCode.{type_code}
 use Rattle.ep_gen_unit.specs.StmtCode.{IsStmtCode, make_code, make_all_code, value_code, place_taken, take_code, take_all_code, return_code, result_code, function_end, end_code}
 use Rattle.std.specs.Prelude.{is_some, true, false}
 use Rattle.ep_typed.specs.Denoters.{host_of}
 use Rattle.ep_typed.specs.Hosts.{Host}
-use Rattle.ep_gen_expr.specs.Jumps.{IsNextPlace}
-use Rattle.ep_gen_unit.specs.StmtGrowth.{Follows, AppendsStmt, AppendsStart, AppendsRoutine, AppendsRoutines, IsCompact, MakesBlock, MakesOwn, MakesResult, assembled}
-use Rattle.ep_gen_unit.specs.UnitCode.{IsProgramCode, IsRoutineCode, AreRoutinesCode, StandsIn, own_code, its_end, entry_of, plain_at, routine_at}
+use Rattle.ep_gen_code.specs.Jumps.{IsNextPlace}
+use Rattle.ep_gen_unit.specs.StmtGrowth.{Follows, AppendsStmt, AppendsStart, AppendsRoutine, AppendsRoutines, AppendsType, AppendsTypes, IsCompact, MakesBlock, MakesOwn, MakesResult, assembled}
+use Rattle.ep_gen_unit.specs.UnitCode.{IsProgramCode, IsRoutineCode, IsTypeCode, AreRoutinesCode, AreTypesCode, StandsIn, elaborating_code, own_code, its_end, entry_of, plain_at, routine_at}
 use Rattle.ep_gen_unit.proofs.Following.{later_follows, stmt_later, follows_none, follows_grows, follows_line, follows_then, grown_length}
 use Rattle.ep_object.specs.declared.op.TheConstants as op
 
-pub grows_ordinal : {a b c d : Code} (low high : ℤ) → Grows a b (push a.line low ∷ []) → Grows b c (push b.line high ∷ []) → Grows c d (bare c.line op.T_ORD ∷ []) → Grows a d (ordinal_code a.line low high)
-grows_ordinal low high p q r = grows_at (λ l. bare l op.T_ORD ∷ []) (grows_at (λ l. push l high ∷ []) p q) r
+pub makes_variable : {b c : Code} (a : Code) (v : UnitVariable) (slot : ℕ) → Grows (record a { line = v.line }) b (type_code v.line (denoter_of v.denoter)) → Grows b c (instr op.MAKE (pos slot) 0 b.line ∷ []) → Follows a c (make_code slot v)
+makes_variable a v slot p q = follows_line a v.line (follows_grows (grows_at (λ l. instr op.MAKE (pos slot) 0 l ∷ []) p q))
 
-pub makes_variable : {b c : Code} (a : Code) (types : List UnitType) (v : UnitVariable) (slot : ℕ) → Grows (record a { line = v.line }) b (type_code types v.line (denoter_of v.denoter)) → Grows b c (instr op.MAKE (pos slot) 0 b.line ∷ []) → Follows a c (make_code types slot v)
-makes_variable a types v slot p q = follows_line a v.line (follows_grows (grows_at (λ l. instr op.MAKE (pos slot) 0 l ∷ []) p q))
-
-make_push : (types : List UnitType) (number : ℕ) (vs : List UnitVariable) (v : UnitVariable) → make_all_code types number (vs ++ v ∷ []) ≡ make_all_code types number vs ++ make_code types (number + length vs) v
-make_push types number [] v =
+make_push : (number : ℕ) (vs : List UnitVariable) (v : UnitVariable) → make_all_code number (vs ++ v ∷ []) ≡ make_all_code number vs ++ make_code (number + length vs) v
+make_push number [] v =
     let here : number ≡ number + 0 = omega arith in
-    append-nil (make_code types number v) ∙ ap (λ n. make_code types n v) here
-make_push types number (w ∷ vs) v =
+    append-nil (make_code number v) ∙ ap (λ n. make_code n v) here
+make_push number (w ∷ vs) v =
     let there : suc number + length vs ≡ number + length (w ∷ vs) = omega arith in
-    ap (λ l. make_code types number w ++ l) (make_push types (suc number) vs v ∙ ap (λ n. make_all_code types (suc number) vs ++ make_code types n v) there)
-    ∙ sym (append_assoc (make_code types number w) (make_all_code types (suc number) vs) (make_code types (number + length (w ∷ vs)) v))
+    ap (λ l. make_code number w ++ l) (make_push (suc number) vs v ∙ ap (λ n. make_all_code (suc number) vs ++ make_code n v) there)
+    ∙ sym (append_assoc (make_code number w) (make_all_code (suc number) vs) (make_code (number + length (w ∷ vs)) v))
 
 -- one more variable of a slice
-pub makes_more : {a b c : Code} (types : List UnitType) (first : ℕ) (vs : List UnitVariable) (k slot : ℕ) (v : UnitVariable) → k < length vs → v ≡ get_or vs k v → slot ≡ first + k → Follows a b (make_all_code types first (take k vs)) → Follows b c (make_code types slot v) → Follows a c (make_all_code types first (take (k + 1) vs))
-makes_more {a = a} {c = c} types first vs k slot v h e at p q =
+pub makes_more : {a b c : Code} (first : ℕ) (vs : List UnitVariable) (k slot : ℕ) (v : UnitVariable) → k < length vs → v ≡ get_or vs k v → slot ≡ first + k → Follows a b (make_all_code first (take k vs)) → Follows b c (make_code slot v) → Follows a c (make_all_code first (take (k + 1) vs))
+makes_more {a = a} {c = c} first vs k slot v h e at p q =
     let few : length (take k vs) ≡ k = length-take-le k vs (omega (arith, h)) in
     let place : first + length (take k vs) ≡ slot = omega (arith, few, at) in
-    let step : make_all_code types first (take k vs) ++ make_code types slot v ≡ make_all_code types first (take (k + 1) vs) =
-    ap (λ n. make_all_code types first (take k vs) ++ make_code types n v) (sym place) ∙ sym (make_push types first (take k vs) v) ∙ ap (λ w. make_all_code types first (take k vs ++ w ∷ [])) e ∙ ap (make_all_code types first) (sym (take_more vs k v h)) in
+    let step : make_all_code first (take k vs) ++ make_code slot v ≡ make_all_code first (take (k + 1) vs) =
+    ap (λ n. make_all_code first (take k vs) ++ make_code n v) (sym place) ∙ sym (make_push first (take k vs) v) ∙ ap (λ w. make_all_code first (take k vs ++ w ∷ [])) e ∙ ap (make_all_code first) (sym (take_more vs k v h)) in
     subst (λ l. Follows a c l) step (follows_then p q)
 
 -- ---- formal parameters
 
 -- a value is stored in a variable that is made
-pub grows_value : {a b c d e f : Code} (types : List UnitType) (number : ℕ) (w : Formal) → Grows a b (type_code types a.line (denoter_of w.denoter)) → Grows b c (instr op.MAKE (pos number) 0 b.line ∷ []) → Grows c d (instr op.SLOT (pos number) 0 c.line ∷ []) → Grows d e (instr op.ARG (pos number) 0 d.line ∷ []) → Grows e f (bare e.line op.STORE ∷ []) → Grows a f (value_code types a.line number w)
-grows_value {a = a} {f = f} types number w elaborates make slot arg store =
+pub grows_value : {a b c d e f : Code} (number : ℕ) (w : Formal) → Grows a b (type_code a.line (denoter_of w.denoter)) → Grows b c (instr op.MAKE (pos number) 0 b.line ∷ []) → Grows c d (instr op.SLOT (pos number) 0 c.line ∷ []) → Grows d e (instr op.ARG (pos number) 0 d.line ∷ []) → Grows e f (bare e.line op.STORE ∷ []) → Grows a f (value_code a.line number w)
+grows_value {a = a} {f = f} number w elaborates make slot arg store =
     let rest = grows_at (λ l. bare l op.STORE ∷ []) (grows_at (λ l. instr op.ARG (pos number) 0 l ∷ []) (grows_at (λ l. instr op.SLOT (pos number) 0 l ∷ []) make slot) arg) store in
     grows_at (λ l. instr op.MAKE (pos number) 0 l ∷ instr op.SLOT (pos number) 0 l ∷ instr op.ARG (pos number) 0 l ∷ bare l op.STORE ∷ []) elaborates rest
 
@@ -69,40 +71,40 @@ grows_value {a = a} {f = f} types number w elaborates make slot arg store =
 pub grows_place : {a b c : Code} (number : ℕ) → Grows a b (instr op.ARG (pos number) 0 a.line ∷ []) → Grows b c (instr op.BIND (pos number) 0 b.line ∷ []) → Grows a c (place_taken a.line number)
 grows_place number p q = grows_at (λ l. instr op.BIND (pos number) 0 l ∷ []) p q
 
-take_push : (types : List UnitType) (line number : ℕ) (fs : List Formal) (f : Formal) → take_all_code types line number (fs ++ f ∷ []) ≡ take_all_code types line number fs ++ take_code types line (number + length fs) f.mode f
-take_push types line number [] f =
+take_push : (line number : ℕ) (fs : List Formal) (f : Formal) → take_all_code line number (fs ++ f ∷ []) ≡ take_all_code line number fs ++ take_code line (number + length fs) f.mode f
+take_push line number [] f =
     let here : number ≡ number + 0 = omega arith in
-    append-nil (take_code types line number f.mode f) ∙ ap (λ n. take_code types line n f.mode f) here
-take_push types line number (w ∷ fs) f =
+    append-nil (take_code line number f.mode f) ∙ ap (λ n. take_code line n f.mode f) here
+take_push line number (w ∷ fs) f =
     let there : suc number + length fs ≡ number + length (w ∷ fs) = omega arith in
-    ap (λ l. take_code types line number w.mode w ++ l) (take_push types line (suc number) fs f ∙ ap (λ n. take_all_code types line (suc number) fs ++ take_code types line n f.mode f) there)
-    ∙ sym (append_assoc (take_code types line number w.mode w) (take_all_code types line (suc number) fs) (take_code types line (number + length (w ∷ fs)) f.mode f))
+    ap (λ l. take_code line number w.mode w ++ l) (take_push line (suc number) fs f ∙ ap (λ n. take_all_code line (suc number) fs ++ take_code line n f.mode f) there)
+    ∙ sym (append_assoc (take_code line number w.mode w) (take_all_code line (suc number) fs) (take_code line (number + length (w ∷ fs)) f.mode f))
 
 -- one more formal parameter of a slice
-pub takes_more : {a b c : Code} (types : List UnitType) (fs : List Formal) (k slot : ℕ) (f : Formal) → k < length fs → f ≡ get_or fs k f → slot ≡ k → Grows a b (take_all_code types a.line 0 (take k fs)) → Grows b c (take_code types b.line slot f.mode f) → Grows a c (take_all_code types a.line 0 (take (k + 1) fs))
-takes_more {a = a} {c = c} types fs k slot f h e at p q =
+pub takes_more : {a b c : Code} (fs : List Formal) (k slot : ℕ) (f : Formal) → k < length fs → f ≡ get_or fs k f → slot ≡ k → Grows a b (take_all_code a.line 0 (take k fs)) → Grows b c (take_code b.line slot f.mode f) → Grows a c (take_all_code a.line 0 (take (k + 1) fs))
+takes_more {a = a} {c = c} fs k slot f h e at p q =
     let few : length (take k fs) ≡ k = length-take-le k fs (omega (arith, h)) in
     let place : 0 + length (take k fs) ≡ slot = omega (arith, few, at) in
-    let step : take_all_code types a.line 0 (take k fs) ++ take_code types a.line slot f.mode f ≡ take_all_code types a.line 0 (take (k + 1) fs) =
-    ap (λ n. take_all_code types a.line 0 (take k fs) ++ take_code types a.line n f.mode f) (sym place) ∙ sym (take_push types a.line 0 (take k fs) f) ∙ ap (λ w. take_all_code types a.line 0 (take k fs ++ w ∷ [])) e ∙ ap (take_all_code types a.line 0) (sym (take_more fs k f h)) in
-    subst (λ l. Grows a c l) step (grows_at (λ line. take_code types line slot f.mode f) p q)
+    let step : take_all_code a.line 0 (take k fs) ++ take_code a.line slot f.mode f ≡ take_all_code a.line 0 (take (k + 1) fs) =
+    ap (λ n. take_all_code a.line 0 (take k fs) ++ take_code a.line n f.mode f) (sym place) ∙ sym (take_push a.line 0 (take k fs) f) ∙ ap (λ w. take_all_code a.line 0 (take k fs ++ w ∷ [])) e ∙ ap (take_all_code a.line 0) (sym (take_more fs k f h)) in
+    subst (λ l. Grows a c l) step (grows_at (λ line. take_code line slot f.mode f) p q)
 
 -- all of them, on a line
-pub takes_whole : {b : Code} (a : Code) (types : List UnitType) (line : ℕ) (fs : List Formal) → Grows (record a { line = line }) b (take_all_code types line 0 fs) → Follows a b (take_all_code types line 0 fs)
-takes_whole a types line fs g = follows_line a line (follows_grows g)
+pub takes_whole : {b : Code} (a : Code) (line : ℕ) (fs : List Formal) → Grows (record a { line = line }) b (take_all_code line 0 fs) → Follows a b (take_all_code line 0 fs)
+takes_whole a line fs g = follows_line a line (follows_grows g)
 
 nothing_distinct : {A : Type 0} → AreDistinct {A = A} []
 nothing_distinct = λ j k x p q. cc
 
 -- the code of the start and of the stop, from that of their parts
-module _ (u : TypedUnit) {a b c d e : Code} (ts : List UnitType) (types_are : ts ≡ u.types) (vs : List UnitVariable) (variables_are : vs ≡ u.variables) (makes : Follows a b (make_all_code ts 0 (vs ++ block_auxiliaries (stmt_of u.start)))) (s : AppendsStmt b c (stmt_of u.start)) (r : Grows (record c { line = code.NO_LINE }) d (return_code ∷ [])) (last : Grows d e (bare d.line op.RETURN ∷ [])) (stop_entry : ℕ) (next : IsNextPlace d stop_entry) where
-  m : Follows a b (make_all_code u.types 0 (made_by_unit u))
-  m = subst (λ l. Follows a b (make_all_code u.types 0 (l ++ block_auxiliaries (stmt_of u.start)))) variables_are (subst (λ l. Follows a b (make_all_code l 0 (vs ++ block_auxiliaries (stmt_of u.start)))) types_are makes)
+module _ (u : TypedUnit) {a b c d e : Code} (vs : List UnitVariable) (variables_are : vs ≡ u.variables) (makes : Follows a b (make_all_code 0 (vs ++ block_auxiliaries (stmt_of u.start)))) (s : AppendsStmt b c (stmt_of u.start)) (r : Grows (record c { line = code.NO_LINE }) d (return_code ∷ [])) (last : Grows d e (bare d.line op.RETURN ∷ [])) (stop_entry : ℕ) (next : IsNextPlace d stop_entry) where
+  m : Follows a b (make_all_code 0 (made_by_unit u))
+  m = subst (λ l. Follows a b (make_all_code 0 (l ++ block_auxiliaries (stmt_of u.start)))) variables_are makes
 
   ends : Follows c e (return_code ∷ return_code ∷ [])
   ends = follows_line c code.NO_LINE (follows_grows (grows_at (λ l. bare l op.RETURN ∷ []) r last))
 
-  made : length b.instructions ≡ length a.instructions + length (make_all_code u.types 0 (made_by_unit u))
+  made : length b.instructions ≡ length a.instructions + length (make_all_code 0 (made_by_unit u))
   made = grown_length m
 
   pub appends_start : AppendsStart a e u stop_entry
@@ -117,33 +119,33 @@ module _ (u : TypedUnit) {a b c d e : Code} (ts : List UnitType) (types_are : ts
 -- ---- routines
 
 -- what makes variables makes those behind them too
-make_append : (types : List UnitType) (number : ℕ) (vs ws : List UnitVariable) → make_all_code types number (vs ++ ws) ≡ make_all_code types number vs ++ make_all_code types (number + length vs) ws
-make_append types number [] ws = ap (λ n. make_all_code types n ws) {x = number} {y = number + 0} (omega arith)
-make_append types number (v ∷ vs) ws =
+make_append : (number : ℕ) (vs ws : List UnitVariable) → make_all_code number (vs ++ ws) ≡ make_all_code number vs ++ make_all_code (number + length vs) ws
+make_append number [] ws = ap (λ n. make_all_code n ws) {x = number} {y = number + 0} (omega arith)
+make_append number (v ∷ vs) ws =
     let there : suc number + length vs ≡ number + length (v ∷ vs) = omega arith in
-    ap (λ l. make_code types number v ++ l) (make_append types (suc number) vs ws ∙ ap (λ n. make_all_code types (suc number) vs ++ make_all_code types n ws) there)
-    ∙ sym (append_assoc (make_code types number v) (make_all_code types (suc number) vs) (make_all_code types (number + length (v ∷ vs)) ws))
+    ap (λ l. make_code number v ++ l) (make_append (suc number) vs ws ∙ ap (λ n. make_all_code (suc number) vs ++ make_all_code n ws) there)
+    ∙ sym (append_assoc (make_code number v) (make_all_code (suc number) vs) (make_all_code (number + length (v ∷ vs)) ws))
 
 -- a procedure has no variable for a result
-pub makes_none : (a : Code) (types : List UnitType) (r : UnitRoutine) (fs : List Formal) (o : Option RoutineResult) (slot : ℕ) → fs ≡ r.formals → o ≡ r.result → o ≡ None → slot ≡ length fs
-    → MakesResult a a types r slot
-makes_none a types r fs o slot formals_are result_is none many =
+pub makes_none : (a : Code) (r : UnitRoutine) (fs : List Formal) (o : Option RoutineResult) (slot : ℕ) → fs ≡ r.formals → o ≡ r.result → o ≡ None → slot ≡ length fs
+    → MakesResult a a r slot
+makes_none a r fs o slot formals_are result_is none many =
     let is : result_variable r.name r.line r.result ≡ [] = ap (result_variable r.name r.line) (sym result_is ∙ none) in
     record {
-      follows = subst (λ l. Follows a a (make_all_code types (length r.formals) l)) (sym is) (follows_none a);
+      follows = subst (λ l. Follows a a (make_all_code (length r.formals) l)) (sym is) (follows_none a);
       count = omega (arith, many, ap length formals_are, ap length is);
     }
 
 -- the variable of a function's result
-pub makes_one : {b c : Code} (a : Code) (types : List UnitType) (r : UnitRoutine) (fs : List Formal) (o : Option RoutineResult) (x : RoutineResult) (slot first : ℕ) → fs ≡ r.formals → o ≡ r.result → o ≡ Some x → slot ≡ length fs
-    → Grows (record a { line = r.line }) b (type_code types r.line (denoter_of x.denoter)) → Grows b c (instr op.MAKE (pos slot) 0 b.line ∷ []) → first ≡ slot + 1
-    → MakesResult a c types r first
-makes_one {c = c} a types r fs o x slot first formals_are result_is some many elaborates make behind =
+pub makes_one : {b c : Code} (a : Code) (r : UnitRoutine) (fs : List Formal) (o : Option RoutineResult) (x : RoutineResult) (slot first : ℕ) → fs ≡ r.formals → o ≡ r.result → o ≡ Some x → slot ≡ length fs
+    → Grows (record a { line = r.line }) b (type_code r.line (denoter_of x.denoter)) → Grows b c (instr op.MAKE (pos slot) 0 b.line ∷ []) → first ≡ slot + 1
+    → MakesResult a c r first
+makes_one {c = c} a r fs o x slot first formals_are result_is some many elaborates make behind =
     let is : result_variable r.name r.line r.result ≡ result_variable r.name r.line (Some x) = ap (result_variable r.name r.line) (sym result_is ∙ some) in
-    let made : Follows a c (type_code types r.line (denoter_of x.denoter) ++ instr op.MAKE (pos slot) 0 r.line ∷ []) = follows_line a r.line (follows_grows (grows_at (λ l. instr op.MAKE (pos slot) 0 l ∷ []) elaborates make)) in
+    let made : Follows a c (type_code r.line (denoter_of x.denoter) ++ instr op.MAKE (pos slot) 0 r.line ∷ []) = follows_line a r.line (follows_grows (grows_at (λ l. instr op.MAKE (pos slot) 0 l ∷ []) elaborates make)) in
     record {
-      follows = subst (λ l. Follows a c (make_all_code types (length r.formals) l)) (sym is)
-          (subst (λ l. Follows a c l) (sym (append-nil _)) (subst (λ n. Follows a c (type_code types r.line (denoter_of x.denoter) ++ instr op.MAKE (pos n) 0 r.line ∷ [])) (many ∙ ap length formals_are) made));
+      follows = subst (λ l. Follows a c (make_all_code (length r.formals) l)) (sym is)
+          (subst (λ l. Follows a c l) (sym (append-nil _)) (subst (λ n. Follows a c (type_code r.line (denoter_of x.denoter) ++ instr op.MAKE (pos n) 0 r.line ∷ [])) (many ∙ ap length formals_are) made));
       count = omega (arith, many, behind, ap length formals_are, ap length is);
     }
 
@@ -153,15 +155,15 @@ if_ok_then (Ok t) f h = f t h
 if_ok_then (Err e) f h = tt
 
 -- those that a block declares, and then its auxiliary ones
-pub makes_block : {b c : Code} (a : Code) (types : List UnitType) (first : ℕ) (vs ws : List UnitVariable) → Follows a b (make_all_code types first vs) → Follows b c (make_all_code types (first + length vs) ws) → Follows a c (make_all_code types first (vs ++ ws))
-makes_block {c = c} a types first vs ws p q = subst (λ l. Follows a c l) (sym (make_append types first vs ws)) (follows_then p q)
+pub makes_block : {b c : Code} (a : Code) (first : ℕ) (vs ws : List UnitVariable) → Follows a b (make_all_code first vs) → Follows b c (make_all_code (first + length vs) ws) → Follows a c (make_all_code first (vs ++ ws))
+makes_block {c = c} a first vs ws p q = subst (λ l. Follows a c l) (sym (make_append first vs ws)) (follows_then p q)
 
 -- both, by the steps of its function
-pub block_made : {b c : Code} (a : Code) (types : List UnitType) (first middle behind : ℕ) (vs ws ys zs : List UnitVariable) (block : Stmt) → middle ≡ first + length vs → ws ≡ block_auxiliaries block → ys ≡ ws → zs ≡ ws → behind ≡ middle + length ys → Follows a b (make_all_code types first vs) → Follows b c (make_all_code types middle zs)
-    → MakesBlock a c types first vs block behind
-block_made {b = b} {c = c} a types first middle behind vs ws ys zs block at is same other count p q =
+pub block_made : {b c : Code} (a : Code) (first middle behind : ℕ) (vs ws ys zs : List UnitVariable) (block : Stmt) → middle ≡ first + length vs → ws ≡ block_auxiliaries block → ys ≡ ws → zs ≡ ws → behind ≡ middle + length ys → Follows a b (make_all_code first vs) → Follows b c (make_all_code middle zs)
+    → MakesBlock a c first vs block behind
+block_made {b = b} {c = c} a first middle behind vs ws ys zs block at is same other count p q =
     record {
-      follows = makes_block a types first vs (block_auxiliaries block) p (subst (λ n. Follows b c (make_all_code types n (block_auxiliaries block))) at (subst (λ l. Follows b c (make_all_code types middle l)) (other ∙ is) q));
+      follows = makes_block a first vs (block_auxiliaries block) p (subst (λ n. Follows b c (make_all_code n (block_auxiliaries block))) at (subst (λ l. Follows b c (make_all_code middle l)) (other ∙ is) q));
       count = omega (arith, count, at, ap length same, ap length is, length-append vs (block_auxiliaries block));
     }
 
@@ -171,14 +173,14 @@ length_of r =
     omega (arith, length-append (map (formal_variable r.line) r.formals) (made_variables r ++ with_variables (stmt_of r.block)), length-map r.formals (formal_variable r.line), length-append (made_variables r) (with_variables (stmt_of r.block)))
 
 -- and all of a routine
-pub makes_own : {b c : Code} (a : Code) (types : List UnitType) (r : UnitRoutine) (vs : List UnitVariable) (first made slots : ℕ) → vs ≡ r.variables → MakesResult a b types r first → MakesBlock b c types first vs (stmt_of r.block) made
-    → slots ≡ made + length (with_variables (stmt_of r.block)) → MakesOwn a c types r slots
-makes_own {b = b} {c = c} a types r vs first made slots variables_are result makes whole_count =
+pub makes_own : {b c : Code} (a : Code) (r : UnitRoutine) (vs : List UnitVariable) (first made slots : ℕ) → vs ≡ r.variables → MakesResult a b r first → MakesBlock b c first vs (stmt_of r.block) made
+    → slots ≡ made + length (with_variables (stmt_of r.block)) → MakesOwn a c r slots
+makes_own {b = b} {c = c} a r vs first made slots variables_are result makes whole_count =
     let results : List UnitVariable = result_variable r.name r.line r.result in
     let more : List UnitVariable = block_auxiliaries (stmt_of r.block) in
-    let others : Follows b c (make_all_code types (length r.formals + length results) (r.variables ++ more)) = subst (λ n. Follows b c (make_all_code types n (r.variables ++ more))) result.count (subst (λ l. Follows b c (make_all_code types first (l ++ more))) variables_are makes.follows) in
+    let others : Follows b c (make_all_code (length r.formals + length results) (r.variables ++ more)) = subst (λ n. Follows b c (make_all_code n (r.variables ++ more))) result.count (subst (λ l. Follows b c (make_all_code first (l ++ more))) variables_are makes.follows) in
     record {
-      follows = subst (λ l. Follows a c l) (sym (make_append types (length r.formals) results (r.variables ++ more))) (follows_then result.follows others);
+      follows = subst (λ l. Follows a c l) (sym (make_append (length r.formals) results (r.variables ++ more))) (follows_then result.follows others);
       count = omega (arith, whole_count, makes.count, result.count, ap length variables_are, length-append vs more, length-append r.variables more, length-append results (r.variables ++ more), length_of r);
     }
 
@@ -217,15 +219,15 @@ grows_whole (Some x) number is slot load return = cc
 
 -- the code of a routine, from that of its formal parameters, its variables, its block and its end
 pub appends_routine : {b c d e : Code} (a : Code) (types : List UnitType) (r : UnitRoutine) (fs : List Formal) (entry arguments slots : ℕ) (x : CodeRoutine) → fs ≡ r.formals → arguments ≡ length fs
-    → IsNextPlace a entry → Follows a b (take_all_code types r.line 0 fs) → MakesOwn b c types r slots → AppendsStmt c d (stmt_of r.block)
+    → IsNextPlace a entry → Follows a b (take_all_code r.line 0 fs) → MakesOwn b c r slots → AppendsStmt c d (stmt_of r.block)
     → Follows d e (end_code types r.line arguments (length d.instructions) r.result) → x ≡ routine_at entry arguments slots → AppendsRoutine a e types r x
 appends_routine {b = b} {c = c} {d = d} {e = e} a types r fs entry arguments slots x formals_are many next takes makes s last is =
     let made = makes.follows in
-    let m : Follows a c (own_code types r) = follows_then (subst (λ l. Follows a b (take_all_code types r.line 0 l)) formals_are takes) made in
-    let place : length d.instructions ≡ length a.instructions + length (own_code types r) + length s.code = omega (arith, grown_length m, grown_length s.follows) in
+    let m : Follows a c (own_code r) = follows_then (subst (λ l. Follows a b (take_all_code r.line 0 l)) formals_are takes) made in
+    let place : length d.instructions ≡ length a.instructions + length (own_code r) + length s.code = omega (arith, grown_length m, grown_length s.follows) in
     let number : arguments ≡ length r.formals = many ∙ ap length formals_are in
-    let ends : Follows d e (its_end types (length a.instructions + length (own_code types r) + length s.code) r) =
-    subst (λ k. Follows d e (end_code types r.line k (length a.instructions + length (own_code types r) + length s.code) r.result)) number (subst (λ k. Follows d e (end_code types r.line arguments k r.result)) place last) in
+    let ends : Follows d e (its_end types (length a.instructions + length (own_code r) + length s.code) r) =
+    subst (λ k. Follows d e (end_code types r.line k (length a.instructions + length (own_code r) + length s.code) r.result)) number (subst (λ k. Follows d e (end_code types r.line arguments k r.result)) place last) in
     record {
       plain = is ∙ (ap (λ k. routine_at k arguments slots) next.is_length ∙ (ap (λ k. routine_at (length a.instructions) k slots) number ∙ ap (λ k. routine_at (length a.instructions) (length r.formals) k) makes.count));
       code = s.code;
@@ -250,7 +252,7 @@ routine_longer {a = a} {b = b} {is = is} types r x p h =
     record {
       plain = h.plain;
       code = h.code;
-      is_code = stmt_later (x.entry + length (own_code types r)) (stmt_of r.block) h.code (later_follows p) h.is_code;
+      is_code = stmt_later (x.entry + length (own_code r)) (stmt_of r.block) h.code (later_follows p) h.is_code;
       stands = stands_longer is p.instructions h.stands;
     }
 
@@ -264,7 +266,7 @@ routines_then : {a b c : Code} (types : List UnitType) (rs : List UnitRoutine) (
 routines_then {b = b} {c = c} types rs entries r x p q =
     let blocks = p.blocks in
     record {
-      code = p.code ++ (own_code types r ++ (q.code ++ its_end types (length b.instructions + length (own_code types r) + length q.code) r));
+      code = p.code ++ (own_code r ++ (q.code ++ its_end types (length b.instructions + length (own_code r) + length q.code) r));
       follows = follows_then p.follows q.follows;
       blocks = record {
         count = omega (arith, blocks.count, length-append entries (x ∷ []), length-append rs (r ∷ []));
@@ -278,11 +280,11 @@ routines_then {b = b} {c = c} types rs entries r x p q =
         record {
           plain = q.plain ∙ ap (λ k. entry_of k r) (sym entry);
           code = q.code;
-          is_code = subst (λ k. IsStmtCode c.texts c.references (k + length (own_code types r)) (stmt_of r.block) q.code) (sym entry) q.is_code;
-          stands = subst (λ k. StandsIn c.instructions k (own_code types r ++ (q.code ++ its_end types (k + length (own_code types r) + length q.code) r))) (sym entry) (record {
+          is_code = subst (λ k. IsStmtCode c.texts c.references (k + length (own_code r)) (stmt_of r.block) q.code) (sym entry) q.is_code;
+          stands = subst (λ k. StandsIn c.instructions k (own_code r ++ (q.code ++ its_end types (k + length (own_code r) + length q.code) r))) (sym entry) (record {
             before = b.instructions;
             after = [];
-            is = let f = q.follows in f.instructions ∙ ap (λ l. b.instructions ++ l) (sym (append-nil (own_code types r ++ (q.code ++ its_end types (length b.instructions + length (own_code types r) + length q.code) r))));
+            is = let f = q.follows in f.instructions ∙ ap (λ l. b.instructions ++ l) (sym (append-nil (own_code r ++ (q.code ++ its_end types (length b.instructions + length (own_code r) + length q.code) r))));
             from = refl;
           });
         }
@@ -302,35 +304,106 @@ routines_more {a = a} {c = c} types rs k entries r x less e p q =
     let grown : take k rs ++ r ∷ [] ≡ take (k + 1) rs = ap (λ y. take k rs ++ y ∷ []) e ∙ sym (take_more rs k r less) in
     subst (λ l. AppendsRoutines a c types l (entries ++ x ∷ [])) grown (routines_then types (take k rs) entries r x p q)
 
--- the object of a program, from the code of its start and of its routines
-module _ (u : TypedUnit) {a b e : Code} (begins : a ≡ empty_code) (name : List ℕ) (named : name ≡ u.name) (slots stop_entry start : ℕ) (appends : AppendsStart a b u stop_entry)
-    (rs : List UnitRoutine) (routines_are : rs ≡ u.routines) (entries : List CodeRoutine) (types : List UnitType) (types_are : types ≡ u.types) (more : AppendsRoutines b e types rs entries) (routines : List CodeRoutine)
-    (all : routines ≡ entries ++ plain_at 0 ∷ plain_at stop_entry ∷ []) (starts : start ≡ length entries) (o : Object) (is : o ≡ assembled name e routines start slots) where
-  whole : AppendsStart empty_code b u stop_entry
+-- routines stay what they are in longer code
+routines_longer : {a b : Code} {is : List Instr} (types : List UnitType) (rs : List UnitRoutine) (entries : List CodeRoutine) → Follows a b is
+    → AreRoutinesCode a.texts a.references a.instructions types rs entries → AreRoutinesCode b.texts b.references b.instructions types rs entries
+routines_longer types rs entries p h = record { count = h.count; each = λ k r x at_rs at_entries. routine_longer types r x p (h.each k r x at_rs at_entries) }
+
+-- ---- the routines that elaborate types
+
+-- no type yet
+pub no_types : (a : Code) (before : List CodeRoutine) → AppendsTypes a a [] before before
+no_types a before = record { code = []; follows = follows_none a; entries = []; are = sym (append-nil before); types = record { count = refl; each = λ k t x p q. cc } }
+
+-- one more type
+types_then : {a b c : Code} (ts : List UnitType) (before middle after : List CodeRoutine) (t : UnitType) (entry : ℕ)
+    → AppendsTypes a b ts before middle → AppendsType b c t entry → after ≡ middle ++ plain_at entry ∷ [] → AppendsTypes a c (ts ++ t ∷ []) before after
+types_then {b = b} {c = c} ts before middle after t entry p q is =
+    let old = p.types in
+    record {
+      code = p.code ++ elaborating_code t;
+      follows = follows_then p.follows q.follows;
+      entries = p.entries ++ plain_at entry ∷ [];
+      are = is ∙ (ap (λ l. l ++ plain_at entry ∷ []) p.are ∙ append_assoc before p.entries (plain_at entry ∷ []));
+      types = record {
+        count = omega (arith, old.count, length-append p.entries (plain_at entry ∷ []), length-append ts (t ∷ []));
+        each = λ k s y at_ts at_entries. either k s y (slice_get-push ts t s k at_ts) (slice_get-push p.entries (plain_at entry) y k at_entries);
+      };
+    }
+  where
+    newest : IsTypeCode c.instructions t (plain_at entry)
+    newest =
+        record {
+          plain = refl;
+          stands = record {
+            before = b.instructions;
+            after = [];
+            is = let f = q.follows in f.instructions ∙ ap (λ l. b.instructions ++ l) (sym (append-nil (elaborating_code t)));
+            from = sym q.starts;
+          };
+        }
+
+    either : (k : ℕ) (s : UnitType) (y : CodeRoutine) → (slice_get ts k ≡ Some s) ⊎ ((k ≡ length ts) × (s ≡ t))
+        → (slice_get p.entries k ≡ Some y) ⊎ ((k ≡ length p.entries) × (y ≡ plain_at entry)) → IsTypeCode c.instructions s y
+    either k s y (inl at_ts) (inl at_entries) =
+        let old = p.types in
+        let x = old.each k s y at_ts at_entries in
+        record { plain = x.plain; stands = let f = q.follows in stands_longer (elaborating_code t) f.instructions x.stands }
+    either k s y (inl at_ts) (inr last) = let old = p.types in absurd (omega (arith, slice_get_within ts k s at_ts, last.0, old.count))
+    either k s y (inr last) (inl at_entries) = let old = p.types in absurd (omega (arith, slice_get_within p.entries k y at_entries, last.0, old.count))
+    either k s y (inr last) (inr newer) = subst (λ z. IsTypeCode c.instructions z y) (sym last.1) (subst (IsTypeCode c.instructions t) (sym newer.1) newest)
+
+-- one more type of a slice
+pub types_more : {a b c : Code} (ts : List UnitType) (k : ℕ) (before middle after : List CodeRoutine) (t : UnitType) (entry : ℕ) → k < length ts → t ≡ get_or ts k t
+    → AppendsTypes a b (take k ts) before middle → AppendsType b c t entry → after ≡ middle ++ plain_at entry ∷ [] → AppendsTypes a c (take (k + 1) ts) before after
+types_more {a = a} {c = c} ts k before middle after t entry less e p q is =
+    let grown : take k ts ++ t ∷ [] ≡ take (k + 1) ts = ap (λ y. take k ts ++ y ∷ []) e ∙ sym (take_more ts k t less) in
+    subst (λ l. AppendsTypes a c l before after) grown (types_then (take k ts) before middle after t entry p q is)
+
+-- the code of a type and its `Return`, on the line of its definition
+pub appends_type : {b c : Code} (a : Code) (t : UnitType) (entry line : ℕ) → IsNextPlace a entry → line ≡ line_where t.line
+    → Grows (record a { line = line }) b (type_code line (definition_of t)) → Grows b c (bare b.line op.RETURN ∷ []) → AppendsType a c t entry
+appends_type {c = c} a t entry line next at p q =
+    record { starts = next.is_length; follows = subst (λ l. Follows a c (type_code l (definition_of t) ++ bare l op.RETURN ∷ [])) at (follows_line a line (follows_grows (grows_at (λ l. bare l op.RETURN ∷ []) p q))) }
+
+-- the object of a program, from the code of its start, of its routines and of its types
+module _ (u : TypedUnit) {a b e f : Code} (begins : a ≡ begun_code u) (few : IsTable a.references) (name : List ℕ) (named : name ≡ u.name) (slots stop_entry start : ℕ) (appends : AppendsStart a b u stop_entry)
+    (rs : List UnitRoutine) (routines_are : rs ≡ u.routines) (entries : List CodeRoutine) (types : List UnitType) (types_are : types ≡ u.types) (more : AppendsRoutines b e types rs entries) (before after : List CodeRoutine)
+    (all : before ≡ entries ++ plain_at 0 ∷ plain_at stop_entry ∷ []) (ts : List UnitType) (ts_are : ts ≡ u.types) (last : AppendsTypes e f ts before after) (starts : start ≡ length entries) (o : Object) (is : o ≡ assembled name f after start slots) where
+  whole : AppendsStart (begun_code u) b u stop_entry
   whole = subst (λ code. AppendsStart code b u stop_entry) begins appends
 
-  begins_block : 0 + length (make_all_code u.types 0 (made_by_unit u)) ≡ length (make_all_code u.types 0 (made_by_unit u))
+  begins_block : 0 + length (make_all_code 0 (made_by_unit u)) ≡ length (make_all_code 0 (made_by_unit u))
   begins_block = omega arith
 
-  stops : stop_entry ≡ length (make_all_code u.types 0 (made_by_unit u)) + length whole.code + 1
+  stops : stop_entry ≡ length (make_all_code 0 (made_by_unit u)) + length whole.code + 1
   stops = omega (arith, whole.stops)
 
-  its_blocks : AreRoutinesCode e.texts e.references e.instructions u.types u.routines entries
-  its_blocks = subst (λ ts. AreRoutinesCode e.texts e.references e.instructions ts u.routines entries) types_are (subst (λ l. AreRoutinesCode e.texts e.references e.instructions types l entries) routines_are more.blocks)
+  behind_start : Follows b f (more.code ++ last.code)
+  behind_start = follows_then more.follows last.follows
+
+  its_blocks : AreRoutinesCode f.texts f.references f.instructions u.types u.routines entries
+  its_blocks =
+      routines_longer u.types u.routines entries last.follows
+      (subst (λ l. AreRoutinesCode e.texts e.references e.instructions l u.routines entries) types_are (subst (λ l. AreRoutinesCode e.texts e.references e.instructions types l entries) routines_are more.blocks))
+
+  all_code : Follows (begun_code u) f ((make_all_code 0 (made_by_unit u) ++ (whole.code ++ return_code ∷ return_code ∷ [])) ++ (more.code ++ last.code))
+  all_code = follows_then whole.follows behind_start
 
   pub is_program : slots ≡ length (unit_variables u) → IsProgramCode u o
   is_program n = subst (λ object. IsProgramCode u object) (sym is) (record {
     code = whole.code;
-    is_code = subst (λ at. IsStmtCode e.texts e.references at (stmt_of u.start) whole.code) begins_block (stmt_later (0 + length (make_all_code u.types 0 (made_by_unit u))) (stmt_of u.start) whole.code (later_follows more.follows) whole.is_code);
-    others = more.code;
+    is_code = subst (λ at. IsStmtCode f.texts f.references at (stmt_of u.start) whole.code) begins_block (stmt_later (0 + length (make_all_code 0 (made_by_unit u))) (stmt_of u.start) whole.code (later_follows behind_start) whole.is_code);
+    others = more.code ++ last.code;
     instructions =
-        let first = whole.follows in
-        let rest = more.follows in
-        rest.instructions ∙ (ap (λ l. l ++ more.code) first.instructions ∙ (append_assoc (make_all_code u.types 0 (made_by_unit u)) (whole.code ++ return_code ∷ return_code ∷ []) more.code
-        ∙ ap (λ l. make_all_code u.types 0 (made_by_unit u) ++ l) (append_assoc whole.code (return_code ∷ return_code ∷ []) more.code)));
+        all_code.instructions ∙ (append_assoc (make_all_code 0 (made_by_unit u)) (whole.code ++ return_code ∷ return_code ∷ []) (more.code ++ last.code)
+        ∙ ap (λ l. make_all_code 0 (made_by_unit u) ++ l) (append_assoc whole.code (return_code ∷ return_code ∷ []) (more.code ++ last.code)));
     entries = entries;
     blocks = its_blocks;
-    routines = all ∙ ap (λ at. entries ++ plain_at 0 ∷ plain_at at ∷ []) stops;
+    elaborating = last.entries;
+    types = subst (λ l. AreTypesCode f.instructions l last.entries) ts_are last.types;
+    named = all_code.references.begins;
+    routines = last.are ∙ (ap (λ l. l ++ last.entries) (all ∙ ap (λ at. entries ++ plain_at 0 ∷ plain_at at ∷ []) stops) ∙ append_assoc entries (plain_at 0 ∷ plain_at (length (make_all_code 0 (made_by_unit u)) + length whole.code + 1) ∷ []) last.entries);
     start = starts ∙ its_blocks.count;
     stop = ap (λ k. k + 1) (starts ∙ its_blocks.count);
     unit_slots = n;
@@ -338,17 +411,14 @@ module _ (u : TypedUnit) {a b e : Code} (begins : a ≡ empty_code) (name : List
     is_program = refl;
     interface = refl;
     imports = refl;
-    constant_types = let first = whole.follows in let rest = more.follows in rest.constant_types ∙ first.constant_types;
+    constant_types = all_code.constant_types;
   })
 
-  both : Follows empty_code e (make_all_code u.types 0 (made_by_unit u) ++ (whole.code ++ return_code ∷ return_code ∷ []) ++ more.code)
-  both = follows_then whole.follows more.follows
-
-  pub is_compact : IsTable e.instructions → IsCompact o
+  pub is_compact : IsTable f.instructions → IsCompact o
   is_compact small = subst (λ object. IsCompact object) (sym is) (record {
-    few_texts = both.texts.small (omega arith);
-    few_references = both.references.small (omega arith);
+    few_texts = all_code.texts.small (omega arith);
+    few_references = all_code.references.small (subst (λ (code : Code). IsTable code.references) begins few);
     few_instructions = small;
-    texts = both.texts.distinct nothing_distinct;
-    references = both.references.distinct nothing_distinct;
+    texts = all_code.texts.distinct nothing_distinct;
+    references = all_code.references.distinct (named_distinct u.name (type_routine (length u.routines) 0) (length u.types));
   })

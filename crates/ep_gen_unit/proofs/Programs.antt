@@ -21,10 +21,10 @@ use Rattle.ep_object.specs.Simulates.{Enters, Leaves}
 use Rattle.ep_object.specs.State.{State, Frames, End, Running, Stopped, Normal, first_frames}
 use Rattle.ep_object.specs.Tells.{Tells, TellsAtEnd, AreClose, spare_ticks}
 use Rattle.ep_object.specs.declared.code.Object.{Object}
-use Rattle.ep_typed.proofs.Steady.{steady_stop, steady_routine_of}
+use Rattle.ep_typed.proofs.Steady.{steady_stop, steady_handler_of}
 use Rattle.ep_typed.specs.Routines.{made_by_unit}
 use Rattle.ep_typed.specs.Events.{Trace}
-use Rattle.ep_typed.specs.Meaning.{routine_of, starts_of, meaning as meaning_of}
+use Rattle.ep_typed.specs.Meaning.{handler_of, starts_of, meaning as meaning_of}
 use Rattle.ep_typed.specs.Steps as meaning
 use Rattle.ep_typed.specs.Valid.{IsValid, own}
 use Rattle.ep_typed.specs.declared.unit.Unit.{Unit as TypedUnit}
@@ -39,7 +39,7 @@ module _ (u : TypedUnit) (o : Object) (is : IsProgramCode u o) where
   start_state = standing 0 [] (first_memory start_frames) []
 
   not_empty : 0 < length o.instructions
-  not_empty = omega (arith, ap length is.instructions, length-append (make_all_code u.types 0 (made_by_unit u)) (is.code ++ return_code ∷ return_code ∷ is.others), length-append is.code (return_code ∷ return_code ∷ is.others))
+  not_empty = omega (arith, ap length is.instructions, length-append (make_all_code 0 (made_by_unit u)) (is.code ++ return_code ∷ return_code ∷ is.others), length-append is.code (return_code ∷ return_code ∷ is.others))
 
   -- its start routine is there
   start_there : routine_there (alone o) (moved (first_placement o).routines o.start) ≡ Some (placed_routine (first_placement o) (plain_at 0))
@@ -73,10 +73,10 @@ module _ (u : TypedUnit) (o : Object) (is : IsProgramCode u o) where
 
   module _ (valid : IsValid u) where
     -- the machine follows the meaning of the program
-    pub program_follows : (n : ℕ) → Follows (λ k. IsNotLeft start_frames k.frames) (alone o) n start_state meaning.first_state (starts_of (routine_of (u ∷ []) n) n (u ∷ [])) Never spare_ticks (λ a. 41)
+    pub program_follows : (n : ℕ) → Follows (λ k. IsNotLeft start_frames k.frames) (alone o) n start_state meaning.first_state (starts_of (handler_of (u ∷ []) n) n (u ∷ [])) Never spare_ticks (λ a. 41)
     program_follows n =
         follows_bind {e = λ a. 41} (λ a. steady_stop meaning.Normal)
-        (simulation_follows (unit_simulates u o is (alone o) (placements_alone o) (first_placement o) (stands-alone o) valid (distinct-alone o) (routine_of (u ∷ []) n) (steady_routine_of (u ∷ []) n) n (routines_kept u o is valid (alone o) (placements_alone o) (first_placement o) (stands-alone o) (distinct-alone o) n)) first_injection (first_memory start_frames) [] meaning.first_state start_state enters)
+        (simulation_follows (unit_simulates u o is (alone o) (placements_alone o) (first_placement o) (stands-alone o) valid (distinct-alone o) (handler_of (u ∷ []) n) (steady_handler_of (u ∷ []) n) n (routines_kept u o is valid (alone o) (placements_alone o) (first_placement o) (stands-alone o) (distinct-alone o) n)) first_injection (first_memory start_frames) [] meaning.first_state start_state enters)
         (λ a s k leaves. let lands = leaves.lands in let inside = lands.post in follows_stop {v = 0} (subst (λ (l : State). IsNotLeft start_frames l.frames) (sym lands.is) (not_left-same inside.routine)) (ends s k leaves) (omega arith))
 
     -- What a run of the program's image tells of the meaning of the program.

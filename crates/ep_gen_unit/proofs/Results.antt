@@ -1,8 +1,8 @@
 -- The machine follows the end of a function: it leaves the value of the variable that has the result.
 use Rattle.std.proofs.Common.{◌≡◌, ℕ, ℤ, pos, suc, ◌+◌, ◌*◌, ◌-◌, ◌≤◌, ◌<◌, List, [], ◌∷◌, length, Option, Some, None, option_map, slice_get, false, refl, sym, ap, ◌∙◌, subst, arith}
 use Rattle.std.specs.Prelude.{if◌then◌else◌, is_some}
-use Rattle.ep_gen_expr.specs.ExprCode.{instr, bare}
-use Rattle.ep_gen_expr.proofs.Placed.{instr_at, jump_false_has}
+use Rattle.ep_gen_code.specs.Instructions.{instr, bare}
+use Rattle.ep_gen_code.proofs.Placed.{instr_at, jump_false_has}
 use Rattle.ep_gen_unit.specs.StmtCode.{result_code, structure_code}
 use Rattle.ep_object.proofs.following.Bind.{follows_credit, follows_give, follows_stop, follows_waits}
 use Rattle.ep_object.proofs.following.Choices.{Reads, ReadsResult, Nothing, Result_of, fragment_fetched, fragment_using}

@@ -2,10 +2,10 @@
 use Rattle.std.proofs.Common.{◌⊎◌, inl, inr, append-nil, ◌≡◌, ℕ, zero, suc, pos, ◌+◌, ◌≤◌, ◌<◌, Bool, true, false, if◌then◌else◌, List, [], ◌∷◌, ◌++◌, map, option_map, length, length-append, Option, Some, None, slice_get, bytes_eq, refl, sym, ap, ◌∙◌, subst, arith, ◌*◌, IsTrue}
 use Rattle.std.proofs.lemmas.Option.{same_Some, slice_get_within, slice_get-map, get_or_from_slice_get}
 use Rattle.std.proofs.lemmas.List.{length-map}
-use Rattle.ep_gen_expr.specs.ExprCode.{bare}
+use Rattle.ep_gen_code.specs.Instructions.{bare}
 use Rattle.ep_gen_expr.proofs.Following.{place_follows, expression_follows, call_then}
 use Rattle.ep_gen_expr.proofs.PlaceTypes.{has_bare_type}
-use Rattle.ep_gen_expr.proofs.Placed.{instr_at}
+use Rattle.ep_gen_code.proofs.Placed.{instr_at}
 use Rattle.ep_typed.proofs.Auxiliaries.{withs_denoted}
 use Rattle.ep_typed.proofs.Bares.{bare_size}
 use Rattle.ep_typed.proofs.Typed.{typed_of_host}
@@ -15,7 +15,10 @@ use Rattle.ep_gen_unit.proofs.Declared.{name_same, same_name, own_types, slice_g
 use Rattle.ep_gen_unit.proofs.OwnMakes.{make_all_own_moves, make_sized_moves, takes_all_moves}
 use Rattle.ep_gen_unit.proofs.Parts.{code_stands-parts}
 use Rattle.ep_gen_unit.proofs.Results.{result_moves, set_moves, structure_moves}
+use Rattle.ep_gen_type.proofs.Elaborating.{AreReferred}
 use Rattle.ep_gen_unit.proofs.StmtMoves.{statement_moves}
+use Rattle.ep_gen_unit.proofs.Referred.{own_count, types_referred}
+use Rattle.ep_gen_unit.proofs.TypeRoutines.{call_placed, types_keep, types_none}
 use Rattle.ep_gen_unit.proofs.WithMoves.{own_binds_follow}
 use Rattle.ep_gen_unit.proofs.Units.{of_object, room, routine_there, scene_of, moved_own}
 use Rattle.ep_object.proofs.following.Declaring.{fragment_outside, calls_kept-inside}
@@ -23,14 +26,14 @@ use Rattle.ep_object.proofs.following.Fragments.{fragment_bind, fragment_credit,
 use Rattle.ep_object.proofs.following.Promising.{lasts_own}
 use Rattle.ep_object.proofs.following.Routines.{begun_memory, grown_begun, parent_of_call, routine_keeps}
 use Rattle.ep_object.proofs.matching.Awaiting.{AreAwaited, Handed, arguments_in, awaited-grown, handed}
-use Rattle.ep_object.proofs.matching.Growing.{slice_get-prefix, still_routine, unit_in-same, unit_in-still}
+use Rattle.ep_object.proofs.matching.Growing.{among_same, slice_get-prefix, still_routine, unit_in-same, unit_in-still}
 use Rattle.ep_object.proofs.matching.Names.{activation_knows}
 use Rattle.ep_object.proofs.matching.OwnVariables.{in_activation-lasts}
 use Rattle.ep_object.specs.Activations.{KnowsNames, IsCallable, InActivation}
 use Rattle.ep_object.specs.Follows.{Facts, Lasts, Since, Fragment, Inside, Bare, point}
 use Rattle.ep_object.specs.Matching.{AreAmong, Memory, Injection, Slots, kept_slots}
 use Rattle.ep_object.specs.Operands.{Operand}
-use Rattle.ep_object.specs.Placing.{Placement, CodeStands, Stands, HasDistinctNames, moved, placement_of, placed_call, placed_routine}
+use Rattle.ep_object.specs.Placing.{Placement, CodeStands, Stands, HasDistinctNames, moved, placed_call, placed_routine}
 use Rattle.ep_object.specs.Promises.{Passing, ByValue, ByReference, IsPassed, ArePassed, CallsAt, AreArguments, AreResults, ResultsOnTop, RoutineKeeps, CallsAreKept, credit_of}
 use Rattle.ep_object.specs.Routines.{routine_of as routine_there_in}
 use Rattle.ep_object.specs.Runs.{unit_in}
@@ -45,10 +48,10 @@ use Rattle.ep_object.specs.declared.code.Object.{Object}
 use Rattle.ep_object.specs.declared.state.FrameNumber.{FrameNumber}
 use Rattle.ep_object.specs.declared.state.FrameNumber.TheVariants as frame
 use Rattle.ep_object.specs.declared.op.TheConstants as op
-use Rattle.ep_typed.proofs.Steady.{steady_bind, steady_routine_of, steady_runs_routine, steady_results_given, steady_make_all_own, steady_exec}
+use Rattle.ep_typed.proofs.Steady.{steady_bind, steady_handler_of, steady_runs_routine, steady_results_given, steady_make_all_own, steady_exec}
 use Rattle.ep_typed.specs.Auxiliaries.{block_auxiliaries, with_variables}
 use Rattle.ep_typed.specs.Calls.{Argument, Handler}
-use Rattle.ep_typed.specs.Meaning.{weights_of, exec, make_all_own, results_given, Found, found_among, routine_in, runs_routine, routine_does, routine_of}
+use Rattle.ep_typed.specs.Meaning.{weights_of, exec, make_all_own, results_given, routine_in, runs_routine, routine_does, handler_of}
 use Rattle.ep_typed.specs.Printing.{Result}
 use Rattle.ep_typed.specs.Routines.{made_variables, result_name, result_variable}
 use Rattle.ep_typed.specs.Steps.{Computation, bind}
@@ -126,11 +129,11 @@ module _ (u : TypedUnit) (o : Object) (is : IsProgramCode u o) (valid : IsValid 
     in_object : slice_get o.routines number ≡ Some entry
     plain : entry ≡ entry_of entry.entry r
     code : List Instr
-    is_code : IsStmtCode o.texts o.references (entry.entry + length (own_code u.types r)) (stmt_of r.block) code
-    makes_stand : CodeStands G ps p o.references entry.entry (own_code u.types r)
-    code_stands : CodeStands G ps p o.references (entry.entry + length (own_code u.types r)) code
-    end_stands : CodeStands G ps p o.references (entry.entry + length (own_code u.types r) + length code) (its_end u.types (entry.entry + length (own_code u.types r) + length code) r)
-    room_for : entry.entry + length (own_code u.types r) + length code + length (its_end u.types (entry.entry + length (own_code u.types r) + length code) r) ≤ p.instructions.own
+    is_code : IsStmtCode o.texts o.references (entry.entry + length (own_code r)) (stmt_of r.block) code
+    makes_stand : CodeStands G ps p o.references entry.entry (own_code r)
+    code_stands : CodeStands G ps p o.references (entry.entry + length (own_code r)) code
+    end_stands : CodeStands G ps p o.references (entry.entry + length (own_code r) + length code) (its_end u.types (entry.entry + length (own_code r) + length code) r)
+    room_for : entry.entry + length (own_code r) + length code + length (its_end u.types (entry.entry + length (own_code r) + length code) r) ≤ p.instructions.own
 
   placed_at : (number : ℕ) (r : UnitRoutine) → slice_get u.routines number ≡ Some r → Placed number r
   placed_at number r there =
@@ -139,7 +142,7 @@ module _ (u : TypedUnit) (o : Object) (is : IsProgramCode u o) (valid : IsValid 
       let x = at_place is.entries number (omega (arith, blocks.count, slice_get_within u.routines number r there)) in
       let h = blocks.each number r x.0 there x.1 in
       let s = h.stands in
-      let makes : List Instr = own_code u.types r in
+      let makes : List Instr = own_code r in
       let ends : List Instr = its_end u.types (x.0.entry + length makes + length h.code) r in
       let whole : CodeStands G ps p o.references 0 (s.before ++ ((makes ++ (h.code ++ ends)) ++ s.after)) = subst (λ k. CodeStands G ps p o.references 0 k) s.is stands.code in
       let first = code_stands-parts G ps p o.references 0 s.before ((makes ++ (h.code ++ ends)) ++ s.after) whole in
@@ -149,7 +152,7 @@ module _ (u : TypedUnit) (o : Object) (is : IsProgramCode u o) (valid : IsValid 
       let at : 0 + length s.before ≡ x.0.entry = omega (arith, s.from) in
       record {
         entry = x.0;
-        in_object = ap (λ l. slice_get l number) is.routines ∙ slice_get-prefix is.entries (is.entries ++ plain_at 0 ∷ plain_at _ ∷ []) number x.0 (record { rest = plain_at 0 ∷ plain_at _ ∷ []; is = refl }) x.1;
+        in_object = ap (λ l. slice_get l number) is.routines ∙ slice_get-prefix is.entries (is.entries ++ plain_at 0 ∷ plain_at _ ∷ is.elaborating) number x.0 (record { rest = plain_at 0 ∷ plain_at _ ∷ is.elaborating; is = refl }) x.1;
         plain = h.plain;
         code = h.code;
         is_code = h.is_code;
@@ -158,12 +161,6 @@ module _ (u : TypedUnit) (o : Object) (is : IsProgramCode u o) (valid : IsValid 
         end_stands = subst (λ k. CodeStands G ps p o.references (k + length makes + length h.code) ends) at fourth.1;
         room_for = omega (arith, object.instructions, ap length s.is, length-append s.before ((makes ++ (h.code ++ ends)) ++ s.after), length-append (makes ++ (h.code ++ ends)) s.after, length-append makes (h.code ++ ends), length-append h.code ends, s.from);
       }
-
-  -- a call that names it is placed so
-  call_placed : (number : ℕ) (i : Instr) → placed_call ps (Some (record { unit = u.name; number = number })) i ≡ record i { a = pos (moved p.routines number) }
-  call_placed number i =
-      let listed : placement_of ps u.name ≡ Some p = subst (λ n. placement_of ps n ≡ Some p) is.name stands.listed in
-      rw listed refl
 
   -- how a formal parameter of a valid denoter takes its argument
   passing_of : (f : Formal) → IsFormal u.types f → (q : Passing) × IsPassed u.types f.mode f q
@@ -230,7 +227,7 @@ module _ (u : TypedUnit) (o : Object) (is : IsProgramCode u o) (valid : IsValid 
       of_routine None q is = cc
       of_routine (Some r) q is = variables_typed n r q k v is
 
-  module _ (m : ℕ) (kept : CallsAreKept (own u) G ps (routine_of (u ∷ []) m) m) (number : ℕ) (r : UnitRoutine) (there : slice_get u.routines number ≡ Some r) where
+  module _ (m : ℕ) (kept : CallsAreKept (own u) G ps (handler_of (u ∷ []) m) m) (number : ℕ) (r : UnitRoutine) (there : slice_get u.routines number ≡ Some r) where
     x : Placed number r
     x = placed_at number r there
 
@@ -247,10 +244,10 @@ module _ (u : TypedUnit) (o : Object) (is : IsProgramCode u o) (valid : IsValid 
     us = u ∷ []
 
     abbrev call : Handler
-    call = routine_of us m
+    call = handler_of us m
 
     steady_call : IsSteadyHandler call
-    steady_call = steady_routine_of us m
+    steady_call = steady_handler_of us m
 
     abbrev image_routine : ImageRoutine
     image_routine = placed_routine p x.entry
@@ -270,7 +267,7 @@ module _ (u : TypedUnit) (o : Object) (is : IsProgramCode u o) (valid : IsValid 
     takes = ap (λ (c : CodeRoutine). c.arguments) x.plain
 
     entry : image_routine.entry ≡ p.instructions.before + x.entry.entry
-    entry = moved_own p.instructions x.entry.entry (omega (arith, x.room_for, end_length u.types r.line (length formals) (x.entry.entry + length (own_code u.types r) + length x.code) r.result))
+    entry = moved_own p.instructions x.entry.entry (omega (arith, x.room_for, end_length u.types r.line (length formals) (x.entry.entry + length (own_code r) + length x.code) r.result))
 
     abbrev variables : List UnitVariable
     variables = variables_of r
@@ -282,11 +279,8 @@ module _ (u : TypedUnit) (o : Object) (is : IsProgramCode u o) (valid : IsValid 
     enough_slots : length (variables_up within 0) ≤ image_routine.slots
     enough_slots = omega (arith, ap (λ (c : CodeRoutine). c.slots) x.plain)
 
-    abbrev found_routine : Found
-    found_routine = record { routine = r; types = u.types }
-
     abbrev body : List Argument → Computation (List Result)
-    body xs = runs_routine call m u.name found_routine xs
+    body xs = runs_routine call m u.name r xs
 
     -- a formal parameter is the variable of its number, and the others stand behind them
     formal_is : (k : ℕ) (f : Formal) → slice_get formals k ≡ Some f → slice_get variables (0 + k) ≡ Some (formal_variable r.line f)
@@ -332,17 +326,21 @@ module _ (u : TypedUnit) (o : Object) (is : IsProgramCode u o) (valid : IsValid 
     kept_inside : CallsAreKept within G ps call m
     kept_inside = calls_kept-inside within.levels (own u) kept
 
+    -- each type has a reference of its number
+    referred : AreReferred within u.name u.types o.references
+    referred = types_referred within u o is (own_count u)
+
     abbrev end : ℕ
-    end = x.entry.entry + length (own_code u.types r) + length x.code
+    end = x.entry.entry + length (own_code r) + length x.code
 
     abbrev line_of : ℕ
     line_of = r.line
 
     abbrev takes_code : List Instr
-    takes_code = take_all_code u.types line_of 0 formals
+    takes_code = take_all_code line_of 0 formals
 
     abbrev makes_code : List Instr
-    makes_code = make_all_code u.types (length formals) (made_variables r)
+    makes_code = make_all_code (length formals) (made_variables r)
 
     -- the results that it gives
     abbrev results : List Kind
@@ -495,14 +493,14 @@ module _ (u : TypedUnit) (o : Object) (is : IsProgramCode u o) (valid : IsValid 
 
       -- the block, once the arguments are taken and the variables are made
       runs_block : (longer : Injection) (after : Memory) (pushed : List Operand) → unit_in G after.frames ≡ u.name → pushed ≡ below
-          → Fragment within G Here m (point longer after (p.instructions.before + (x.entry.entry + length (own_code u.types r))) pushed) (exec call m u.name (stmt_of r.block)) (p.instructions.before + end) (λ b. Inside left longer after (Bare below b)) (63 + more) (λ b. 63 + more)
+          → Fragment within G Here m (point longer after (p.instructions.before + (x.entry.entry + length (own_code r))) pushed) (exec call m u.name (stmt_of r.block)) (p.instructions.before + end) (λ b. Inside left longer after (Bare below b)) (63 + more) (λ b. 63 + more)
       runs_block longer after pushed at_home is_below =
-          subst (λ o. Fragment within G Here m (point longer after (p.instructions.before + (x.entry.entry + length (own_code u.types r))) o) (exec call m u.name (stmt_of r.block)) (p.instructions.before + end) (λ b. Inside left longer after (Bare below b)) (63 + more) (λ b. 63 + more)) (sym is_below)
+          subst (λ o. Fragment within G Here m (point longer after (p.instructions.before + (x.entry.entry + length (own_code r))) o) (exec call m u.name (stmt_of r.block)) (p.instructions.before + end) (λ b. Inside left longer after (Bare below b)) (63 + more) (λ b. 63 + more)) (sym is_below)
           (statement_moves lasts_left ps p o.texts o.references call steady_call m u.name in_code scene
           (λ x_kind e is_x line at code is_code x_stands inside v1 m1 operands d enough x_home. expression_follows {untouched = left} ps p o.texts o.references scene knows call steady_call m u.name in_code lasts_left left_among m kept_inside x_kind e is_x line at code is_code x_stands inside v1 m1 operands d (omega arith) x_home)
           (λ q q_valid t has_type line at code is_code x_stands inside v1 m1 operands d enough x_home. place_follows {untouched = left} ps p o.texts o.references scene knows call steady_call m u.name in_code lasts_left left_among m kept_inside q q_valid t has_type line at code is_code x_stands inside v1 m1 operands d (omega arith) x_home)
           (λ line at to callee k given xs r keeps given_valid is_code is_declared named xs_stands xs_inside v1 m1 operands d enough x_home rest steady behind. call_then {untouched = left} ps p o.texts o.references scene knows call steady_call m u.name in_code lasts_left left_among m kept_inside {to = to} line at callee k given xs r keeps given_valid is_code is_declared named xs_stands xs_inside v1 m1 operands d enough x_home rest steady (λ rs longer after pushed grown routine top. fragment_credit {d = d} {e = λ b. d} (omega arith) (λ b. omega arith) (behind rs longer after pushed grown routine top)))
-          kept_inside (own_binds_follow ps p o.references call m u.name some_level none_left) (stmt_of r.block) (x.entry.entry + length (own_code u.types r)) x.code its.block x.is_code x.code_stands (omega (arith, x.room_for, end_length u.types line_of (length formals) end r.result)) longer after below (63 + more) (omega arith) at_home)
+          kept_inside (own_binds_follow ps p o.references call m u.name some_level none_left) (stmt_of r.block) (x.entry.entry + length (own_code r)) x.code its.block x.is_code x.code_stands (omega (arith, x.room_for, end_length u.types line_of (length formals) end r.result)) longer after below (63 + more) (omega arith) at_home)
 
       abbrev gives : Computation (List Result)
       gives = results_given u.name line_of (length formals) r.result
@@ -512,7 +510,7 @@ module _ (u : TypedUnit) (o : Object) (is : IsProgramCode u o) (valid : IsValid 
 
       -- and then what it gives
       blocks : (longer : Injection) (after : Memory) (pushed : List Operand) → unit_in G after.frames ≡ u.name → pushed ≡ below
-          → Fragment within G Here m (point longer after (p.instructions.before + (x.entry.entry + length (own_code u.types r))) pushed) (bind (exec call m u.name (stmt_of r.block)) (λ b. gives)) ends.place (λ rs. ResultsOnTop results below rs) (63 + more) (λ rs. 1 + credit_of rs)
+          → Fragment within G Here m (point longer after (p.instructions.before + (x.entry.entry + length (own_code r))) pushed) (bind (exec call m u.name (stmt_of r.block)) (λ b. gives)) ends.place (λ rs. ResultsOnTop results below rs) (63 + more) (λ rs. 1 + credit_of rs)
       blocks longer after pushed at_home is_below =
           fragment_bind {middle = p.instructions.before + end} {P = λ b. Inside left longer after (Bare below b)} {e = λ b. 63 + more} (λ b. steady_gives)
           (runs_block longer after pushed at_home is_below)
@@ -520,23 +518,23 @@ module _ (u : TypedUnit) (o : Object) (is : IsProgramCode u o) (valid : IsValid 
 
       -- the making of the variables, of which that of the result leaves a credit
       makes_all : (y : Option RoutineResult) (valid_result : IsResult u.types y) (at : ℕ) → ((i : ℕ) (v : UnitVariable) → slice_get (result_variable r.name line_of y ++ (r.variables ++ block_auxiliaries (stmt_of r.block))) i ≡ Some v → slice_get (variables_up within 0) (length formals + i) ≡ Some v)
-          → CodeStands G ps p o.references at (make_all_code u.types (length formals) (result_variable r.name line_of y ++ (r.variables ++ block_auxiliaries (stmt_of r.block))))
+          → CodeStands G ps p o.references at (make_all_code (length formals) (result_variable r.name line_of y ++ (r.variables ++ block_auxiliaries (stmt_of r.block))))
           → (longer : Injection) (after : Memory) (below : List Operand) → unit_in G after.frames ≡ u.name
-          → Fragment within G Here m (point longer after (p.instructions.before + at) below) (make_all_own call m u.name u.types (length formals) (result_variable r.name line_of y ++ (r.variables ++ block_auxiliaries (stmt_of r.block)))) (p.instructions.before + (at + length (make_all_code u.types (length formals) (result_variable r.name line_of y ++ (r.variables ++ block_auxiliaries (stmt_of r.block)))))) (λ a. StillBare after below) 63 (λ a. 63 + spare y valid_result)
+          → Fragment within G Here m (point longer after (p.instructions.before + at) below) (make_all_own call m u.name (length formals) (result_variable r.name line_of y ++ (r.variables ++ block_auxiliaries (stmt_of r.block)))) (p.instructions.before + (at + length (make_all_code (length formals) (result_variable r.name line_of y ++ (r.variables ++ block_auxiliaries (stmt_of r.block)))))) (λ a. StillBare after below) 63 (λ a. 63 + spare y valid_result)
       makes_all None valid_result at are_declared at_stands longer after below at_home =
           fragment_credit {d = 63} {e = λ a. 63} (omega arith) (λ a. omega arith)
-          (make_all_own_moves within G untouched injection begun lasts ps p o.references call steady_call m u.name scene.own_types_valid m (length formals) at (r.variables ++ block_auxiliaries (stmt_of r.block)) are_declared at_stands longer after below 63 (omega arith) at_home)
+          (make_all_own_moves within G untouched injection begun lasts ps p o.references call steady_call m u.name scene.own_types_valid (own_types u) among_same kept_inside referred m (length formals) at (r.variables ++ block_auxiliaries (stmt_of r.block)) are_declared at_stands longer after below 63 (omega arith) at_home)
       makes_all (Some y) valid_result at are_declared at_stands longer after below at_home =
-          make_sized_moves within G untouched injection begun lasts ps p o.references call steady_call m u.name scene.own_types_valid m (length formals) at (result_of_name y) (r.variables ++ block_auxiliaries (stmt_of r.block)) (valid_result.denoter).type_value (valid_result.denoter).has_type are_declared at_stands longer after below 63 (omega arith) at_home
+          make_sized_moves within G untouched injection begun lasts ps p o.references call steady_call m u.name scene.own_types_valid (own_types u) among_same kept_inside referred m (length formals) at (result_of_name y) (r.variables ++ block_auxiliaries (stmt_of r.block)) (valid_result.denoter).type_value (valid_result.denoter).has_type are_declared at_stands longer after below 63 (omega arith) at_home
 
       -- the making of the variables, and then the block
       makes : (longer : Injection) (after : Memory) (pushed : List Operand) → unit_in G after.frames ≡ u.name → pushed ≡ below
-          → Fragment within G Here m (point longer after (p.instructions.before + (x.entry.entry + length takes_code)) pushed) (bind (make_all_own call m u.name u.types (length formals) (made_variables r)) (λ a. bind (exec call m u.name (stmt_of r.block)) (λ b. gives))) ends.place (λ rs. ResultsOnTop results below rs) 63 (λ rs. 1 + credit_of rs)
+          → Fragment within G Here m (point longer after (p.instructions.before + (x.entry.entry + length takes_code)) pushed) (bind (make_all_own call m u.name (length formals) (made_variables r)) (λ a. bind (exec call m u.name (stmt_of r.block)) (λ b. gives))) ends.place (λ rs. ResultsOnTop results below rs) 63 (λ rs. 1 + credit_of rs)
       makes longer after pushed at_home is_below =
           let parts = code_stands-parts G ps p o.references x.entry.entry takes_code makes_code x.makes_stand in
-          let size : x.entry.entry + length takes_code + length makes_code ≡ x.entry.entry + length (own_code u.types r) = omega (arith, length-append takes_code makes_code) in
-          subst (λ st. Fragment within G Here m (point longer after (p.instructions.before + (x.entry.entry + length takes_code)) st) (bind (make_all_own call m u.name u.types (length formals) (made_variables r)) (λ a. bind (exec call m u.name (stmt_of r.block)) (λ b. gives))) ends.place (λ rs. ResultsOnTop results below rs) 63 (λ rs. 1 + credit_of rs)) (sym is_below)
-          (fragment_bind {middle = p.instructions.before + (x.entry.entry + length (own_code u.types r))} {e = λ a. 63 + more} (λ a. steady_bind (steady_exec call steady_call m u.name (stmt_of r.block)) (λ b. steady_gives))
+          let size : x.entry.entry + length takes_code + length makes_code ≡ x.entry.entry + length (own_code r) = omega (arith, length-append takes_code makes_code) in
+          subst (λ st. Fragment within G Here m (point longer after (p.instructions.before + (x.entry.entry + length takes_code)) st) (bind (make_all_own call m u.name (length formals) (made_variables r)) (λ a. bind (exec call m u.name (stmt_of r.block)) (λ b. gives))) ends.place (λ rs. ResultsOnTop results below rs) 63 (λ rs. 1 + credit_of rs)) (sym is_below)
+          (fragment_bind {middle = p.instructions.before + (x.entry.entry + length (own_code r))} {e = λ a. 63 + more} (λ a. steady_bind (steady_exec call steady_call m u.name (stmt_of r.block)) (λ b. steady_gives))
           (fragment_to (ap (λ k. p.instructions.before + k) size) (makes_all r.result its.result (x.entry.entry + length takes_code) variable_is parts.1 longer after below at_home))
           (λ a last final above still. (still.runs, blocks last final above (unit_in-still G still.runs ∙ at_home) still.operands_are)))
 
@@ -545,13 +543,13 @@ module _ (u : TypedUnit) (o : Object) (is : IsProgramCode u o) (valid : IsValid 
       follows =
           let parts = code_stands-parts G ps p o.references x.entry.entry takes_code makes_code x.makes_stand in
           fragment_outside within.levels (own u) (fragment_from entry
-          (fragment_bind {middle = p.instructions.before + (x.entry.entry + length takes_code)} {e = λ a. 63} (λ a. steady_bind (steady_make_all_own call steady_call m u.name u.types (length formals) (made_variables r)) (λ b. steady_bind (steady_exec call steady_call m u.name (stmt_of r.block)) (λ c. steady_gives)))
-          (takes_all_moves within G untouched injection begun lasts ps p o.references call steady_call m u.name scene.own_types_valid m line_of 0 x.entry.entry formals passings.0 xs passings.1 formal_is parts.0 injection begun below 63 (omega arith) home awaited)
+          (fragment_bind {middle = p.instructions.before + (x.entry.entry + length takes_code)} {e = λ a. 63} (λ a. steady_bind (steady_make_all_own call steady_call m u.name (length formals) (made_variables r)) (λ b. steady_bind (steady_exec call steady_call m u.name (stmt_of r.block)) (λ c. steady_gives)))
+          (takes_all_moves within G untouched injection begun lasts ps p o.references call steady_call m u.name scene.own_types_valid (own_types u) among_same kept_inside referred m line_of 0 x.entry.entry formals passings.0 xs passings.1 formal_is parts.0 injection begun below 63 (omega arith) home awaited)
           (λ a longer after pushed still. (still.runs, makes longer after pushed (unit_in-still G still.runs ∙ home) still.operands_are))))
 
     -- what a call of it does
-    found : routine_in us u.name number ≡ Some found_routine
-    found = ap (λ b. if b then found_among u.types (slice_get u.routines number) else None) (name_same u.name u.name refl) ∙ ap (found_among u.types) there
+    found : routine_in us u.name number ≡ Some r
+    found = ap (λ b. if b then slice_get u.routines number else None) (name_same u.name u.name refl) ∙ there
 
     -- the routines around it are the levels in its block but the first
     around_is : (own u).around u.name number ≡ levels_of u.routines r.around
@@ -566,21 +564,21 @@ module _ (u : TypedUnit) (o : Object) (is : IsProgramCode u o) (valid : IsValid 
         → IsCallable ((own u).types u.name) levels ((own u).around u.name number) injection began.calls memory
         → (below operands : List Operand) (arguments : List Argument)
         → AreArguments injection memory passings.0 arguments below operands
-        → Fragment (own u) G (Since (kept_slots (own u) G) injection began memory) (suc m) (point injection memory place operands) (routine_of us (suc m) (unit_in G memory.frames) line (callee levels) arguments) (place + 1) (λ rs. Inside (kept_slots (own u) G) injection memory (ResultsOnTop results below rs)) 0 credit_of
+        → Fragment (own u) G (Since (kept_slots (own u) G) injection began memory) (suc m) (point injection memory place operands) ((handler_of us (suc m)).routine (unit_in G memory.frames) line (callee levels) arguments) (place + 1) (λ rs. Inside (kept_slots (own u) G) injection memory (ResultsOnTop results below rs)) 0 credit_of
     go place levels line calls injection began memory callable below operands xs are =
         let hands : Handed injection memory passings.0 xs below operands = handed injection memory passings.0 xs below operands are in
-        let does : Option Found → Type 0 = λ y. Fragment (own u) G (Since (kept_slots (own u) G) injection began memory) (suc m) (point injection memory place (hands.top ++ below)) (routine_does call m (unit_in G memory.frames) line (callee levels) y xs) (place + 1) (λ rs. Inside (kept_slots (own u) G) injection memory (ResultsOnTop results below rs)) 0 credit_of in
+        let does : Option UnitRoutine → Type 0 = λ y. Fragment (own u) G (Since (kept_slots (own u) G) injection began memory) (suc m) (point injection memory place (hands.top ++ below)) (routine_does call m (unit_in G memory.frames) line (callee levels) y xs) (place + 1) (λ rs. Inside (kept_slots (own u) G) injection memory (ResultsOnTop results below rs)) 0 credit_of in
         let counts = counted place (frame.Unit 0) injection memory below operands xs hands in
         let here : IsCallable u.types levels ((own u).around u.name number) injection began.calls memory = subst (λ ts. IsCallable ts levels ((own u).around u.name number) injection began.calls memory) (own_types u) callable in
         let parent = parent_of_call (own u) G (moved p.routines number) image_routine exists numbered hands.top counts (weights_of xs) hands.weigh u.types levels ((own u).around u.name number) injection began.calls memory here in
-        let keeps : does (Some found_routine) =
-        routine_keeps (own u) G (moved p.routines number) image_routine exists numbered hands.top counts (weights_of xs) hands.weigh ends.place ends.instruction ends.stands_there ends.returns ends.first_field ends.second_field within enough_slots ((own u).around u.name number) (λ k. ap (λ ls. slice_get ls k) (sym around_is)) m place levels line calls parent.0 injection began memory below parent.1 here r.name (unit_in G memory.frames) results (body xs) (steady_runs_routine call steady_call m u.name found_routine xs) (kept_slots (own u) G)
+        let keeps : does (Some r) =
+        routine_keeps (own u) G (moved p.routines number) image_routine exists numbered hands.top counts (weights_of xs) hands.weigh ends.place ends.instruction ends.stands_there ends.returns ends.first_field ends.second_field within enough_slots ((own u).around u.name number) (λ k. ap (λ ls. slice_get ls k) (sym around_is)) m place levels line calls parent.0 injection began memory below parent.1 here r.name (unit_in G memory.frames) results (body xs) (steady_runs_routine call steady_call m u.name r xs) (kept_slots (own u) G)
         (follows place parent.0 injection memory below operands xs hands) in
         let meant : does (routine_in us u.name number) = subst does (sym found) keeps in
-        subst (λ st. Fragment (own u) G (Since (kept_slots (own u) G) injection began memory) (suc m) (point injection memory place st) (routine_of us (suc m) (unit_in G memory.frames) line (callee levels) xs) (place + 1) (λ rs. Inside (kept_slots (own u) G) injection memory (ResultsOnTop results below rs)) 0 credit_of) (sym hands.is) meant
+        subst (λ st. Fragment (own u) G (Since (kept_slots (own u) G) injection began memory) (suc m) (point injection memory place st) ((handler_of us (suc m)).routine (unit_in G memory.frames) line (callee levels) xs) (place + 1) (λ rs. Inside (kept_slots (own u) G) injection memory (ResultsOnTop results below rs)) 0 credit_of) (sym hands.is) meant
 
     -- with one step more than the routines keep theirs
-    keeps_own : RoutineKeeps (own u) G ps (routine_of (u ∷ []) (suc m)) (suc m) u.name number (heading_of r)
+    keeps_own : RoutineKeeps (own u) G ps (handler_of (u ∷ []) (suc m)) (suc m) u.name number (heading_of r)
     keeps_own =
         record {
           routine = moved p.routines number;
@@ -588,12 +586,12 @@ module _ (u : TypedUnit) (o : Object) (is : IsProgramCode u o) (valid : IsValid 
           passed = subst (λ ts. ArePassed ts formals passings.0) (sym (own_types u)) passings.1;
           results = results;
           given = subst (λ ts. AreResults ts r.result results) (sym (own_types u)) (kinds_of r.result its.result).1;
-          placed = call_placed number;
+          placed = call_placed u o is G ps p stands number;
           promise = record { by = λ place levels line calls injection began memory callable below operands arguments are. go place levels line calls injection began memory callable below operands arguments are };
         }
 
   -- with no step there is nothing to keep
-  keeps_none : (unit : List ℕ) (number : ℕ) (r : UnitRoutine) → slice_get u.routines number ≡ Some r → u.name ≡ unit → RoutineKeeps (own u) G ps (routine_of (u ∷ []) 0) 0 unit number (heading_of r)
+  keeps_none : (unit : List ℕ) (number : ℕ) (r : UnitRoutine) → slice_get u.routines number ≡ Some r → u.name ≡ unit → RoutineKeeps (own u) G ps (handler_of (u ∷ []) 0) 0 unit number (heading_of r)
   keeps_none unit number r there named =
       let formals : List Formal = r.formals in
       let its : IsRoutine u number r = valid.routines number r there in
@@ -604,15 +602,23 @@ module _ (u : TypedUnit) (o : Object) (is : IsProgramCode u o) (valid : IsValid 
         passed = subst (λ n. ArePassed ((own u).types n) formals passings.0) named (subst (λ ts. ArePassed ts formals passings.0) (sym (own_types u)) passings.1);
         results = (kinds_of r.result its.result).0;
         given = subst (λ n. AreResults ((own u).types n) r.result (kinds_of r.result its.result).0) named (subst (λ ts. AreResults ts r.result (kinds_of r.result its.result).0) (sym (own_types u)) (kinds_of r.result its.result).1);
-        placed = λ i. subst (λ n. placed_call ps (Some (record { unit = n; number = number })) i ≡ record i { a = pos (moved p.routines number) }) named (call_placed number i);
+        placed = λ i. subst (λ n. placed_call ps (Some (record { unit = n; number = number })) i ≡ record i { a = pos (moved p.routines number) }) named (call_placed u o is G ps p stands number i);
         promise = record { by = λ place levels line calls injection began memory callable below operands arguments are. fragment_cut };
       }
 
   -- the routines keep their promises with any number of steps
-  pub routines_kept : (n : ℕ) → CallsAreKept (own u) G ps (routine_of (u ∷ []) n) n
-  routines_kept zero unit number r h =
-      let own_one = own_routine u unit number r h in
-      subst (λ x. RoutineKeeps (own u) G ps (routine_of (u ∷ []) 0) 0 unit number x) own_one.heading (keeps_none unit number own_one.routine own_one.there own_one.named)
-  routines_kept (suc m) unit number r h =
-      let own_one = own_routine u unit number r h in
-      subst (λ x. RoutineKeeps (own u) G ps (routine_of (u ∷ []) (suc m)) (suc m) unit number x) own_one.heading (subst (λ n. RoutineKeeps (own u) G ps (routine_of (u ∷ []) (suc m)) (suc m) n number (heading_of own_one.routine)) own_one.named (keeps_own m (routines_kept m) number own_one.routine own_one.there))
+  pub routines_kept : (n : ℕ) → CallsAreKept (own u) G ps (handler_of (u ∷ []) n) n
+  routines_kept zero =
+      record {
+        routines = λ unit number r h.
+            let own_one = own_routine u unit number r h in
+            subst (λ x. RoutineKeeps (own u) G ps (handler_of (u ∷ []) 0) 0 unit number x) own_one.heading (keeps_none unit number own_one.routine own_one.there own_one.named);
+        types = types_none u o is G ps p stands;
+      }
+  routines_kept (suc m) =
+      record {
+        routines = λ unit number r h.
+            let own_one = own_routine u unit number r h in
+            subst (λ x. RoutineKeeps (own u) G ps (handler_of (u ∷ []) (suc m)) (suc m) unit number x) own_one.heading (subst (λ n. RoutineKeeps (own u) G ps (handler_of (u ∷ []) (suc m)) (suc m) n number (heading_of own_one.routine)) own_one.named (keeps_own m (routines_kept m) number own_one.routine own_one.there));
+        types = types_keep u o is G ps p stands m (routines_kept m);
+      }

@@ -1,7 +1,8 @@
 -- The machine follows assignments, `halt` and the statements that have no code.
 use Rattle.std.proofs.Common.{◌≡◌, ℕ, suc, ◌+◌, ◌<◌, ◌≤◌, List, [], ◌∷◌, ◌++◌, length, length-append, refl, sym, ap, ◌∙◌, subst, arith}
-use Rattle.ep_gen_expr.specs.Following.{least_credit}
-use Rattle.ep_gen_expr.specs.ExprCode.{bare, IsPlaceCode, IsExprCode}
+use Rattle.ep_gen_code.specs.Credit.{least_credit}
+use Rattle.ep_gen_code.specs.Instructions.{bare}
+use Rattle.ep_gen_expr.specs.ExprCode.{IsPlaceCode, IsExprCode}
 use Rattle.ep_gen_unit.specs.StmtCode.{IsAssignCode}
 use Rattle.ep_gen_expr.proofs.PlaceTypes.{IsKindPlace, kind_place}
 use Rattle.ep_gen_unit.proofs.Parts.{Moves, ExpressionsFollow, PlacesFollow, code_stands-parts}

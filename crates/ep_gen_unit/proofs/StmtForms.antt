@@ -4,11 +4,13 @@ use Rattle.std.proofs.lemmas.List.{map_more}
 use Rattle.ep_object.specs.declared.code.Instr.{Instr}
 use Rattle.ep_object.specs.declared.code.Reference.{Reference}
 use Rattle.ep_typed.specs.Trees.{Callee, Entire, Place, Expr, Function, Actuals, Item, Stmt, Stmts, Empty, Compound, Assign, If, While, Repeat, With, Procedure, Halt, Write, stmts}
-use Rattle.ep_gen_expr.specs.ExprCode.{IsExprCode, bare, instr}
-use Rattle.ep_gen_expr.specs.Growth.{Grows, AppendsPlace, AppendsExpr}
-use Rattle.ep_gen_expr.specs.Jumps.{IsNextPlace, LeavesHole, landed}
-use Rattle.ep_gen_expr.specs.declared.code.Code.{Code}
-use Rattle.ep_gen_expr.proofs.Forms.{grows_at}
+use Rattle.ep_gen_expr.specs.ExprCode.{IsExprCode}
+use Rattle.ep_gen_code.specs.Instructions.{bare, instr}
+use Rattle.ep_gen_code.specs.Growth.{Grows}
+use Rattle.ep_gen_expr.specs.Growth.{AppendsPlace, AppendsExpr}
+use Rattle.ep_gen_code.specs.Jumps.{IsNextPlace, LeavesHole, landed}
+use Rattle.ep_gen_code.specs.declared.code.Code.{Code}
+use Rattle.ep_gen_code.proofs.Growing.{grows_at}
 use Rattle.ep_gen_expr.proofs.Stays.{place_code_stays}
 use Rattle.ep_gen_unit.specs.StmtCode.{IsStmtCode, AreStmtsCode, slot_of}
 use Rattle.ep_gen_unit.specs.StmtGrowth.{Follows, AppendsBind, AppendsItems, AppendsStmt, AppendsStmts}

@@ -2,7 +2,8 @@
 use Rattle.std.proofs.Common.{◌≡◌, ℕ, pos, ◌+◌, ◌≤◌, ◌<◌, List, [], ◌∷◌, ◌++◌, length, length-append, refl, sym, ap, ◌∙◌, subst, arith, ℤ, ◌*◌}
 use Rattle.ep_object.specs.Follows.{Facts, Lasts}
 use Rattle.ep_object.specs.Matching.{Slots}
-use Rattle.ep_gen_expr.specs.ExprCode.{instr, bare, tests_code}
+use Rattle.ep_gen_code.specs.Instructions.{instr, bare}
+use Rattle.ep_gen_expr.specs.ExprCode.{tests_code}
 use Rattle.ep_gen_unit.specs.StmtCode.{IsStmtCode, AreStmtsCode, AreArmsCode, IsOtherCode}
 use Rattle.ep_gen_unit.proofs.Parts.{Moves, ExpressionsFollow, PlacesFollow, CallsFollow, code_stands-parts}
 use Rattle.ep_object.proofs.rows.ChangeRows.{may_take}

@@ -8,7 +8,8 @@ use Rattle.ep_typed.specs.Trees.{One, SetOf, Single, no_member, next_member, Ent
 use Rattle.ep_typed.specs.declared.operations.Print.{Print}
 use Rattle.ep_typed.specs.declared.operations.Print.TheVariants as print
 use Rattle.std.specs.Prelude.{if◌then◌else◌}
-use Rattle.ep_gen_expr.specs.ExprCode.{bare, instr, one_code, push, set_code, step_code, tests_code, two_code, IsPlaceCode, IsExprCode}
+use Rattle.ep_gen_code.specs.Instructions.{bare, instr, push}
+use Rattle.ep_gen_expr.specs.ExprCode.{one_code, set_code, step_code, tests_code, two_code, IsPlaceCode, IsExprCode}
 use Rattle.ep_typed.specs.declared.operations.Binary.TheVariants as binary
 use Rattle.ep_typed.specs.declared.operations.Unary.TheVariants as unary
 use Rattle.ep_typed.specs.declared.operations.SetOperation.TheVariants as set_operation

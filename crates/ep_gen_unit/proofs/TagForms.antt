@@ -2,12 +2,14 @@
 use Rattle.std.proofs.Common.{◌≡◌, ℕ, ℤ, pos, suc, ◌+◌, ◌*◌, ◌<◌, true, false, List, [], ◌∷◌, ◌++◌, take, length, length-append, get_or, refl, sym, ap, ◌∙◌, subst, append_assoc, append-nil, arith}
 use Rattle.std.specs.Prelude.{if◌then◌else◌}
 use Rattle.std.proofs.lemmas.List.{take_more, length-take-le}
-use Rattle.ep_gen_expr.specs.ExprCode.{IsExprCode, bare, instr, push, tests_code, two_code}
-use Rattle.ep_gen_expr.specs.Growth.{Grows, AppendsExpr, AppendsPlace}
-use Rattle.ep_gen_expr.specs.Jumps.{IsNextPlace, LeavesHole, landed}
-use Rattle.ep_gen_expr.specs.declared.code.Code.{Code}
-use Rattle.ep_gen_expr.proofs.Forms.{grows_at, grows_then}
-use Rattle.ep_gen_expr.proofs.Landing.{grows_landed, grows_length}
+use Rattle.ep_gen_expr.specs.ExprCode.{IsExprCode, tests_code, two_code}
+use Rattle.ep_gen_code.specs.Instructions.{bare, instr, push}
+use Rattle.ep_gen_code.specs.Growth.{Grows}
+use Rattle.ep_gen_expr.specs.Growth.{AppendsExpr, AppendsPlace}
+use Rattle.ep_gen_code.specs.Jumps.{IsNextPlace, LeavesHole, landed}
+use Rattle.ep_gen_code.specs.declared.code.Code.{Code}
+use Rattle.ep_gen_code.proofs.Growing.{grows_at, grows_then}
+use Rattle.ep_gen_code.proofs.Landing.{grows_landed, grows_length}
 use Rattle.ep_gen_expr.proofs.Stays.{place_code_stays}
 use Rattle.ep_gen_unit.specs.StmtCode.{IsStmtCode}
 use Rattle.ep_gen_unit.specs.StmtGrowth.{AppendsChange, AppendsStmt, AppendsTaken, AppendsTried, Follows}

@@ -2,10 +2,11 @@
 use Rattle.std.proofs.Common.{◌≡◌, ℕ, ℤ, pos, zero, suc, ◌+◌, ◌*◌, ◌-◌, ◌≤◌, ◌<◌, Bool, true, false, ◌&&◌, not, List, [], ◌∷◌, ◌++◌, length, length-append, Option, Some, None, option_map, slice_get, refl, sym, ap, ◌∙◌, subst, arith}
 use Rattle.std.proofs.lemmas.Option.{same_Some}
 use Rattle.std.specs.Prelude.{All, if◌then◌else◌, is_some, int_le}
-use Rattle.ep_gen_expr.specs.ExprCode.{bare, instr, push, tests_code, two_code, IsPlaceCode}
-use Rattle.ep_gen_expr.proofs.Answering.{row_waits}
+use Rattle.ep_gen_code.specs.Instructions.{bare, instr, push}
+use Rattle.ep_gen_expr.specs.ExprCode.{tests_code, two_code, IsPlaceCode}
+use Rattle.ep_gen_code.proofs.Waiting.{row_waits}
 use Rattle.ep_gen_expr.proofs.PlaceTypes.{IsTypedPlace, among_bare, bare_instance, tag_alone, typed_place}
-use Rattle.ep_gen_expr.proofs.Placed.{code_front, code_back, instr_at, jump_has, jump_false_has}
+use Rattle.ep_gen_code.proofs.Placed.{code_front, code_back, instr_at, jump_has, jump_false_has}
 use Rattle.ep_gen_expr.proofs.RangeMoves.{tests_follow, true_ordinal}
 use Rattle.ep_gen_expr.proofs.Stays.{tests_length}
 use Rattle.ep_gen_expr.proofs.VariantMoves.{follows_found, tag_record}

@@ -6,6 +6,8 @@ use Rattle.ep_gen_expr.proofs.Following.{place_follows, expression_follows, call
 use Rattle.ep_gen_unit.specs.StmtCode.{make_all_code, return_code}
 use Rattle.ep_gen_unit.specs.UnitCode.{IsProgramCode, plain_at}
 use Rattle.ep_gen_unit.specs.UnitLaws.{AreDeclared, idle_stop}
+use Rattle.ep_gen_type.proofs.Elaborating.{AreReferred}
+use Rattle.ep_gen_unit.proofs.Referred.{own_count, types_referred}
 use Rattle.ep_gen_unit.proofs.Declared.{own_is, own_declared, own_types, own_valid, made_declared}
 use Rattle.ep_gen_unit.proofs.Makes.{VariablesAreFree, make_all_moves, same_frame}
 use Rattle.ep_gen_unit.proofs.Parts.{code_stands-parts}
@@ -77,7 +79,7 @@ none_declared (y ∷ xs) e k x is = absurd cc
 module _ (u : TypedUnit) (o : Object) (is : IsProgramCode u o) (G : Image) (ps : List Placement) (p : Placement) (stands : Stands G ps p o) where
   -- the instructions behind the making of the variables
   abbrev begins_block : ℕ
-  begins_block = length (make_all_code u.types 0 (made_by_unit u))
+  begins_block = length (make_all_code 0 (made_by_unit u))
 
   -- the place of the `Return` of the start, in the object
   abbrev ends_block : ℕ
@@ -89,18 +91,18 @@ module _ (u : TypedUnit) (o : Object) (is : IsProgramCode u o) (G : Image) (ps :
   pub instructions_own : p.instructions.own ≡ ends_block + 2 + length is.others
   instructions_own =
       let whole = of_object in
-      omega (arith, whole.instructions, ap length is.instructions, length-append (make_all_code u.types 0 (made_by_unit u)) (is.code ++ return_code ∷ return_code ∷ is.others), length-append is.code (return_code ∷ return_code ∷ is.others))
+      omega (arith, whole.instructions, ap length is.instructions, length-append (make_all_code 0 (made_by_unit u)) (is.code ++ return_code ∷ return_code ∷ is.others), length-append is.code (return_code ∷ return_code ∷ is.others))
 
-  all_stands : CodeStands G ps p o.references 0 (make_all_code u.types 0 (made_by_unit u) ++ (is.code ++ return_code ∷ return_code ∷ is.others))
+  all_stands : CodeStands G ps p o.references 0 (make_all_code 0 (made_by_unit u) ++ (is.code ++ return_code ∷ return_code ∷ is.others))
   all_stands = subst (λ k. CodeStands G ps p o.references 0 k) is.instructions stands.code
 
-  makes_stand : CodeStands G ps p o.references 0 (make_all_code u.types 0 (made_by_unit u))
-  makes_stand = let parts = code_stands-parts G ps p o.references 0 (make_all_code u.types 0 (made_by_unit u)) (is.code ++ return_code ∷ return_code ∷ is.others) all_stands in parts.0
+  makes_stand : CodeStands G ps p o.references 0 (make_all_code 0 (made_by_unit u))
+  makes_stand = let parts = code_stands-parts G ps p o.references 0 (make_all_code 0 (made_by_unit u)) (is.code ++ return_code ∷ return_code ∷ is.others) all_stands in parts.0
 
   -- the two `Return`s stand behind the block
   returns_stand : CodeStands G ps p o.references ends_block (return_code ∷ return_code ∷ is.others)
   returns_stand =
-      let parts = code_stands-parts G ps p o.references 0 (make_all_code u.types 0 (made_by_unit u)) (is.code ++ return_code ∷ return_code ∷ is.others) all_stands in
+      let parts = code_stands-parts G ps p o.references 0 (make_all_code 0 (made_by_unit u)) (is.code ++ return_code ∷ return_code ∷ is.others) all_stands in
       let block = code_stands-parts G ps p o.references (0 + begins_block) is.code (return_code ∷ return_code ∷ is.others) parts.1 in
       subst (λ k. CodeStands G ps p o.references k (return_code ∷ return_code ∷ is.others)) {x = 0 + begins_block + length is.code} {y = ends_block} (omega arith) block.1
 
@@ -143,13 +145,13 @@ module _ (u : TypedUnit) (o : Object) (is : IsProgramCode u o) (G : Image) (ps :
   start_is =
       let blocks = is.blocks in
       ap (slice_get o.routines) (is.start ∙ sym blocks.count)
-      ∙ (ap (λ l. slice_get l (length is.entries)) is.routines ∙ behind is.entries (plain_at 0) (plain_at (ends_block + 1) ∷ []))
+      ∙ (ap (λ l. slice_get l (length is.entries)) is.routines ∙ behind is.entries (plain_at 0) (plain_at (ends_block + 1) ∷ is.elaborating))
 
   stop_is : slice_get o.routines o.stop ≡ Some (plain_at (ends_block + 1))
   stop_is =
       let blocks = is.blocks in
       ap (slice_get o.routines) (is.stop ∙ ap (λ k. k + 1) (sym blocks.count))
-      ∙ (ap (λ l. slice_get l (length is.entries + 1)) is.routines ∙ one_behind is.entries (plain_at 0) (plain_at (ends_block + 1)) [])
+      ∙ (ap (λ l. slice_get l (length is.entries + 1)) is.routines ∙ one_behind is.entries (plain_at 0) (plain_at (ends_block + 1)) is.elaborating)
 
   -- the stop does nothing
   pub stop_simulates : (declared : Declarations) (n : ℕ)
@@ -171,7 +173,7 @@ module _ (u : TypedUnit) (o : Object) (is : IsProgramCode u o) (G : Image) (ps :
             }));
       }
 
-  module _ (declared : Declarations) (types : declared.types u.name ≡ u.types) (are_declared : AreDeclared declared u.name 0 (unit_variables u)) (valid : IsStmt declared (stmt_of u.start)) (distinct : HasDistinctNames G) (scene : Scene declared G ps p o.texts) (call : Handler) (steady_call : IsSteadyHandler call) (n : ℕ) (kept : CallsAreKept declared G ps call n) (no_routine : declared.levels ≡ []) (of_unit : declared.routine_unit ≡ u.name) where
+  module _ (declared : Declarations) (types : declared.types u.name ≡ u.types) (many : length (declared.routines u.name) ≡ length u.routines) (are_declared : AreDeclared declared u.name 0 (unit_variables u)) (valid : IsStmt declared (stmt_of u.start)) (distinct : HasDistinctNames G) (scene : Scene declared G ps p o.texts) (call : Handler) (steady_call : IsSteadyHandler call) (n : ℕ) (kept : CallsAreKept declared G ps call n) (no_routine : declared.levels ≡ []) (of_unit : declared.routine_unit ≡ u.name) where
     -- the slots of the variables are not hidden
     free : VariablesAreFree declared G (kept_slots declared G) (placed_object_unit p o)
     free unit there k v is_declared hidden = not_hidden (subst IsTrue (ap (λ x. is_hidden_in declared x k) there ∙ ap is_undeclared is_declared) hidden)
@@ -179,12 +181,17 @@ module _ (u : TypedUnit) (o : Object) (is : IsProgramCode u o) (G : Image) (ps :
         not_hidden : IsTrue false → ⊥
         not_hidden h = cc
 
+    -- each type has a reference of its number
+    referred : AreReferred declared (placed_object_unit p o).name (declared.types (placed_object_unit p o).name) o.references
+    referred =
+        subst (λ n. AreReferred declared n (declared.types n) o.references) (sym is.name) (subst (λ ts. AreReferred declared u.name ts o.references) (sym types) (types_referred declared u o is many))
+
     -- the machine makes the variables of the unit
     makes : {Here : Facts} → Lasts (kept_slots declared G) Here
         → MakesFollow declared G (kept_slots declared G) Here p call n u
     makes {Here = Here} lasts injection memory below d enough home framed =
         let there : RunsInUnit G memory.frames (placed_object_unit p o) = record { calls = framed.calls; unit = ap (slice_get G.units) framed.unit ∙ stands.unit } in
-        fragment_to {to = p.instructions.before + (0 + begins_block)} (omega arith) (make_all_moves declared G (kept_slots declared G) Here lasts ps p o.references call steady_call n (placed_object_unit p o) free distinct scene.types_valid u.name is.name u.types types n 0 0 (made_by_unit u) (made_declared declared u.name (made_by_unit u) (with_variables (stmt_of u.start)) are_declared) (omega (arith, is.unit_slots, length-append (made_by_unit u) (with_variables (stmt_of u.start)))) makes_stand injection memory below d enough there (home ∙ sym is.name))
+        fragment_to {to = p.instructions.before + (0 + begins_block)} (omega arith) (make_all_moves declared G (kept_slots declared G) Here lasts ps p o.references call steady_call n (placed_object_unit p o) free distinct scene.types_valid among_same kept referred u.name is.name n 0 0 (made_by_unit u) (made_declared declared u.name (made_by_unit u) (with_variables (stmt_of u.start)) are_declared) (omega (arith, is.unit_slots, length-append (made_by_unit u) (with_variables (stmt_of u.start)))) makes_stand injection memory below d enough there (home ∙ sym is.name))
 
     -- each variable of the unit has a slot of its frame
     its_slot : (k : ℕ) (v : UnitVariable) → declared.variables (placed_object_unit p o).name k ≡ Some v → k < (placed_object_unit p o).slots
@@ -208,7 +215,7 @@ module _ (u : TypedUnit) (o : Object) (is : IsProgramCode u o) (G : Image) (ps :
           image_routine = placed_routine p (plain_at 0);
           there = routine_there o.start (plain_at 0) start_is;
           of_unit = refl;
-          body = bind (make_all call n u.name u.types 0 (made_by_unit u)) (λ a. exec call n u.name (stmt_of u.start));
+          body = bind (make_all call n u.name 0 (made_by_unit u)) (λ a. exec call n u.name (stmt_of u.start));
           called = refl;
           follows = λ m le injection memory below s k enters.
               let whole = of_object in
@@ -253,4 +260,4 @@ module _ (u : TypedUnit) (o : Object) (is : IsProgramCode u o) (G : Image) (ps :
 
   pub unit_simulates : IsValid u → HasDistinctNames G → (call : Handler) → IsSteadyHandler call → (n : ℕ) → CallsAreKept (own u) G ps call n
       → Simulates (own u) G p.unit (moved p.routines o.start) n (start_of call n u) Bare
-  unit_simulates valid distinct call steady_call n kept = start_simulates (own u) (own_types u) (own_declared u) valid.start distinct (scene_of valid) call steady_call n kept refl refl
+  unit_simulates valid distinct call steady_call n kept = start_simulates (own u) (own_types u) (own_count u) (own_declared u) valid.start distinct (scene_of valid) call steady_call n kept refl refl

@@ -1,7 +1,7 @@
 -- The machine follows `with` statements: the place is found once, and goes into the slot of the variable that stands for it.
 use Rattle.std.proofs.Common.{◌≡◌, ℕ, pos, zero, suc, ◌+◌, ◌<◌, List, [], ◌∷◌, Some, Option, length, length-append, slice_get, sym, ap, ◌∙◌, subst, arith, IsTrue}
 use Rattle.std.proofs.lemmas.Option.{same_Some}
-use Rattle.ep_gen_expr.specs.ExprCode.{instr}
+use Rattle.ep_gen_code.specs.Instructions.{instr}
 use Rattle.ep_gen_expr.proofs.PlaceTypes.{has_bare_type, valid_place, variable_type}
 use Rattle.ep_gen_unit.specs.StmtCode.{IsBindCode, slot_of}
 use Rattle.ep_gen_unit.proofs.Makes.{VariablesAreFree}

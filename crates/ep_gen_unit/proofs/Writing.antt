@@ -1,8 +1,9 @@
 -- The machine follows `write` and `writeln`.
 use Rattle.std.proofs.Common.{◌≡◌, ℕ, ℤ, pos, negsuc, suc, ◌+◌, ◌-◌, ◌<◌, ◌≤◌, Bool, true, false, List, [], ◌∷◌, ◌++◌, length, length-append, Some, slice_get, refl, sym, ap, ◌∙◌, subst, arith, zero-add}
 use Rattle.std.specs.Prelude.{unsigned_abs}
-use Rattle.ep_gen_expr.specs.Following.{least_credit}
-use Rattle.ep_gen_expr.specs.ExprCode.{bare, IsExprCode}
+use Rattle.ep_gen_code.specs.Credit.{least_credit}
+use Rattle.ep_gen_code.specs.Instructions.{bare}
+use Rattle.ep_gen_expr.specs.ExprCode.{IsExprCode}
 use Rattle.ep_gen_unit.specs.StmtCode.{plain_code, before_width, wide_code, line_end_code, IsItemCode, AreItemsCode}
 use Rattle.ep_gen_unit.proofs.Parts.{statement_credit, ExpressionsFollow, Moves, Writes, code_stands-parts}
 use Rattle.ep_object.specs.Follows.{point, Facts, Lasts, Fragment, Inside, Bare}

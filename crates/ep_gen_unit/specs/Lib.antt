@@ -3,6 +3,5 @@ pub mod ProgramLaws
 pub mod StmtCode
 pub mod StmtGrowth
 pub mod TagCode
-pub mod TypeCode
 pub mod UnitCode
 pub mod UnitLaws

@@ -3,10 +3,11 @@
 use Rattle.std.specs.Prelude.{◌≡◌, ℕ, pos, suc, ◌+◌, Bool, true, false, List, [], ◌∷◌, ◌++◌, length, Option, Some, None, ◌*◌}
 use Rattle.ep_typed.specs.declared.operations.Binary.TheVariants as binary
 use Rattle.ep_typed.specs.Controls.{has_more, in_order, next_value, others}
-use Rattle.ep_gen_expr.specs.ExprCode.{instr, bare, two_code, push, standard_code, tests_code, IsPlaceCode, IsExprCode}
-use Rattle.ep_gen_expr.specs.declared.code.TheConstants as code
+use Rattle.ep_gen_code.specs.Instructions.{instr, bare, push}
+use Rattle.ep_gen_expr.specs.ExprCode.{two_code, standard_code, tests_code, IsPlaceCode, IsExprCode}
+use Rattle.ep_gen_code.specs.declared.code.TheConstants as code
 use Rattle.ep_gen_unit.specs.TagCode.{IsTriedCode, IsChangeCode, IsTakenCode, selected_code, selected_length}
-use Rattle.ep_gen_unit.specs.TypeCode.{type_code}
+use Rattle.ep_gen_type.specs.TypeCode.{type_code}
 use Rattle.ep_object.specs.declared.code.Instr.{Instr}
 use Rattle.ep_object.specs.declared.code.Reference.{Reference}
 use Rattle.ep_typed.specs.Trees.{Place, Expr, Read, Function, Item, Plain, Wide, Stmt, Stmts, Empty, Compound, Assign, AssignTag, If, While, Repeat, Control, For, MemberControl, ForIn, With, Procedure, Halt, Write, none, next, Case, Arms, no_arm, next_arm, Other, no_other, otherwise_do, Entire, OfUnit, OfRoutine, entire}
@@ -183,34 +184,34 @@ module _ (texts : List (List ℕ)) (references : List Reference) where
     IsOtherCode line at no_other is = is ≡ instr op.FAIL (pos run_error.NO_CASE) 0 line ∷ []
     IsOtherCode line at (otherwise_do ss) is = (ys : List Instr) × AreStmtsCode (at + 1) ss ys × (is ≡ bare line op.DROP ∷ ys)
 
--- the code that makes a variable of a unit with these types, in a slot
-abbrev pub make_code : List UnitType → ℕ → UnitVariable → List Instr
-make_code types number v = type_code types v.line (denoter_of v.denoter) ++ instr op.MAKE (pos number) 0 v.line ∷ []
+-- the code that makes a variable in a slot
+abbrev pub make_code : ℕ → UnitVariable → List Instr
+make_code number v = type_code v.line (denoter_of v.denoter) ++ instr op.MAKE (pos number) 0 v.line ∷ []
 
 -- the code that makes the variables from this number on
-abbrev pub make_all_code : List UnitType → ℕ → List UnitVariable → List Instr
-make_all_code types number [] = []
-make_all_code types number (v ∷ vs) = make_code types number v ++ make_all_code types (suc number) vs
+abbrev pub make_all_code : ℕ → List UnitVariable → List Instr
+make_all_code number [] = []
+make_all_code number (v ∷ vs) = make_code number v ++ make_all_code (suc number) vs
 
-abbrev pub value_code : List UnitType → ℕ → ℕ → Formal → List Instr
-value_code types line number f =
-    type_code types line (denoter_of f.denoter) ++ instr op.MAKE (pos number) 0 line ∷ instr op.SLOT (pos number) 0 line ∷ instr op.ARG (pos number) 0 line ∷ bare line op.STORE ∷ []
+abbrev pub value_code : ℕ → ℕ → Formal → List Instr
+value_code line number f =
+    type_code line (denoter_of f.denoter) ++ instr op.MAKE (pos number) 0 line ∷ instr op.SLOT (pos number) 0 line ∷ instr op.ARG (pos number) 0 line ∷ bare line op.STORE ∷ []
 
 abbrev pub place_taken : ℕ → ℕ → List Instr
 place_taken line number = instr op.ARG (pos number) 0 line ∷ instr op.BIND (pos number) 0 line ∷ []
 
--- The code by which a formal parameter of a unit with these types takes its argument, as the variable of this number of a
+-- The code by which a formal parameter takes its argument, as the variable of this number of a
 -- routine that is declared on this line: a value is stored in a variable that is made, and a place goes into the slot.
-abbrev pub take_code : List UnitType → ℕ → ℕ → FormalMode → Formal → List Instr
-take_code types line number mode.Value f = value_code types line number f
-take_code types line number mode.ProtectedValue f = value_code types line number f
-take_code types line number mode.Variable f = place_taken line number
-take_code types line number mode.ProtectedVariable f = place_taken line number
+abbrev pub take_code : ℕ → ℕ → FormalMode → Formal → List Instr
+take_code line number mode.Value f = value_code line number f
+take_code line number mode.ProtectedValue f = value_code line number f
+take_code line number mode.Variable f = place_taken line number
+take_code line number mode.ProtectedVariable f = place_taken line number
 
 -- formal parameters, from this number on
-abbrev pub take_all_code : List UnitType → ℕ → ℕ → List Formal → List Instr
-take_all_code types line number [] = []
-take_all_code types line number (f ∷ fs) = take_code types line number f.mode f ++ take_all_code types line (suc number) fs
+abbrev pub take_all_code : ℕ → ℕ → List Formal → List Instr
+take_all_code line number [] = []
+take_all_code line number (f ∷ fs) = take_code line number f.mode f ++ take_all_code line (suc number) fs
 
 -- the instruction that leaves a routine, which no statement asks for
 abbrev pub return_code : Instr

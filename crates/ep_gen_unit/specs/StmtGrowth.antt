@@ -1,12 +1,13 @@
 -- How code under construction grows by statements, whose lines differ.
 use Rattle.std.specs.Prelude.{◌≡◌, ℕ, pos, ◌+◌, ◌*◌, ◌<◌, ◌≤◌, Bool, false, List, [], ◌∷◌, ◌++◌, length}
-use Rattle.ep_gen_expr.specs.ExprCode.{IsExprCode, instr, tests_code}
-use Rattle.ep_gen_expr.specs.Growth.{TableGrows, Grows, IsTable, AreDistinct}
-use Rattle.ep_gen_expr.specs.Jumps.{landed}
-use Rattle.ep_gen_expr.specs.declared.code.Code.{Code}
+use Rattle.ep_gen_expr.specs.ExprCode.{IsExprCode, tests_code}
+use Rattle.ep_gen_code.specs.Instructions.{instr}
+use Rattle.ep_gen_code.specs.Growth.{TableGrows, Grows, IsTable, AreDistinct}
+use Rattle.ep_gen_code.specs.Jumps.{landed}
+use Rattle.ep_gen_code.specs.declared.code.Code.{Code}
 use Rattle.ep_gen_unit.specs.StmtCode.{IsItemCode, AreItemsCode, IsStmtCode, AreStmtsCode, AreBoundsCode, IsFirstCode, IsTestCode, IsUndefineCode, IsLeastCode, IsKeptCode, IsBindCode, make_all_code, return_code, end_code, AreArmsCode, IsOtherCode}
 use Rattle.ep_gen_unit.specs.TagCode.{IsTriedCode, IsChangeCode, IsTakenCode}
-use Rattle.ep_gen_unit.specs.UnitCode.{AreRoutinesCode, own_code, entry_of, its_end}
+use Rattle.ep_gen_unit.specs.UnitCode.{AreRoutinesCode, AreTypesCode, elaborating_code, own_code, entry_of, its_end}
 use Rattle.ep_object.specs.declared.code.CodeRoutine.{CodeRoutine}
 use Rattle.ep_object.specs.declared.code.Instr.{Instr}
 use Rattle.ep_object.specs.declared.code.Object.{Object}
@@ -143,23 +144,36 @@ AppendsTests old new ranges = Grows old new (tests_code old.line (length old.ins
 pub record AppendsStart (old new : Code) (u : TypedUnit) (stop_entry : ℕ) : Type 0 where
   -- the code of the block
   pub code : List Instr
-  pub is_code : IsStmtCode new.texts new.references (length old.instructions + length (make_all_code u.types 0 (made_by_unit u))) (stmt_of u.start) code
-  pub follows : Follows old new (make_all_code u.types 0 (made_by_unit u) ++ (code ++ return_code ∷ return_code ∷ []))
-  pub stops : stop_entry ≡ length old.instructions + length (make_all_code u.types 0 (made_by_unit u)) + length code + 1
+  pub is_code : IsStmtCode new.texts new.references (length old.instructions + length (make_all_code 0 (made_by_unit u))) (stmt_of u.start) code
+  pub follows : Follows old new (make_all_code 0 (made_by_unit u) ++ (code ++ return_code ∷ return_code ∷ []))
+  pub stops : stop_entry ≡ length old.instructions + length (make_all_code 0 (made_by_unit u)) + length code + 1
   pub small : IsTable new.instructions
 
 -- the code of a routine of a unit with these types is appended: what makes its variables, its block, and its end
 pub record AppendsRoutine (old new : Code) (types : List UnitType) (r : UnitRoutine) (x : CodeRoutine) : Type 0 where
   pub plain : x ≡ entry_of (length old.instructions) r
   pub code : List Instr
-  pub is_code : IsStmtCode new.texts new.references (length old.instructions + length (own_code types r)) (stmt_of r.block) code
-  pub follows : Follows old new (own_code types r ++ (code ++ its_end types (length old.instructions + length (own_code types r) + length code) r))
+  pub is_code : IsStmtCode new.texts new.references (length old.instructions + length (own_code r)) (stmt_of r.block) code
+  pub follows : Follows old new (own_code r ++ (code ++ its_end types (length old.instructions + length (own_code r) + length code) r))
 
 -- the code of routines is appended, and these are their entries
 pub record AppendsRoutines (old new : Code) (types : List UnitType) (rs : List UnitRoutine) (entries : List CodeRoutine) : Type 0 where
   pub code : List Instr
   pub follows : Follows old new code
   pub blocks : AreRoutinesCode new.texts new.references new.instructions types rs entries
+
+-- The code that elaborates a type is appended, and this is its entry.
+pub record AppendsType (old new : Code) (t : UnitType) (entry : ℕ) : Type 0 where
+  pub starts : entry ≡ length old.instructions
+  pub follows : Follows old new (elaborating_code t)
+
+-- the code that elaborates types is appended, and its entries to those that there were
+pub record AppendsTypes (old new : Code) (ts : List UnitType) (before after : List CodeRoutine) : Type 0 where
+  pub code : List Instr
+  pub follows : Follows old new code
+  pub entries : List CodeRoutine
+  pub are : after ≡ before ++ entries
+  pub types : AreTypesCode new.instructions ts entries
 
 -- the tables and the code of an object have places that a field of 32 bits holds, and each text and reference is there once
 pub record IsCompact (o : Object) : Type 0 where
@@ -187,22 +201,21 @@ assembled name code routines start slots = record {
   instructions = code.instructions;
 }
 
--- The code that makes the variables of a routine's own is appended, of a unit with these types, and the routine has so many
--- slots, with those of the variables that are not made.
-pub record MakesOwn (old new : Code) (types : List UnitType) (r : UnitRoutine) (slots : ℕ) : Type 0 where
-  pub follows : Follows old new (make_all_code types (length r.formals) (made_variables r))
+-- The code that makes the variables of a routine's own is appended, and the routine has so many slots, with those of the variables that are not made.
+pub record MakesOwn (old new : Code) (r : UnitRoutine) (slots : ℕ) : Type 0 where
+  pub follows : Follows old new (make_all_code (length r.formals) (made_variables r))
   pub count : slots ≡ length (variables_of r)
 
--- The code that makes these variables of a unit with these types, and the auxiliary ones of its block, is appended, from
+-- The code that makes these variables, and the auxiliary ones of a block, is appended, from
 -- this number on, and the first number behind them is that.
-pub record MakesBlock (old new : Code) (types : List UnitType) (first : ℕ) (vs : List UnitVariable) (block : Stmt) (behind : ℕ) : Type 0 where
-  pub follows : Follows old new (make_all_code types first (vs ++ block_auxiliaries block))
+pub record MakesBlock (old new : Code) (first : ℕ) (vs : List UnitVariable) (block : Stmt) (behind : ℕ) : Type 0 where
+  pub follows : Follows old new (make_all_code first (vs ++ block_auxiliaries block))
   pub count : behind ≡ first + length (vs ++ block_auxiliaries block)
 
 -- The code that makes the variable of a routine's result is appended, where it has one, and the first variable behind it
 -- has this number.
-pub record MakesResult (old new : Code) (types : List UnitType) (r : UnitRoutine) (first : ℕ) : Type 0 where
-  pub follows : Follows old new (make_all_code types (length r.formals) (result_variable r.name r.line r.result))
+pub record MakesResult (old new : Code) (r : UnitRoutine) (first : ℕ) : Type 0 where
+  pub follows : Follows old new (make_all_code (length r.formals) (result_variable r.name r.line r.result))
   pub count : first ≡ (length r.formals + length (result_variable r.name r.line r.result))
 
 -- the code with which a routine of a unit with these types ends is appended, where a function has its result in the variable of this number

@@ -1,6 +1,7 @@
 -- The code of assignments to tags (ISO 10206, 6.5.3.3), over the place of the record.
 use Rattle.std.specs.Prelude.{◌≡◌, ℕ, ℤ, pos, negsuc, suc, ◌+◌, ◌*◌, List, [], ◌∷◌, ◌++◌, length, if◌then◌else◌}
-use Rattle.ep_gen_expr.specs.ExprCode.{bare, instr, push, tests_code, two_code, IsExprCode}
+use Rattle.ep_gen_code.specs.Instructions.{bare, instr, push}
+use Rattle.ep_gen_expr.specs.ExprCode.{tests_code, two_code, IsExprCode}
 use Rattle.ep_object.specs.declared.code.Instr.{Instr}
 use Rattle.ep_object.specs.declared.code.Reference.{Reference}
 use Rattle.ep_object.specs.declared.op.TheConstants as op

@@ -1,11 +1,19 @@
 -- Which object is the code of a program: its start makes the variables and runs the block, its stop does nothing, and behind
--- them stands the code of its routines.
+-- them stands the code of its routines and of those that elaborate its types.
 use Rattle.std.specs.Prelude.{◌≡◌, ℕ, ◌+◌, false, List, [], ◌∷◌, ◌++◌, Some, length, slice_get}
+use Rattle.ep_gen_code.specs.Growth.{types_named}
+use Rattle.ep_gen_code.specs.Instructions.{bare}
+use Rattle.ep_gen_type.specs.TypeCode.{type_code}
 use Rattle.ep_gen_unit.specs.StmtCode.{IsStmtCode, take_all_code, make_all_code, return_code, end_code}
 use Rattle.ep_object.specs.declared.code.CodeRoutine.{CodeRoutine}
 use Rattle.ep_object.specs.declared.code.Instr.{Instr}
 use Rattle.ep_object.specs.declared.code.Object.{Object}
 use Rattle.ep_object.specs.declared.code.Reference.{Reference}
+use Rattle.ep_object.specs.declared.op.TheConstants as op
+use Rattle.ep_object.specs.Promises.{type_routine}
+use Rattle.ep_outside.specs.Known.{IsPrefix}
+use Rattle.ep_typed.specs.Denoters.{definition_of}
+use Rattle.ep_typed.specs.Meaning.{line_where}
 use Rattle.ep_typed.specs.Routines.{made_by_unit, made_variables, unit_variables, variables_of}
 use Rattle.ep_typed.specs.Viewed.{stmt_of}
 use Rattle.ep_typed.specs.declared.unit.Unit.{Unit as TypedUnit}
@@ -27,11 +35,11 @@ pub record StandsIn (instructions : List Instr) (place : ℕ) (code : List Instr
   pub is : instructions ≡ before ++ (code ++ after)
   pub from : length before ≡ place
 
--- the code with which a routine of a unit with these types begins: its formal parameters take the arguments, and the
+-- the code with which a routine begins: its formal parameters take the arguments, and the
 -- variables of its own are made, of which the one that has its result is the first
-abbrev pub own_code : List UnitType → UnitRoutine → List Instr
-own_code types r =
-    take_all_code types r.line 0 r.formals ++ make_all_code types (length r.formals) (made_variables r)
+abbrev pub own_code : UnitRoutine → List Instr
+own_code r =
+    take_all_code r.line 0 r.formals ++ make_all_code (length r.formals) (made_variables r)
 
 -- the entry of a routine, with an argument for each formal parameter and a slot for each variable
 abbrev pub entry_of : ℕ → UnitRoutine → CodeRoutine
@@ -47,8 +55,8 @@ pub record IsRoutineCode (texts : List (List ℕ)) (references : List Reference)
     (types : List UnitType) (r : UnitRoutine) (x : CodeRoutine) : Type 0 where
   pub plain : x ≡ entry_of x.entry r
   pub code : List Instr
-  pub is_code : IsStmtCode texts references (x.entry + length (own_code types r)) (stmt_of r.block) code
-  pub stands : StandsIn instructions x.entry (own_code types r ++ (code ++ its_end types (x.entry + length (own_code types r) + length code) r))
+  pub is_code : IsStmtCode texts references (x.entry + length (own_code r)) (stmt_of r.block) code
+  pub stands : StandsIn instructions x.entry (own_code r ++ (code ++ its_end types (x.entry + length (own_code r) + length code) r))
 
 -- the routines of a unit have these entries, one for each and in order
 pub record AreRoutinesCode (texts : List (List ℕ)) (references : List Reference) (instructions : List Instr)
@@ -57,17 +65,35 @@ pub record AreRoutinesCode (texts : List (List ℕ)) (references : List Referenc
   pub each : (k : ℕ) (r : UnitRoutine) (x : CodeRoutine) → slice_get rs k ≡ Some r → slice_get entries k ≡ Some x
       → IsRoutineCode texts references instructions types r x
 
+-- the line of the code that elaborates a type, and that code, which leaves the type and returns
+abbrev pub elaborating_code : UnitType → List Instr
+elaborating_code t = type_code (line_where t.line) (definition_of t) ++ bare (line_where t.line) op.RETURN ∷ []
+
+-- at the entry of a routine that takes nothing stands the code that elaborates a type
+pub record IsTypeCode (instructions : List Instr) (t : UnitType) (x : CodeRoutine) : Type 0 where
+  pub plain : x ≡ plain_at x.entry
+  pub stands : StandsIn instructions x.entry (elaborating_code t)
+
+-- the routines that elaborate types have these entries, one for each and in order
+pub record AreTypesCode (instructions : List Instr) (ts : List UnitType) (entries : List CodeRoutine) : Type 0 where
+  pub count : length entries ≡ length ts
+  pub each : (k : ℕ) (t : UnitType) (x : CodeRoutine) → slice_get ts k ≡ Some t → slice_get entries k ≡ Some x → IsTypeCode instructions t x
+
 -- the object of a program
 pub record IsProgramCode (u : TypedUnit) (o : Object) : Type 0 where
   -- the code of the block
   pub code : List Instr
-  pub is_code : IsStmtCode o.texts o.references (length (make_all_code u.types 0 (made_by_unit u))) (stmt_of u.start) code
-  -- the code of the routines
+  pub is_code : IsStmtCode o.texts o.references (length (make_all_code 0 (made_by_unit u))) (stmt_of u.start) code
+  -- the code of the routines, and of those that elaborate types
   pub others : List Instr
-  pub instructions : o.instructions ≡ make_all_code u.types 0 (made_by_unit u) ++ (code ++ return_code ∷ return_code ∷ others)
+  pub instructions : o.instructions ≡ make_all_code 0 (made_by_unit u) ++ (code ++ return_code ∷ return_code ∷ others)
   pub entries : List CodeRoutine
   pub blocks : AreRoutinesCode o.texts o.references o.instructions u.types u.routines entries
-  pub routines : o.routines ≡ entries ++ plain_at 0 ∷ plain_at (length (make_all_code u.types 0 (made_by_unit u)) + length code + 1) ∷ []
+  pub elaborating : List CodeRoutine
+  pub types : AreTypesCode o.instructions u.types elaborating
+  -- the references to the latter, each of which has the number of the type
+  pub named : IsPrefix (types_named u.name (type_routine (length u.routines) 0) (length u.types)) o.references
+  pub routines : o.routines ≡ entries ++ plain_at 0 ∷ plain_at (length (make_all_code 0 (made_by_unit u)) + length code + 1) ∷ elaborating
   pub start : o.start ≡ length u.routines
   pub stop : o.stop ≡ length u.routines + 1
   pub unit_slots : o.unit_slots ≡ length (unit_variables u)

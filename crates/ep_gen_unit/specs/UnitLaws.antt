@@ -1,5 +1,5 @@
 -- What holds of the code of every unit: wherever its object stands in an image, its routines simulate the start and the stop of the unit.
-use Rattle.std.specs.Prelude.{◌≡◌, ℕ, ◌+◌, List, [], ◌∷◌, Some, slice_get}
+use Rattle.std.specs.Prelude.{◌≡◌, ℕ, ◌+◌, List, [], ◌∷◌, Some, length, slice_get}
 use Rattle.ep_gen_unit.specs.UnitCode.{IsProgramCode}
 use Rattle.ep_object.specs.Follows.{Bare}
 use Rattle.ep_object.specs.Placing.{Placement, Stands, HasDistinctNames, moved}
@@ -10,7 +10,7 @@ use Rattle.ep_object.specs.declared.code.Image.{Image}
 use Rattle.ep_object.specs.declared.code.Object.{Object}
 use Rattle.ep_typed.specs.Steady.{IsSteadyHandler}
 use Rattle.ep_typed.specs.Calls.{Handler}
-use Rattle.ep_typed.specs.Meaning.{start_of, routine_of}
+use Rattle.ep_typed.specs.Meaning.{start_of, handler_of}
 use Rattle.ep_typed.specs.Steps.{Computation, give, spend}
 use Rattle.ep_typed.specs.Valid.{Declarations, IsStmt, IsValid, own}
 use Rattle.ep_typed.specs.Routines.{unit_variables}
@@ -36,11 +36,11 @@ StartsAreSimulated =
     → (call : Handler) → IsSteadyHandler call → (n : ℕ) → CallsAreKept (own u) G ps call n
     → Simulates (own u) G p.unit (moved p.routines o.start) n (start_of call n u) Bare
 
--- The same under any declarations of the unit's own block that have its types and its variables, where all that is declared stands in the image and the block is valid under them.
+-- The same under any declarations of the unit's own block that have its types, as many routines and its variables, where all that is declared stands in the image and the block is valid under them.
 abbrev pub StartsAreSimulatedUnder : Type 0
 StartsAreSimulatedUnder =
     (declared : Declarations) (u : TypedUnit) (o : Object) → IsProgramCode u o → declared.types u.name ≡ u.types → declared.levels ≡ [] → declared.routine_unit ≡ u.name
-    → AreDeclared declared u.name 0 (unit_variables u) → IsStmt declared (stmt_of u.start)
+    → length (declared.routines u.name) ≡ length u.routines → AreDeclared declared u.name 0 (unit_variables u) → IsStmt declared (stmt_of u.start)
     → (G : Image) (ps : List Placement) (p : Placement) → Stands G ps p o → HasDistinctNames G
     → Scene declared G ps p o.texts
     → (call : Handler) → IsSteadyHandler call → (n : ℕ) → CallsAreKept declared G ps call n
@@ -51,7 +51,7 @@ abbrev pub RoutinesAreKept : Type 0
 RoutinesAreKept =
     (u : TypedUnit) (o : Object) → IsProgramCode u o → IsValid u
     → (G : Image) (ps : List Placement) (p : Placement) → Stands G ps p o → HasDistinctNames G
-    → (n : ℕ) → CallsAreKept (own u) G ps (routine_of (u ∷ []) n) n
+    → (n : ℕ) → CallsAreKept (own u) G ps (handler_of (u ∷ []) n) n
 
 -- Its stop routine simulates a stop that does nothing, under any declarations.
 abbrev pub StopsAreSimulated : Type 0

@@ -3,13 +3,14 @@
 ghost use Rattle.std.specs.Prelude.{◌≡◌, [], ◌∷◌, OnOk, false, map};
 ghost use Rattle.ep_typed.specs.Trees.{Plain, Wide};
 ghost use Rattle.ep_typed.specs.Viewed.{expr_of, item_of};
-ghost use Rattle.ep_gen_expr.specs.ExprCode.{bare};
-ghost use Rattle.ep_gen_expr.specs.Growth.{Grows};
+ghost use Rattle.ep_gen_code.specs.Instructions.{bare};
+ghost use Rattle.ep_gen_code.specs.Growth.{Grows};
 ghost use Rattle.ep_gen_unit.specs.StmtCode.{output_code, plain_code, before_width, wide_code, line_end_code};
 ghost use Rattle.ep_gen_unit.specs.StmtGrowth.{AppendsItem, AppendsItems};
 
 use ep_base::NoMemory;
-use ep_gen_expr::{Code, emit, expression_code, standard_code};
+use ep_gen_code::{Code, emit};
+use ep_gen_expr::{expression_code, standard_code};
 use ep_object::op;
 use ep_typed::{Print, StandardFile, TypedExpr, WriteItem};
 use std::alloc::Global;

@@ -12,7 +12,6 @@ mod program;
 mod ranges;
 mod statements;
 mod tags;
-mod types;
 
 pub use laws::{laws_of_programs, laws_of_statements, laws_of_units};
 pub use program::program_code;

@@ -7,9 +7,10 @@ ghost use Rattle.ep_typed.specs.Viewed.{control_of, entire_of, expr_of, member_c
 ghost use Rattle.ep_gen_unit.specs.StmtGrowth.{AppendsBounds, AppendsFirst, AppendsKept, AppendsLeast, AppendsMore, AppendsStmt, AppendsTest, AppendsUndefine};
 
 use ep_base::{Line, NoMemory};
+use ep_gen_code::{Code, emit};
 use ep_gen_expr::{
-    Code, apply_binary, emit, entire_code, entire_value_code, expression_code, has_more_code,
-    in_order_code, next_value_code, others_code,
+    apply_binary, entire_code, entire_value_code, expression_code, has_more_code, in_order_code,
+    next_value_code, others_code,
 };
 use ep_object::op;
 use ep_typed::{Binary, EntireVariable, ForControl, MemberControl, TypedExpr};

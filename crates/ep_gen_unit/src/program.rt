@@ -1,18 +1,19 @@
 //! The object of a program.
 
 ghost use Rattle.std.specs.Prelude.{◌≡◌, ◌+◌, ◌<◌, ◌^◌, OnOk, IfOk, length};
-ghost use Rattle.ep_gen_expr.specs.Growth.{Grows};
+ghost use Rattle.ep_gen_code.specs.Growth.{Grows};
 ghost use Rattle.ep_gen_unit.specs.StmtCode.{function_end, result_code, make_code, make_all_code, value_code, place_taken, take_code, take_all_code};
-ghost use Rattle.ep_gen_unit.specs.StmtGrowth.{AppendsEnd, AppendsStart, AppendsRoutine, AppendsRoutines, Follows, IsCompact, MakesBlock, MakesOwn, MakesResult, assembled};
+ghost use Rattle.ep_gen_unit.specs.StmtGrowth.{AppendsEnd, AppendsStart, AppendsRoutine, AppendsRoutines, AppendsType, AppendsTypes, Follows, IsCompact, MakesBlock, MakesOwn, MakesResult, assembled};
 ghost use Rattle.ep_typed.specs.Auxiliaries.{block_auxiliaries, with_variables};
 ghost use Rattle.ep_typed.specs.Denoters.{host_of};
+ghost use Rattle.ep_typed.specs.Meaning.{line_where};
 ghost use Rattle.ep_typed.specs.Viewed.{denoter_of, stmt_of};
 ghost use Rattle.ep_gen_unit.specs.UnitCode.{IsProgramCode, routine_at};
 
 use crate::statements::statement_code;
-use crate::types::{elaborate, is_ordinal};
 use ep_base::{Line, List, Name, NoMemory};
-use ep_gen_expr::{Code, NO_LINE, emit, field_number, next_place};
+use ep_gen_code::{Code, NO_LINE, emit, field_number, next_place};
+use ep_gen_type::{elaborate, is_ordinal};
 use ep_object::{CodeRoutine, CodeRoutines, Object, op};
 use ep_typed::{
     Denoter, Formal, FormalMode, TypedStmt, Unit, UnitRoutine, UnitType, UnitVariable,
@@ -21,7 +22,7 @@ use ep_typed::{
 use std::alloc::{AllocError, Global};
 
 /// The object of a program. Its first routines are those of the program, by their numbers; the one after them makes
-/// the variables and runs the block, and the last one does nothing. Where memory is wanting, or the code or a table would reach 2 ^ 32 - 1 entries, the program is refused.
+/// the variables and runs the block, the next one does nothing, and the others elaborate the types, by their numbers. Where memory is wanting, or the code or a table would reach 2 ^ 32 - 1 entries, the program is refused.
 pub fn program_code(alloc: Global, u: &Unit) -> Result<Object, NoMemory>
     ensures program { IfOk result (λ o. IsProgramCode u.now o) }
     ensures compact { IfOk result (λ o. IsCompact o) }
@@ -29,14 +30,15 @@ pub fn program_code(alloc: Global, u: &Unit) -> Result<Object, NoMemory>
     let name = u.name.copy(alloc)?;
     let made = field_sum(u.variables.items().len(), auxiliary_count(&u.start))?;
     let unit_slots = with_slots(made, &u.start)?;
-    let mut code = Code::new(alloc, u);
+    let mut code = Code::new(alloc, u)?;
     let stop_entry = start_code(alloc, u, &mut code)?;
     let mut routines = routines_code(alloc, u.types.items(), u.routines.items(), &mut code)?;
-    // A place of the code has to fit a field of an instruction.
-    next_place(&code)?;
     let start = field_number(routines.items().len())?;
     routines.push(routine_at(0, 0, 0))?;
     routines.push(routine_at(stop_entry, 0, 0))?;
+    types_code(u.types.items(), &mut routines, &mut code)?;
+    // A place of the code has to fit a field of an instruction.
+    next_place(&code)?;
     Ok(assemble(alloc, name, code, routines, start, unit_slots))
 }
 
@@ -44,20 +46,49 @@ pub fn program_code(alloc: Global, u: &Unit) -> Result<Object, NoMemory>
 fn start_code(alloc: Global, u: &Unit, code: &mut Code) -> Result<u32, NoMemory>
     ensures { IfOk result (λ k. AppendsStart code.old code.new u.now k) }
 {
-    make_block(
-        alloc,
-        u.types.items(),
-        0,
-        u.variables.items(),
-        &u.start,
-        code,
-    )?;
+    make_block(alloc, 0, u.variables.items(), &u.start, code)?;
     statement_code(alloc, &u.start, code)?;
     code.line = NO_LINE;
     emit(code, op::RETURN, 0, 0)?;
     let stop_entry = next_place(code)?;
     emit(code, op::RETURN, 0, 0)?;
     Ok(stop_entry)
+}
+
+/// Appends the code of the routines that elaborate these types, and their entries to the others.
+fn types_code(
+    types: &[UnitType],
+    routines: &mut CodeRoutines,
+    code: &mut Code,
+) -> Result<(), NoMemory>
+    ensures { OnOk result (AppendsTypes code.old code.new types.now routines.old routines.new) }
+{
+    for t in types {
+        let entry = elaborating_code(t, code)?;
+        routines.push(routine_at(entry, 0, 0))?;
+    }
+    Ok(())
+}
+
+/// Appends the code of the routine that elaborates a type, and answers its entry.
+fn elaborating_code(t: &UnitType, code: &mut Code) -> Result<u32, NoMemory>
+    ensures { IfOk result (λ entry. AppendsType code.old code.new t.now entry) }
+{
+    let entry = next_place(code)?;
+    code.line = definition_line(t);
+    elaborate(&t.entry.denoter, code)?;
+    emit(code, op::RETURN, 0, 0)?;
+    Ok(entry)
+}
+
+/// The line of a type's definition, where the unit writes it.
+fn definition_line(t: &UnitType) -> Line
+    ensures { result ≡ line_where t.now.line }
+{
+    match t.line {
+        None => NO_LINE,
+        Some(line) => line,
+    }
 }
 
 /// A routine with this entry, and with so many arguments and slots.
@@ -100,8 +131,8 @@ fn routine_code(
     let formals = routine.formals.items();
     let arguments = field_number(formals.len())?;
     let entry = next_place(code)?;
-    take_all(types, routine.line, formals, code)?;
-    let slots = make_own(alloc, types, routine, code)?;
+    take_all(routine.line, formals, code)?;
+    let slots = make_own(alloc, routine, code)?;
     statement_code(alloc, &routine.block, code)?;
     end_routine(types, routine, arguments, code)?;
     Ok(routine_at(entry, arguments, slots))
@@ -109,24 +140,12 @@ fn routine_code(
 
 /// Appends the code that makes the variables of a routine's own, of which the one that has its result is the first, and
 /// answers how many slots the routine has, with those of its `with` statements.
-fn make_own(
-    alloc: Global,
-    types: &[UnitType],
-    routine: &UnitRoutine,
-    code: &mut Code,
-) -> Result<u32, NoMemory>
-    ensures { IfOk result (λ slots. MakesOwn code.old code.new types.now routine.now slots) }
+fn make_own(alloc: Global, routine: &UnitRoutine, code: &mut Code) -> Result<u32, NoMemory>
+    ensures { IfOk result (λ slots. MakesOwn code.old code.new routine.now slots) }
 {
     let variables = routine.variables.items();
-    let first = make_result(types, routine, code)?;
-    let made = make_block(
-        alloc,
-        types,
-        first as usize,
-        variables,
-        &routine.block,
-        code,
-    )?;
+    let first = make_result(routine, code)?;
+    let made = make_block(alloc, first as usize, variables, &routine.block, code)?;
     with_slots(made, &routine.block)
 }
 
@@ -134,19 +153,18 @@ fn make_own(
 /// number behind them.
 fn make_block(
     alloc: Global,
-    types: &[UnitType],
     first: usize,
     variables: &[UnitVariable],
     block: &TypedStmt,
     code: &mut Code,
 ) -> Result<u32, NoMemory>
-    ensures { IfOk result (λ behind. MakesBlock code.old code.new types.now first variables.now (stmt_of block.now) behind) }
+    ensures { IfOk result (λ behind. MakesBlock code.old code.new first variables.now (stmt_of block.now) behind) }
 {
     let auxiliaries = block_auxiliaries(alloc, block)?;
     let middle = field_sum(first, variables.len())?;
     let behind = field_sum(middle as usize, auxiliaries.items().len())?;
-    make_all(types, first, variables, code)?;
-    make_all(types, middle as usize, auxiliaries.items(), code)?;
+    make_all(first, variables, code)?;
+    make_all(middle as usize, auxiliaries.items(), code)?;
     Ok(behind)
 }
 
@@ -172,8 +190,8 @@ fn auxiliary_count(block: &TypedStmt) -> usize
 }
 
 /// Appends the code that makes the variable of a function's result, and answers the number of the first variable behind.
-fn make_result(types: &[UnitType], routine: &UnitRoutine, code: &mut Code) -> Result<u32, NoMemory>
-    ensures { IfOk result (λ first. MakesResult code.old code.new types.now routine.now first) }
+fn make_result(routine: &UnitRoutine, code: &mut Code) -> Result<u32, NoMemory>
+    ensures { IfOk result (λ first. MakesResult code.old code.new routine.now first) }
 {
     let slot = field_number(routine.formals.items().len())?;
     match &routine.result {
@@ -181,7 +199,7 @@ fn make_result(types: &[UnitType], routine: &UnitRoutine, code: &mut Code) -> Re
         Some(result) => {
             let behind = field_sum(slot as usize, 1)?;
             code.line = routine.line;
-            elaborate(types, &result.denoter, code)?;
+            elaborate(&result.denoter, code)?;
             emit(code, op::MAKE, slot as i64, 0)?;
             Ok(behind)
         }
@@ -280,66 +298,45 @@ fn field_sum(first: usize, second: usize) -> Result<u32, NoMemory>
     }
 }
 
-/// Appends the code that makes the variables of a unit with these types, or of a routine of it, in order and from this
-/// number on.
-fn make_all(
-    types: &[UnitType],
-    first: usize,
-    variables: &[UnitVariable],
-    code: &mut Code,
-) -> Result<(), NoMemory>
-    ensures { OnOk result (Follows code.old code.new (make_all_code types.now first variables.now)) }
+/// Appends the code that makes the variables of a unit or a routine, in order and from this number on.
+fn make_all(first: usize, variables: &[UnitVariable], code: &mut Code) -> Result<(), NoMemory>
+    ensures { OnOk result (Follows code.old code.new (make_all_code first variables.now)) }
 {
     for (number, variable) in variables.iter().enumerate() {
         let slot = field_sum(first, number)?;
-        make_variable(types, variable, slot, code)?;
+        make_variable(variable, slot, code)?;
     }
     Ok(())
 }
 
-/// Appends the code by which the formal parameters of a routine take their arguments, in order. The routine is of a unit
-/// with these types, and is declared on this line.
-fn take_all(
-    types: &[UnitType],
-    line: Line,
-    formals: &[Formal],
-    code: &mut Code,
-) -> Result<(), NoMemory>
-    ensures { OnOk result (Follows code.old code.new (take_all_code types.now line 0 formals.now)) }
+/// Appends the code by which the formal parameters of a routine take their arguments, in order. The routine is declared on
+/// this line.
+fn take_all(line: Line, formals: &[Formal], code: &mut Code) -> Result<(), NoMemory>
+    ensures { OnOk result (Follows code.old code.new (take_all_code line 0 formals.now)) }
 {
     code.line = line;
     for (number, formal) in formals.iter().enumerate() {
         let slot = field_number(number)?;
-        take_argument(types, formal, slot, code)?;
+        take_argument(formal, slot, code)?;
     }
     Ok(())
 }
 
 /// Appends the code by which a formal parameter takes its argument, on the line that is set.
-fn take_argument(
-    types: &[UnitType],
-    formal: &Formal,
-    slot: u32,
-    code: &mut Code,
-) -> Result<(), NoMemory>
-    ensures { OnOk result (Grows code.old code.new (take_code types.now code.old.line slot formal.now.mode formal.now)) }
+fn take_argument(formal: &Formal, slot: u32, code: &mut Code) -> Result<(), NoMemory>
+    ensures { OnOk result (Grows code.old code.new (take_code code.old.line slot formal.now.mode formal.now)) }
 {
     match formal.mode {
-        FormalMode::Value | FormalMode::ProtectedValue => take_value(types, formal, slot, code),
+        FormalMode::Value | FormalMode::ProtectedValue => take_value(formal, slot, code),
         FormalMode::Variable | FormalMode::ProtectedVariable => take_place(slot, code),
     }
 }
 
 /// Appends the code by which a value parameter takes its argument.
-fn take_value(
-    types: &[UnitType],
-    formal: &Formal,
-    slot: u32,
-    code: &mut Code,
-) -> Result<(), NoMemory>
-    ensures { OnOk result (Grows code.old code.new (value_code types.now code.old.line slot formal.now)) }
+fn take_value(formal: &Formal, slot: u32, code: &mut Code) -> Result<(), NoMemory>
+    ensures { OnOk result (Grows code.old code.new (value_code code.old.line slot formal.now)) }
 {
-    elaborate(types, &formal.denoter, code)?;
+    elaborate(&formal.denoter, code)?;
     emit(code, op::MAKE, slot as i64, 0)?;
     emit(code, op::SLOT, slot as i64, 0)?;
     emit(code, op::ARG, slot as i64, 0)?;
@@ -355,15 +352,10 @@ fn take_place(slot: u32, code: &mut Code) -> Result<(), NoMemory>
 }
 
 /// Appends the code that makes a variable in a slot.
-fn make_variable(
-    types: &[UnitType],
-    variable: &UnitVariable,
-    slot: u32,
-    code: &mut Code,
-) -> Result<(), NoMemory>
-    ensures { OnOk result (Follows code.old code.new (make_code types.now slot variable.now)) }
+fn make_variable(variable: &UnitVariable, slot: u32, code: &mut Code) -> Result<(), NoMemory>
+    ensures { OnOk result (Follows code.old code.new (make_code slot variable.now)) }
 {
     code.line = variable.line;
-    elaborate(types, &variable.denoter, code)?;
+    elaborate(&variable.denoter, code)?;
     emit(code, op::MAKE, slot as i64, 0)
 }

@@ -6,7 +6,8 @@ ghost use Rattle.std.specs.Prelude.{OnOk};
 ghost use Rattle.ep_gen_unit.specs.StmtGrowth.{AppendsTests};
 
 use ep_base::NoMemory;
-use ep_gen_expr::{Code, TEST_LENGTH, field_number, next_place, place_number, tests_code};
+use ep_gen_code::{Code, field_number, next_place, place_number};
+use ep_gen_expr::{TEST_LENGTH, tests_code};
 use ep_typed::CaseRange;
 
 /// Appends the tests of an arm, with the value of the selector on top. Its statement is to stand behind them and one

@@ -17,9 +17,8 @@ use crate::loops::{
 use crate::ranges::arm_tests_code;
 use crate::tags::assign_tag_code;
 use ep_base::{Line, NoMemory};
-use ep_gen_expr::{
-    Code, call_code, emit, expression_code, land, leave_hole, next_place, place_code,
-};
+use ep_gen_code::{Code, emit, land, leave_hole, next_place};
+use ep_gen_expr::{call_code, expression_code, place_code};
 use ep_object::op;
 use ep_typed::{
     Actual, Callee, CaseArm, EntireVariable, ForControl, MemberControl, TypedExpr, TypedPlace,

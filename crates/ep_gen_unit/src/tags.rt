@@ -6,17 +6,15 @@
 ghost use Rattle.std.specs.Prelude.{◌≡◌, ◌≤◌, ◌<◌, length, min, IfOk, OnOk, ◌∷◌, [], pos};
 ghost use Rattle.ep_typed.specs.Trees.{AssignTag};
 ghost use Rattle.ep_typed.specs.Viewed.{expr_of, place_of, tagging_of};
-ghost use Rattle.ep_gen_expr.specs.ExprCode.{push};
-ghost use Rattle.ep_gen_expr.specs.Growth.{Grows};
+ghost use Rattle.ep_gen_code.specs.Instructions.{push};
+ghost use Rattle.ep_gen_code.specs.Growth.{Grows};
 ghost use Rattle.ep_gen_unit.specs.StmtGrowth.{AppendsChange, AppendsStmt, AppendsTaken, AppendsTried};
 ghost use Rattle.ep_gen_unit.specs.TagCode.{clear_code, cleared_code, clears_code, none_before, none_now, number_code, number_length, rest_number, selected_code, selection_code, selection_length, selections_code, selections_length, tag_place_code, variants_code, within_code};
 
 use crate::loops::assign_entire;
 use ep_base::{Line, NoMemory};
-use ep_gen_expr::{
-    Code, TEST_LENGTH, apply_binary, emit, entire_value_code, field_number, land, leave_hole,
-    next_place, place_code, place_number, tests_code,
-};
+use ep_gen_code::{Code, emit, field_number, land, leave_hole, next_place, place_number};
+use ep_gen_expr::{TEST_LENGTH, apply_binary, entire_value_code, place_code, tests_code};
 use ep_object::op;
 use ep_typed::{
     Binary, CaseRange, CaseRanges, Selection, TagControl, TypedExpr, TypedPlace, run_error,

@@ -1,5 +1,5 @@
 -- The machine follows a computation: with costs both ways, in runs that are cut, and for want of room.
-use Rattle.std.specs.Prelude.{◌≡◌, ℕ, ℤ, suc, ◌+◌, ◌*◌, ◌≤◌, ◌<◌, ◌⊎◌, IsTrue, List, [], ◌∷◌, ◌++◌, length, slice_get, ⊤}
+use Rattle.std.specs.Prelude.{◌≡◌, ℕ, ℤ, pos, suc, ◌+◌, ◌*◌, ◌≤◌, ◌<◌, ◌⊎◌, IsTrue, List, [], ◌∷◌, ◌++◌, length, slice_get, ⊤}
 use Rattle.ep_outside.specs.Known.{IsPrefix}
 use Rattle.ep_typed.specs.Events.{Trace}
 use Rattle.ep_typed.specs.Printing.{Result, Number, Bytes, Structure, Members}
@@ -10,9 +10,10 @@ use Rattle.ep_typed.specs.Valid as kind
 use Rattle.ep_typed.specs.Valid.{Declarations, Kind}
 use Rattle.ep_typed.specs.Hosts.{Host, is_of_host}
 use Rattle.ep_typed.specs.TypeValues.{TypeValue, bare_of, size_of}
-use Rattle.ep_object.specs.Matching.{Memory, at, Injection, Matches, Slots, own_slot, Grown, IsBare, IsLike, IsSpot, HasAt}
+use Rattle.ep_object.specs.Matching.{Memory, at, Describes, Injection, Matches, Slots, own_slot, Grown, IsBare, IsLike, IsSpot, HasAt}
 use Rattle.ep_object.specs.Operands.{Operand, Word, Place, Text, Value, Set}
 use Rattle.ep_object.specs.Sets.{IsSet}
+use Rattle.ep_object.specs.Starts.{AreStarts}
 use Rattle.ep_object.specs.Runs.{run, tick}
 use Rattle.ep_object.specs.State.{State, Frame, Frames, End, Running, Stopped, Normal, Halt, Error}
 use Rattle.ep_object.specs.declared.code.Image.{Image}
@@ -273,3 +274,13 @@ pub record Inside (untouched : Slots) (injection : Injection) (memory : Memory) 
   pub grown : Grown untouched injection memory longer after
   pub routine : SameRoutine untouched memory.frames after.frames
   pub operands_are : Then longer after operands
+
+-- the type value is given, of which all initial states are values of their types, and the number of a type that describes it is
+-- on top
+pub record TypeOnTop (t : TypeValue) (below : List Operand) (given : TypeValue) (injection : Injection)
+    (memory : Memory) (operands : List Operand) : Type 0 where
+  pub type_is : given ≡ t
+  pub number : ℕ
+  pub is : operands ≡ Word (pos number) ∷ below
+  pub described : Describes memory.types number t
+  pub starts : AreStarts t

@@ -1,6 +1,6 @@
 -- What a routine promises to the code that calls it, whoever made either. It is said over the `Call` instruction, from
 -- before it to after the instruction that leaves the routine, whose tick may have an effect as any other.
-use Rattle.std.specs.Prelude.{◌≡◌, ℕ, ℤ, pos, ◌+◌, ◌*◌, ◌≤◌, ◌⊎◌, IsTrue, List, [], ◌∷◌, Option, Some, None, slice_get, ⊤}
+use Rattle.std.specs.Prelude.{◌≡◌, ℕ, ℤ, pos, ◌+◌, ◌*◌, ◌≤◌, ◌⊎◌, IsTrue, List, [], ◌∷◌, Option, Some, None, length, slice_get, ⊤}
 use Rattle.ep_typed.specs.Denoters.{bare_type_of}
 use Rattle.ep_typed.specs.Viewed.{denoter_of}
 use Rattle.ep_typed.specs.declared.interface.Formal.{Formal}
@@ -8,7 +8,7 @@ use Rattle.ep_typed.specs.declared.interface.FormalMode.{FormalMode}
 use Rattle.ep_typed.specs.declared.interface.FormalMode.TheVariants as mode
 use Rattle.ep_typed.specs.declared.unit.UnitType.{UnitType}
 use Rattle.ep_typed.specs.TypeValues.{TypeValue}
-use Rattle.ep_object.specs.Follows.{end_of, IsStructure, Operands, point, state_at, Fragment, Since, Lands, Inside, GivesUp}
+use Rattle.ep_object.specs.Follows.{end_of, IsStructure, Operands, TypeOnTop, point, state_at, Fragment, Since, Lands, Inside, GivesUp}
 use Rattle.ep_object.specs.Activations.{IsCallable}
 use Rattle.ep_object.specs.Matching.{Memory, Injection, Matches, IsLike, IsSpot, kept_slots}
 use Rattle.ep_object.specs.Operands.{Operand, Place, Set, Text, Word}
@@ -29,7 +29,8 @@ use Rattle.ep_typed.specs.Results.{weight_of}
 use Rattle.ep_typed.specs.Steps.{Outcome, Gives, Ends, Cut, Computation, state_of}
 use Rattle.ep_typed.specs.Steps as meaning
 use Rattle.ep_typed.specs.Valid as kind
-use Rattle.ep_typed.specs.Valid.{Declarations, IsOfKind, Kind, Level}
+use Rattle.ep_typed.specs.Trees.{Named}
+use Rattle.ep_typed.specs.Valid.{Declarations, IsOfKind, IsTyped, Kind, Level}
 use Rattle.ep_typed.specs.declared.interface.RoutineEntry.{RoutineEntry}
 use Rattle.ep_typed.specs.declared.interface.RoutineResult.{RoutineResult}
 
@@ -141,12 +142,37 @@ pub record RoutineKeeps (declared : Declarations) (G : Image) (ps : List Placeme
   pub results : List Kind
   pub given : AreResults (declared.types unit) r.result results
   pub placed : (i : Instr) → placed_call ps (Some (record { unit = unit; number = number })) i ≡ record i { a = pos routine }
-  pub promise : Promises declared G routine n (declared.types unit) (declared.around unit number) formals results (λ from line levels arguments. call from line (record { unit = unit; number = number; levels = levels }) arguments)
+  pub promise : Promises declared G routine n (declared.types unit) (declared.around unit number) formals results (λ from line levels arguments. call.routine from line (record { unit = unit; number = number; levels = levels }) arguments)
 
--- every routine that is declared does so
-abbrev pub CallsAreKept : Declarations → Image → List Placement → Handler → ℕ → Type 0
-CallsAreKept declared G ps call n = (unit : List ℕ) (number : ℕ) (r : RoutineEntry)
-    → slice_get (declared.routines unit) number ≡ Some r → RoutineKeeps declared G ps call n unit number r
+-- the number, among the routines of a unit that has so many of its own, of the one that elaborates the type of this number:
+-- they stand behind its own ones, its start and its stop
+abbrev pub type_routine : ℕ → ℕ → ℕ
+type_routine routines index = routines + 2 + index
+
+-- the credit behind the elaboration of a type
+abbrev pub type_credit : ℕ
+type_credit = 8
+
+-- The routine that elaborates a type of a unit has a number in the image, by which a call that names it is placed. From each
+-- `Call` of it in a routine of the unit the machine follows the elaboration to the next instruction, where the number of a type
+-- that describes the type value is on the operands below, and what the caller knows of its own activation holds as before. No
+-- credit is there before.
+pub record TypeKeeps (declared : Declarations) (G : Image) (ps : List Placement) (call : Handler) (n : ℕ)
+    (unit : List ℕ) (index : ℕ) (t : TypeValue) : Type 0 where
+  pub routine : ℕ
+  pub placed : (i : Instr) → placed_call ps (Some (record { unit = unit; number = type_routine (length (declared.routines unit)) index })) i ≡ record i { a = pos routine }
+  pub promise : (place line : ℕ) → CallsAt G place routine 0 line
+      → (injection : Injection) (begun : meaning.State) (memory : Memory) (below : List Operand) → unit_in G memory.frames ≡ unit
+      → Fragment declared G (Since (kept_slots declared G) injection begun memory) n
+      (point injection memory place below) (call.named_type unit line index) (place + 1)
+      (λ a. Inside (kept_slots declared G) injection memory (TypeOnTop t below a)) 0 (λ a. type_credit)
+
+-- every routine that is declared does so, and so does that of every type that has a type value
+pub record CallsAreKept (declared : Declarations) (G : Image) (ps : List Placement) (call : Handler) (n : ℕ) : Type 0 where
+  pub routines : (unit : List ℕ) (number : ℕ) (r : RoutineEntry)
+      → slice_get (declared.routines unit) number ≡ Some r → RoutineKeeps declared G ps call n unit number r
+  pub types : (unit : List ℕ) (index : ℕ) (t : TypeValue)
+      → IsTyped (declared.types unit) (Named index []) t → TypeKeeps declared G ps call n unit index t
 
 -- ---- what this says of runs from a call
 

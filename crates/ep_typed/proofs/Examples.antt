@@ -6,9 +6,9 @@ use Rattle.ep_typed.specs.Trees as tree
 use Rattle.ep_typed.specs.Sets.{members}
 use Rattle.ep_typed.specs.declared.operations.SetOperation.TheVariants as set
 use Rattle.ep_typed.specs.TypeValues.{TypeValue, Array, Record, Set, no_component, next_component, component_type, size_of}
-use Rattle.ep_typed.specs.Steps.{State, End, Normal, Halted, Error, Outcome, Gives, Ends, Cut, give, spend, state_of, made, first_state}
+use Rattle.ep_typed.specs.Steps.{State, End, Normal, Halted, Error, Outcome, Gives, Ends, Cut, cut, give, spend, state_of, made, first_state}
 use Rattle.ep_typed.specs.Calls.{Handler}
-use Rattle.ep_typed.specs.Meaning.{eval, exec, routine_of}
+use Rattle.ep_typed.specs.Meaning.{eval, exec, handler_of}
 use Rattle.ep_typed.specs.Printing.{Result, Number}
 use Rattle.ep_typed.specs.declared.operations.Unary.TheVariants as unary
 use Rattle.ep_typed.specs.declared.operations.Binary.TheVariants as binary
@@ -20,7 +20,7 @@ use Rattle.ep_typed.specs.declared.run_error.TheConstants as run_error
 
 -- what a statement of unit p comes to, with one variable x of type integer
 abbrev run : Stmt → ℕ → Outcome (Unit {0})
-run s m = exec (routine_of [] 0) m (codes "p") s m (made (codes "p") 0 (Ordinal (negsuc 9223372036854775806) (pos 9223372036854775807)) first_state)
+run s m = exec (handler_of [] 0) m (codes "p") s m (made (codes "p") 0 (Ordinal (negsuc 9223372036854775806) (pos 9223372036854775807)) first_state)
 
 abbrev end_of : Outcome (Unit {0}) → End
 end_of (Gives left a s) = Normal
@@ -90,7 +90,7 @@ otherwise = refl
 
 -- what every call gives after three steps
 abbrev gives_five : Handler
-gives_five from line callee arguments = spend 3 (give (Number (pos 5) ∷ []))
+gives_five = record { routine = λ from line callee arguments. spend 3 (give (Number (pos 5) ∷ [])); named_type = λ from line index. cut }
 
 -- a function designator spends the steps of its arguments and of the call, and one of its own
 abbrev designator : Outcome Result
@@ -114,7 +114,7 @@ abbrev shows_x : Stmt
 shows_x = tree.Write 4 (Plain print.Char (Read x) ∷ []) false
 
 abbrev counts_in : TypeValue → Stmt → Outcome (Unit {0})
-counts_in t s = exec (routine_of [] 0) 200 (codes "p") s 200 (with_auxiliaries t)
+counts_in t s = exec (handler_of [] 0) 200 (codes "p") s 200 (with_auxiliaries t)
 
 rising : trace_of (counts_in (Ordinal (pos 0) (pos 255)) (counting false 120 122 shows_x)) ≡ Write (codes "x") ∷ Write (codes "y") ∷ Write (codes "z") ∷ []
 rising = refl
@@ -154,7 +154,7 @@ abbrev element : ℕ → ℕ → tree.Place
 element i j = Indexed (Indexed a (Constant (pos i))) (Constant (pos j))
 
 abbrev in_matrix : Stmt → Outcome (Unit {0})
-in_matrix s = exec (routine_of [] 0) 200 (codes "p") s 200 (made (codes "p") 0 matrix first_state)
+in_matrix s = exec (handler_of [] 0) 200 (codes "p") s 200 (made (codes "p") 0 matrix first_state)
 
 -- its components stand one behind the other, the last index first
 words : size_of matrix ≡ 4
@@ -184,7 +184,7 @@ outside_type : end_of (in_matrix (Assign 3 (element 2 1) (Constant (pos 2)))) �
 outside_type = refl
 
 -- an assignment to an element spends a step for its variable, two for each index, one for the value and one of its own
-steps_of_an_element : end_of (exec (routine_of [] 0) 7 (codes "p") (Compound (next (Assign 3 (element 2 1) (Constant (pos 1))) (next (tree.Halt 4) none))) 7 (made (codes "p") 0 matrix first_state)) ≡ Halted
+steps_of_an_element : end_of (exec (handler_of [] 0) 7 (codes "p") (Compound (next (Assign 3 (element 2 1) (Constant (pos 1))) (next (tree.Halt 4) none))) 7 (made (codes "p") 0 matrix first_state)) ≡ Halted
 steps_of_an_element = refl
 
 -- ---- `with`
@@ -197,7 +197,7 @@ abbrev i : tree.Place
 i = Variable (codes "p") 1
 
 abbrev in_points : Stmt → Outcome (Unit {0})
-in_points s = exec (routine_of [] 0) 200 (codes "p") s 200 (made (codes "p") 1 (Ordinal (pos 1) (pos 2)) (made (codes "p") 0 points first_state))
+in_points s = exec (handler_of [] 0) 200 (codes "p") s 200 (made (codes "p") 1 (Ordinal (pos 1) (pos 2)) (made (codes "p") 0 points first_state))
 
 -- the field of the variable that a `with` accesses, and that of the element at an index
 abbrev accessed : tree.Place
@@ -219,14 +219,14 @@ no_such_element : end_of (in_points (With 4 (OfUnit (codes "p") 2) 0 (Indexed a 
 no_such_element = refl
 
 -- it spends the steps of its place, and one of its own
-steps_of_with : end_of (exec (routine_of [] 0) 4 (codes "p") (With 4 (OfUnit (codes "p") 2) 0 (Indexed a (Constant (pos 2))) (tree.Halt 5)) 4 (made (codes "p") 0 points first_state)) ≡ Halted
+steps_of_with : end_of (exec (handler_of [] 0) 4 (codes "p") (With 4 (OfUnit (codes "p") 2) 0 (Indexed a (Constant (pos 2))) (tree.Halt 5)) 4 (made (codes "p") 0 points first_state)) ≡ Halted
 steps_of_with = refl
 
 -- ---- sets
 
 -- a variable s of type set of 1..9
 abbrev in_set : Stmt → Outcome (Unit {0})
-in_set s = exec (routine_of [] 0) 200 (codes "p") s 200 (made (codes "p") 0 (Set (pos 1) (pos 9)) first_state)
+in_set s = exec (handler_of [] 0) 200 (codes "p") s 200 (made (codes "p") 0 (Set (pos 1) (pos 9)) first_state)
 
 abbrev number : ℤ → Expr
 number z = Constant z
@@ -269,7 +269,7 @@ constant_members = refl
 
 -- what is assigned to s, and then the end of the run, within so many steps
 abbrev ends_within : ℕ → Expr → End
-ends_within m e = end_of (exec (routine_of [] 0) m (codes "p") (Compound (next (Assign 3 x e) (next (tree.Halt 4) none))) m (made (codes "p") 0 (Set (pos 1) (pos 9)) first_state))
+ends_within m e = end_of (exec (handler_of [] 0) m (codes "p") (Compound (next (Assign 3 x e) (next (tree.Halt 4) none))) m (made (codes "p") 0 (Set (pos 1) (pos 9)) first_state))
 
 -- a constant spends nine steps, and a constructor one and those of its values, besides those of the variable and the assignment
 steps_of_a_constant : ends_within 11 (SetConstant (3 ∷ 5 ∷ [])) ≡ Halted
@@ -293,7 +293,7 @@ abbrev taking : Stmt → Stmt
 taking body = tree.ForIn 3 (record { variable = OfUnit (codes "p") 0; rest = OfUnit (codes "p") 1 }) (SetOf (designators (Single (number (pos 122)) ∷ Single (number (pos 120)) ∷ []))) body
 
 abbrev takes_in : TypeValue → Stmt → Outcome (Unit {0})
-takes_in t s = exec (routine_of [] 0) 200 (codes "p") s 200 (with_members t)
+takes_in t s = exec (handler_of [] 0) 200 (codes "p") s 200 (with_members t)
 
 -- in rising order
 members_rise : trace_of (takes_in (Ordinal (pos 0) (pos 255)) (taking shows_x)) ≡ Write (codes "x") ∷ Write (codes "z") ∷ []

@@ -1,13 +1,13 @@
 -- With more steps, and more turns of its loops, a computation comes to the same, or goes on from where it was cut.
-use Rattle.std.proofs.Common.{slice_get, ◌≡◌, ℕ, ℤ, pos, negsuc, zero, suc, ◌+◌, List, [], ◌∷◌, Option, Some, None, Bool, true, false, length, refl, ap, arith}
+use Rattle.std.proofs.Common.{◌≡◌, ℕ, ℤ, pos, negsuc, zero, suc, ◌+◌, List, [], ◌∷◌, Option, Some, None, Bool, true, false, length, refl, ap, arith}
 use Rattle.std.specs.Prelude.{if◌then◌else◌}
 use Rattle.ep_typed.specs.Controls.{in_order, next_value, has_more, others}
 use Rattle.ep_typed.specs.Denoters.{definition_of, required_type, subrange_type, enumeration_type, array_type, set_type, start_by}
-use Rattle.ep_typed.specs.Meaning.{clears, clears_all, tag_tested, selected_by, selected_now, is_another, changes_variant, sets_tag, assigns_tag, looks, argument, arguments, extended, collected, members_found, one_result, weights_of, results_given, initialized, takes_by, takes_all, elaborate, elaborate_each, answered, indexed, selected, selecting, selects, chosen, active, part, place, eval, write_piece, write_wide, write_item, write_items, assign, turns, turns_until, assigns, undefines, turns_to, counts, takes_least, member_turn, names, exec, exec_all, elaborated, elaborated_where, elaborated_found, elaborate_step, elaborate_within, make, make_all, make_own, make_all_own, start_of, starts_of, Found, routine_in, activation, runs_routine, routine_does, routine_of, read, assign_living, tried, exec_arms, exec_other, begins, begins_where}
+use Rattle.ep_typed.specs.Meaning.{clears, clears_all, tag_tested, selected_by, selected_now, is_another, changes_variant, sets_tag, assigns_tag, looks, argument, arguments, extended, collected, members_found, one_result, weights_of, results_given, initialized, takes_by, takes_all, elaborate, elaborate_each, answered, indexed, selected, selecting, selects, chosen, active, part, place, eval, write_piece, write_wide, write_item, write_items, assign, turns, turns_until, assigns, undefines, turns_to, counts, takes_least, member_turn, names, exec, exec_all, elaborated, elaborated_where, make, make_all, make_own, make_all_own, start_of, starts_of, routine_in, type_in, line_where, activation, runs_routine, routine_does, type_does, handler_of, read, assign_living, tried, exec_arms, exec_other, begins, begins_where}
 use Rattle.ep_typed.specs.Operations.{Answer, Number, Fault, is_same, is_true, decides, is_in}
 use Rattle.ep_typed.specs.Printing.{Result, number_of, members_of, plain_text, wide_text, piece_events}
 use Rattle.ep_typed.specs.Printing as result
-use Rattle.ep_typed.specs.Calls.{Argument, Value, Handler, entered, given_back, in_call}
+use Rattle.ep_typed.specs.Calls.{Argument, Value, Handler, activation_words, entered, given_back, in_call}
 use Rattle.ep_typed.specs.Calls as argument_is
 use Rattle.ep_typed.specs.Steady.{Grows, Steady, IsSteadyHandler}
 use Rattle.ep_typed.specs.Steps.{Call, End, Normal, Halted, Error, Undefined, State, Outcome, Gives, Ends, Cut, state_of, Computation, give, cut, stop, go_on, bind, spend, change, found, fetch, fetch_or, assigned, type_at, Component, component, is_number, variant_number, whole, size_of, with_type, counted, made, made_own, allocate, allocate_own, newest_assigned, with_bound, with_own_bound, standard_file, first_state, using, has_ended, own_variable, is_within, variants_count}
@@ -24,6 +24,7 @@ use Rattle.ep_typed.specs.declared.interface.FormalMode.TheVariants as mode
 use Rattle.ep_typed.specs.declared.interface.RoutineResult.{RoutineResult}
 use Rattle.ep_typed.specs.declared.operations.Print.{Print}
 use Rattle.ep_typed.specs.declared.unit.Unit.{Unit as TypedUnit}
+use Rattle.ep_typed.specs.declared.unit.UnitRoutine.{UnitRoutine}
 use Rattle.ep_typed.specs.declared.unit.UnitType.{UnitType}
 use Rattle.ep_typed.specs.declared.unit.UnitVariable.{UnitVariable}
 use Rattle.ep_typed.specs.declared.tree.CaseRange.{CaseRange}
@@ -31,7 +32,7 @@ use Rattle.ep_typed.specs.declared.tree.Selection.{Selection}
 use Rattle.ep_typed.specs.TypeValues as type
 use Rattle.ep_typed.specs.TypeValues.{TypeValue, set_size, Start}
 use Rattle.ep_typed.specs.Laws.{IsLonger, MeaningsLast}
-use Rattle.ep_typed.proofs.Steady.{steady_looks, grows_refl, grows_trans, grows_quiet, grows_events, grows_type, grows_counted, grows_made, grows_made_own, steady_give, steady_cut, steady_stop, steady_bind, steady_spend, steady_change, steady_fetch, steady_fetch_or, steady_turns, steady_turns_until, steady_turns_to, steady_in_call, steady_routine_of, steady_using, steady_assign_living}
+use Rattle.ep_typed.proofs.Steady.{steady_looks, grows_refl, grows_trans, grows_quiet, grows_events, grows_type, grows_counted, grows_made, grows_made_own, steady_give, steady_cut, steady_stop, steady_bind, steady_spend, steady_change, steady_fetch, steady_fetch_or, steady_turns, steady_turns_until, steady_turns_to, steady_in_call, steady_handler_of, steady_using, steady_assign_living}
 use Rattle.ep_typed.specs.declared.run_error.TheConstants as run_error
 
 -- What one computation comes to, another one comes to with more steps.
@@ -42,7 +43,8 @@ pub record Lasting {A : Type 0} (c d : Computation A) : Type 0 where
 -- What calls do, calls that may nest deeper do with more steps.
 record IsLastingHandler (call other : Handler) : Type 0 where
   steady : IsSteadyHandler other
-  by : (from : List ℕ) (line : ℕ) (callee : Callee) (arguments : List Argument) → Lasting (call from line callee arguments) (other from line callee arguments)
+  routine : (from : List ℕ) (line : ℕ) (callee : Callee) (arguments : List Argument) → Lasting (call.routine from line callee arguments) (other.routine from line callee arguments)
+  named_type : (from : List ℕ) (line index : ℕ) → Lasting (call.named_type from line index) (other.named_type from line index)
 
 -- ---- computations
 
@@ -223,7 +225,7 @@ module _ (call other : Handler) (lasts : IsLastingHandler call other) (g j : ℕ
     lasting_eval line (Step down low high x y) =
         lasting_bind (lasting_eval line x) (λ a. lasting_bind (lasting_eval line y) (λ b. lasting_bind (lasting_answered line _) (λ z. lasting_spend 1 (lasting_give (result.Number z)))))
     lasting_eval line (Function callee given) =
-        lasting_bind (lasting_arguments line given) (λ xs. lasting_bind (lasts.by unit line callee xs) lasting_one_result)
+        lasting_bind (lasting_arguments line given) (λ xs. lasting_bind (lasts.routine unit line callee xs) lasting_one_result)
     lasting_eval line (IndexedValue x y) = lasting_bind (lasting_eval line x) (λ a. lasting_bind (lasting_eval line y) (λ b. lasting_bind (lasting_fetch _ _) (λ k. lasting_part line a k)))
     lasting_eval line (FieldValue x number) = lasting_bind (lasting_eval line x) (λ a. lasting_part line a number)
     lasting_eval line (SetConstant ms) = lasting_spend (suc set_size) (lasting_give (result.Members ms))
@@ -378,7 +380,7 @@ module _ (call other : Handler) (lasts : IsLastingHandler call other) (g j : ℕ
         lasting_bind (lasting_assigns line (entire c.rest) x) (λ _. lasting_bind (lasting_turns call other g (g + j) g j unit (lasting_eval line (has_more c)) (lasting_member_turn line c (lasting_exec s))) (λ _. lasting_undefines line (entire c.variable)))
     lasting_exec (With line v of p s) = lasting_bind (lasting_place line p) (λ c. lasting_bind (lasting_names v c) (λ _. lasting_exec s))
     lasting_exec (Procedure line callee given) =
-        lasting_bind (lasting_arguments line given) (λ xs. lasting_bind (lasts.by unit line callee xs) (λ results. lasting_spend 1 (lasting_give tt)))
+        lasting_bind (lasting_arguments line given) (λ xs. lasting_bind (lasts.routine unit line callee xs) (λ results. lasting_spend 1 (lasting_give tt)))
     lasting_exec (Case line x arms o) = lasting_bind (lasting_eval line x) (λ r. lasting_exec_arms (number_of r) arms (lasting_exec_other line o))
     lasting_exec (Halt line) = lasting_stop Halted
     lasting_exec (Write line items ends_line) = lasting_write_items line items ends_line
@@ -414,39 +416,24 @@ module _ (call other : Handler) (lasts : IsLastingHandler call other) (g j : ℕ
   lasting_begins_where line t r None = lasting_cut
   lasting_begins_where line t r (Some start) = lasting_begins line t r (type.Initial t start)
 
-  module _ (line : ℕ) (types : List UnitType) where
-    lasting_elaborated_found : (find found : Denoter → Computation TypeValue) → ((d : Denoter) → Lasting (find d) (found d)) → (o : Option UnitType)
-        → Lasting (elaborated_found call g unit find o) (elaborated_found other (g + j) unit found o)
-    lasting_elaborated_found find found last None = lasting_cut
-    lasting_elaborated_found find found last (Some t) = last (definition_of t)
-
+  module _ (line : ℕ) where
     mutual
-      lasting_elaborate_step : (find found : Denoter → Computation TypeValue) → ((d : Denoter) → Lasting (find d) (found d)) → (d : Denoter)
-          → Lasting (elaborate_step call g unit line types find d) (elaborate_step other (g + j) unit line types found d)
-      lasting_elaborate_step find found last (Required r) = lasting_elaborated (required_type r)
-      lasting_elaborate_step find found last (Named index []) = lasting_elaborated_found find found last (slice_get types index)
-      lasting_elaborate_step find found last (Named index (b ∷ bs)) = lasting_cut
-      lasting_elaborate_step find found last (Subrange host low high) = lasting_elaborated_where (subrange_type low high)
-      lasting_elaborate_step find found last (Enumeration names) = lasting_elaborated_where (enumeration_type names)
-      lasting_elaborate_step find found last (Array index component) =
-          lasting_bind (lasting_elaborate_step find found last index) (λ t. lasting_bind (lasting_elaborate_step find found last component) (λ u. lasting_elaborated_where (array_type (Some t) (Some u))))
-      lasting_elaborate_step find found last (Record ds) = lasting_bind (lasting_elaborate_each find found last ds) (λ ts. lasting_elaborated (type.Record ts))
-      lasting_elaborate_step find found last (Set base) = lasting_bind (lasting_elaborate_step find found last base) (λ t. lasting_elaborated_where (set_type (Some t)))
-      lasting_elaborate_step find found last (Initial of value) =
-          lasting_bind (lasting_elaborate_step find found last of) (λ t. lasting_bind (lasting_eval line (constant_expr value)) (λ r. lasting_begins_where line t r (start_by value)))
+      lasting_elaborate : (d : Denoter) → Lasting (elaborate call g unit line d) (elaborate other (g + j) unit line d)
+      lasting_elaborate (Required r) = lasting_elaborated (required_type r)
+      lasting_elaborate (Named index []) = lasts.named_type unit line index
+      lasting_elaborate (Named index (b ∷ bs)) = lasting_cut
+      lasting_elaborate (Subrange host low high) = lasting_elaborated_where (subrange_type low high)
+      lasting_elaborate (Enumeration names) = lasting_elaborated_where (enumeration_type names)
+      lasting_elaborate (Array index component) =
+          lasting_bind (lasting_elaborate index) (λ t. lasting_bind (lasting_elaborate component) (λ u. lasting_elaborated_where (array_type (Some t) (Some u))))
+      lasting_elaborate (Record ds) = lasting_bind (lasting_elaborate_each ds) (λ ts. lasting_elaborated (type.Record ts))
+      lasting_elaborate (Set base) = lasting_bind (lasting_elaborate base) (λ t. lasting_elaborated_where (set_type (Some t)))
+      lasting_elaborate (Initial of value) =
+          lasting_bind (lasting_elaborate of) (λ t. lasting_bind (lasting_eval line (constant_expr value)) (λ r. lasting_begins_where line t r (start_by value)))
 
-      lasting_elaborate_each : (find found : Denoter → Computation TypeValue) → ((d : Denoter) → Lasting (find d) (found d)) → (ds : Denoters)
-          → Lasting (elaborate_each call g unit line types find ds) (elaborate_each other (g + j) unit line types found ds)
-      lasting_elaborate_each find found last no_denoter = lasting_give type.no_component
-      lasting_elaborate_each find found last (next_denoter d ds) =
-          lasting_bind (lasting_elaborate_step find found last d) (λ t. lasting_bind (lasting_elaborate_each find found last ds) (λ ts. lasting_give (type.next_component t ts)))
-
-    lasting_elaborate_within : (n : ℕ) (d : Denoter) → Lasting (elaborate_within call g unit line types n d) (elaborate_within other (g + j) unit line types n d)
-    lasting_elaborate_within zero d = lasting_cut
-    lasting_elaborate_within (suc n) d = lasting_elaborate_step (elaborate_within call g unit line types n) (elaborate_within other (g + j) unit line types n) (lasting_elaborate_within n) d
-
-    lasting_elaborate : (d : Denoter) → Lasting (elaborate call g unit line types d) (elaborate other (g + j) unit line types d)
-    lasting_elaborate d = lasting_elaborate_within (suc (length types)) d
+      lasting_elaborate_each : (ds : Denoters) → Lasting (elaborate_each call g unit line ds) (elaborate_each other (g + j) unit line ds)
+      lasting_elaborate_each no_denoter = lasting_give type.no_component
+      lasting_elaborate_each (next_denoter d ds) = lasting_bind (lasting_elaborate d) (λ t. lasting_bind (lasting_elaborate_each ds) (λ ts. lasting_give (type.next_component t ts)))
 
   -- a variable that is allocated
   lasting_allocate : (number : ℕ) (t : TypeValue) → Lasting (allocate unit number t) (allocate unit number t)
@@ -454,13 +441,13 @@ module _ (call other : Handler) (lasts : IsLastingHandler call other) (g j : ℕ
       lasting_bind {c = change (counted t)} {f = λ _. spend (size_of t) (change (made unit number t))} (lasting_change (grows_counted t)) (λ _. lasting_spend (size_of t) (lasting_change (grows_made unit number t)))
 
   -- a variable
-  lasting_make : (types : List UnitType) (number : ℕ) (v : UnitVariable) → Lasting (make call g unit types number v) (make other (g + j) unit types number v)
-  lasting_make types number v = lasting_bind (lasting_elaborate v.line types (denoter_of v.denoter)) (λ t. lasting_allocate number t)
+  lasting_make : (number : ℕ) (v : UnitVariable) → Lasting (make call g unit number v) (make other (g + j) unit number v)
+  lasting_make number v = lasting_bind (lasting_elaborate v.line (denoter_of v.denoter)) (λ t. lasting_allocate number t)
 
   -- variables
-  lasting_make_all : (types : List UnitType) (number : ℕ) (vs : List UnitVariable) → Lasting (make_all call g unit types number vs) (make_all other (g + j) unit types number vs)
-  lasting_make_all types number [] = lasting_give tt
-  lasting_make_all types number (v ∷ vs) = lasting_bind (lasting_make types number v) (λ _. lasting_make_all types (suc number) vs)
+  lasting_make_all : (number : ℕ) (vs : List UnitVariable) → Lasting (make_all call g unit number vs) (make_all other (g + j) unit number vs)
+  lasting_make_all number [] = lasting_give tt
+  lasting_make_all number (v ∷ vs) = lasting_bind (lasting_make number v) (λ _. lasting_make_all (suc number) vs)
 
   -- a variable of a routine that is allocated
   lasting_allocate_own : (number : ℕ) (t : TypeValue) → Lasting (allocate_own number t) (allocate_own number t)
@@ -468,17 +455,17 @@ module _ (call other : Handler) (lasts : IsLastingHandler call other) (g j : ℕ
       lasting_bind {c = change (counted t)} {f = λ _. spend (size_of t) (change (made_own number t))} (lasting_change (grows_counted t)) (λ _. lasting_spend (size_of t) (lasting_change (grows_made_own number t)))
 
   -- a variable of a routine
-  lasting_make_own : (types : List UnitType) (number : ℕ) (v : UnitVariable) → Lasting (make_own call g unit types number v) (make_own other (g + j) unit types number v)
-  lasting_make_own types number v = lasting_bind (lasting_elaborate v.line types (denoter_of v.denoter)) (λ t. lasting_allocate_own number t)
+  lasting_make_own : (number : ℕ) (v : UnitVariable) → Lasting (make_own call g unit number v) (make_own other (g + j) unit number v)
+  lasting_make_own number v = lasting_bind (lasting_elaborate v.line (denoter_of v.denoter)) (λ t. lasting_allocate_own number t)
 
   -- its variables
-  lasting_make_all_own : (types : List UnitType) (number : ℕ) (vs : List UnitVariable) → Lasting (make_all_own call g unit types number vs) (make_all_own other (g + j) unit types number vs)
-  lasting_make_all_own types number [] = lasting_give tt
-  lasting_make_all_own types number (v ∷ vs) = lasting_bind (lasting_make_own types number v) (λ _. lasting_make_all_own types (suc number) vs)
+  lasting_make_all_own : (number : ℕ) (vs : List UnitVariable) → Lasting (make_all_own call g unit number vs) (make_all_own other (g + j) unit number vs)
+  lasting_make_all_own number [] = lasting_give tt
+  lasting_make_all_own number (v ∷ vs) = lasting_bind (lasting_make_own number v) (λ _. lasting_make_all_own (suc number) vs)
 
 -- the start of a unit
 lasting_start_of : (call other : Handler) → IsLastingHandler call other → (g j : ℕ) (u : TypedUnit) → Lasting (start_of call g u) (start_of other (g + j) u)
-lasting_start_of call other lasts g j u = lasting_spend 1 (lasting_bind (lasting_make_all call other lasts g j u.name u.types 0 (made_by_unit u)) (λ _. lasting_exec call other lasts g j u.name (stmt_of u.start)))
+lasting_start_of call other lasts g j u = lasting_spend 1 (lasting_bind (lasting_make_all call other lasts g j u.name 0 (made_by_unit u)) (λ _. lasting_exec call other lasts g j u.name (stmt_of u.start)))
 
 -- the starts of units
 lasting_starts_of : (call other : Handler) → IsLastingHandler call other → (g j : ℕ) (us : List TypedUnit) → Lasting (starts_of call g us) (starts_of other (g + j) us)
@@ -486,8 +473,8 @@ lasting_starts_of call other lasts g j [] = lasting_stop Normal
 lasting_starts_of call other lasts g j (u ∷ us) = lasting_bind (lasting_start_of call other lasts g j u) (λ _. lasting_starts_of call other lasts g j us)
 
 -- while a call is under way
-pub lasting_in_call : {A : Type 0} (levels : ℕ) (x : Call) {c d : Computation A} → Lasting c d → Lasting (in_call levels x c) (in_call levels x d)
-lasting_in_call {A = A} levels x {c = c} {d = d} p = record { steady = steady_in_call levels x p.steady; by = λ m k s. go k s (c m (entered levels x s)) (d (m + k) (entered levels x s)) (p.by m k (entered levels x s)) }
+pub lasting_in_call : {A : Type 0} (words levels : ℕ) (x : Call) {c d : Computation A} → Lasting c d → Lasting (in_call words levels x c) (in_call words levels x d)
+lasting_in_call {A = A} words levels x {c = c} {d = d} p = record { steady = steady_in_call words levels x p.steady; by = λ m k s. go k s (c m (entered words levels x s)) (d (m + k) (entered words levels x s)) (p.by m k (entered words levels x s)) }
   where
     after : (s t : State) (o : Outcome A) → Grows t (state_of o) → Grows t (state_of (given_back s o))
     after s t (Gives left a u) h = record { events = h.events; lost = h.lost }
@@ -503,17 +490,17 @@ lasting_in_call {A = A} levels x {c = c} {d = d} p = record { steady = steady_in
 lasting_initialized : (unit : List ℕ) (line : ℕ) (t : TypeValue) (r : Result) → Lasting (initialized unit line t r) (initialized unit line t r)
 lasting_initialized unit line t r = lasting_if (suits (Some t) r) (lasting_change (λ s. grows_quiet s (newest_assigned (value_of r) s) refl refl)) (lasting_stop (Error (misfit r) unit line))
 
-module _ (call other : Handler) (lasts : IsLastingHandler call other) (g j : ℕ) (unit : List ℕ) (types : List UnitType) where
+module _ (call other : Handler) (lasts : IsLastingHandler call other) (g j : ℕ) (unit : List ℕ) where
   -- a formal parameter that takes its argument
   lasting_takes_value : (line number : ℕ) (f : Formal) (r : Result)
-      → Lasting (bind (elaborate call g unit line types (denoter_of f.denoter)) (λ t. bind (allocate_own number t) (λ _. initialized unit line t r))) (bind (elaborate other (g + j) unit line types (denoter_of f.denoter)) (λ t. bind (allocate_own number t) (λ _. initialized unit line t r)))
+      → Lasting (bind (elaborate call g unit line (denoter_of f.denoter)) (λ t. bind (allocate_own number t) (λ _. initialized unit line t r))) (bind (elaborate other (g + j) unit line (denoter_of f.denoter)) (λ t. bind (allocate_own number t) (λ _. initialized unit line t r)))
   lasting_takes_value line number f r =
-      lasting_bind (lasting_elaborate call other lasts g j unit line types (denoter_of f.denoter)) (λ t. lasting_bind (lasting_allocate_own call other lasts g j unit number t) (λ _. lasting_initialized unit line t r))
+      lasting_bind (lasting_elaborate call other lasts g j unit line (denoter_of f.denoter)) (λ t. lasting_bind (lasting_allocate_own call other lasts g j unit number t) (λ _. lasting_initialized unit line t r))
 
   lasting_takes_variable : (number : ℕ) (v : Component) → Lasting (spend 1 (change (with_own_bound number v))) (spend 1 (change (with_own_bound number v)))
   lasting_takes_variable number v = lasting_spend 1 (lasting_change (λ s. grows_quiet s (with_own_bound number v s) refl refl))
 
-  lasting_takes_by : (m : FormalMode) (line number : ℕ) (f : Formal) (x : Argument) → Lasting (takes_by call g unit types m line number f x) (takes_by other (g + j) unit types m line number f x)
+  lasting_takes_by : (m : FormalMode) (line number : ℕ) (f : Formal) (x : Argument) → Lasting (takes_by call g unit m line number f x) (takes_by other (g + j) unit m line number f x)
   lasting_takes_by mode.Value line number f (Value r) = lasting_takes_value line number f r
   lasting_takes_by mode.Value line number f (argument_is.Variable n) = lasting_cut
   lasting_takes_by mode.ProtectedValue line number f (Value r) = lasting_takes_value line number f r
@@ -523,7 +510,7 @@ module _ (call other : Handler) (lasts : IsLastingHandler call other) (g j : ℕ
   lasting_takes_by mode.ProtectedVariable line number f (Value r) = lasting_cut
   lasting_takes_by mode.ProtectedVariable line number f (argument_is.Variable n) = lasting_takes_variable number n
 
-  lasting_takes_all : (line number : ℕ) (fs : List Formal) (xs : List Argument) → Lasting (takes_all call g unit types line number fs xs) (takes_all other (g + j) unit types line number fs xs)
+  lasting_takes_all : (line number : ℕ) (fs : List Formal) (xs : List Argument) → Lasting (takes_all call g unit line number fs xs) (takes_all other (g + j) unit line number fs xs)
   lasting_takes_all line number [] [] = lasting_give tt
   lasting_takes_all line number [] (x ∷ xs) = lasting_cut
   lasting_takes_all line number (f ∷ fs) [] = lasting_cut
@@ -537,38 +524,49 @@ lasting_results_given unit line number (Some r) =
     lasting_using (Error run_error.DISPOSED unit line) v.allocation (lasting_bind (lasting_fetch_or (λ s. Error (unresulting (type_at v s)) unit line) (result_of v)) (λ r. lasting_give (r ∷ []))))
 
 -- a routine
-lasting_runs_routine : (call other : Handler) → IsLastingHandler call other → (g j : ℕ) (unit : List ℕ) (f : Found) (xs : List Argument) → Lasting (runs_routine call g unit f xs) (runs_routine other (g + j) unit f xs)
-lasting_runs_routine call other lasts g j unit f xs =
-    let r = f.routine in
-    lasting_bind (lasting_takes_all call other lasts g j unit f.types r.line 0 r.formals xs)
-    (λ _. lasting_bind (lasting_make_all_own call other lasts g j unit f.types (length r.formals) (made_variables f.routine))
+lasting_runs_routine : (call other : Handler) → IsLastingHandler call other → (g j : ℕ) (unit : List ℕ) (r : UnitRoutine) (xs : List Argument) → Lasting (runs_routine call g unit r xs) (runs_routine other (g + j) unit r xs)
+lasting_runs_routine call other lasts g j unit r xs =
+    lasting_bind (lasting_takes_all call other lasts g j unit r.line 0 r.formals xs)
+    (λ _. lasting_bind (lasting_make_all_own call other lasts g j unit (length r.formals) (made_variables r))
     (λ _. lasting_bind (lasting_exec call other lasts g j unit (stmt_of r.block)) (λ _. lasting_results_given unit r.line (length r.formals) r.result)))
 
-lasting_routine_does : (call other : Handler) → IsLastingHandler call other → (g j : ℕ) (from : List ℕ) (line : ℕ) (callee : Callee) (o : Option Found) (xs : List Argument)
+lasting_routine_does : (call other : Handler) → IsLastingHandler call other → (g j : ℕ) (from : List ℕ) (line : ℕ) (callee : Callee) (o : Option UnitRoutine) (xs : List Argument)
     → Lasting (routine_does call g from line callee o xs) (routine_does other (g + j) from line callee o xs)
 lasting_routine_does call other lasts g j from line callee None xs = lasting_cut
-lasting_routine_does call other lasts g j from line callee (Some f) xs =
-    lasting_in_call callee.levels (activation f.routine.name from line) (lasting_spend (suc (weights_of xs)) (lasting_runs_routine call other lasts g j callee.unit f xs))
+lasting_routine_does call other lasts g j from line callee (Some r) xs =
+    lasting_in_call activation_words callee.levels (activation r.name from line) (lasting_spend (suc (weights_of xs)) (lasting_runs_routine call other lasts g j callee.unit r xs))
+
+-- the elaboration of a type
+lasting_type_does : (call other : Handler) → IsLastingHandler call other → (g j : ℕ) (unit : List ℕ) (line : ℕ) (o : Option UnitType)
+    → Lasting (type_does call g unit line o) (type_does other (g + j) unit line o)
+lasting_type_does call other lasts g j unit line None = lasting_cut
+lasting_type_does call other lasts g j unit line (Some t) =
+    lasting_in_call 0 0 (activation [] unit line) (lasting_spend 1 (lasting_elaborate call other lasts g j unit (line_where t.line) (definition_of t)))
+
+-- no steps for anything, and then some
+lasting_from_cut : {A : Type 0} {c : Computation A} → Steady c → Lasting cut c
+lasting_from_cut steady = record { steady = steady; by = λ m k s. steady.by (m + k) s }
 
 -- where calls may nest deeper
-lasting_routine_of : (units : List TypedUnit) (depth more : ℕ) → IsLastingHandler (routine_of units depth) (routine_of units (depth + more))
-lasting_routine_of units zero more =
-    let steady = steady_routine_of units (0 + more) in
+lasting_handler_of : (units : List TypedUnit) (depth more : ℕ) → IsLastingHandler (handler_of units depth) (handler_of units (depth + more))
+lasting_handler_of units zero more =
+    let steady = steady_handler_of units (0 + more) in
     record {
       steady = steady;
-      by = λ from line callee arguments.
-          let longer = steady from line callee arguments in
-          record { steady = longer; by = λ m k s. longer.by (m + k) s };
+      routine = λ from line callee arguments. lasting_from_cut (steady.routine from line callee arguments);
+      named_type = λ from line index. lasting_from_cut (steady.named_type from line index);
     }
-lasting_routine_of units (suc depth) more =
+lasting_handler_of units (suc depth) more =
     let one : suc depth + more ≡ suc (depth + more) = omega arith in
+    let below = lasting_handler_of units depth more in
     rw one (record {
-      steady = steady_routine_of units (suc (depth + more));
-      by = λ from line callee arguments. lasting_routine_does (routine_of units depth) (routine_of units (depth + more)) (lasting_routine_of units depth more) depth more from line callee (routine_in units callee.unit callee.number) arguments;
+      steady = steady_handler_of units (suc (depth + more));
+      routine = λ from line callee arguments. lasting_routine_does (handler_of units depth) (handler_of units (depth + more)) below depth more from line callee (routine_in units callee.unit callee.number) arguments;
+      named_type = λ from line index. lasting_type_does (handler_of units depth) (handler_of units (depth + more)) below depth more from line (type_in units from index);
     })
 
 -- The meaning of units with more steps.
 pub meanings_last : MeaningsLast
 meanings_last units steps more =
-    let x = lasting_starts_of (routine_of units steps) (routine_of units (steps + more)) (lasting_routine_of units steps more) steps more units in
+    let x = lasting_starts_of (handler_of units steps) (handler_of units (steps + more)) (lasting_handler_of units steps more) steps more units in
     x.by steps more first_state

@@ -7,7 +7,7 @@ use Rattle.ep_typed.specs.TypeValues.{Ordinal}
 
 -- one more activation of a routine that is declared so many levels up, with one variable
 abbrev enters : ℕ → State → State
-enters levels s = made_own 0 (Ordinal (pos 0) (pos 9)) (entered levels (activation (codes "f") (codes "p") 1) s)
+enters levels s = made_own 0 (Ordinal (pos 0) (pos 9)) (entered 0 levels (activation (codes "f") (codes "p") 1) s)
 
 -- two activations of a routine of the unit, whose variables are the allocations 3 and 4, and one of a routine in it
 abbrev inner : State

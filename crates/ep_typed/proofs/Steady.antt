@@ -1,16 +1,16 @@
 -- No computation takes back an event, or room that was lost.
-use Rattle.std.proofs.Common.{slice_get, ◌≡◌, ℕ, ℤ, pos, negsuc, zero, suc, ◌+◌, List, [], ◌∷◌, ◌++◌, Option, Some, None, Bool, true, false, IsTrue, length, refl, sym, ap, ◌∙◌, append_assoc, append-nil}
+use Rattle.std.proofs.Common.{◌≡◌, ℕ, ℤ, pos, negsuc, zero, suc, ◌+◌, List, [], ◌∷◌, ◌++◌, Option, Some, None, Bool, true, false, IsTrue, length, refl, sym, ap, ◌∙◌, append_assoc, append-nil}
 use Rattle.std.specs.Prelude.{if◌then◌else◌}
 use Rattle.std.specs.List.{list_any}
 use Rattle.ep_outside.specs.Known.{IsPrefix}
 use Rattle.ep_typed.specs.Controls.{in_order, next_value, has_more, others}
 use Rattle.ep_typed.specs.Denoters.{definition_of, required_type, subrange_type, enumeration_type, array_type, set_type, start_by}
 use Rattle.ep_typed.specs.Events.{Trace}
-use Rattle.ep_typed.specs.Meaning.{clears, clears_all, tag_tested, selected_by, selected_now, is_another, changes_variant, sets_tag, assigns_tag, looks, argument, arguments, extended, collected, members_found, one_result, weights_of, result_at, results_given, initialized, takes_by, takes_all, elaborate, elaborate_each, answered, indexed, selected, selecting, selects, chosen, active, part, place, eval, write_piece, write_wide, write_item, write_items, assign, turns, turns_until, assigns, undefines, turns_to, counts, takes_least, member_turn, names, exec, exec_all, elaborated, elaborated_where, elaborated_found, elaborate_step, elaborate_within, make, make_all, make_own, make_all_own, start_of, starts_of, Found, routine_in, activation, runs_routine, routine_does, routine_of, read, assign_living, tried, exec_arms, exec_other, begins, begins_where}
+use Rattle.ep_typed.specs.Meaning.{clears, clears_all, tag_tested, selected_by, selected_now, is_another, changes_variant, sets_tag, assigns_tag, looks, argument, arguments, extended, collected, members_found, one_result, weights_of, result_at, results_given, initialized, takes_by, takes_all, elaborate, elaborate_each, answered, indexed, selected, selecting, selects, chosen, active, part, place, eval, write_piece, write_wide, write_item, write_items, assign, turns, turns_until, assigns, undefines, turns_to, counts, takes_least, member_turn, names, exec, exec_all, elaborated, elaborated_where, make, make_all, make_own, make_all_own, start_of, starts_of, routine_in, type_in, line_where, activation, runs_routine, routine_does, type_does, handler_of, read, assign_living, tried, exec_arms, exec_other, begins, begins_where}
 use Rattle.ep_typed.specs.Operations.{Answer, Number, Fault, is_same, is_true, decides, is_in}
 use Rattle.ep_typed.specs.Printing.{Result, number_of, members_of, plain_text, wide_text, piece_events}
 use Rattle.ep_typed.specs.Printing as result
-use Rattle.ep_typed.specs.Calls.{Argument, Value, Handler, entered, given_back, in_call}
+use Rattle.ep_typed.specs.Calls.{Argument, Value, Handler, activation_words, entered, given_back, in_call}
 use Rattle.ep_typed.specs.Calls as argument_is
 use Rattle.ep_typed.specs.Steady.{Grows, Steady, IsSteadyHandler}
 use Rattle.ep_typed.specs.Steps.{Call, End, Normal, Halted, Error, Undefined, State, Outcome, Gives, Ends, Cut, state_of, Computation, give, cut, stop, go_on, bind, spend, change, found, fetch, fetch_or, with_events, assigned, type_at, Component, component, is_number, variant_number, whole, size_of, same_type, Resources, watched, words_of_type, sized, met, with_type, counted, made, made_own, allocate, allocate_own, newest_assigned, with_bound, with_own_bound, standard_file, using, has_ended, own_variable, is_within, variants_count}
@@ -31,6 +31,7 @@ use Rattle.ep_typed.specs.declared.tree.Selection.{Selection}
 use Rattle.ep_typed.specs.TypeValues as type
 use Rattle.ep_typed.specs.TypeValues.{TypeValue, set_size, Start}
 use Rattle.ep_typed.specs.declared.unit.Unit.{Unit as TypedUnit}
+use Rattle.ep_typed.specs.declared.unit.UnitRoutine.{UnitRoutine}
 use Rattle.ep_typed.specs.declared.unit.UnitType.{UnitType}
 use Rattle.ep_typed.specs.declared.unit.UnitVariable.{UnitVariable}
 use Rattle.ep_typed.specs.declared.run_error.TheConstants as run_error
@@ -256,7 +257,7 @@ module _ (call : Handler) (steady : IsSteadyHandler call) (g : ℕ) (unit : List
         steady_bind (steady_eval line x) (λ a. steady_if (decides operation (number_of a)) (steady_spend 1 (steady_give a)) (steady_bind (steady_eval line y) (λ b. steady_spend 1 (steady_give b))))
     steady_eval line (Step down low high x y) =
         steady_bind (steady_eval line x) (λ a. steady_bind (steady_eval line y) (λ b. steady_bind (steady_answered line _) (λ z. steady_spend 1 (steady_give (result.Number z)))))
-    steady_eval line (Function callee given) = steady_bind (steady_arguments line given) (λ xs. steady_bind (steady unit line callee xs) steady_one_result)
+    steady_eval line (Function callee given) = steady_bind (steady_arguments line given) (λ xs. steady_bind (steady.routine unit line callee xs) steady_one_result)
     steady_eval line (IndexedValue x y) = steady_bind (steady_eval line x) (λ a. steady_bind (steady_eval line y) (λ b. steady_bind (steady_fetch _ _) (λ k. steady_part line a k)))
     steady_eval line (FieldValue x number) = steady_bind (steady_eval line x) (λ a. steady_part line a number)
     steady_eval line (SetConstant ms) = steady_spend (suc set_size) (steady_give (result.Members ms))
@@ -410,7 +411,7 @@ module _ (call : Handler) (steady : IsSteadyHandler call) (g : ℕ) (unit : List
         steady_bind (steady_assigns line (entire c.rest) x) (λ _. steady_bind (steady_turns call g g unit (steady_eval line (has_more c)) (steady_member_turn line c (steady_exec s))) (λ _. steady_undefines line (entire c.variable)))
     steady_exec (With line v of p s) = steady_bind (steady_place line p) (λ c. steady_bind (steady_names v c) (λ _. steady_exec s))
     steady_exec (Procedure line callee given) =
-        steady_bind (steady_arguments line given) (λ xs. steady_bind (steady unit line callee xs) (λ results. steady_spend 1 (steady_give tt)))
+        steady_bind (steady_arguments line given) (λ xs. steady_bind (steady.routine unit line callee xs) (λ results. steady_spend 1 (steady_give tt)))
     steady_exec (Case line x arms o) = steady_bind (steady_eval line x) (λ r. steady_exec_arms (number_of r) arms (steady_exec_other line o))
     steady_exec (Halt line) = steady_stop Halted
     steady_exec (Write line items ends_line) = steady_write_items line items ends_line
@@ -446,61 +447,46 @@ module _ (call : Handler) (steady : IsSteadyHandler call) (g : ℕ) (unit : List
   steady_begins_where line t r None = steady_cut
   steady_begins_where line t r (Some start) = steady_begins line t r (type.Initial t start)
 
-  module _ (line : ℕ) (types : List UnitType) where
-    steady_elaborated_found : (find : Denoter → Computation TypeValue) → ((d : Denoter) → Steady (find d)) → (o : Option UnitType)
-        → Steady (elaborated_found call g unit find o)
-    steady_elaborated_found find steady_find None = steady_cut
-    steady_elaborated_found find steady_find (Some t) = steady_find (definition_of t)
-
+  module _ (line : ℕ) where
     mutual
-      pub steady_elaborate_step : (find : Denoter → Computation TypeValue) → ((d : Denoter) → Steady (find d)) → (d : Denoter)
-          → Steady (elaborate_step call g unit line types find d)
-      steady_elaborate_step find steady_find (Required r) = steady_elaborated (required_type r)
-      steady_elaborate_step find steady_find (Named index []) = steady_elaborated_found find steady_find (slice_get types index)
-      steady_elaborate_step find steady_find (Named index (b ∷ bs)) = steady_cut
-      steady_elaborate_step find steady_find (Subrange host low high) = steady_elaborated_where (subrange_type low high)
-      steady_elaborate_step find steady_find (Enumeration names) = steady_elaborated_where (enumeration_type names)
-      steady_elaborate_step find steady_find (Array index component) =
-          steady_bind (steady_elaborate_step find steady_find index) (λ t. steady_bind (steady_elaborate_step find steady_find component) (λ u. steady_elaborated_where (array_type (Some t) (Some u))))
-      steady_elaborate_step find steady_find (Record ds) = steady_bind (steady_elaborate_each find steady_find ds) (λ ts. steady_elaborated (type.Record ts))
-      steady_elaborate_step find steady_find (Set base) = steady_bind (steady_elaborate_step find steady_find base) (λ t. steady_elaborated_where (set_type (Some t)))
-      steady_elaborate_step find steady_find (Initial of value) =
-          steady_bind (steady_elaborate_step find steady_find of) (λ t. steady_bind (steady_eval line (constant_expr value)) (λ r. steady_begins_where line t r (start_by value)))
+      pub steady_elaborate : (d : Denoter) → Steady (elaborate call g unit line d)
+      steady_elaborate (Required r) = steady_elaborated (required_type r)
+      steady_elaborate (Named index []) = steady.named_type unit line index
+      steady_elaborate (Named index (b ∷ bs)) = steady_cut
+      steady_elaborate (Subrange host low high) = steady_elaborated_where (subrange_type low high)
+      steady_elaborate (Enumeration names) = steady_elaborated_where (enumeration_type names)
+      steady_elaborate (Array index component) =
+          steady_bind (steady_elaborate index) (λ t. steady_bind (steady_elaborate component) (λ u. steady_elaborated_where (array_type (Some t) (Some u))))
+      steady_elaborate (Record ds) = steady_bind (steady_elaborate_each ds) (λ ts. steady_elaborated (type.Record ts))
+      steady_elaborate (Set base) = steady_bind (steady_elaborate base) (λ t. steady_elaborated_where (set_type (Some t)))
+      steady_elaborate (Initial of value) =
+          steady_bind (steady_elaborate of) (λ t. steady_bind (steady_eval line (constant_expr value)) (λ r. steady_begins_where line t r (start_by value)))
 
-      pub steady_elaborate_each : (find : Denoter → Computation TypeValue) → ((d : Denoter) → Steady (find d)) → (ds : Denoters)
-          → Steady (elaborate_each call g unit line types find ds)
-      steady_elaborate_each find steady_find no_denoter = steady_give type.no_component
-      steady_elaborate_each find steady_find (next_denoter d ds) =
-          steady_bind (steady_elaborate_step find steady_find d) (λ t. steady_bind (steady_elaborate_each find steady_find ds) (λ ts. steady_give (type.next_component t ts)))
-
-    pub steady_elaborate_within : (n : ℕ) (d : Denoter) → Steady (elaborate_within call g unit line types n d)
-    steady_elaborate_within zero d = steady_cut
-    steady_elaborate_within (suc n) d = steady_elaborate_step (elaborate_within call g unit line types n) (steady_elaborate_within n) d
-
-    pub steady_elaborate : (d : Denoter) → Steady (elaborate call g unit line types d)
-    steady_elaborate d = steady_elaborate_within (suc (length types)) d
+      pub steady_elaborate_each : (ds : Denoters) → Steady (elaborate_each call g unit line ds)
+      steady_elaborate_each no_denoter = steady_give type.no_component
+      steady_elaborate_each (next_denoter d ds) = steady_bind (steady_elaborate d) (λ t. steady_bind (steady_elaborate_each ds) (λ ts. steady_give (type.next_component t ts)))
 
   -- a variable of a type that is elaborated
-  pub steady_make : (types : List UnitType) (number : ℕ) (v : UnitVariable) → Steady (make call g unit types number v)
-  steady_make types number v = steady_bind (steady_elaborate v.line types (denoter_of v.denoter)) (λ t. steady_allocate unit number t)
+  pub steady_make : (number : ℕ) (v : UnitVariable) → Steady (make call g unit number v)
+  steady_make number v = steady_bind (steady_elaborate v.line (denoter_of v.denoter)) (λ t. steady_allocate unit number t)
 
   -- variables
-  pub steady_make_all : (types : List UnitType) (number : ℕ) (vs : List UnitVariable) → Steady (make_all call g unit types number vs)
-  steady_make_all types number [] = steady_give tt
-  steady_make_all types number (v ∷ vs) = steady_bind (steady_make types number v) (λ _. steady_make_all types (suc number) vs)
+  pub steady_make_all : (number : ℕ) (vs : List UnitVariable) → Steady (make_all call g unit number vs)
+  steady_make_all number [] = steady_give tt
+  steady_make_all number (v ∷ vs) = steady_bind (steady_make number v) (λ _. steady_make_all (suc number) vs)
 
   -- a variable of a routine, of a type that is elaborated
-  pub steady_make_own : (types : List UnitType) (number : ℕ) (v : UnitVariable) → Steady (make_own call g unit types number v)
-  steady_make_own types number v = steady_bind (steady_elaborate v.line types (denoter_of v.denoter)) (λ t. steady_allocate_own number t)
+  pub steady_make_own : (number : ℕ) (v : UnitVariable) → Steady (make_own call g unit number v)
+  steady_make_own number v = steady_bind (steady_elaborate v.line (denoter_of v.denoter)) (λ t. steady_allocate_own number t)
 
   -- its variables
-  pub steady_make_all_own : (types : List UnitType) (number : ℕ) (vs : List UnitVariable) → Steady (make_all_own call g unit types number vs)
-  steady_make_all_own types number [] = steady_give tt
-  steady_make_all_own types number (v ∷ vs) = steady_bind (steady_make_own types number v) (λ _. steady_make_all_own types (suc number) vs)
+  pub steady_make_all_own : (number : ℕ) (vs : List UnitVariable) → Steady (make_all_own call g unit number vs)
+  steady_make_all_own number [] = steady_give tt
+  steady_make_all_own number (v ∷ vs) = steady_bind (steady_make_own number v) (λ _. steady_make_all_own (suc number) vs)
 
 -- the start of a unit
 pub steady_start_of : (call : Handler) → IsSteadyHandler call → (g : ℕ) (u : TypedUnit) → Steady (start_of call g u)
-steady_start_of call steady g u = steady_spend 1 (steady_bind (steady_make_all call steady g u.name u.types 0 (made_by_unit u)) (λ _. steady_exec call steady g u.name (stmt_of u.start)))
+steady_start_of call steady g u = steady_spend 1 (steady_bind (steady_make_all call steady g u.name 0 (made_by_unit u)) (λ _. steady_exec call steady g u.name (stmt_of u.start)))
 
 -- the starts of units
 pub steady_starts_of : (call : Handler) → IsSteadyHandler call → (g : ℕ) (us : List TypedUnit) → Steady (starts_of call g us)
@@ -510,10 +496,10 @@ steady_starts_of call steady g (u ∷ us) = steady_bind (steady_start_of call st
 -- ---- calls
 
 -- while a call is under way, and after it
-pub steady_in_call : {A : Type 0} (levels : ℕ) (x : Call) {c : Computation A} → Steady c → Steady (in_call levels x c)
-steady_in_call {A = A} levels x {c = c} g = record { by = λ m s. go m s (c m (entered levels x s)) (grows_trans (grows_entered s) (g.by m (entered levels x s))) }
+pub steady_in_call : {A : Type 0} (words levels : ℕ) (x : Call) {c : Computation A} → Steady c → Steady (in_call words levels x c)
+steady_in_call {A = A} words levels x {c = c} g = record { by = λ m s. go m s (c m (entered words levels x s)) (grows_trans (grows_entered s) (g.by m (entered words levels x s))) }
   where
-    grows_entered : (s : State) → Grows s (entered levels x s)
+    grows_entered : (s : State) → Grows s (entered words levels x s)
     grows_entered s = record { events = record { rest = []; is = sym (append-nil s.trace) }; lost = λ h. rw h refl }
 
     go : (m : ℕ) (s : State) (o : Outcome A) → Grows s (state_of o) → Grows s (state_of (given_back s o))
@@ -525,16 +511,16 @@ steady_in_call {A = A} levels x {c = c} g = record { by = λ m s. go m s (c m (e
 pub steady_initialized : (unit : List ℕ) (line : ℕ) (t : TypeValue) (r : Result) → Steady (initialized unit line t r)
 steady_initialized unit line t r = steady_if (suits (Some t) r) (steady_change (λ s. grows_quiet s (newest_assigned (value_of r) s) refl refl)) (steady_stop (Error (misfit r) unit line))
 
-module _ (call : Handler) (steady : IsSteadyHandler call) (g : ℕ) (unit : List ℕ) (types : List UnitType) where
+module _ (call : Handler) (steady : IsSteadyHandler call) (g : ℕ) (unit : List ℕ) where
   -- a formal parameter that takes its argument
-  steady_takes_value : (line number : ℕ) (f : Formal) (r : Result) → Steady (bind (elaborate call g unit line types (denoter_of f.denoter)) (λ t. bind (allocate_own number t) (λ _. initialized unit line t r)))
+  steady_takes_value : (line number : ℕ) (f : Formal) (r : Result) → Steady (bind (elaborate call g unit line (denoter_of f.denoter)) (λ t. bind (allocate_own number t) (λ _. initialized unit line t r)))
   steady_takes_value line number f r =
-      steady_bind (steady_elaborate call steady g unit line types (denoter_of f.denoter)) (λ t. steady_bind (steady_allocate_own number t) (λ _. steady_initialized unit line t r))
+      steady_bind (steady_elaborate call steady g unit line (denoter_of f.denoter)) (λ t. steady_bind (steady_allocate_own number t) (λ _. steady_initialized unit line t r))
 
   steady_takes_variable : (number : ℕ) (c : Component) → Steady (spend 1 (change (with_own_bound number c)))
   steady_takes_variable number c = steady_spend 1 (steady_change (λ s. grows_quiet s (with_own_bound number c s) refl refl))
 
-  pub steady_takes_by : (m : FormalMode) (line number : ℕ) (f : Formal) (x : Argument) → Steady (takes_by call g unit types m line number f x)
+  pub steady_takes_by : (m : FormalMode) (line number : ℕ) (f : Formal) (x : Argument) → Steady (takes_by call g unit m line number f x)
   steady_takes_by mode.Value line number f (Value r) = steady_takes_value line number f r
   steady_takes_by mode.Value line number f (argument_is.Variable n) = steady_cut
   steady_takes_by mode.ProtectedValue line number f (Value r) = steady_takes_value line number f r
@@ -544,7 +530,7 @@ module _ (call : Handler) (steady : IsSteadyHandler call) (g : ℕ) (unit : List
   steady_takes_by mode.ProtectedVariable line number f (Value r) = steady_cut
   steady_takes_by mode.ProtectedVariable line number f (argument_is.Variable n) = steady_takes_variable number n
 
-  pub steady_takes_all : (line number : ℕ) (fs : List Formal) (xs : List Argument) → Steady (takes_all call g unit types line number fs xs)
+  pub steady_takes_all : (line number : ℕ) (fs : List Formal) (xs : List Argument) → Steady (takes_all call g unit line number fs xs)
   steady_takes_all line number [] [] = steady_give tt
   steady_takes_all line number [] (x ∷ xs) = steady_cut
   steady_takes_all line number (f ∷ fs) [] = steady_cut
@@ -562,21 +548,28 @@ steady_results_given unit line number None = steady_give []
 steady_results_given unit line number (Some r) = steady_result_at unit line number
 
 -- a routine
-pub steady_runs_routine : (call : Handler) → IsSteadyHandler call → (g : ℕ) (unit : List ℕ) (f : Found) (xs : List Argument) → Steady (runs_routine call g unit f xs)
-steady_runs_routine call steady g unit f xs =
-    let r = f.routine in
-    steady_bind (steady_takes_all call steady g unit f.types r.line 0 r.formals xs)
-    (λ _. steady_bind (steady_make_all_own call steady g unit f.types (length r.formals) (made_variables f.routine))
+pub steady_runs_routine : (call : Handler) → IsSteadyHandler call → (g : ℕ) (unit : List ℕ) (r : UnitRoutine) (xs : List Argument) → Steady (runs_routine call g unit r xs)
+steady_runs_routine call steady g unit r xs =
+    steady_bind (steady_takes_all call steady g unit r.line 0 r.formals xs)
+    (λ _. steady_bind (steady_make_all_own call steady g unit (length r.formals) (made_variables r))
     (λ _. steady_bind (steady_exec call steady g unit (stmt_of r.block)) (λ _. steady_results_given unit r.line (length r.formals) r.result)))
 
-steady_routine_does : (call : Handler) → IsSteadyHandler call → (g : ℕ) (from : List ℕ) (line : ℕ) (callee : Callee) (o : Option Found) (xs : List Argument)
+steady_routine_does : (call : Handler) → IsSteadyHandler call → (g : ℕ) (from : List ℕ) (line : ℕ) (callee : Callee) (o : Option UnitRoutine) (xs : List Argument)
     → Steady (routine_does call g from line callee o xs)
 steady_routine_does call steady g from line callee None xs = steady_cut
-steady_routine_does call steady g from line callee (Some f) xs =
-    steady_in_call callee.levels (activation f.routine.name from line) (steady_spend (suc (weights_of xs)) (steady_runs_routine call steady g callee.unit f xs))
+steady_routine_does call steady g from line callee (Some r) xs =
+    steady_in_call activation_words callee.levels (activation r.name from line) (steady_spend (suc (weights_of xs)) (steady_runs_routine call steady g callee.unit r xs))
+
+steady_type_does : (call : Handler) → IsSteadyHandler call → (g : ℕ) (unit : List ℕ) (line : ℕ) (o : Option UnitType) → Steady (type_does call g unit line o)
+steady_type_does call steady g unit line None = steady_cut
+steady_type_does call steady g unit line (Some t) =
+    steady_in_call 0 0 (activation [] unit line) (steady_spend 1 (steady_elaborate call steady g unit (line_where t.line) (definition_of t)))
 
 -- however deep calls nest
-pub steady_routine_of : (units : List TypedUnit) (depth : ℕ) → IsSteadyHandler (routine_of units depth)
-steady_routine_of units zero from line callee arguments = steady_cut
-steady_routine_of units (suc depth) from line callee arguments =
-    steady_routine_does (routine_of units depth) (steady_routine_of units depth) depth from line callee (routine_in units callee.unit callee.number) arguments
+pub steady_handler_of : (units : List TypedUnit) (depth : ℕ) → IsSteadyHandler (handler_of units depth)
+steady_handler_of units zero = record { routine = λ from line callee arguments. steady_cut; named_type = λ from line index. steady_cut }
+steady_handler_of units (suc depth) =
+    record {
+      routine = λ from line callee arguments. steady_routine_does (handler_of units depth) (steady_handler_of units depth) depth from line callee (routine_in units callee.unit callee.number) arguments;
+      named_type = λ from line index. steady_type_does (handler_of units depth) (steady_handler_of units depth) depth from line (type_in units from index);
+    }

@@ -1,7 +1,7 @@
 -- The meaning of typed trees, by recursion on them, in counted steps.
 use Rattle.std.specs.Str.{bytes_eq}
 use Rattle.std.specs.Prelude.{ℕ, ℤ, pos, negsuc, zero, suc, ◌+◌, Bool, true, false, not, List, [], ◌∷◌, length, slice_get, Option, Some, None, if◌then◌else◌}
-use Rattle.ep_typed.specs.Calls.{Argument, Value, Handler, in_call}
+use Rattle.ep_typed.specs.Calls.{Argument, Value, Handler, activation_words, in_call}
 use Rattle.ep_typed.specs.Calls as argument_is
 use Rattle.ep_typed.specs.Controls.{in_order, next_value, has_more, others}
 use Rattle.ep_typed.specs.Denoters.{required_type, subrange_type, enumeration_type, array_type, set_type, definition_of, start_by}
@@ -125,7 +125,7 @@ module _ (call : Handler) (g : ℕ) (unit : List ℕ) where
         bind (eval line x) (λ a. if decides operation (number_of a) then spend 1 (give a) else bind (eval line y) (λ b. spend 1 (give b)))
     eval line (Step down low high x y) =
         bind (eval line x) (λ a. bind (eval line y) (λ b. bind (answered line (step_answer down low high (number_of a) (number_of b))) (λ z. spend 1 (give (result.Number z)))))
-    eval line (Function callee given) = bind (arguments line given) (λ xs. bind (call unit line callee xs) one_result)
+    eval line (Function callee given) = bind (arguments line given) (λ xs. bind (call.routine unit line callee xs) one_result)
     eval line (IndexedValue x y) = bind (eval line x) (λ a. bind (eval line y) (λ b. part_indexed line a (number_of b)))
     eval line (FieldValue x number) = bind (eval line x) (λ a. part line a number)
     -- a constant that is a set spends as many steps besides as it has words
@@ -297,7 +297,7 @@ module _ (call : Handler) (g : ℕ) (unit : List ℕ) where
     -- the place is found once, and the body is done with what was found
     exec (With line v of p s) = bind (place line p) (λ c. bind (names v c) (λ _. exec s))
     exec (Procedure line callee given) =
-        bind (arguments line given) (λ xs. bind (call unit line callee xs) (λ results. spend 1 (give tt)))
+        bind (arguments line given) (λ xs. bind (call.routine unit line callee xs) (λ results. spend 1 (give tt)))
     exec (Case line x arms o) = bind (eval line x) (λ r. exec_arms (number_of r) arms (exec_other line o))
     exec (Halt line) = stop Halted
     exec (Write line items ends_line) = write_items line items ends_line
@@ -335,79 +335,61 @@ module _ (call : Handler) (g : ℕ) (unit : List ℕ) where
   elaborated_where None = cut
   elaborated_where (Some t) = elaborated t
 
-  abbrev pub elaborated_found : (Denoter → Computation TypeValue) → Option UnitType → Computation TypeValue
-  elaborated_found find None = cut
-  elaborated_found find (Some t) = find (definition_of t)
-
-  module _ (line : ℕ) (types : List UnitType) where
-    -- A type is elaborated for a declaration on this line, its parts in the order of the text. A name spends what its definition does.
+  module _ (line : ℕ) where
+    -- A type is elaborated on this line, its parts in the order of the text. What a name does is what a call does.
     abbrev mutual
-      pub elaborate_step : (Denoter → Computation TypeValue) → Denoter → Computation TypeValue
-      elaborate_step find (Required r) = elaborated (required_type r)
-      elaborate_step find (Named index []) = elaborated_found find (slice_get types index)
-      elaborate_step find (Named index (b ∷ bs)) = cut
-      elaborate_step find (Subrange host low high) = elaborated_where (subrange_type low high)
-      elaborate_step find (Enumeration names) = elaborated_where (enumeration_type names)
-      elaborate_step find (Array index component) =
-          bind (elaborate_step find index) (λ t. bind (elaborate_step find component) (λ u. elaborated_where (array_type (Some t) (Some u))))
-      elaborate_step find (Record ds) = bind (elaborate_each find ds) (λ ts. elaborated (type.Record ts))
-      elaborate_step find (Set base) = bind (elaborate_step find base) (λ t. elaborated_where (set_type (Some t)))
+      pub elaborate : Denoter → Computation TypeValue
+      elaborate (Required r) = elaborated (required_type r)
+      elaborate (Named index []) = call.named_type unit line index
+      elaborate (Named index (b ∷ bs)) = cut
+      elaborate (Subrange host low high) = elaborated_where (subrange_type low high)
+      elaborate (Enumeration names) = elaborated_where (enumeration_type names)
+      elaborate (Array index component) = bind (elaborate index) (λ t. bind (elaborate component) (λ u. elaborated_where (array_type (Some t) (Some u))))
+      elaborate (Record ds) = bind (elaborate_each ds) (λ ts. elaborated (type.Record ts))
+      elaborate (Set base) = bind (elaborate base) (λ t. elaborated_where (set_type (Some t)))
       -- the type, then its initial state
-      elaborate_step find (Initial of value) =
-          bind (elaborate_step find of) (λ t. bind (eval line (constant_expr value)) (λ r. begins_where line t r (start_by value)))
+      elaborate (Initial of value) = bind (elaborate of) (λ t. bind (eval line (constant_expr value)) (λ r. begins_where line t r (start_by value)))
 
       -- the types of components, in order
-      pub elaborate_each : (Denoter → Computation TypeValue) → Denoters → Computation ComponentTypes
-      elaborate_each find no_denoter = give type.no_component
-      elaborate_each find (next_denoter d ds) = bind (elaborate_step find d) (λ t. bind (elaborate_each find ds) (λ ts. give (type.next_component t ts)))
-
-    -- at most so many names are followed
-    abbrev pub elaborate_within : ℕ → Denoter → Computation TypeValue
-    elaborate_within zero d = cut
-    elaborate_within (suc n) d = elaborate_step (elaborate_within n) d
-
-    abbrev pub elaborate : Denoter → Computation TypeValue
-    elaborate = elaborate_within (suc (length types))
+      pub elaborate_each : Denoters → Computation ComponentTypes
+      elaborate_each no_denoter = give type.no_component
+      elaborate_each (next_denoter d ds) = bind (elaborate d) (λ t. bind (elaborate_each ds) (λ ts. give (type.next_component t ts)))
 
   -- its type is elaborated, and then the variable is made, which spends its size
-  abbrev pub make : List UnitType → ℕ → UnitVariable → Computation (Unit {0})
-  make types number v = bind (elaborate v.line types (denoter_of v.denoter)) (λ t. allocate unit number t)
+  abbrev pub make : ℕ → UnitVariable → Computation (Unit {0})
+  make number v = bind (elaborate v.line (denoter_of v.denoter)) (λ t. allocate unit number t)
 
   -- the variables from this number on, in order
-  abbrev pub make_all : List UnitType → ℕ → List UnitVariable → Computation (Unit {0})
-  make_all types number [] = give tt
-  make_all types number (v ∷ vs) = bind (make types number v) (λ _. make_all types (suc number) vs)
+  abbrev pub make_all : ℕ → List UnitVariable → Computation (Unit {0})
+  make_all number [] = give tt
+  make_all number (v ∷ vs) = bind (make number v) (λ _. make_all (suc number) vs)
 
   -- a variable of a routine is made alike
-  abbrev pub make_own : List UnitType → ℕ → UnitVariable → Computation (Unit {0})
-  make_own types number v = bind (elaborate v.line types (denoter_of v.denoter)) (λ t. allocate_own number t)
+  abbrev pub make_own : ℕ → UnitVariable → Computation (Unit {0})
+  make_own number v = bind (elaborate v.line (denoter_of v.denoter)) (λ t. allocate_own number t)
 
-  abbrev pub make_all_own : List UnitType → ℕ → List UnitVariable → Computation (Unit {0})
-  make_all_own types number [] = give tt
-  make_all_own types number (v ∷ vs) = bind (make_own types number v) (λ _. make_all_own types (suc number) vs)
+  abbrev pub make_all_own : ℕ → List UnitVariable → Computation (Unit {0})
+  make_all_own number [] = give tt
+  make_all_own number (v ∷ vs) = bind (make_own number v) (λ _. make_all_own (suc number) vs)
 
 -- The start of a unit spends the step of a call, makes the variables that it makes, and runs its block.
 abbrev pub start_of : Handler → ℕ → TypedUnit → Computation (Unit {0})
-start_of call g u = spend 1 (bind (make_all call g u.name u.types 0 (made_by_unit u)) (λ _. exec call g u.name (stmt_of u.start)))
+start_of call g u = spend 1 (bind (make_all call g u.name 0 (made_by_unit u)) (λ _. exec call g u.name (stmt_of u.start)))
 
 -- the starts of units in order
 abbrev pub starts_of : Handler → ℕ → List TypedUnit → Computation (Unit {0})
 starts_of call g [] = stop Normal
 starts_of call g (u ∷ us) = bind (start_of call g u) (λ _. starts_of call g us)
 
--- a routine, and the types of its unit, in which its denoters name
-pub record Found : Type 0 where
-  pub routine : UnitRoutine
-  pub types : List UnitType
-
-abbrev pub found_among : List UnitType → Option UnitRoutine → Option Found
-found_among types None = None
-found_among types (Some r) = Some (record { routine = r; types = types })
-
 -- the routine of this number of the unit of this name
-abbrev pub routine_in : List TypedUnit → List ℕ → ℕ → Option Found
+abbrev pub routine_in : List TypedUnit → List ℕ → ℕ → Option UnitRoutine
 routine_in [] unit number = None
-routine_in (u ∷ us) unit number = if bytes_eq u.name unit then found_among u.types (slice_get u.routines number) else routine_in us unit number
+routine_in (u ∷ us) unit number = if bytes_eq u.name unit then slice_get u.routines number else routine_in us unit number
+
+-- the type at this place of its list of types
+abbrev pub type_in : List TypedUnit → List ℕ → ℕ → Option UnitType
+type_in [] unit index = None
+type_in (u ∷ us) unit index = if bytes_eq u.name unit then slice_get u.types index else type_in us unit index
 
 -- the activation of a routine of this name, in which nothing is made yet, by a call from a line of a unit
 abbrev pub activation : List ℕ → List ℕ → ℕ → Call
@@ -418,15 +400,15 @@ activation routine from line = record { routine = routine; unit = from; line = l
 abbrev pub initialized : List ℕ → ℕ → TypeValue → Result → Computation (Unit {0})
 initialized unit line t r = if suits (Some t) r then change (newest_assigned (value_of r)) else stop (Error (misfit r) unit line)
 
-module _ (call : Handler) (g : ℕ) (unit : List ℕ) (types : List UnitType) where
+module _ (call : Handler) (g : ℕ) (unit : List ℕ) where
   -- A formal parameter takes its argument (ISO 10206, 6.7.3.2 and 6.7.3.3): a value is the first one of a variable of the
   -- routine, which is made, and a variable is one of the routine's as it is, for which its type counts a step. What is no
   -- argument of it has no meaning.
   abbrev pub takes_by : FormalMode → ℕ → ℕ → Formal → Argument → Computation (Unit {0})
   takes_by mode.Value line number f (Value r) =
-      bind (elaborate call g unit line types (denoter_of f.denoter)) (λ t. bind (allocate_own number t) (λ _. initialized unit line t r))
+      bind (elaborate call g unit line (denoter_of f.denoter)) (λ t. bind (allocate_own number t) (λ _. initialized unit line t r))
   takes_by mode.ProtectedValue line number f (Value r) =
-      bind (elaborate call g unit line types (denoter_of f.denoter)) (λ t. bind (allocate_own number t) (λ _. initialized unit line t r))
+      bind (elaborate call g unit line (denoter_of f.denoter)) (λ t. bind (allocate_own number t) (λ _. initialized unit line t r))
   takes_by mode.Variable line number f (argument_is.Variable c) = spend 1 (change (with_own_bound number c))
   takes_by mode.ProtectedVariable line number f (argument_is.Variable c) = spend 1 (change (with_own_bound number c))
   takes_by mode line number f x = cut
@@ -454,11 +436,10 @@ results_given unit line number (Some r) = result_at unit line number
 -- What a routine does in its activation: its formal parameters take the arguments, it makes the variable that has its
 -- result, where it has one, those that it declares, and the auxiliary ones of `for`, runs its block, and gives its result. An error in taking arguments
 -- or in giving the result is on the line of the declaration (own).
-abbrev pub runs_routine : Handler → ℕ → List ℕ → Found → List Argument → Computation (List Result)
-runs_routine call g unit f xs =
-    let r = f.routine in
-    bind (takes_all call g unit f.types r.line 0 r.formals xs)
-    (λ _. bind (make_all_own call g unit f.types (length r.formals) (made_variables f.routine))
+abbrev pub runs_routine : Handler → ℕ → List ℕ → UnitRoutine → List Argument → Computation (List Result)
+runs_routine call g unit r xs =
+    bind (takes_all call g unit r.line 0 r.formals xs)
+    (λ _. bind (make_all_own call g unit (length r.formals) (made_variables r))
     (λ _. bind (exec call g unit (stmt_of r.block)) (λ _. results_given unit r.line (length r.formals) r.result)))
 
 -- the steps that the values spend which are given
@@ -469,18 +450,33 @@ weights_of (argument_is.Variable c ∷ xs) = weights_of xs
 
 -- What a call of a routine does: it spends a step, and once more what the values spend that it is given, and then the
 -- routine runs. What is none has no meaning, and no valid unit calls one.
-abbrev pub routine_does : Handler → ℕ → List ℕ → ℕ → Callee → Option Found → List Argument → Computation (List Result)
+abbrev pub routine_does : Handler → ℕ → List ℕ → ℕ → Callee → Option UnitRoutine → List Argument → Computation (List Result)
 routine_does call g from line callee None xs = cut
-routine_does call g from line callee (Some f) xs =
-    in_call callee.levels (activation f.routine.name from line) (spend (suc (weights_of xs)) (runs_routine call g callee.unit f xs))
+routine_does call g from line callee (Some r) xs =
+    in_call activation_words callee.levels (activation r.name from line) (spend (suc (weights_of xs)) (runs_routine call g callee.unit r xs))
 
--- What a call does, where calls nest at most so deep, and loops turn at most so often in each.
-abbrev pub routine_of : List TypedUnit → ℕ → Handler
-routine_of units zero from line callee arguments = cut
-routine_of units (suc depth) from line callee arguments =
-    routine_does (routine_of units depth) depth from line callee (routine_in units callee.unit callee.number) arguments
+-- the line of a type's definition; one that another unit writes has none here
+abbrev pub line_where : Option ℕ → ℕ
+line_where None = 0
+line_where (Some line) = line
+
+-- What the elaboration of a type by its name does: it spends a step and what the definition spends, and counts as one more
+-- call while it goes on, for which no words are set aside (own). An error in it is on the line of the definition (own). What is
+-- no type has no meaning, and no valid unit names one.
+abbrev pub type_does : Handler → ℕ → List ℕ → ℕ → Option UnitType → Computation TypeValue
+type_does call g unit line None = cut
+type_does call g unit line (Some t) = in_call 0 0 (activation [] unit line) (spend 1 (elaborate call g unit (line_where t.line) (definition_of t)))
+
+-- What calls do, where they nest at most so deep, and loops turn at most so often in each.
+abbrev pub handler_of : List TypedUnit → ℕ → Handler
+handler_of units zero = record { routine = λ from line callee arguments. cut; named_type = λ from line index. cut }
+handler_of units (suc depth) =
+    record {
+      routine = λ from line callee arguments. routine_does (handler_of units depth) depth from line callee (routine_in units callee.unit callee.number) arguments;
+      named_type = λ from line index. type_does (handler_of units depth) depth from line (type_in units from index);
+    }
 
 -- The meaning of joined units within so many steps. Loops turn and calls nest at most that often, which is enough,
 -- since each turn and each call spends a step.
 abbrev pub meaning : List TypedUnit → ℕ → Outcome (Unit {0})
-meaning units steps = starts_of (routine_of units steps) steps units steps first_state
+meaning units steps = starts_of (handler_of units steps) steps units steps first_state

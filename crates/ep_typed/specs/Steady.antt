@@ -15,5 +15,6 @@ pub record Steady {A : Type 0} (c : Computation A) : Type 0 where
   pub by : (m : ℕ) (s : State) → Grows s (state_of (c m s))
 
 -- whatever is called, the state grows
-abbrev pub IsSteadyHandler : Handler → Type 0
-IsSteadyHandler call = (from : List ℕ) (line : ℕ) (callee : Callee) (arguments : List Argument) → Steady (call from line callee arguments)
+pub record IsSteadyHandler (call : Handler) : Type 0 where
+  pub routine : (from : List ℕ) (line : ℕ) (callee : Callee) (arguments : List Argument) → Steady (call.routine from line callee arguments)
+  pub named_type : (from : List ℕ) (line index : ℕ) → Steady (call.named_type from line index)

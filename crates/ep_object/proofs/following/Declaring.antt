@@ -63,6 +63,12 @@ module _ (levels : List Level) (declared : Declarations) where
   promise_inside h = record { by = λ place up line calls injection begun memory callable below operands arguments are. fragment_inside (h.by place up line calls injection begun memory callable below operands arguments are) }
 
   pub calls_kept-inside : {G : Image} {ps : List Placement} {call : Handler} {n : ℕ} → CallsAreKept declared G ps call n → CallsAreKept inner G ps call n
-  calls_kept-inside kept unit number r is =
-      let k = kept unit number r is in
-      record { routine = k.routine; formals = k.formals; passed = k.passed; results = k.results; given = k.given; placed = k.placed; promise = promise_inside k.promise }
+  calls_kept-inside kept =
+      record {
+        routines = λ unit number r is.
+            let k = kept.routines unit number r is in
+            record { routine = k.routine; formals = k.formals; passed = k.passed; results = k.results; given = k.given; placed = k.placed; promise = promise_inside k.promise };
+        types = λ unit index t typed.
+            let k = kept.types unit index t typed in
+            record { routine = k.routine; placed = k.placed; promise = λ place line calls injection begun memory below home. fragment_inside (k.promise place line calls injection begun memory below home) };
+      }

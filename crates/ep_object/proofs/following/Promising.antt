@@ -1,7 +1,7 @@
 -- Calls of a routine that keeps its promise: what the caller follows, and what runs from a call do.
 use Rattle.std.proofs.Common.{◌≡◌, ℕ, suc, ◌+◌, ◌≤◌, ◌<◌, ◌⊎◌, inl, inr, Bool, List, refl, sym, ap, ◌∙◌, subst, arith}
 use Rattle.ep_object.specs.Activations.{IsCallable}
-use Rattle.ep_object.specs.Follows.{end_of, Facts, HasGrown, Since, Lasts, Fragment, After, Lands, Reaches, EndsToo, RunsOn, GivesUp, IsNotLeft, SameRoutine, Inside, Operands, point, state_at}
+use Rattle.ep_object.specs.Follows.{end_of, Facts, HasGrown, Since, Lasts, Fragment, After, Lands, Reaches, EndsToo, RunsOn, GivesUp, IsNotLeft, SameRoutine, Inside, Operands, TypeOnTop, point, state_at}
 use Rattle.ep_object.specs.Laws.{IsRunning}
 use Rattle.ep_object.specs.Matching.{Memory, Injection, Slots, AreAmong, Grown, kept_slots}
 use Rattle.ep_object.specs.Operands.{Operand}
@@ -21,6 +21,7 @@ use Rattle.ep_typed.specs.Calls.{Argument}
 use Rattle.ep_typed.specs.Printing.{Result}
 use Rattle.ep_typed.specs.Steps.{Call, Outcome, Gives, Ends, Cut, Computation, state_of}
 use Rattle.ep_typed.specs.Steps as meaning
+use Rattle.ep_typed.specs.TypeValues.{TypeValue}
 use Rattle.ep_typed.specs.Valid.{Declarations, Kind, Level}
 use Rattle.ep_typed.specs.declared.unit.UnitType.{UnitType}
 
@@ -84,6 +85,17 @@ pub call_follows : {declared : Declarations} {G : Image} {untouched : Slots} {He
 call_follows promise lasts among place levels line calls injection memory callable below operands arguments are =
     fragment_post (λ rs longer after pushed i. record { grown = grown_fewer among i.grown; routine = same_routine-fewer among i.routine; operands_are = i.operands_are })
     (fragment_since (lasts_more among lasts) (λ s held. promise.by place levels line calls injection s memory (callable s held) below operands arguments are))
+
+-- The same of the elaboration of a type.
+pub type_follows : {declared : Declarations} {G : Image} {untouched : Slots} {Here : Facts} {n d : ℕ} {c : Computation TypeValue} {t : TypeValue} {e : TypeValue → ℕ}
+    → Lasts untouched Here
+    → AreAmong untouched (kept_slots declared G)
+    → (place : ℕ) (injection : Injection) (memory : Memory) (below : List Operand)
+    → ((s : meaning.State) → Fragment declared G (Since (kept_slots declared G) injection s memory) n (point injection memory place below) c (place + 1) (λ a. Inside (kept_slots declared G) injection memory (TypeOnTop t below a)) d e)
+    → Fragment declared G Here n (point injection memory place below) c (place + 1) (λ a. Inside untouched injection memory (TypeOnTop t below a)) d e
+type_follows lasts among place injection memory below follows =
+    fragment_post (λ a longer after pushed i. record { grown = grown_fewer among i.grown; routine = same_routine-fewer among i.routine; operands_are = i.operands_are })
+    (fragment_since (lasts_more among lasts) (λ s held. follows s))
 
 -- ---- what runs from a call do
 

@@ -8,10 +8,10 @@ use Rattle.ep_object.specs.Operands.{weights}
 use Rattle.ep_object.specs.Calls.{parent_by, top_of, call_limit, new_frame, called}
 use Rattle.ep_object.specs.Frames.{level_slots}
 use Rattle.ep_object.specs.Effects.{Jumps, Fails}
-use Rattle.ep_object.specs.Follows.{Since, HasGrown, Follows, Fragment, Lands, Inside, IsStillCall, StillRuns, SameRoutine, IsNotLeft, point}
-use Rattle.ep_object.specs.Matching.{Memory, Injection, Matches, Slots, every_slot, Grown, at, own_slot}
+use Rattle.ep_object.specs.Follows.{Since, HasGrown, Follows, Fragment, Lands, Inside, IsStillCall, StillRuns, SameRoutine, IsNotLeft, Operands, TypeOnTop, point}
+use Rattle.ep_object.specs.Matching.{Memory, Injection, Matches, Slots, every_slot, Grown, at, own_slot, Describes}
 use Rattle.ep_object.specs.Operands.{Operand}
-use Rattle.ep_object.specs.Promises.{CallsAt, ResultsOnTop, credit_of}
+use Rattle.ep_object.specs.Promises.{CallsAt, ResultsOnTop, credit_of, type_credit}
 use Rattle.ep_object.specs.Routines.{routine_of}
 use Rattle.ep_object.specs.Runs.{outcome, outcome_of, after, unit_in}
 use Rattle.ep_object.specs.State.{State, Frame, Frames, Running, Stopped, Error}
@@ -40,6 +40,7 @@ use Rattle.ep_typed.specs.Printing.{Result}
 use Rattle.ep_typed.specs.Steady.{Steady}
 use Rattle.ep_typed.specs.Steps.{Call, named_in, around_by, Resources, watched, Computation, spend, with_all_ended}
 use Rattle.ep_typed.specs.Steps as meaning
+use Rattle.ep_typed.specs.TypeValues.{TypeValue}
 use Rattle.ep_typed.specs.Valid.{Declarations, Level, variables_up, Kind}
 use Rattle.ep_typed.specs.declared.run_error.TheConstants as run_error
 use Rattle.ep_typed.specs.declared.unit.UnitType.{UnitType}
@@ -95,9 +96,9 @@ none_yet zero k h = absurd (omega (arith, h))
 none_yet (suc n) zero h = refl
 none_yet (suc n) (suc k) h = none_yet n k (omega (arith, h))
 
--- what is counted once words are set aside for a call
-abbrev set_aside : Resources → Resources
-set_aside r = watched (record r { reserved = r.reserved + activation_words })
+-- what is counted once so many words are set aside for a call
+abbrev set_aside : ℕ → Resources → Resources
+set_aside words r = watched (record r { reserved = r.reserved + words })
 
 -- more calls than every run has room for
 lost_calls : (depth : ℕ) (r : Resources) → 9000 < depth → IsTrue (nested depth r).lost
@@ -139,28 +140,28 @@ module _ (declared : Declarations) (G : Image) (routine : ℕ) (r : ImageRoutine
       record { larger = g.larger; types = g.types; segments = g.segments; hidden = g.hidden; others = g.others; allocated = g.allocated; slots = g.slots; typed = g.typed; ended = g.ended }
 
   -- the call is under way on both sides
-  matches_begun : {injection : Injection} {s : meaning.State} {memory : Memory} (parent : FrameNumber) (place levels : ℕ) (x : Call)
-      → Matches declared G injection s memory → Matches declared G injection (entered levels x s) (begun_memory parent place memory)
-  matches_begun parent place levels x h =
-      let m = matches_entered levels x h in
+  matches_begun : {injection : Injection} {s : meaning.State} {memory : Memory} (parent : FrameNumber) (place words levels : ℕ) (x : Call)
+      → Matches declared G injection s memory → Matches declared G injection (entered words levels x s) (begun_memory parent place memory)
+  matches_begun parent place words levels x h =
+      let m = matches_entered words levels x h in
       record { injected = m.injected; store = m.store; types = m.types; units = m.units; outside = m.outside; counts = m.counts; depth = omega (arith, h.depth) }
 
   -- the machine enters the routine, or ends where as many calls are under way as may be
-  enters : (place levels line : ℕ) (parent : FrameNumber) (below : List Operand) (memory : Memory) (injection : Injection) (s : meaning.State) (x : Call)
+  enters : (words place levels line : ℕ) (parent : FrameNumber) (below : List Operand) (memory : Memory) (injection : Injection) (s : meaning.State) (x : Call)
       → CallsAt G place routine levels line → parent_by memory.frames r levels ≡ Some parent → Matches declared G injection s memory
       → (outcome G (at place (top ++ below) memory s.trace) ≡ record { weight = weight; to = Running 0 (at r.entry below (begun_memory parent place memory) s.trace) })
-      ⊎ EndsForWant G (at place (top ++ below) memory s.trace) weight (entered levels x s)
-  enters place levels line parent below memory injection s x calls is h = by_test (ltb (length memory.frames.calls) call_limit) refl
+      ⊎ EndsForWant G (at place (top ++ below) memory s.trace) weight (entered words levels x s)
+  enters words place levels line parent below memory injection s x calls is h = by_test (ltb (length memory.frames.calls) call_limit) refl
     where
       by_test : (b : Bool) → ltb (length memory.frames.calls) call_limit ≡ b
           → (outcome G (at place (top ++ below) memory s.trace) ≡ record { weight = weight; to = Running 0 (at r.entry below (begun_memory parent place memory) s.trace) })
-          ⊎ EndsForWant G (at place (top ++ below) memory s.trace) weight (entered levels x s)
+          ⊎ EndsForWant G (at place (top ++ below) memory s.trace) weight (entered words levels x s)
       by_test true e = inl (called_at place levels line parent below memory s.trace calls is ∙ rw e refl)
       by_test false e =
           let full : 10000 ≤ length memory.frames.calls = grind (arith, nat_tests, e) in
           let stops : outcome G (at place (top ++ below) memory s.trace) ≡ record { weight = weight; to = Stopped (Error run_error.CALL_DEPTH (unit_in G memory.frames) calls.instruction.line) s.trace }
           = called_at place levels line parent below memory s.trace calls is ∙ rw e refl in
-          inr (record { lost = lost_calls (suc (length s.calls)) (set_aside s.resources) (omega (arith, full, h.depth)); number = run_error.CALL_DEPTH; is_limit = inr refl; unit = unit_in G memory.frames; line = calls.instruction.line; trace = s.trace; ends = stops; begins = is_prefix s.trace })
+          inr (record { lost = lost_calls (suc (length s.calls)) (set_aside words s.resources) (omega (arith, full, h.depth)); number = run_error.CALL_DEPTH; is_limit = inr refl; unit = unit_in G memory.frames; line = calls.instruction.line; trace = s.trace; ends = stops; begins = is_prefix s.trace })
 
   -- the parent that a call finds in the activation that makes it
   pub parent_of_call : (types : List UnitType) (levels : ℕ) (around : List Level) (injection : Injection) (calls : List Call) (memory : Memory)
@@ -172,11 +173,11 @@ module _ (declared : Declarations) (G : Image) (routine : ℕ) (r : ImageRoutine
       parent_there memory.frames r up l.slots (subst (λ n. level_slots memory.frames.calls n ≡ Some l.slots) {x = up + 0} {y = up} (omega arith) l.are)
 
   -- what it then has around it
-  around_begun : (types : List UnitType) (levels : ℕ) (around : List Level) (injection : Injection) (s : meaning.State) (memory : Memory) (x : Call) (place : ℕ) (parent : FrameNumber)
+  around_begun : (words : ℕ) (types : List UnitType) (levels : ℕ) (around : List Level) (injection : Injection) (s : meaning.State) (memory : Memory) (x : Call) (place : ℕ) (parent : FrameNumber)
       → parent_by memory.frames r levels ≡ Some parent → IsCallable types levels around injection s.calls memory
-      → (n : ℕ) (level : Level) → slice_get around n ≡ Some level → LevelMatches types level injection (entered levels x s).calls (begun_memory parent place memory) (suc n)
-  around_begun types zero around injection s memory x place parent is h n level at = absurd (let none : slice_get {X = Level} [] n ≡ Some level = ap (λ l. slice_get l n) (sym h) ∙ at in cc)
-  around_begun types (suc up) around injection s memory x place parent is (some, h) n level at =
+      → (n : ℕ) (level : Level) → slice_get around n ≡ Some level → LevelMatches types level injection (entered words levels x s).calls (begun_memory parent place memory) (suc n)
+  around_begun words types zero around injection s memory x place parent is h n level at = absurd (let none : slice_get {X = Level} [] n ≡ Some level = ap (λ l. slice_get l n) (sym h) ∙ at in cc)
+  around_begun words types (suc up) around injection s memory x place parent is (some, h) n level at =
       let first = slice_get-some around 0 some in
       let base = h 0 first.0 first.1 in
       let base_are : level_slots memory.frames.calls up ≡ Some base.slots = subst (λ k. level_slots memory.frames.calls k ≡ Some base.slots) {x = up + 0} {y = up} (omega arith) base.are in
@@ -190,10 +191,10 @@ module _ (declared : Declarations) (G : Image) (routine : ℕ) (r : ImageRoutine
       }
 
   -- What the routine knows when it begins: nothing is made yet.
-  begins : {untouched : Slots} (within : Declarations) → length (variables_up within 0) ≤ r.slots → (place levels : ℕ) (parent : FrameNumber) (injection : Injection) (s : meaning.State) (memory : Memory) (name from : List ℕ) (line : ℕ)
-      → MatchesAround within injection (entered levels (activation name from line) s) (begun_memory parent place memory)
-      → InActivation within untouched injection (begun_memory parent place memory) injection (entered levels (activation name from line) s) (begun_memory parent place memory)
-  begins within enough place levels parent injection s memory name from line around =
+  begins : {untouched : Slots} (words : ℕ) (within : Declarations) → length (variables_up within 0) ≤ r.slots → (place levels : ℕ) (parent : FrameNumber) (injection : Injection) (s : meaning.State) (memory : Memory) (name from : List ℕ) (line : ℕ)
+      → MatchesAround within injection (entered words levels (activation name from line) s) (begun_memory parent place memory)
+      → InActivation within untouched injection (begun_memory parent place memory) injection (entered words levels (activation name from line) s) (begun_memory parent place memory)
+  begins words within enough place levels parent injection s memory name from line around =
       record {
         grown = grown_refl injection (begun_memory parent place memory);
         runs = still_routine (same_routine-refl {untouched = every_slot} (begun_memory parent place memory).frames);
@@ -250,34 +251,35 @@ module _ (declared : Declarations) (G : Image) (routine : ℕ) (r : ImageRoutine
           matches = subst (λ ns. Matches declared G longer (back_in s (with_all_ended ns t)) later) (sym made) (matches_left grown old old.depth under);
         }
 
-    -- Where the machine follows the routine up to its `Return`, with the results on the operands there, in any activation of
-    -- it and with the credit of its call, it follows a call as a whole.
-    pub routine_keeps : (within : Declarations) → length (variables_up within 0) ≤ r.slots
+    -- Where the machine follows the routine up to its `Return`, where this holds of the operands, in any activation of it and
+    -- with the credit of its call, it follows a call as a whole. What holds there depends on nothing of memory but its types.
+    pub routine_gives : {A : Type 0} (words : ℕ) (within : Declarations) → length (variables_up within 0) ≤ r.slots
         → (around : List Level) → ((n : ℕ) → slice_get within.levels (suc n) ≡ slice_get around n)
         → (n : ℕ) (place levels line : ℕ) → CallsAt G place routine levels line
         → (parent : FrameNumber) (injection : Injection) (began : meaning.State) (memory : Memory) (below : List Operand)
         → parent_by memory.frames r levels ≡ Some parent → IsCallable within.routine_types levels around injection began.calls memory
-        → (name from : List ℕ) (results : List Kind) (body : Computation (List Result)) → Steady body → (untouched : Slots)
-        → Fragment declared G (InActivation within untouched injection (begun_memory parent place memory)) n (point injection (begun_memory parent place memory) r.entry below) body ret (λ rs. ResultsOnTop results below rs) 63 (λ rs. 1 + credit_of rs)
-        → Fragment declared G (Since untouched injection began memory) (suc n) (point injection memory place (top ++ below)) (in_call levels (activation name from line) (spend (suc weight) body)) (place + 1) (λ rs. Inside untouched injection memory (ResultsOnTop results below rs)) 0 credit_of
-    routine_keeps within enough around levels_are n place levels line calls parent injection began memory below parent_is callable name from results body steady untouched inner =
+        → (name from : List ℕ) (body : Computation A) → Steady body → (untouched : Slots) (Then : A → Operands) (credit : A → ℕ)
+        → ((a : A) (longer : Injection) (after later : Memory) (operands : List Operand) → later.types ≡ after.types → Then a longer after operands → Then a longer later operands)
+        → Fragment declared G (InActivation within untouched injection (begun_memory parent place memory)) n (point injection (begun_memory parent place memory) r.entry below) body ret Then 63 (λ a. 1 + credit a)
+        → Fragment declared G (Since untouched injection began memory) (suc n) (point injection memory place (top ++ below)) (in_call words levels (activation name from line) (spend (suc weight) body)) (place + 1) (λ a. Inside untouched injection memory (Then a)) 0 credit
+    routine_gives {A = A} words within enough around levels_are n place levels line calls parent injection began memory below parent_is callable name from body steady untouched Then credit anywhere inner =
         record {
           by = λ s matches since.
               let here : IsCallable within.routine_types levels around injection s.calls memory = subst (λ cs. IsCallable within.routine_types levels around injection cs memory) (sym since.calls) callable in
-              let known : MatchesAround within injection (entered levels x s) (begun_memory parent place memory) = (λ n level at. around_begun within.routine_types levels around injection s memory x place parent parent_is here n level (sym (levels_are n) ∙ at)) in
-              let ran = inner.by (entered levels x s) (matches_begun parent place levels x matches) (begins within enough place levels parent injection s memory name from line known) in
-              follows_called levels x {P = P} {Q = Q} {e = credit_of} (not_left-here memory.frames) refl steady (go s matches (enters place levels line parent below memory injection s x calls parent_is matches) (follows_wider (λ k. not_left-called memory.frames k.frames (its_frame parent place)) ran))
-              (λ rs s1 k1 post. back s matches since rs s1 k1 post);
+              let known : MatchesAround within injection (entered words levels x s) (begun_memory parent place memory) = (λ n level at. around_begun words within.routine_types levels around injection s memory x place parent parent_is here n level (sym (levels_are n) ∙ at)) in
+              let ran = inner.by (entered words levels x s) (matches_begun parent place words levels x matches) (begins words within enough place levels parent injection s memory name from line known) in
+              follows_called words levels x {P = P} {Q = Q} {e = credit} (not_left-here memory.frames) refl steady (go s matches (enters words place levels line parent below memory injection s x calls parent_is matches) (follows_wider (λ k. not_left-called memory.frames k.frames (its_frame parent place)) ran))
+              (λ a s1 k1 post. back s matches since a s1 k1 post);
         }
       where
         x : Call
         x = activation name from line
 
-        P : List Result → meaning.State → State → Type 0
-        P rs = Lands declared G (InActivation within untouched injection (begun_memory parent place memory)) ret (ResultsOnTop results below rs)
+        P : A → meaning.State → State → Type 0
+        P a = Lands declared G (InActivation within untouched injection (begun_memory parent place memory)) ret (Then a)
 
-        Q : List Result → meaning.State → State → Type 0
-        Q rs = Lands declared G (Since untouched injection began memory) (place + 1) (Inside untouched injection memory (ResultsOnTop results below rs))
+        Q : A → meaning.State → State → Type 0
+        Q a = Lands declared G (Since untouched injection began memory) (place + 1) (Inside untouched injection memory (Then a))
 
         In : State → Type 0
         In k = IsNotLeft memory.frames k.frames
@@ -286,16 +288,16 @@ module _ (declared : Declarations) (G : Image) (routine : ℕ) (r : ImageRoutine
         entry s = at r.entry below (begun_memory parent place memory) s.trace
 
         go : (s : meaning.State) → Matches declared G injection s memory
-            → (outcome G (at place (top ++ below) memory s.trace) ≡ record { weight = weight; to = Running 0 (entry s) }) ⊎ EndsForWant G (at place (top ++ below) memory s.trace) weight (entered levels x s)
-            → Follows In G n (entry s) (entered levels x s) body P 63 (λ rs. 1 + credit_of rs)
-            → ((e : State) × (outcome G (at place (top ++ below) memory s.trace) ≡ record { weight = weight; to = Running 0 e }) × Follows In G n e (entered levels x s) body P 63 (λ rs. 1 + credit_of rs)) ⊎ EndsForWant G (at place (top ++ below) memory s.trace) weight (entered levels x s)
+            → (outcome G (at place (top ++ below) memory s.trace) ≡ record { weight = weight; to = Running 0 (entry s) }) ⊎ EndsForWant G (at place (top ++ below) memory s.trace) weight (entered words levels x s)
+            → Follows In G n (entry s) (entered words levels x s) body P 63 (λ a. 1 + credit a)
+            → ((e : State) × (outcome G (at place (top ++ below) memory s.trace) ≡ record { weight = weight; to = Running 0 e }) × Follows In G n e (entered words levels x s) body P 63 (λ a. 1 + credit a)) ⊎ EndsForWant G (at place (top ++ below) memory s.trace) weight (entered words levels x s)
         go s matches (inl o) f = inl (entry s, o, f)
         go s matches (inr y) f = inr y
 
         back : (s : meaning.State) → Matches declared G injection s memory → HasGrown untouched injection began memory injection s memory
-            → (rs : List Result) (s1 : meaning.State) (k1 : State) → P rs s1 k1
-            → In k1 × ((next : State) × (outcome G k1 ≡ record { weight = 0; to = Running 0 next }) × Q rs (left_from s s1) next)
-        back s matches since rs s1 k1 lands =
+            → (a : A) (s1 : meaning.State) (k1 : State) → P a s1 k1
+            → In k1 × ((next : State) × (outcome G k1 ≡ record { weight = 0; to = Running 0 next }) × Q a (left_from s s1) next)
+        back s matches since a s1 k1 lands =
             let known = lands.here in
             let out = goes_back within parent place lands.operands matches lands.matches known in (
               subst (λ (k : State). In k) (sym lands.is) (not_left-called memory.frames lands.memory.frames (its_frame parent place) (not_left-still known.runs)),
@@ -309,7 +311,32 @@ module _ (declared : Declarations) (G : Image) (routine : ℕ) (r : ImageRoutine
                   is = refl;
                   matches = out.matches;
                   here = record { grown = grown_trans since.grown out.grown; routine = same_routine-trans since.routine out.same; own = λ k. out.own k ∙ since.own k; calls = since.calls };
-                  post = record { grown = out.grown; routine = out.same; operands_are = results_anywhere lands.injection lands.memory out.later out.types lands.operands results below rs lands.post };
+                  post = record { grown = out.grown; routine = out.same; operands_are = anywhere a lands.injection lands.memory out.later lands.operands out.types lands.post };
                 },
               ),
             )
+
+    -- the same where results are on the operands
+    pub routine_keeps : (within : Declarations) → length (variables_up within 0) ≤ r.slots
+        → (around : List Level) → ((n : ℕ) → slice_get within.levels (suc n) ≡ slice_get around n)
+        → (n : ℕ) (place levels line : ℕ) → CallsAt G place routine levels line
+        → (parent : FrameNumber) (injection : Injection) (began : meaning.State) (memory : Memory) (below : List Operand)
+        → parent_by memory.frames r levels ≡ Some parent → IsCallable within.routine_types levels around injection began.calls memory
+        → (name from : List ℕ) (results : List Kind) (body : Computation (List Result)) → Steady body → (untouched : Slots)
+        → Fragment declared G (InActivation within untouched injection (begun_memory parent place memory)) n (point injection (begun_memory parent place memory) r.entry below) body ret (λ rs. ResultsOnTop results below rs) 63 (λ rs. 1 + credit_of rs)
+        → Fragment declared G (Since untouched injection began memory) (suc n) (point injection memory place (top ++ below)) (in_call activation_words levels (activation name from line) (spend (suc weight) body)) (place + 1) (λ rs. Inside untouched injection memory (ResultsOnTop results below rs)) 0 credit_of
+    routine_keeps within enough around levels_are n place levels line calls parent injection began memory below parent_is callable name from results body steady untouched inner =
+        routine_gives activation_words within enough around levels_are n place levels line calls parent injection began memory below parent_is callable name from body steady untouched (λ rs. ResultsOnTop results below rs) credit_of
+        (λ rs longer after later operands same h. results_anywhere longer after later same operands results below rs h) inner
+
+    -- and where the number of a type is
+    pub type_keeps : (within : Declarations) → length (variables_up within 0) ≤ r.slots
+        → ((n : ℕ) → slice_get {X = Level} within.levels (suc n) ≡ slice_get {X = Level} [] n)
+        → (n : ℕ) (place line : ℕ) → CallsAt G place routine 0 line
+        → (injection : Injection) (began : meaning.State) (memory : Memory) (below : List Operand)
+        → (name from : List ℕ) (t : TypeValue) (body : Computation TypeValue) → Steady body → (untouched : Slots)
+        → Fragment declared G (InActivation within untouched injection (begun_memory (number.Unit r.unit) place memory)) n (point injection (begun_memory (number.Unit r.unit) place memory) r.entry below) body ret (λ a. TypeOnTop t below a) 63 (λ a. 1 + type_credit)
+        → Fragment declared G (Since untouched injection began memory) (suc n) (point injection memory place (top ++ below)) (in_call 0 0 (activation name from line) (spend (suc weight) body)) (place + 1) (λ a. Inside untouched injection memory (TypeOnTop t below a)) 0 (λ a. type_credit)
+    type_keeps within enough levels_are n place line calls injection began memory below name from t body steady untouched inner =
+        routine_gives 0 within enough [] levels_are n place 0 line calls (number.Unit r.unit) injection began memory below refl refl name from body steady untouched (λ a. TypeOnTop t below a) (λ a. type_credit)
+        (λ a longer after later operands same h. record { type_is = h.type_is; number = h.number; is = h.is; described = subst (λ table. Describes table h.number t) (sym same) h.described; starts = h.starts }) inner

@@ -223,10 +223,10 @@ module _ {declared : Declarations} {G : Image} {injection : Injection} {s : mean
 
 -- ---- calls
 
--- a call that is under way is no part of what is matched, and words are set aside for it
-pub matches_entered : {declared : Declarations} {G : Image} {injection : Injection} {s : meaning.State} {memory : Memory} (levels : ℕ) (x : Call)
-    → Matches declared G injection s memory → Matches declared G injection (entered levels x s) memory
-matches_entered levels x h =
+-- a call that is under way is no part of what is matched, and so many words are set aside for it
+pub matches_entered : {declared : Declarations} {G : Image} {injection : Injection} {s : meaning.State} {memory : Memory} (words levels : ℕ) (x : Call)
+    → Matches declared G injection s memory → Matches declared G injection (entered words levels x s) memory
+matches_entered words levels x h =
     let counts = h.counts in
     record { injected = h.injected; store = h.store; types = h.types; units = h.units; outside = h.outside; counts = record { words = counts.words; hidden = omega (arith, counts.hidden); number = counts.number }; depth = omega (arith, h.depth) }
 

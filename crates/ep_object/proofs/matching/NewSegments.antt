@@ -3,12 +3,12 @@ use Rattle.std.proofs.Common.{◌≡◌, ℕ, ◌+◌, ◌<◌, true, false, Boo
 use Rattle.std.proofs.lemmas.Option.{slice_get_within}
 use Rattle.ep_object.specs.Matching.{Describes, HasAt, Injection}
 use Rattle.ep_object.specs.Places.{fresh_segment}
-use Rattle.ep_object.specs.Starts.{start_words, words_kept}
+use Rattle.ep_object.specs.Starts.{AreStarts, start_words, words_kept}
 use Rattle.ep_object.specs.State.{TypeTable, size_begun}
 use Rattle.ep_object.specs.declared.state.Kind.{Kind}
 use Rattle.ep_object.specs.declared.state.Segment.{Segment}
 use Rattle.ep_object.proofs.matching.Growing.{entry_as}
-use Rattle.ep_object.proofs.matching.Starting.{AreStarts, begun_words, starts_hold, starts_length}
+use Rattle.ep_object.proofs.matching.Starting.{begun_words, starts_hold, starts_length}
 use Rattle.ep_typed.specs.Steps.{start_of}
 use Rattle.ep_typed.specs.TypeValues.{TypeValue, is_started, size_of}
 use Rattle.ep_typed.specs.Valid.{IsTypeValue}

@@ -7,7 +7,7 @@ use Rattle.std.proofs.lemmas.Option.{slice_get_within, same_Some}
 use Rattle.std.proofs.lemmas.Slice.Eq.{bytes_eq-Decides}
 use native.Mathlib.Decide.{ℕ_discrete}
 use Rattle.ep_object.specs.Matching.{Memory, Mapped, Injection, IsIn, IsOf, IsSpot, IsOfType, Describes, IsHidden, IsLike, Slots, every_slot, slot_in, MatchesSlot, MatchesInjection, MatchesFrame, MatchesCounts, hidden_words, IsRepresented, HasType, Matches, Grown}
-use Rattle.ep_object.specs.Starts.{start_words}
+use Rattle.ep_object.specs.Starts.{AreStarts, start_words}
 use Rattle.ep_object.specs.Placing.{HasDistinctNames}
 use Rattle.ep_object.specs.State.{Frames}
 use Rattle.ep_object.specs.declared.code.Image.{Image}
@@ -20,7 +20,7 @@ use Rattle.ep_object.proofs.matching.Growing.{slice_get-prefix, is_in-longer, is
 use Rattle.ep_object.proofs.Grows.{is_prefix}
 use Rattle.ep_object.proofs.matching.HiddenWords.{hidden_words-pushed}
 use Rattle.ep_object.proofs.matching.NewSegments.{fresh_holds, new_segment}
-use Rattle.ep_object.proofs.matching.Starting.{AreStarts, starts_length}
+use Rattle.ep_object.proofs.matching.Starting.{starts_length}
 use Rattle.ep_object.proofs.matching.Standing.{slice_get-some, mapped_within, both, one_type_of, represented-same, represented-longer, living_represented, allocated}
 use Rattle.ep_typed.specs.Steps.{start_of, Component, whole, type_along, Allocation, allocation_at, type_in, ended_in, bound, counted, made}
 use Rattle.ep_typed.specs.Steps as meaning

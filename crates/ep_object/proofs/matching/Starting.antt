@@ -1,42 +1,20 @@
 -- The words with which variables of a type value begin hold its initial state.
-use Rattle.std.proofs.Common.{length-append, ◌≡◌, ℕ, ℤ, zero, suc, ◌+◌, ◌*◌, ◌<◌, true, false, Bool, cond, IsTrue, List, ◌∷◌, ◌++◌, length, Some, None, slice_get, refl, sym, ap, ◌∙◌, arith}
-use Rattle.std.specs.Prelude.{⊤, replicate}
+use Rattle.std.proofs.Common.{length-append, ◌≡◌, ℕ, ℤ, zero, suc, ◌+◌, ◌*◌, ◌<◌, true, false, Bool, cond, List, ◌∷◌, ◌++◌, length, Some, None, slice_get, refl, sym, ap, ◌∙◌, arith}
+use Rattle.std.specs.Prelude.{replicate}
 use Rattle.ep_object.specs.Matching.{HasAt, HaveAt, Injection, Words}
-use Rattle.ep_object.specs.Sets.{IsSet, set_size}
-use Rattle.ep_object.specs.Starts.{start_words, start_words_of_each, words_kept, words_of_start}
+use Rattle.ep_object.specs.Sets.{set_size}
+use Rattle.ep_object.specs.Starts.{AreStarts, AreStartsOfEach, IsStartOf, start_words, start_words_of_each, words_kept, words_of_start}
 use Rattle.ep_object.specs.State.{undefined, words_begun}
 use Rattle.ep_object.specs.Types.{repeated}
 use Rattle.ep_object.proofs.SetWords.{words_many}
 use Rattle.ep_object.proofs.matching.Values.{slice_get-behind, slice_get-front}
 use Rattle.ep_object.proofs.matching.Words.{ends_before, has_undefined}
 use Rattle.ep_typed.specs.Bounds.{count_of}
-use Rattle.ep_typed.specs.Results.{has_base}
-use Rattle.ep_typed.specs.Steps.{Undefined, is_within, start_of, started_as, starts_of}
+use Rattle.ep_typed.specs.Steps.{Undefined, start_of, started_as, starts_of}
 use Rattle.ep_typed.specs.TypeValues as type
 use Rattle.ep_typed.specs.TypeValues.{ComponentTypes, Start, TypeValue, are_started, is_started, set_start, simple_start, size_of, sizes_of}
 use Rattle.ep_typed.proofs.Bares.{neither}
 use Rattle.ep_typed.specs.Valid.{AreTypeValues, IsTypeValue}
-
--- ---- initial states that are values of their types
-
--- a variable of the type may begin so
-abbrev pub IsStartOf : TypeValue → Start → Type 0
-IsStartOf t (simple_start w) = IsTrue (is_within t w)
-IsStartOf t (set_start ms) = IsSet ms × IsTrue (has_base t ms)
-
-abbrev mutual
-  -- every initial state in a type value is one of its type
-  pub AreStarts : TypeValue → Type 0
-  AreStarts (type.Ordinal low high) = ⊤
-  AreStarts type.Text = ⊤
-  AreStarts (type.Array low high of) = AreStarts of
-  AreStarts (type.Record ts) = AreStartsOfEach ts
-  AreStarts (type.Set low high) = ⊤
-  AreStarts (type.Initial of start) = IsStartOf of start × AreStarts of
-
-  pub AreStartsOfEach : ComponentTypes → Type 0
-  AreStartsOfEach type.no_component = ⊤
-  AreStartsOfEach (type.next_component t ts) = AreStarts t × AreStartsOfEach ts
 
 -- ---- how many words
 

@@ -2,7 +2,7 @@
 use Rattle.std.proofs.Common.{◌≡◌, ℕ, ℤ, pos, suc, ◌+◌, ◌≤◌, Bool, true, false, List, [], ◌∷◌, Some, Option, cond, slice_get, refl, ap, ◌∙◌, subst, arith}
 use Rattle.std.specs.Prelude.{⊤, if◌then◌else◌}
 use Rattle.ep_object.specs.Effects.{Continues, Effect, Fails, Work, having_weighed, mapped}
-use Rattle.ep_object.specs.Follows.{Facts, Fragment, Inside, Lasts, point}
+use Rattle.ep_object.specs.Follows.{Facts, Fragment, Inside, Lasts, point, TypeOnTop}
 use Rattle.ep_object.specs.Matching.{Describes, Injection, IsKindOf, Memory, Slots, at}
 use Rattle.ep_object.specs.Operands.{Operand, Word}
 use Rattle.ep_object.specs.Runs.{Outcome, after, outcome, outcome_of, unit_in}
@@ -17,8 +17,8 @@ use Rattle.ep_object.specs.declared.state.Kind.{Kind}
 use Rattle.ep_object.proofs.following.Fragments.{FailsWith, fragment_less, fragment_stop}
 use Rattle.ep_object.proofs.following.Losing.{fragment_counted}
 use Rattle.ep_object.proofs.matching.Growing.{entry_as}
-use Rattle.ep_object.proofs.matching.Starting.{AreStarts, IsStartOf}
-use Rattle.ep_object.proofs.rows.NewTypes.{IsStartOperand, TypeOnTop, init_does, numbered_there}
+use Rattle.ep_object.specs.Starts.{AreStarts, IsStartOf}
+use Rattle.ep_object.proofs.rows.NewTypes.{IsStartOperand, init_does, numbered_there}
 use Rattle.ep_object.proofs.rows.Rows.{instr}
 use Rattle.ep_typed.proofs.Steady.{grows_refl}
 use Rattle.ep_typed.specs.Calls.{Handler}

@@ -28,7 +28,8 @@ use Rattle.ep_typed.specs.declared.unit.UnitVariable.{UnitVariable}
 use Rattle.ep_object.specs.declared.op.TheConstants as op
 use Rattle.ep_typed.specs.declared.run_error.TheConstants as run_error
 use Rattle.ep_object.proofs.matching.NewSegments.{has_entry, described_within, size_is}
-use Rattle.ep_object.proofs.matching.Starting.{AreStarts, begun_words}
+use Rattle.ep_object.proofs.matching.Starting.{begun_words}
+use Rattle.ep_object.specs.Starts.{AreStarts}
 use Rattle.ep_object.proofs.matching.NewVariables.{new_place, with_variable, with_place, with_segment, grown_making, frame_here, matches_making}
 
 -- ---- the row

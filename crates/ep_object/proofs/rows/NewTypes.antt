@@ -6,16 +6,16 @@ use Rattle.ep_object.specs.declared.state.RecordPart.{RecordPart}
 use Rattle.ep_object.proofs.SetWords.{set_words_defined}
 use Rattle.ep_object.proofs.matching.Standing.{word_defined}
 use Rattle.ep_typed.specs.Bounds.{count_of}
-use Rattle.ep_object.specs.Starts.{start_words, start_words_of_each, words_kept, words_of_start}
+use Rattle.ep_object.specs.Starts.{AreStarts, AreStartsOfEach, IsStartOf, start_words, start_words_of_each, words_kept, words_of_start}
 use Rattle.ep_object.proofs.matching.Likes.{like_ordinal}
-use Rattle.ep_object.proofs.matching.Starting.{AreStarts, AreStartsOfEach, begun_words, starts_length, IsStartOf}
+use Rattle.ep_object.proofs.matching.Starting.{begun_words, starts_length}
 use Rattle.ep_object.proofs.rows.Meeting.{Interns, IsFull, counts_met, interns_one, interns_two}
 use Rattle.std.specs.Prelude.{int_le, ⊤, is_some, option_map, ◌||◌}
 use Rattle.std.proofs.lemmas.Bool.{lt-ltb}
 use Rattle.std.proofs.lemmas.Bool.Decides.{nat_tests}
 use Rattle.std.proofs.lemmas.Option.{slice_get_within, same_Some}
 use Rattle.ep_object.specs.Matching.{Memory, at, Injection, AreBare, AreEntries, Describes, MatchesCounts, Matches, Slots, own_slot, Grown, HasSize, IsBare, IsKindOf, IsLike, HaveSize}
-use Rattle.ep_object.specs.Follows.{GivesUp, SameRoutine, Facts, Lasts, Inside}
+use Rattle.ep_object.specs.Follows.{GivesUp, SameRoutine, Facts, Lasts, Inside, TypeOnTop}
 use Rattle.ep_object.specs.Operands.{Operand, Word}
 use Rattle.ep_object.specs.Operands as operand
 use Rattle.ep_object.specs.Runs.{Outcome, outcome, outcome_of, after}
@@ -83,16 +83,6 @@ module _ {injection : Injection} {r : Resources} {segments : Segments} {types : 
 
   bounded : live ≤ held r + 4 * r.typed
   bounded = live_bounded c
-
--- the type value is given, of which all initial states are values of their types, and the number of a type that describes it is
--- on top
-pub record TypeOnTop (t : TypeValue) (below : List Operand) (given : TypeValue) (injection : Injection)
-    (memory : Memory) (operands : List Operand) : Type 0 where
-  pub type_is : given ≡ t
-  pub number : ℕ
-  pub is : operands ≡ Word (pos number) ∷ below
-  pub described : Describes memory.types number t
-  pub starts : AreStarts t
 
 -- what an instruction of a weight does that makes the type, or ends for want of storage
 abbrev pub MakesBy : ℕ → Slots → Declarations → Image → Facts → ℕ → List Operand → List Operand → TypeValue → Injection → Memory → meaning.State → Type 0

@@ -1,6 +1,7 @@
 -- What the rows on a routine's own variables lead to, where the machine matches: `Slot`, and `Make` in its activation.
 use Rattle.std.proofs.Common.{leb, cond, ◌≡◌, ℕ, pos, suc, ◌+◌, ◌<◌, ◌⊎◌, inl, inr, Bool, true, false, List, [], ◌∷◌, length, length-append, Option, Some, None, slice_get, refl, sym, ap, ◌∙◌, subst, arith}
-use Rattle.ep_object.proofs.matching.Starting.{AreStarts, begun_words}
+use Rattle.ep_object.proofs.matching.Starting.{begun_words}
+use Rattle.ep_object.specs.Starts.{AreStarts}
 use Rattle.std.proofs.lemmas.Bool.Decides.{nat_tests}
 use Rattle.std.proofs.lemmas.Bool.{lt-ltb}
 use Rattle.std.proofs.lemmas.Option.{slice_get_within}

@@ -3,7 +3,8 @@ use Rattle.std.proofs.lemmas.Int.{to_z_pos, to_z-of_z}
 use Rattle.ep_typed.specs.Trees.{actuals}
 use Rattle.ep_typed.specs.Viewed.{actual_of, callee_of, designator_of, expr_of}
 use Rattle.ep_gen_expr.proofs.ActualForms.{appends_call, actuals_more}
-use Rattle.ep_gen_expr.proofs.Forms.{on_ok, appends_short, appends_step}
+use Rattle.ep_gen_code.proofs.Growing.{on_ok}
+use Rattle.ep_gen_expr.proofs.Forms.{appends_short, appends_step}
 use Rattle.ep_gen_expr.proofs.SetForms.{set_more}
 use Rattle.ep_gen_expr.proofs.expressions.+expression.Goals as goal
 

@@ -1,4 +1,4 @@
-use Rattle.ep_gen_expr.specs.ExprCode.{reference}
+use Rattle.ep_gen_code.specs.Instructions.{reference}
 use Rattle.ep_gen_expr.proofs.Found.{found, not_found, nowhere}
 use Rattle.ep_gen_expr.proofs.tables.find_reference.Goals as goal
 

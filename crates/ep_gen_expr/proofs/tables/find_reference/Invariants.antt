@@ -1,5 +1,5 @@
 use Rattle.std.proofs.Common.{◌≡◌, ◌<◌, ℕ, Some, slice_get}
-use Rattle.ep_gen_expr.specs.Growth.{reference}
+use Rattle.ep_gen_code.specs.Instructions.{reference}
 use Rattle.ep_gen_expr.proofs.tables.find_reference.Given as goal
 
 abbrev pub invariant-loop-place : goal.invariant-loop-place

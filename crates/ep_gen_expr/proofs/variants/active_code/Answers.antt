@@ -3,7 +3,7 @@ use Rattle.std.specs.Prelude.{if◌then◌else◌}
 use Rattle.std.proofs.lemmas.Int.{to_z_pos}
 use Rattle.ep_typed.specs.Steps.{variant_number}
 use Rattle.ep_gen_expr.specs.ExprCode.{labels_count}
-use Rattle.ep_gen_expr.proofs.Forms.{on_ok}
+use Rattle.ep_gen_code.proofs.Growing.{on_ok}
 use Rattle.ep_gen_expr.proofs.RangeForms.{grows_variant}
 use Rattle.ep_gen_expr.proofs.variants.active_code.Goals as goal
 

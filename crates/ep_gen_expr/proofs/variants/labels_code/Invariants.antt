@@ -1,6 +1,6 @@
 use Rattle.std.proofs.Common.{◌≡◌, length, take}
 use Rattle.ep_gen_expr.specs.ExprCode.{labels_code}
-use Rattle.ep_gen_expr.specs.Growth.{Grows}
+use Rattle.ep_gen_code.specs.Growth.{Grows}
 use Rattle.ep_gen_expr.proofs.variants.labels_code.Given as goal
 
 abbrev pub invariant-loop-ranges : goal.invariant-loop-ranges

@@ -22,10 +22,10 @@ pub returns-clause-program : goal.returns-clause-program
 returns-clause-program c =
     let more = block_auxiliaries (stmt_of c.args.u.now.start) in
     let slots : c.in_ok-unit_slots.unit_slots ≡ length (unit_variables c.args.u.now) = omega (arith, c.in_ok-unit_slots.ensures, ap length c.items.ensures, length-append c.args.u.now.variables more, length-append (c.args.u.now.variables ++ more) (with_variables (stmt_of c.args.u.now.start))) in
-    is_program c.args.u.now c.new-code.ensures c.in_ok-name.name c.in_ok-name.ensures c.in_ok-unit_slots.unit_slots c.in_ok-stop_entry.stop_entry c.in_ok-start.start c.in_ok-stop_entry.ensures
-    c.items-3.result.now c.items-3.ensures c.in_ok-routines.routines c.items-2.result.now c.items-2.ensures c.in_ok-routines.ensures c.push-2.new.self (pushed c) (starts c) c.assemble.result c.assemble.ensures slots
+    is_program c.args.u.now c.in_ok-code.ensures.begun c.in_ok-code.ensures.small c.in_ok-name.name c.in_ok-name.ensures c.in_ok-unit_slots.unit_slots c.in_ok-stop_entry.stop_entry c.in_ok-start.start c.in_ok-stop_entry.ensures
+    c.items-3.result.now c.items-3.ensures c.in_ok-routines.routines c.items-2.result.now c.items-2.ensures c.in_ok-routines.ensures c.push-2.new.self c.types_code.new.routines (pushed c) c.items-5.result.now c.items-5.ensures c.in_ok-types_code.ensures (starts c) c.assemble.result c.assemble.ensures slots
 
 pub returns-clause-compact : goal.returns-clause-compact
 returns-clause-compact c =
-    is_compact c.args.u.now c.new-code.ensures c.in_ok-name.name c.in_ok-name.ensures c.in_ok-unit_slots.unit_slots c.in_ok-stop_entry.stop_entry c.in_ok-start.start c.in_ok-stop_entry.ensures
-    c.items-3.result.now c.items-3.ensures c.in_ok-routines.routines c.items-2.result.now c.items-2.ensures c.in_ok-routines.ensures c.push-2.new.self (pushed c) (starts c) c.assemble.result c.assemble.ensures (omega (arith, c.in_ok-next_place.ensures.is_length, c.in_ok-next_place.ensures.small))
+    is_compact c.args.u.now c.in_ok-code.ensures.begun c.in_ok-code.ensures.small c.in_ok-name.name c.in_ok-name.ensures c.in_ok-unit_slots.unit_slots c.in_ok-stop_entry.stop_entry c.in_ok-start.start c.in_ok-stop_entry.ensures
+    c.items-3.result.now c.items-3.ensures c.in_ok-routines.routines c.items-2.result.now c.items-2.ensures c.in_ok-routines.ensures c.push-2.new.self c.types_code.new.routines (pushed c) c.items-5.result.now c.items-5.ensures c.in_ok-types_code.ensures (starts c) c.assemble.result c.assemble.ensures (omega (arith, c.in_ok-next_place.ensures.is_length, c.in_ok-next_place.ensures.small))

@@ -1,5 +1,5 @@
 use Rattle.std.proofs.Common.{◌≡◌, take}
-use Rattle.ep_gen_expr.specs.Growth.{Grows}
+use Rattle.ep_gen_code.specs.Growth.{Grows}
 use Rattle.ep_gen_unit.specs.TagCode.{clears_code}
 use Rattle.ep_gen_unit.proofs.tags.clears_code.Given as goal
 

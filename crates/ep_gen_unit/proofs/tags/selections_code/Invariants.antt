@@ -1,5 +1,5 @@
 use Rattle.std.proofs.Common.{◌≡◌, length, take}
-use Rattle.ep_gen_expr.specs.Growth.{Grows}
+use Rattle.ep_gen_code.specs.Growth.{Grows}
 use Rattle.ep_gen_unit.specs.TagCode.{selections_code}
 use Rattle.ep_gen_unit.proofs.tags.selections_code.Given as goal
 

@@ -1,0 +1,4 @@
+pub mod Credit
+pub mod Growth
+pub mod Instructions
+pub mod Jumps

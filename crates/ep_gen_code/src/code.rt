@@ -1,0 +1,72 @@
+//! Code under construction.
+
+ghost use Rattle.std.specs.Prelude.{◌≡◌, [], ◌∷◌, IfOk, OnOk, length};
+ghost use Rattle.ep_gen_code.specs.Instructions.{instr};
+ghost use Rattle.ep_gen_code.specs.Growth.{Grows, IsTable, begun_code, types_named};
+ghost use Rattle.ep_object.specs.Promises.{type_routine};
+
+use crate::jumps::{field_number, place_number};
+use ep_base::{Line, List, NoMemory};
+use ep_object::{ConstantTypes, Instr, Instrs, Reference, References, Texts};
+use ep_typed::Unit;
+use std::alloc::Global;
+
+/// The line of instructions that no statement and no declaration asks for. No error has it.
+pub const NO_LINE: Line = 0;
+
+/// The instructions so far, and the tables that their fields are places of.
+#[derive(Drop)]
+pub struct Code {
+    /// The instructions.
+    pub instructions: Instrs,
+    /// The texts.
+    pub texts: Texts,
+    /// The routines and slots that instructions name.
+    pub references: References,
+    /// The constant types.
+    pub constant_types: ConstantTypes,
+    /// The line that every appended instruction gets: that of the statement or declaration.
+    pub line: Line,
+}
+
+impl Code {
+    /// No code of a unit yet, at no line. The first references are those to the routines that elaborate the unit's types, in
+    /// their order. Where memory is wanting, or a number would not fit a field, it is refused.
+    pub fn new(alloc: Global, unit: &Unit) -> Result<Code, NoMemory>
+        ensures begun { IfOk result (λ code. code ≡ begun_code unit.now) }
+        ensures small { IfOk result (λ code. IsTable code.references) }
+    {
+        let references = type_references(alloc, unit)?;
+        Ok(Code {
+            instructions: List::new(alloc),
+            texts: List::new(alloc),
+            references,
+            constant_types: List::new(alloc),
+            line: NO_LINE,
+        })
+    }
+}
+
+/// The references to the routines that elaborate the types of a unit, which stand behind those of the unit, its start and
+/// its stop.
+fn type_references(alloc: Global, unit: &Unit) -> Result<References, NoMemory>
+    ensures named { IfOk result (λ references. references ≡ types_named unit.now.name (type_routine (length unit.now.routines) 0) (length unit.now.types)) }
+    ensures small { IfOk result (λ references. IsTable references) }
+{
+    let first = field_number(unit.routines.items().len())? as u64 + 2;
+    let mut references = List::new(alloc);
+    for (index, _) in unit.types.items().iter().enumerate() {
+        let number = place_number(first + index as u64)?;
+        let unit = unit.name.copy(alloc)?;
+        references.push(Reference { unit, number })?;
+    }
+    Ok(references)
+}
+
+/// Appends one instruction, at the line that is set.
+pub fn emit(code: &mut Code, op: u8, a: i64, b: u32) -> Result<(), NoMemory>
+    ensures { OnOk result (Grows code.old code.new (instr op a b code.old.line ∷ [])) }
+{
+    let line = code.line;
+    code.instructions.push(Instr { op, a, b, line })
+}

@@ -1,0 +1,4 @@
+pub mod Elaborating
+pub mod InitialStates
+pub mod TypeForms
+pub mod TypeNames

@@ -1,0 +1,164 @@
+-- The code of a type, from that of its parts.
+use Rattle.std.proofs.Common.{◌≡◌, ◌∙◌, ℕ, ℤ, pos, zero, suc, ◌+◌, ◌-◌, ◌<◌, ◌≤◌, true, false, ltb, List, [], ◌∷◌, ◌++◌, length, map, take, Some, None, slice_get, get_or, append-nil, append_assoc, refl, sym, ap, subst, arith, rules}
+use Rattle.std.specs.Bool.{◌==◌}
+use Rattle.std.proofs.lemmas.List.{nil_from_length}
+use Rattle.std.proofs.lemmas.Option.{slice_get_past, slice_get_read}
+use Rattle.ep_gen_code.specs.Instructions.{bare, instr, members_code, push}
+use Rattle.ep_gen_code.specs.Growth.{Grows}
+use Rattle.ep_object.specs.declared.code.Instr.{Instr}
+use Rattle.ep_gen_code.specs.declared.code.Code.{Code}
+use Rattle.std.proofs.lemmas.List.{map_more, take_more}
+use Rattle.ep_gen_code.proofs.Growing.{grows_at, grows_none}
+use Rattle.ep_gen_type.specs.TypeCode.{each_code, how_many, ordinal_code, start_code, type_code}
+use Rattle.std.specs.Prelude.{Bool, is_some}
+use Rattle.ep_typed.specs.Denoters.{found_of, host_within}
+use Rattle.ep_typed.specs.Trees as tree
+use Rattle.ep_typed.specs.Viewed.{bound_of, components_of, denoter_of, denoter_step, field_of, field_step, part_step, selector_of, selector_step, variant_of, variant_part_step, variant_step, variants_of}
+use Rattle.ep_typed.specs.declared.denoter.Denoter.TheFolds.{fold-roll-FieldPart, fold-roll-VariantPart}
+use Rattle.ep_typed.specs.declared.denoter.FieldPart.{FieldPart, fold-FieldPart, out-FieldPart, roll-FieldPart, roll-out-FieldPart}
+use Rattle.ep_typed.specs.declared.denoter.VariantPart.{VariantPart, fold-VariantPart, out-VariantPart, roll-VariantPart, roll-out-VariantPart}
+use Rattle.ep_typed.specs.declared.denoter.Bound.{Bound}
+use Rattle.ep_typed.specs.declared.unit.UnitType.{UnitType}
+use Rattle.ep_typed.specs.declared.value.Value.{Value}
+use Rattle.ep_typed.specs.declared.value.Value.TheVariants as constant
+use Rattle.ep_object.specs.declared.op.TheConstants as op
+
+pub grows_ordinal : {a b c d : Code} (low high : ℤ) → Grows a b (push a.line low ∷ []) → Grows b c (push b.line high ∷ []) → Grows c d (bare c.line op.T_ORD ∷ []) → Grows a d (ordinal_code a.line low high)
+grows_ordinal low high p q r = grows_at (λ l. bare l op.T_ORD ∷ []) (grows_at (λ l. push l high ∷ []) p q) r
+
+-- a test of `get` that was passed, and one that was not
+pub found : {X : Type 0} (xs : List X) (i : ℕ) (x : X) → true ≡ ltb i (length xs) → x ≡ get_or xs i x → slice_get xs i ≡ Some x
+found xs i x less is =
+    let within : i < length xs = search rules in slice_get_read xs (length xs) i x refl within is
+
+missing : {X : Type 0} (xs : List X) (i : ℕ) → false ≡ ltb i (length xs) → slice_get xs i ≡ None
+missing xs i past =
+    let behind : length xs ≤ i = search rules in slice_get_past xs i behind
+
+-- a list of which a test says that it is empty
+empty : {X : Type 0} (xs : List X) → true ≡ (length xs == 0) → xs ≡ []
+empty xs is =
+    let none : length xs ≡ 0 = search rules in nil_from_length xs none
+
+module _ (a : Code) where
+  -- a name without a tuple
+  pub by_name : {b : Code} (k : ℕ) (tuple : List Bound) → true ≡ (length tuple == 0) → Grows a b (instr op.CALL (pos k) 0 a.line ∷ []) → Grows a b (type_code a.line (tree.Named k (map bound_of tuple)))
+  by_name {b = b} k tuple none grows = subst (λ bs. Grows a b (type_code a.line (tree.Named k (map bound_of bs)))) (sym (empty tuple none)) grows
+
+  -- one with a tuple
+  pub by_tuple : (k : ℕ) (tuple : List Bound) → false ≡ (length tuple == 0) → Grows a a (type_code a.line (tree.Named k (map bound_of tuple)))
+  by_tuple k [] some = cc
+  by_tuple k (b ∷ bs) some = grows_none a
+
+  -- the parts of an array, and then the array
+  pub by_parts : {b c d : Code} (index component : tree.Denoter) → Grows a b (type_code a.line index) → Grows b c (type_code b.line component) → Grows c d (bare c.line op.T_ARR ∷ []) → Grows a d (type_code a.line (tree.Array index component))
+  by_parts index component p q r =
+      grows_at (λ line. type_code line component ++ bare line op.T_ARR ∷ []) p (grows_at (λ line. bare line op.T_ARR ∷ []) q r)
+
+  -- the base type of a set, and then the set
+  pub by_base : {b c : Code} (base : tree.Denoter) → Grows a b (type_code a.line base) → Grows b c (bare b.line op.T_SET ∷ []) → Grows a c (type_code a.line (tree.Set base))
+  by_base base p q = grows_at (λ line. bare line op.T_SET ∷ []) p q
+
+  -- a type and its initial state, and then the type with it
+  pub by_start : {b c d : Code} (of : tree.Denoter) (value : Value) → Grows a b (type_code a.line of) → Grows b c (start_code b.line value) → Grows c d (bare c.line op.T_INIT ∷ []) → Grows a d (type_code a.line (tree.Initial of value))
+  by_start of value p q r =
+      grows_at (λ line. start_code line value ++ bare line op.T_INIT ∷ []) p (grows_at (λ line. bare line op.T_INIT ∷ []) q r)
+
+  -- the components of a record, and then the record
+  pub by_components : {b c : Code} (ds : tree.Denoters) → Grows a b (each_code a.line ds) → Grows b c (instr op.T_REC (pos (how_many ds)) 0 b.line ∷ []) → Grows a c (type_code a.line (tree.Record ds))
+  by_components ds p q = grows_at (λ line. instr op.T_REC (pos (how_many ds)) 0 line ∷ []) p q
+
+  -- no component
+  pub no_components : Grows a a (each_code a.line tree.no_denoter)
+  no_components = grows_none a
+
+  each_both : (ds es : List tree.Denoter) → each_code a.line (tree.denoters (ds ++ es)) ≡ each_code a.line (tree.denoters ds) ++ each_code a.line (tree.denoters es)
+  each_both [] es = refl
+  each_both (d ∷ ds) es =
+      ap (λ l. type_code a.line d ++ l) (each_both ds es) ∙ sym (append_assoc (type_code a.line d) (each_code a.line (tree.denoters ds)) (each_code a.line (tree.denoters es)))
+
+  -- components behind others
+  pub components_both : {b c : Code} (ds es : List tree.Denoter) → Grows a b (each_code a.line (tree.denoters ds)) → Grows b c (each_code b.line (tree.denoters es))
+      → Grows a c (each_code a.line (tree.denoters (ds ++ es)))
+  components_both {c = c} ds es p q =
+      subst (λ l. Grows a c l) (sym (each_both ds es)) (grows_at (λ line. each_code line (tree.denoters es)) p q)
+
+  -- none behind others
+  pub components_alone : {b : Code} (ds : List tree.Denoter) → Grows a b (each_code a.line (tree.denoters ds)) → Grows a b (each_code a.line (tree.denoters (ds ++ [])))
+  components_alone {b = b} ds p = subst (λ l. Grows a b (each_code a.line (tree.denoters l))) (sym (append-nil ds)) p
+
+  -- one behind others
+  pub components_one : {b c : Code} (ds : List tree.Denoter) (d : tree.Denoter) → Grows a b (each_code a.line (tree.denoters ds)) → Grows b c (type_code b.line d)
+      → Grows a c (each_code a.line (tree.denoters (ds ++ d ∷ [])))
+  components_one {c = c} ds d p q =
+      subst (λ l. Grows a c l) (sym (each_both ds (d ∷ []) ∙ ap (λ l. each_code a.line (tree.denoters ds) ++ l) (append-nil (type_code a.line d))))
+      (grows_at (λ line. type_code line d) p q)
+
+  -- others behind one
+  pub components_first : {b c : Code} (d : tree.Denoter) (es : List tree.Denoter) → Grows a b (type_code a.line d) → Grows b c (each_code b.line (tree.denoters es))
+      → Grows a c (each_code a.line (tree.denoters (d ∷ es)))
+  components_first d es p q = grows_at (λ line. each_code line (tree.denoters es)) p q
+
+  -- the record of one component
+  pub by_one : {b c : Code} (d : tree.Denoter) → Grows a b (type_code a.line d) → Grows b c (instr op.T_REC (pos 1) 0 b.line ∷ []) → Grows a c (type_code a.line (tree.Record (tree.denoters (d ∷ []))))
+  by_one {b = b} d p q =
+      by_components (tree.denoters (d ∷ [])) (subst (λ l. Grows a b l) (sym (append-nil (type_code a.line d))) p) q
+
+  -- one component more
+  pub components_more : {X : Type 0} {b c : Code} (view : X → tree.Denoter) (xs : List X) (k : ℕ) (x : X) → k < length xs → x ≡ get_or xs k x
+      → Grows a b (each_code a.line (tree.denoters (map view (take k xs)))) → Grows b c (type_code b.line (view x))
+      → Grows a c (each_code a.line (tree.denoters (map view (take (k + 1) xs))))
+  components_more {c = c} view xs k x h e p q =
+      subst (λ l. Grows a c (each_code a.line (tree.denoters l))) (ap (λ y. map view (take k xs) ++ view y ∷ []) e ∙ sym (map_more view xs k x h)) (components_one (map view (take k xs)) (view x) p q)
+
+-- how many components a record has
+pub how_many-of : (ds : List tree.Denoter) → how_many (tree.denoters ds) ≡ length ds
+how_many-of [] = refl
+how_many-of (d ∷ ds) = ap suc (how_many-of ds)
+
+-- what a field part gives that has a variant part
+pub part_some : (part : FieldPart) (v : VariantPart) → (out-FieldPart part).variant_part ≡ Some v → components_of part ≡ map field_of (out-FieldPart part).fields ++ variants_of v
+part_some part v is =
+    ap (fold-FieldPart tree.Denoter tree.Denoter (List tree.Denoter) tree.Denoter tree.Denoter (List tree.Denoter) denoter_step selector_step part_step field_step variant_step variant_part_step) (sym (roll-out-FieldPart part) ∙ ap (λ o. roll-FieldPart (record { fields = (out-FieldPart part).fields; variant_part = o })) is)
+    ∙ fold-roll-FieldPart tree.Denoter tree.Denoter (List tree.Denoter) tree.Denoter tree.Denoter (List tree.Denoter) denoter_step selector_step part_step field_step variant_step variant_part_step (record { fields = (out-FieldPart part).fields; variant_part = Some v })
+
+-- and what a variant part does that a variant completes
+pub variants_some : (part : VariantPart) (x : FieldPart) → (out-VariantPart part).completing ≡ Some x → variants_of part ≡ selector_of (out-VariantPart part).selector ∷ (map variant_of (out-VariantPart part).variants ++ tree.Record (tree.denoters (components_of x)) ∷ [])
+variants_some part x is =
+    ap (fold-VariantPart tree.Denoter tree.Denoter (List tree.Denoter) tree.Denoter tree.Denoter (List tree.Denoter) denoter_step selector_step part_step field_step variant_step variant_part_step) (sym (roll-out-VariantPart part) ∙ ap (λ o. roll-VariantPart (record { selector = (out-VariantPart part).selector; variants = (out-VariantPart part).variants; completing = o })) is)
+    ∙ fold-roll-VariantPart tree.Denoter tree.Denoter (List tree.Denoter) tree.Denoter tree.Denoter (List tree.Denoter) denoter_step selector_step part_step field_step variant_step variant_part_step (record { selector = (out-VariantPart part).selector; variants = (out-VariantPart part).variants; completing = Some x })
+
+-- ---- the host of a name
+
+-- no definition has it
+pub no_host : (types : List UnitType) (left k : ℕ) (tuple : List Bound) → true ≡ (length tuple == 0) → false ≡ ltb k (length types) → false ≡ is_some (host_within types (suc left) (tree.Named k (map bound_of tuple)))
+no_host types left k tuple none past =
+    subst (λ bs. false ≡ is_some (host_within types (suc left) (tree.Named k (map bound_of bs)))) (sym (empty tuple none))
+    (subst (λ o. false ≡ is_some (found_of (host_within types left) o)) (sym (missing types k past)) refl)
+
+-- it is that of the definition
+pub by_host : (types : List UnitType) (left k : ℕ) (tuple : List Bound) (t : UnitType) (b : Bool) → 1 ≤ left → true ≡ (length tuple == 0) → slice_get types k ≡ Some t → b ≡ is_some (host_within types (suc (left - 1)) (denoter_of t.entry.denoter))
+    → b ≡ is_some (host_within types (suc left) (tree.Named k (map bound_of tuple)))
+by_host types zero k tuple t b le none is h = absurd (omega (arith, le))
+by_host types (suc left) k tuple t b le none is h =
+    subst (λ bs. b ≡ is_some (host_within types (suc (suc left)) (tree.Named k (map bound_of bs)))) (sym (empty tuple none))
+    (subst (λ o. b ≡ is_some (found_of (host_within types (suc left)) o)) (sym is) (subst (λ n. b ≡ is_some (host_within types (suc n) (denoter_of t.entry.denoter))) one_less h))
+  where
+    one_less : suc left - 1 ≡ left
+    one_less = omega arith
+
+-- ---- initial states that are sets
+
+starts_push : (line : ℕ) (ms : List ℕ) (m : ℕ) → start_code line (constant.Set (ms ++ m ∷ [])) ≡ start_code line (constant.Set ms) ++ push line (pos m) ∷ bare line op.SET_ADD ∷ []
+starts_push line ms m = ap (λ l. bare line op.SET_NONE ∷ l) (members_push line ms m)
+  where
+    members_push : (line : ℕ) (ms : List ℕ) (m : ℕ) → members_code line (ms ++ m ∷ []) ≡ members_code line ms ++ push line (pos m) ∷ bare line op.SET_ADD ∷ []
+    members_push line [] m = refl
+    members_push line (k ∷ ms) m = ap (λ l. push line (pos k) ∷ bare line op.SET_ADD ∷ l) (members_push line ms m)
+
+-- one more member of a slice, for `set_start_code`
+pub start_more : {a b c d : Code} (xs : List ℕ) (k : ℕ) → k < length xs → Grows a b (start_code a.line (constant.Set (take k xs))) → Grows b c (push b.line (pos (get_or xs k 0)) ∷ []) → Grows c d (bare c.line op.SET_ADD ∷ [])
+    → Grows a d (start_code a.line (constant.Set (take (k + 1) xs)))
+start_more {a = a} {d = d} xs k h p q r =
+    subst (λ l. Grows a d (start_code a.line (constant.Set l))) (sym (take_more xs k 0 h))
+    (subst (λ l. Grows a d l) (sym (starts_push a.line (take k xs) (get_or xs k 0))) (grows_at (λ line. push line (pos (get_or xs k 0)) ∷ bare line op.SET_ADD ∷ []) p (grows_at (λ line. bare line op.SET_ADD ∷ []) q r)))

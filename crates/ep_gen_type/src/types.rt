@@ -1,0 +1,303 @@
+//! The code that elaborates types (ISO 10206, 6.4.1).
+
+ghost use Rattle.std.specs.Prelude.{◌≡◌, [], ◌∷◌, IfOk, OnOk, suc, is_some, length, map, Some};
+ghost use Rattle.ep_typed.specs.Denoters as denoters;
+ghost use Rattle.ep_typed.specs.Trees.{denoters as in_order, Array, Initial, Named, Record, Set};
+ghost use Rattle.ep_typed.specs.Viewed.{bound_of, components_of, denoter_of, field_of, selector_of, variant_of, variants_of};
+ghost use Rattle.ep_gen_code.specs.Growth.{Grows};
+ghost use Rattle.ep_gen_type.specs.TypeCode.{each_code, ordinal_code, simple_code, start_code as code_of_start, type_code};
+ghost use Rattle.ep_typed.specs.declared.value.Value.TheVariants as constant;
+
+use ep_base::{Name, NoMemory};
+use ep_gen_code::{Code, emit, field_number, place_number};
+use ep_object::op;
+use ep_typed::{
+    Bound, Denoter, FieldPart, RecordField, RequiredType, Selector, UnitType, Value, Variant,
+    VariantPart,
+};
+
+/// Appends the code that elaborates a denoter and leaves the type. What has no type value has no meaning and no code.
+#[cycle(denoters)]
+pub fn elaborate(denoter: &Denoter, code: &mut Code) -> Result<(), NoMemory>
+    ensures { OnOk result (Grows code.old code.new (type_code code.old.line (denoter_of denoter.now))) }
+{
+    match denoter {
+        Denoter::Required(r) => push_required(*r, code),
+        Denoter::Named(index, tuple) => name_code(*index, tuple.items(), code),
+        Denoter::Subrange(_, low, high) => push_subrange(*low, *high, code),
+        Denoter::Enumeration(names) => push_enumeration(names.items(), code),
+        Denoter::Array(index, component) => array_code(index.get(), component.get(), code),
+        Denoter::Record(part) => record_code(part, code),
+        Denoter::Set(base) => set_code(base.get(), code),
+        Denoter::Initial(of, value) => initial_code(of.get(), value, code),
+    }
+}
+
+/// Appends the code of a name: a call of the routine that elaborates the type.
+fn name_code(number: u32, tuple: &[Bound], code: &mut Code) -> Result<(), NoMemory>
+    ensures { OnOk result (Grows code.old code.new (type_code code.old.line (Named number (map bound_of tuple.now)))) }
+{
+    if !tuple.is_empty() {
+        return Ok(());
+    }
+    emit(code, op::CALL, number as i64, 0)
+}
+
+/// Appends the code of an array, behind that of its index type and that of its components.
+#[cycle(denoters)]
+fn array_code(index: &Denoter, component: &Denoter, code: &mut Code) -> Result<(), NoMemory>
+    ensures { OnOk result (Grows code.old code.new
+        (type_code code.old.line
+        (Array (denoter_of index.now) (denoter_of component.now)))) }
+{
+    elaborate(index, code)?;
+    elaborate(component, code)?;
+    emit(code, op::T_ARR, 0, 0)
+}
+
+/// Appends the code of a set, behind that of its base type.
+#[cycle(denoters)]
+fn set_code(base: &Denoter, code: &mut Code) -> Result<(), NoMemory>
+    ensures { OnOk result (Grows code.old code.new
+        (type_code code.old.line (Set (denoter_of base.now)))) }
+{
+    elaborate(base, code)?;
+    emit(code, op::T_SET, 0, 0)
+}
+
+/// Appends the code of a type with an initial state, behind those of the type and of the state.
+#[cycle(denoters)]
+fn initial_code(of: &Denoter, value: &Value, code: &mut Code) -> Result<(), NoMemory>
+    ensures { OnOk result (Grows code.old code.new
+        (type_code code.old.line (Initial (denoter_of of.now) value.now))) }
+{
+    elaborate(of, code)?;
+    start_code(value, code)?;
+    emit(code, op::T_INIT, 0, 0)
+}
+
+/// Appends the code of a record or a variant, behind that of its components.
+#[cycle(denoters)]
+fn record_code(part: &FieldPart, code: &mut Code) -> Result<(), NoMemory>
+    ensures { OnOk result (Grows code.old code.new
+        (type_code code.old.line (Record (in_order (components_of part.now))))) }
+{
+    let count = components_count(part)?;
+    part_code(part, code)?;
+    emit(code, op::T_REC, count as i64, 0)
+}
+
+/// Appends the code of the components that a field part gives, one after another.
+#[cycle(denoters)]
+fn part_code(part: &FieldPart, code: &mut Code) -> Result<(), NoMemory>
+    ensures { OnOk result (Grows code.old code.new
+        (each_code code.old.line (in_order (components_of part.now)))) }
+{
+    fields_code(part.fields.items(), code)?;
+    match &part.variant_part {
+        None => Ok(()),
+        Some(variants) => variant_part_code(variants.get(), code),
+    }
+}
+
+/// Appends the code of the types of fields.
+#[cycle(denoters)]
+fn fields_code(fields: &[RecordField], code: &mut Code) -> Result<(), NoMemory>
+    ensures { OnOk result (Grows code.old code.new
+        (each_code code.old.line (in_order (map field_of fields.now)))) }
+{
+    for field in fields {
+        field_code(field, code)?;
+    }
+    Ok(())
+}
+
+/// Appends the code of the type of a field.
+#[cycle(denoters)]
+fn field_code(field: &RecordField, code: &mut Code) -> Result<(), NoMemory>
+    ensures { OnOk result (Grows code.old code.new
+        (type_code code.old.line (field_of field.now))) }
+{
+    elaborate(&field.denoter, code)
+}
+
+/// Appends the code of what a variant part adds: the record of what selects a variant, and the variants.
+#[cycle(denoters)]
+fn variant_part_code(part: &VariantPart, code: &mut Code) -> Result<(), NoMemory>
+    ensures { OnOk result (Grows code.old code.new
+        (each_code code.old.line (in_order (variants_of part.now)))) }
+{
+    selector_code(&part.selector, code)?;
+    variants_code(part.variants.items(), code)?;
+    match &part.completing {
+        None => Ok(()),
+        Some(part) => record_code(part.get(), code),
+    }
+}
+
+/// Appends the code of the record of what selects a variant.
+#[cycle(denoters)]
+fn selector_code(selector: &Selector, code: &mut Code) -> Result<(), NoMemory>
+    ensures { OnOk result (Grows code.old code.new
+        (type_code code.old.line (selector_of selector.now))) }
+{
+    match selector {
+        Selector::Tag(_, of) => tag_code(of.get(), code),
+    }
+}
+
+/// Appends the code of the record of a tag field.
+#[cycle(denoters)]
+fn tag_code(of: &Denoter, code: &mut Code) -> Result<(), NoMemory>
+    ensures { OnOk result (Grows code.old code.new
+        (type_code code.old.line (Record (in_order (denoter_of of.now ∷ []))))) }
+{
+    elaborate(of, code)?;
+    emit(code, op::T_REC, 1, 0)
+}
+
+/// Appends the code of variants, one after another.
+#[cycle(denoters)]
+fn variants_code(variants: &[Variant], code: &mut Code) -> Result<(), NoMemory>
+    ensures { OnOk result (Grows code.old code.new
+        (each_code code.old.line (in_order (map variant_of variants.now)))) }
+{
+    for variant in variants {
+        variant_code(variant, code)?;
+    }
+    Ok(())
+}
+
+/// Appends the code of a variant.
+#[cycle(denoters)]
+fn variant_code(variant: &Variant, code: &mut Code) -> Result<(), NoMemory>
+    ensures { OnOk result (Grows code.old code.new
+        (type_code code.old.line (variant_of variant.now))) }
+{
+    record_code(&variant.part, code)
+}
+
+/// Appends the code that leaves an initial state.
+fn start_code(value: &Value, code: &mut Code) -> Result<(), NoMemory>
+    ensures { OnOk result (Grows code.old code.new (code_of_start code.old.line value.now)) }
+{
+    match value {
+        Value::Word(number) => emit(code, op::PUSH, *number, 0),
+        Value::Text(_) => Ok(()),
+        Value::Set(members) => set_start_code(members.items(), code),
+    }
+}
+
+/// Appends the code that leaves a set: the empty set, to which each member is added.
+fn set_start_code(members: &[u8], code: &mut Code) -> Result<(), NoMemory>
+    ensures { OnOk result (Grows code.old code.new (code_of_start code.old.line (constant.Set members.now))) }
+{
+    emit(code, op::SET_NONE, 0, 0)?;
+    for member in members {
+        emit(code, op::PUSH, *member as i64, 0)?;
+        emit(code, op::SET_ADD, 0, 0)?;
+    }
+    Ok(())
+}
+
+/// How many components a field part gives. A number that a field cannot hold is refused.
+fn components_count(part: &FieldPart) -> Result<u32, NoMemory>
+    ensures { IfOk result (λ k. k ≡ length (components_of part.now)) }
+{
+    let own = field_number(part.fields.items().len())?;
+    let behind = match &part.variant_part {
+        None => 0,
+        Some(variants) => variants_count(variants.get())?,
+    };
+    place_number(own as u64 + behind as u64)
+}
+
+/// How many of them a variant part adds.
+fn variants_count(part: &VariantPart) -> Result<u32, NoMemory>
+    ensures { IfOk result (λ k. k ≡ length (variants_of part.now)) }
+{
+    let count = field_number(part.variants.items().len())?;
+    let completing = match part.completing {
+        None => 0,
+        Some(_) => 1,
+    };
+    place_number(1 + count as u64 + completing)
+}
+
+/// Whether a denoter is that of an ordinal type, in which names are those of this list of types.
+pub fn is_ordinal(types: &[UnitType], denoter: &Denoter) -> bool
+    ensures { result ≡ is_some (denoters.host_of types.now (denoter_of denoter.now)) }
+{
+    is_ordinal_within(types, types.len(), denoter)
+}
+
+/// The same where behind a name at most so many others are followed.
+#[cycle(hosts)]
+fn is_ordinal_within(types: &[UnitType], left: usize, denoter: &Denoter) -> bool
+    ensures { result ≡ is_some (denoters.host_within types.now (suc left) (denoter_of denoter.now)) }
+{
+    match denoter {
+        Denoter::Required(_) => true,
+        Denoter::Named(index, tuple) => is_ordinal_name(types, left, *index, tuple.items()),
+        Denoter::Subrange(host, _, _) => is_ordinal_within(types, left, host.get()),
+        Denoter::Enumeration(names) => !names.items().is_empty(),
+        Denoter::Array(_, _) | Denoter::Record(_) | Denoter::Set(_) => false,
+        Denoter::Initial(of, _) => is_ordinal_within(types, left, of.get()),
+    }
+}
+
+/// Whether the definition behind a name is of an ordinal type, where another name may be followed.
+#[cycle(hosts)]
+fn is_ordinal_name(types: &[UnitType], left: usize, number: u32, tuple: &[Bound]) -> bool
+    ensures { result ≡ is_some (denoters.host_within types.now (suc left) (Named number (map bound_of tuple.now))) }
+{
+    if left == 0 || !tuple.is_empty() {
+        return false;
+    }
+    match types.get(number as usize) {
+        None => false,
+        Some(t) => is_ordinal_within(types, left - 1, &t.entry.denoter),
+    }
+}
+
+/// Appends the code that leaves a required type.
+fn push_required(r: RequiredType, code: &mut Code) -> Result<(), NoMemory>
+    ensures { OnOk result (Grows code.old code.new
+        (simple_code code.old.line (Some (denoters.required_type r)))) }
+{
+    match r {
+        RequiredType::Integer => push_ordinal(-i64::MAX, i64::MAX, code),
+        RequiredType::Char => push_ordinal(0, u8::MAX as i64, code),
+        RequiredType::Boolean => push_ordinal(0, 1, code),
+    }
+}
+
+/// Appends the code that leaves a subrange.
+fn push_subrange(low: Bound, high: Bound, code: &mut Code) -> Result<(), NoMemory>
+    ensures { OnOk result (Grows code.old code.new
+        (simple_code code.old.line (denoters.subrange_type (bound_of low) (bound_of high)))) }
+{
+    match (low, high) {
+        (Bound::Constant(low), Bound::Constant(high)) => push_ordinal(low, high, code),
+    }
+}
+
+/// Appends the code that leaves an enumeration.
+fn push_enumeration(names: &[Name], code: &mut Code) -> Result<(), NoMemory>
+    ensures { OnOk result (Grows code.old code.new
+        (simple_code code.old.line (denoters.enumeration_type names.now))) }
+{
+    match names {
+        [] => Ok(()),
+        [_, others @ ..] => push_ordinal(0, others.len() as i64, code),
+    }
+}
+
+/// Appends the code that leaves an ordinal type with these bounds.
+fn push_ordinal(low: i64, high: i64, code: &mut Code) -> Result<(), NoMemory>
+    ensures { OnOk result (Grows code.old code.new (ordinal_code code.old.line low high)) }
+{
+    emit(code, op::PUSH, low, 0)?;
+    emit(code, op::PUSH, high, 0)?;
+    emit(code, op::T_ORD, 0, 0)
+}
