@@ -12,7 +12,8 @@
 -- - the type itself, for `packed`, for what is no name, no subrange, no enumeration and no structure, for a name with a tuple, and for a name that is not built
 -- - the variant part of a record, for a discriminant as its selector, and for a tag whose type has a name that is not built
 -- - the statement, for an assignment to something else than a name that is built, alone or with indexes and fields, or with these behind one pair of parentheses, for a call of something else, and for a `for` whose control variable has a name that is not built
--- - the structured value, with the name of its type or without
+-- - the structured value, for a name of its type that is not built, and where it is the whole value of a constant definition or of an initial state
+-- - the element of a structured value, for the choice of a variant
 -- - the factor, for `nil`, and for a character string of another length than one that is not the whole value of an argument of a `write` or `writeln` statement
 -- - the access, for a name that is not built, and for other selectors than indexes and fields, alone or behind one pair of parentheses.
 --
@@ -21,13 +22,13 @@ use Rattle.std.specs.Prelude.{ℕ, pos, int_le, Bool, true, false, if◌then◌e
 use Rattle.std.specs.List.{list_any, list_all}
 use Rattle.std.specs.Option.{option_map, option_or}
 use Rattle.std.specs.Str.{bytes_eq}
-use Rattle.ep_tree.specs.Shapes.{bare}
+use Rattle.ep_tree.specs.Shapes.{bare, when_some}
 use Rattle.ep_tree.specs.declared.operator.QualifiedName.{QualifiedName}
 use Rattle.ep_tree.specs.declared.operator.RelationalOperator.{RelationalOperator}
 use Rattle.ep_tree.specs.declared.operator.AddingOperator.{AddingOperator}
 use Rattle.ep_tree.specs.declared.operator.MultiplyingOperator.{MultiplyingOperator}
 use Rattle.ep_tree.specs.declared.expression.ComponentValue.TheOpen.{ComponentValue-F, Element-F, Factor-F, Selector-F, Access-F, Addend-F, Argument-F, Comparison-F, Expression-F, Label-F, Multiplier-F, Simple-F, Term-F, Values-F}
-use Rattle.ep_tree.specs.declared.expression.ComponentValue.{ComponentValue, fold-ComponentValue}
+use Rattle.ep_tree.specs.declared.expression.ComponentValue.{ComponentValue, fold-ComponentValue, out-ComponentValue}
 use Rattle.ep_tree.specs.declared.expression.Element.{Element, fold-Element}
 use Rattle.ep_tree.specs.declared.expression.Factor.{Factor, fold-Factor, out-Factor}
 use Rattle.ep_tree.specs.declared.expression.Selector.{Selector, fold-Selector, out-Selector}
@@ -265,15 +266,27 @@ built_factor (Factor-F.Text line text) = is_character text
 built_factor (Factor-F.Parenthesized line inner) = true
 built_factor (Factor-F.Not line inner) = true
 built_factor (Factor-F.Set line labels) = true
+built_factor (Factor-F.Structured line name values) = built_type_name name
 built_factor _ = false
 
 -- an access is a name that is built, alone or called (ISO 10206, 6.8.5), with indexes and fields or without (6.5.3 and 6.8.6)
 abbrev pub built_access : List ℕ → List SelectorForm → Bool
 built_access name forms = are_components forms && not (is_later name)
 
--- `"[" values "]"` without the name of a type
-abbrev pub brackets_are_built : Bool
-brackets_are_built = false
+-- an element of a structured value gives components values, and chooses no variant
+abbrev pub built_element : {A B C D E F G H I J K L M N : Type 0} → Element-F A B C D E F G H I J K L M N → Bool
+built_element (Element-F.Labelled line labels value) = true
+built_element (Element-F.Variant line tag selector values) = false
+
+-- the line of a structured value
+abbrev pub structure_line : {A B C D E F G H I J K L M N : Type 0} → Factor-F A B C D E F G H I J K L M N → Option ℕ
+structure_line (Factor-F.Structured line name values) = Some line
+structure_line _ = None
+
+-- the line of a structured value that a whole component value is, with the name of its type or without
+abbrev pub structured_line : {A B C D F G H I J K L M N : Type 0} → ComponentValue-F A B C D F G H I Expression J K L M N → Option ℕ
+structured_line (ComponentValue-F.Expression e) = when_some (bare e) (λ f. structure_line (out-Factor f))
+structured_line (ComponentValue-F.Bracketed line values) = Some line
 
 -- ---- the first node that is not built
 
@@ -341,12 +354,21 @@ Placed = ℕ × Found
 -- an expression, or the brackets before their values
 abbrev pub at_component_value : ComponentValue-F Found Found Found Selecting Placed Belonging Found Belonging Found Found Belonging Found Found Found → Found
 at_component_value (ComponentValue-F.Expression e) = e
-at_component_value (ComponentValue-F.Bracketed line values) = at_node brackets_are_built line values
+at_component_value (ComponentValue-F.Bracketed line values) = values
+
+-- the line of an element
+abbrev pub element_line : Element-F Found Found Found Selecting Placed Belonging Found Belonging Found Found Belonging Found Found Found → ℕ
+element_line (Element-F.Labelled line labels value) = line
+element_line (Element-F.Variant line tag selector values) = line
 
 -- the labels before their value, and a tag's value before those of its variant
+abbrev pub in_element : Element-F Found Found Found Selecting Placed Belonging Found Belonging Found Found Belonging Found Found Found → Found
+in_element (Element-F.Labelled line labels value) = option_or (first_in labels) value
+in_element (Element-F.Variant line tag selector values) = option_or selector (first_if values)
+
+-- an element before what stands in it
 abbrev pub at_element : Element-F Found Found Found Selecting Placed Belonging Found Belonging Found Found Belonging Found Found Found → Found
-at_element (Element-F.Labelled line labels value) = option_or (first_in labels) value
-at_element (Element-F.Variant line tag selector values) = option_or selector (first_if values)
+at_element e = at_node (built_element e) (element_line e) (in_element e)
 
 -- the first line inside a factor
 abbrev pub in_factor : Factor-F Found Found Found Selecting Placed Belonging Found Belonging Found Found Belonging Found Found Found → Found
@@ -485,6 +507,10 @@ values_unbuilt = fold-Values Found Found Found Selecting Placed Belonging Found 
 abbrev pub access_unbuilt : Access → Found
 access_unbuilt a = (placed_access a).1
 
+-- the first line in the value of a constant definition or in an initial state, which is no structured value as a whole
+abbrev pub constant_value_unbuilt : ComponentValue → Found
+constant_value_unbuilt v = option_or (structured_line (out-ComponentValue v)) (component_value_unbuilt v)
+
 -- ---- types. Nothing inside a tuple is reached while none of its forms is built.
 
 -- the first line inside a type
@@ -527,7 +553,7 @@ at_plain p = at_node (built_plain p) p.line p.core
 
 -- a type denoter before its initial state
 abbrev pub at_type_denoter : TypeDenoter-F Found Found Found Found Found Found Found Found → Found
-at_type_denoter t = option_or t.plain (first_if (option_map component_value_unbuilt t.initial))
+at_type_denoter t = option_or t.plain (first_if (option_map constant_value_unbuilt t.initial))
 
 -- the labels of a variant before its fields
 abbrev pub at_variant : Variant-F Found Found Found Found Found Found Found Found → Found
@@ -673,7 +699,7 @@ compound_unbuilt c = (fold-Compound Found Found Placed Found at_statement at_arm
 
 -- the first line in a constant definition
 abbrev pub constant_unbuilt : ConstantDefinition → Found
-constant_unbuilt d = component_value_unbuilt d.value
+constant_unbuilt d = constant_value_unbuilt d.value
 
 -- the first line in a type definition
 abbrev pub type_unbuilt : TypeDefinition → Found

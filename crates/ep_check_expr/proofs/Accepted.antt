@@ -1,15 +1,15 @@
 -- What the rules accept of a tree has every property that they keep: an induction over its nodes.
-use Rattle.std.proofs.Common.{ℕ, List, [], ◌∷◌, map, Option, Some, None, sym, subst}
+use Rattle.std.proofs.Common.{◌≡◌, ℕ, List, [], ◌∷◌, map, Option, Some, None, sym, subst}
 use Rattle.std.specs.Prelude.{⊤}
 use Rattle.ep_tree.specs.Nodes.{comparison_node, simple_node, addend_node, term_node, multiplier_node, access_node, argument_node}
-use Rattle.ep_tree.specs.declared.expression.ComponentValue.TheFolds.{fold-roll-ComponentValue, fold-roll-Factor, fold-roll-Selector, ind-Expression}
-use Rattle.ep_tree.specs.declared.expression.ComponentValue.TheOpen.{ComponentValue-F, Expression-F, Factor-F, Label-F, Selector-F}
-use Rattle.ep_tree.specs.declared.expression.ComponentValue.{ComponentValue, out-ComponentValue, roll-ComponentValue, roll-out-ComponentValue}
+use Rattle.ep_tree.specs.declared.expression.ComponentValue.TheFolds.{fold-roll-ComponentValue, fold-roll-Element, fold-roll-Selector, ind-ComponentValue, ind-Expression}
+use Rattle.ep_tree.specs.declared.expression.ComponentValue.TheOpen.{ComponentValue-F, Element-F, Expression-F, Factor-F, Label-F, Selector-F, Values-F}
+use Rattle.ep_tree.specs.declared.expression.ComponentValue.{ComponentValue, map-ComponentValue, roll-ComponentValue}
 use Rattle.ep_tree.specs.declared.expression.Access.{Access, roll-Access}
 use Rattle.ep_tree.specs.declared.expression.Addend.{Addend, roll-Addend}
 use Rattle.ep_tree.specs.declared.expression.Argument.{Argument, roll-Argument}
 use Rattle.ep_tree.specs.declared.expression.Comparison.{Comparison, roll-Comparison}
-use Rattle.ep_tree.specs.declared.expression.Element.{Element}
+use Rattle.ep_tree.specs.declared.expression.Element.{Element, map-Element, roll-Element}
 use Rattle.ep_tree.specs.declared.expression.Expression.{Expression, map-Expression, roll-Expression}
 use Rattle.ep_tree.specs.declared.expression.Factor.{Factor, map-Factor, roll-Factor}
 use Rattle.ep_tree.specs.declared.expression.Label.{Label, map-Label, roll-Label}
@@ -17,19 +17,20 @@ use Rattle.ep_tree.specs.declared.expression.Multiplier.{Multiplier, roll-Multip
 use Rattle.ep_tree.specs.declared.expression.Selector.{Selector, map-Selector, roll-Selector}
 use Rattle.ep_tree.specs.declared.expression.Simple.{Simple, roll-Simple}
 use Rattle.ep_tree.specs.declared.expression.Term.{Term, roll-Term}
-use Rattle.ep_tree.specs.declared.expression.Values.{Values}
+use Rattle.ep_tree.specs.declared.expression.Values.{Values, map-Values, roll-Values}
 use Rattle.ep_tree.specs.declared.operator.AddingOperator.{AddingOperator}
 use Rattle.ep_tree.specs.declared.operator.MultiplyingOperator.{MultiplyingOperator}
 use Rattle.ep_tree.specs.declared.operator.RelationalOperator.{RelationalOperator}
 use Rattle.ep_tree.specs.declared.operator.Sign.{Sign}
 use Rattle.ep_scope.specs.Scopes.{Region}
-use Rattle.ep_check_expr.specs.Expressions.{judged, judged_value, simple_judged, term_judged, factor_judged, addend_judged, multiplier_judged, comparison_judged, labelled, name_judged, selected, given}
+use Rattle.ep_check_expr.specs.Expressions.{Said, components_written, element_written, expression_said, factor_said, judged, judged_value, simple_judged, term_judged, factor_judged, addend_judged, multiplier_judged, comparison_judged, labelled, name_judged, selected, given}
 use Rattle.ep_check_expr.specs.Judgements.{Accepts, Typed, when_accepted}
 use Rattle.ep_check_expr.specs.Names.{parenthesized}
 use Rattle.ep_check_expr.specs.Operators.{signed, negated, added, multiplied}
-use Rattle.ep_check_expr.proofs.Nodes.{access_expression, access-alone, expression-judged, compared-judged, second-judged, access-judged, range-labelled, simple-judged, value-labelled, addend-judged, term-judged, multiplier-judged, argument-judged, wide-judged}
+use Rattle.ep_check_expr.specs.StructuredValues.{Components, bracketed, named_number, structure_judged}
+use Rattle.ep_check_expr.proofs.Nodes.{factor-rolled, values-rolled, access_expression, access-alone, expression-judged, compared-judged, second-judged, access-judged, range-labelled, simple-judged, value-labelled, addend-judged, term-judged, multiplier-judged, argument-judged, wide-judged}
 use Rattle.ep_check_expr.proofs.Parts.{AreIndexes, AreOperands, IsSelected, AreSelected, when_accepted-fits, chained-fits, comparison_of-fits, string_judged-fits, access_judged-fits}
-use Rattle.ep_check_expr.proofs.Keeping.{AreGiven, AreLabels, IsHigh, IsKept, Satisfies}
+use Rattle.ep_check_expr.proofs.Keeping.{AreComponents, AreGiven, AreLabels, AreWritten, IsHigh, IsKept, IsValued, IsWritten, Satisfies, any-satisfies, then-satisfies}
 
 module _ (Q : Typed → Type 0) (scopes : List Region) (kept : IsKept Q scopes) where
   -- what is accepted of a node has the property
@@ -66,16 +67,21 @@ module _ (Q : Typed → Type 0) (scopes : List Region) (kept : IsKept Q scopes) 
   abbrev IsTerm : Term → Type 0
   IsTerm t = Satisfies Q (term_judged scopes t)
 
-  -- no built form has such a node
-  abbrev Any : {A : Type 0} → A → Type 0
-  Any x = ⊤
+  abbrev IsValue : ComponentValue → Type 0
+  IsValue v = IsValued Q (judged_value scopes v)
+
+  abbrev IsElement : Element → Type 0
+  IsElement e = IsWritten Q (element_written scopes e)
+
+  abbrev AreValues : Values → Type 0
+  AreValues v = AreComponents Q (components_written scopes v)
 
   -- nodes of which this holds
-  abbrev AnyValue : Type 0
-  AnyValue = (v : ComponentValue) × Any v
+  abbrev ValidValue : Type 0
+  ValidValue = (v : ComponentValue) × IsValue v
 
-  abbrev AnyElement : Type 0
-  AnyElement = (e : Element) × Any e
+  abbrev ValidElement : Type 0
+  ValidElement = (e : Element) × IsElement e
 
   abbrev ValidFactor : Type 0
   ValidFactor = (f : Factor) × IsFactor f
@@ -110,23 +116,36 @@ module _ (Q : Typed → Type 0) (scopes : List Region) (kept : IsKept Q scopes) 
   abbrev ValidTerm : Type 0
   ValidTerm = (t : Term) × IsTerm t
 
-  abbrev AnyValues : Type 0
-  AnyValues = (v : Values) × Any v
+  abbrev ValidValues : Type 0
+  ValidValues = (v : Values) × AreValues v
 
   -- layers of such nodes, without what holds of them
-  abbrev factor_layer : Factor-F AnyValue AnyElement ValidFactor ValidSelector ValidAccess ValidAddend ValidArgument ValidComparison ValidExpression ValidLabel ValidMultiplier ValidSimple ValidTerm AnyValues → Factor-F ComponentValue Element Factor Selector Access Addend Argument Comparison Expression Label Multiplier Simple Term Values
-  factor_layer = map-Factor AnyValue AnyElement ValidFactor ValidSelector ValidAccess ValidAddend ValidArgument ValidComparison ValidExpression ValidLabel ValidMultiplier ValidSimple ValidTerm AnyValues ComponentValue Element Factor Selector Access Addend Argument Comparison Expression Label Multiplier Simple Term Values (λ e. e.0) (λ e. e.0) (λ e. e.0) (λ e. e.0) (λ e. e.0) (λ e. e.0) (λ e. e.0) (λ e. e.0) (λ e. e.0) (λ e. e.0) (λ e. e.0) (λ e. e.0) (λ e. e.0) (λ e. e.0)
+  abbrev factor_layer : Factor-F ValidValue ValidElement ValidFactor ValidSelector ValidAccess ValidAddend ValidArgument ValidComparison ValidExpression ValidLabel ValidMultiplier ValidSimple ValidTerm ValidValues → Factor-F ComponentValue Element Factor Selector Access Addend Argument Comparison Expression Label Multiplier Simple Term Values
+  factor_layer = map-Factor ValidValue ValidElement ValidFactor ValidSelector ValidAccess ValidAddend ValidArgument ValidComparison ValidExpression ValidLabel ValidMultiplier ValidSimple ValidTerm ValidValues ComponentValue Element Factor Selector Access Addend Argument Comparison Expression Label Multiplier Simple Term Values (λ e. e.0) (λ e. e.0) (λ e. e.0) (λ e. e.0) (λ e. e.0) (λ e. e.0) (λ e. e.0) (λ e. e.0) (λ e. e.0) (λ e. e.0) (λ e. e.0) (λ e. e.0) (λ e. e.0) (λ e. e.0)
 
-  abbrev selector_layer : Selector-F AnyValue AnyElement ValidFactor ValidSelector ValidAccess ValidAddend ValidArgument ValidComparison ValidExpression ValidLabel ValidMultiplier ValidSimple ValidTerm AnyValues → Selector-F ComponentValue Element Factor Selector Access Addend Argument Comparison Expression Label Multiplier Simple Term Values
-  selector_layer = map-Selector AnyValue AnyElement ValidFactor ValidSelector ValidAccess ValidAddend ValidArgument ValidComparison ValidExpression ValidLabel ValidMultiplier ValidSimple ValidTerm AnyValues ComponentValue Element Factor Selector Access Addend Argument Comparison Expression Label Multiplier Simple Term Values (λ e. e.0) (λ e. e.0) (λ e. e.0) (λ e. e.0) (λ e. e.0) (λ e. e.0) (λ e. e.0) (λ e. e.0) (λ e. e.0) (λ e. e.0) (λ e. e.0) (λ e. e.0) (λ e. e.0) (λ e. e.0)
+  abbrev selector_layer : Selector-F ValidValue ValidElement ValidFactor ValidSelector ValidAccess ValidAddend ValidArgument ValidComparison ValidExpression ValidLabel ValidMultiplier ValidSimple ValidTerm ValidValues → Selector-F ComponentValue Element Factor Selector Access Addend Argument Comparison Expression Label Multiplier Simple Term Values
+  selector_layer = map-Selector ValidValue ValidElement ValidFactor ValidSelector ValidAccess ValidAddend ValidArgument ValidComparison ValidExpression ValidLabel ValidMultiplier ValidSimple ValidTerm ValidValues ComponentValue Element Factor Selector Access Addend Argument Comparison Expression Label Multiplier Simple Term Values (λ e. e.0) (λ e. e.0) (λ e. e.0) (λ e. e.0) (λ e. e.0) (λ e. e.0) (λ e. e.0) (λ e. e.0) (λ e. e.0) (λ e. e.0) (λ e. e.0) (λ e. e.0) (λ e. e.0) (λ e. e.0)
 
-  abbrev expression_layer : Expression-F AnyValue AnyElement ValidFactor ValidSelector ValidAccess ValidAddend ValidArgument ValidComparison ValidExpression ValidLabel ValidMultiplier ValidSimple ValidTerm AnyValues → Expression-F ComponentValue Element Factor Selector Access Addend Argument Comparison Expression Label Multiplier Simple Term Values
-  expression_layer = map-Expression AnyValue AnyElement ValidFactor ValidSelector ValidAccess ValidAddend ValidArgument ValidComparison ValidExpression ValidLabel ValidMultiplier ValidSimple ValidTerm AnyValues ComponentValue Element Factor Selector Access Addend Argument Comparison Expression Label Multiplier Simple Term Values (λ e. e.0) (λ e. e.0) (λ e. e.0) (λ e. e.0) (λ e. e.0) (λ e. e.0) (λ e. e.0) (λ e. e.0) (λ e. e.0) (λ e. e.0) (λ e. e.0) (λ e. e.0) (λ e. e.0) (λ e. e.0)
+  abbrev expression_layer : Expression-F ValidValue ValidElement ValidFactor ValidSelector ValidAccess ValidAddend ValidArgument ValidComparison ValidExpression ValidLabel ValidMultiplier ValidSimple ValidTerm ValidValues → Expression-F ComponentValue Element Factor Selector Access Addend Argument Comparison Expression Label Multiplier Simple Term Values
+  expression_layer = map-Expression ValidValue ValidElement ValidFactor ValidSelector ValidAccess ValidAddend ValidArgument ValidComparison ValidExpression ValidLabel ValidMultiplier ValidSimple ValidTerm ValidValues ComponentValue Element Factor Selector Access Addend Argument Comparison Expression Label Multiplier Simple Term Values (λ e. e.0) (λ e. e.0) (λ e. e.0) (λ e. e.0) (λ e. e.0) (λ e. e.0) (λ e. e.0) (λ e. e.0) (λ e. e.0) (λ e. e.0) (λ e. e.0) (λ e. e.0) (λ e. e.0) (λ e. e.0)
 
-  abbrev label_layer : Label-F AnyValue AnyElement ValidFactor ValidSelector ValidAccess ValidAddend ValidArgument ValidComparison ValidExpression ValidLabel ValidMultiplier ValidSimple ValidTerm AnyValues → Label-F ComponentValue Element Factor Selector Access Addend Argument Comparison Expression Label Multiplier Simple Term Values
-  label_layer = map-Label AnyValue AnyElement ValidFactor ValidSelector ValidAccess ValidAddend ValidArgument ValidComparison ValidExpression ValidLabel ValidMultiplier ValidSimple ValidTerm AnyValues ComponentValue Element Factor Selector Access Addend Argument Comparison Expression Label Multiplier Simple Term Values (λ e. e.0) (λ e. e.0) (λ e. e.0) (λ e. e.0) (λ e. e.0) (λ e. e.0) (λ e. e.0) (λ e. e.0) (λ e. e.0) (λ e. e.0) (λ e. e.0) (λ e. e.0) (λ e. e.0) (λ e. e.0)
+  abbrev label_layer : Label-F ValidValue ValidElement ValidFactor ValidSelector ValidAccess ValidAddend ValidArgument ValidComparison ValidExpression ValidLabel ValidMultiplier ValidSimple ValidTerm ValidValues → Label-F ComponentValue Element Factor Selector Access Addend Argument Comparison Expression Label Multiplier Simple Term Values
+  label_layer = map-Label ValidValue ValidElement ValidFactor ValidSelector ValidAccess ValidAddend ValidArgument ValidComparison ValidExpression ValidLabel ValidMultiplier ValidSimple ValidTerm ValidValues ComponentValue Element Factor Selector Access Addend Argument Comparison Expression Label Multiplier Simple Term Values (λ e. e.0) (λ e. e.0) (λ e. e.0) (λ e. e.0) (λ e. e.0) (λ e. e.0) (λ e. e.0) (λ e. e.0) (λ e. e.0) (λ e. e.0) (λ e. e.0) (λ e. e.0) (λ e. e.0) (λ e. e.0)
+
+  abbrev value_layer : ComponentValue-F ValidValue ValidElement ValidFactor ValidSelector ValidAccess ValidAddend ValidArgument ValidComparison ValidExpression ValidLabel ValidMultiplier ValidSimple ValidTerm ValidValues → ComponentValue-F ComponentValue Element Factor Selector Access Addend Argument Comparison Expression Label Multiplier Simple Term Values
+  value_layer = map-ComponentValue ValidValue ValidElement ValidFactor ValidSelector ValidAccess ValidAddend ValidArgument ValidComparison ValidExpression ValidLabel ValidMultiplier ValidSimple ValidTerm ValidValues ComponentValue Element Factor Selector Access Addend Argument Comparison Expression Label Multiplier Simple Term Values (λ e. e.0) (λ e. e.0) (λ e. e.0) (λ e. e.0) (λ e. e.0) (λ e. e.0) (λ e. e.0) (λ e. e.0) (λ e. e.0) (λ e. e.0) (λ e. e.0) (λ e. e.0) (λ e. e.0) (λ e. e.0)
+
+  abbrev element_layer : Element-F ValidValue ValidElement ValidFactor ValidSelector ValidAccess ValidAddend ValidArgument ValidComparison ValidExpression ValidLabel ValidMultiplier ValidSimple ValidTerm ValidValues → Element-F ComponentValue Element Factor Selector Access Addend Argument Comparison Expression Label Multiplier Simple Term Values
+  element_layer = map-Element ValidValue ValidElement ValidFactor ValidSelector ValidAccess ValidAddend ValidArgument ValidComparison ValidExpression ValidLabel ValidMultiplier ValidSimple ValidTerm ValidValues ComponentValue Element Factor Selector Access Addend Argument Comparison Expression Label Multiplier Simple Term Values (λ e. e.0) (λ e. e.0) (λ e. e.0) (λ e. e.0) (λ e. e.0) (λ e. e.0) (λ e. e.0) (λ e. e.0) (λ e. e.0) (λ e. e.0) (λ e. e.0) (λ e. e.0) (λ e. e.0) (λ e. e.0)
+
+  abbrev values_layer : Values-F ValidValue ValidElement ValidFactor ValidSelector ValidAccess ValidAddend ValidArgument ValidComparison ValidExpression ValidLabel ValidMultiplier ValidSimple ValidTerm ValidValues → Values-F ComponentValue Element Factor Selector Access Addend Argument Comparison Expression Label Multiplier Simple Term Values
+  values_layer = map-Values ValidValue ValidElement ValidFactor ValidSelector ValidAccess ValidAddend ValidArgument ValidComparison ValidExpression ValidLabel ValidMultiplier ValidSimple ValidTerm ValidValues ComponentValue Element Factor Selector Access Addend Argument Comparison Expression Label Multiplier Simple Term Values (λ e. e.0) (λ e. e.0) (λ e. e.0) (λ e. e.0) (λ e. e.0) (λ e. e.0) (λ e. e.0) (λ e. e.0) (λ e. e.0) (λ e. e.0) (λ e. e.0) (λ e. e.0) (λ e. e.0) (λ e. e.0)
 
   -- rows of such nodes
+  elements-fit : (more : List ValidElement) → AreWritten Q (map (element_written scopes) (map (λ e. e.0) more))
+  elements-fit [] = tt
+  elements-fit (e ∷ more) = (e.1, elements-fit more)
+
   addends-fit : (more : List ValidAddend) → AreOperands Q (map (addend_judged scopes) (map (λ e. e.0) more))
   addends-fit [] = tt
   addends-fit (a ∷ more) = (a.1, addends-fit more)
@@ -143,6 +162,10 @@ module _ (Q : Typed → Type 0) (scopes : List Region) (kept : IsKept Q scopes) 
   indexes-fit [] = tt
   indexes-fit (e ∷ more) = (e.1, indexes-fit more)
 
+  said-fit : (more : List ValidExpression) → AreIndexes Q (map (λ x. x.judged) (map (expression_said scopes) (map (λ e. e.0) more)))
+  said-fit [] = tt
+  said-fit (e ∷ more) = (e.1, said-fit more)
+
   labels-fit : (more : List ValidLabel) → AreLabels Q (map (labelled scopes) (map (λ e. e.0) more))
   labels-fit [] = tt
   labels-fit (l ∷ more) = (l.1, labels-fit more)
@@ -152,19 +175,26 @@ module _ (Q : Typed → Type 0) (scopes : List Region) (kept : IsKept Q scopes) 
   selectors-fit (s ∷ more) = (s.1, selectors-fit more)
 
   -- each node, where its parts have it
-  factor-fits : (f : Factor-F AnyValue AnyElement ValidFactor ValidSelector ValidAccess ValidAddend ValidArgument ValidComparison ValidExpression ValidLabel ValidMultiplier ValidSimple ValidTerm AnyValues) → IsFactor (roll-Factor (factor_layer f))
-  factor-fits (Factor-F.Access a) = rw fold-roll-Factor a.1
-  factor-fits (Factor-F.Number at n) = rw fold-roll-Factor (kept.number n)
-  factor-fits (Factor-F.Text at bytes) = rw fold-roll-Factor (string_judged-fits Q scopes kept bytes)
-  factor-fits (Factor-F.Nil at) = rw fold-roll-Factor tt
-  factor-fits (Factor-F.Parenthesized at e) = rw fold-roll-Factor (when_accepted-fits Q (λ x. Accepts (parenthesized x)) kept.parenthesizes (judged scopes e.0) e.1)
-  factor-fits (Factor-F.Not at f) = rw fold-roll-Factor (when_accepted-fits Q negated kept.negates (factor_judged scopes f.0) f.1)
-  factor-fits (Factor-F.Set at labels) = rw fold-roll-Factor (kept.constructs (map (labelled scopes) (map (λ e. e.0) labels)) (labels-fit labels))
-  factor-fits (Factor-F.Structured at name values) = rw fold-roll-Factor tt
+  factor_layer-fits : (f : Factor-F ValidValue ValidElement ValidFactor ValidSelector ValidAccess ValidAddend ValidArgument ValidComparison ValidExpression ValidLabel ValidMultiplier ValidSimple ValidTerm ValidValues) → (said : Said) → factor_said scopes (roll-Factor (factor_layer f)) ≡ said → Satisfies Q said.judged → IsFactor (roll-Factor (factor_layer f))
+  factor_layer-fits f said is h = subst (λ z. Satisfies Q z.judged) (sym is) h
 
-  selector-fits : (s : Selector-F AnyValue AnyElement ValidFactor ValidSelector ValidAccess ValidAddend ValidArgument ValidComparison ValidExpression ValidLabel ValidMultiplier ValidSimple ValidTerm AnyValues) → HasArguments (roll-Selector (selector_layer s))
+  factor-fits : (f : Factor-F ValidValue ValidElement ValidFactor ValidSelector ValidAccess ValidAddend ValidArgument ValidComparison ValidExpression ValidLabel ValidMultiplier ValidSimple ValidTerm ValidValues) → IsFactor (roll-Factor (factor_layer f))
+  factor-fits (Factor-F.Access a) = factor_layer-fits (Factor-F.Access a) _ (factor-rolled scopes (factor_layer (Factor-F.Access a))) a.1
+  factor-fits (Factor-F.Number at n) = factor_layer-fits (Factor-F.Number at n) _ (factor-rolled scopes (factor_layer (Factor-F.Number at n))) (kept.number n)
+  factor-fits (Factor-F.Text at bytes) = factor_layer-fits (Factor-F.Text at bytes) _ (factor-rolled scopes (factor_layer (Factor-F.Text at bytes))) (string_judged-fits Q scopes kept bytes)
+  factor-fits (Factor-F.Nil at) = factor_layer-fits (Factor-F.Nil at) _ (factor-rolled scopes (factor_layer (Factor-F.Nil at))) tt
+  factor-fits (Factor-F.Parenthesized at e) =
+      factor_layer-fits (Factor-F.Parenthesized at e) _ (factor-rolled scopes (factor_layer (Factor-F.Parenthesized at e))) (when_accepted-fits Q (λ x. Accepts (parenthesized x)) kept.parenthesizes (judged scopes e.0) e.1)
+  factor-fits (Factor-F.Not at f) = factor_layer-fits (Factor-F.Not at f) _ (factor-rolled scopes (factor_layer (Factor-F.Not at f))) (when_accepted-fits Q negated kept.negates (factor_judged scopes f.0) f.1)
+  factor-fits (Factor-F.Set at labels) =
+      factor_layer-fits (Factor-F.Set at labels) _ (factor-rolled scopes (factor_layer (Factor-F.Set at labels))) (kept.constructs (map (labelled scopes) (map (λ e. e.0) labels)) (labels-fit labels))
+  factor-fits (Factor-F.Structured at name values) =
+      factor_layer-fits (Factor-F.Structured at name values) _ (factor-rolled scopes (factor_layer (Factor-F.Structured at name values)))
+      (then-satisfies (λ n. ⊤) Q (structure_judged scopes (components_written scopes values.0)) (named_number scopes name.first name.second) (any-satisfies (named_number scopes name.first name.second)) (λ n t. kept.structures (components_written scopes values.0) values.1 n))
+
+  selector-fits : (s : Selector-F ValidValue ValidElement ValidFactor ValidSelector ValidAccess ValidAddend ValidArgument ValidComparison ValidExpression ValidLabel ValidMultiplier ValidSimple ValidTerm ValidValues) → HasArguments (roll-Selector (selector_layer s))
   selector-fits (Selector-F.Field at name) = rw fold-roll-Selector tt
-  selector-fits (Selector-F.Index at indexes) = rw fold-roll-Selector (indexes-fit indexes)
+  selector-fits (Selector-F.Index at indexes) = rw fold-roll-Selector (said-fit indexes)
   selector-fits (Selector-F.Dereference at) = rw fold-roll-Selector tt
   selector-fits (Selector-F.Arguments at arguments) = rw fold-roll-Selector (arguments-fit arguments)
 
@@ -206,11 +236,27 @@ module _ (Q : Typed → Type 0) (scopes : List Region) (kept : IsKept Q scopes) 
   access-fits at name more =
       subst (Satisfies Q) (sym (access-judged scopes at name (map (λ e. e.0) more))) (access_judged-fits Q scopes kept name (map (selected scopes) (map (λ e. e.0) more)) (selectors-fit more))
 
+  bracketed-fits : (c : Components) → AreComponents Q c → (asked : Option ℕ) → Satisfies Q (bracketed scopes c asked)
+  bracketed-fits c h None = tt
+  bracketed-fits c h (Some n) = kept.structures c h n
+
+  value-fits : (v : ComponentValue-F ValidValue ValidElement ValidFactor ValidSelector ValidAccess ValidAddend ValidArgument ValidComparison ValidExpression ValidLabel ValidMultiplier ValidSimple ValidTerm ValidValues) → IsValue (roll-ComponentValue (value_layer v))
+  value-fits (ComponentValue-F.Expression e) = rw fold-roll-ComponentValue (λ asked. e.1)
+  value-fits (ComponentValue-F.Bracketed at values) = rw fold-roll-ComponentValue (bracketed-fits (components_written scopes values.0) values.1)
+
+  element-fits : (e : Element-F ValidValue ValidElement ValidFactor ValidSelector ValidAccess ValidAddend ValidArgument ValidComparison ValidExpression ValidLabel ValidMultiplier ValidSimple ValidTerm ValidValues) → IsElement (roll-Element (element_layer e))
+  element-fits (Element-F.Labelled at labels value) = rw fold-roll-Element (labels-fit labels, value.1)
+  element-fits (Element-F.Variant at tag selector values) = rw fold-roll-Element tt
+
+  values_of-fits : (at : ℕ) (es : List ValidElement) (o : Option ValidValue) → AreValues (roll-Values (values_layer (record { line = at; elements = es; otherwise = o })))
+  values_of-fits at es None = subst (AreComponents Q) (sym (values-rolled scopes (values_layer (record { line = at; elements = es; otherwise = None })))) (elements-fit es, tt)
+  values_of-fits at es (Some v) = subst (AreComponents Q) (sym (values-rolled scopes (values_layer (record { line = at; elements = es; otherwise = Some v })))) (elements-fit es, v.1)
+
   -- so every expression that is accepted has it
   pub expressions-fit : (e : Expression) → Satisfies Q (judged scopes e)
-  expressions-fit = ind-Expression Any Any IsFactor HasArguments IsAccess IsAddend IsArgument IsComparison IsExpression IsLabel IsMultiplier IsSimple IsTerm Any
-      (λ x y is. tt)
-      (λ x y is. tt)
+  expressions-fit = ind-Expression IsValue IsElement IsFactor HasArguments IsAccess IsAddend IsArgument IsComparison IsExpression IsLabel IsMultiplier IsSimple IsTerm AreValues
+      (λ x y is. subst (λ z. IsValue (roll-ComponentValue z)) is (value-fits y))
+      (λ x y is. subst (λ z. IsElement (roll-Element z)) is (element-fits y))
       (λ x y is. subst (λ z. IsFactor (roll-Factor z)) is (factor-fits y))
       (λ x y is. subst (λ z. HasArguments (roll-Selector z)) is (selector-fits y))
       (λ x y is. subst (λ z. IsAccess (roll-Access z)) is (access-fits y.line y.name y.selectors))
@@ -222,16 +268,26 @@ module _ (Q : Typed → Type 0) (scopes : List Region) (kept : IsKept Q scopes) 
       (λ x y is. subst (λ z. IsMultiplier (roll-Multiplier z)) is (multiplier-fits y.operator y.factor))
       (λ x y is. subst (λ z. IsSimple (roll-Simple z)) is (simple-fits y.line y.sign y.first y.more))
       (λ x y is. subst (λ z. IsTerm (roll-Term z)) is (term-fits y.line y.first y.more))
-      (λ x y is. tt)
+      (λ x y is. subst (λ z. AreValues (roll-Values z)) is (values_of-fits y.line y.elements y.otherwise))
 
   -- and every access, which is an expression by itself
   pub accesses-fit : (a : Access) → Satisfies Q (name_judged scopes a)
   accesses-fit a = subst (Satisfies Q) (access-alone scopes a) (expressions-fit (access_expression a))
 
-  value_of : (v : ComponentValue-F ComponentValue Element Factor Selector Access Addend Argument Comparison Expression Label Multiplier Simple Term Values) → Satisfies Q (judged_value scopes (roll-ComponentValue v))
-  value_of (ComponentValue-F.Expression e) = rw fold-roll-ComponentValue (expressions-fit e)
-  value_of (ComponentValue-F.Bracketed at values) = rw fold-roll-ComponentValue tt
-
-  -- and every value of a definition or of an assignment
-  pub values-fit : (v : ComponentValue) → Satisfies Q (judged_value scopes v)
-  values-fit v = subst (λ z. Satisfies Q (judged_value scopes z)) (roll-out-ComponentValue v) (value_of (out-ComponentValue v))
+  -- and every value of a definition or of an assignment, whatever is asked of it
+  pub values-fit : (v : ComponentValue) → IsValued Q (judged_value scopes v)
+  values-fit = ind-ComponentValue IsValue IsElement IsFactor HasArguments IsAccess IsAddend IsArgument IsComparison IsExpression IsLabel IsMultiplier IsSimple IsTerm AreValues
+      (λ x y is. subst (λ z. IsValue (roll-ComponentValue z)) is (value-fits y))
+      (λ x y is. subst (λ z. IsElement (roll-Element z)) is (element-fits y))
+      (λ x y is. subst (λ z. IsFactor (roll-Factor z)) is (factor-fits y))
+      (λ x y is. subst (λ z. HasArguments (roll-Selector z)) is (selector-fits y))
+      (λ x y is. subst (λ z. IsAccess (roll-Access z)) is (access-fits y.line y.name y.selectors))
+      (λ x y is. subst (λ z. IsAddend (roll-Addend z)) is (addend-fits y.operator y.term))
+      (λ x y is. subst (λ z. IsArgument (roll-Argument z)) is (argument-fits y.line y.value _))
+      (λ x y is. subst (λ z. IsComparison (roll-Comparison z)) is (comparison-fits y.operator y.right))
+      (λ x y is. subst (λ z. IsExpression (roll-Expression z)) is (expression-fits y.line y.left y.right))
+      (λ x y is. subst (λ z. IsLabel (roll-Label z)) is (label-fits y.line y.low y.high))
+      (λ x y is. subst (λ z. IsMultiplier (roll-Multiplier z)) is (multiplier-fits y.operator y.factor))
+      (λ x y is. subst (λ z. IsSimple (roll-Simple z)) is (simple-fits y.line y.sign y.first y.more))
+      (λ x y is. subst (λ z. IsTerm (roll-Term z)) is (term-fits y.line y.first y.more))
+      (λ x y is. subst (λ z. AreValues (roll-Values z)) is (values_of-fits y.line y.elements y.otherwise))

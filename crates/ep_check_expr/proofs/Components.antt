@@ -164,9 +164,9 @@ module _ (declared : Declarations) (types : TypeValues) (structures : List Struc
         → (whole : Access) → IsAccessOf declared types whole (Some x) → IsComponentForm a.component a.kind whole (Some (IndexedValue x index))
     indexed-component a index h f whole g =
         let made = h.value_made in
-        let same : v.0.0 ≡ type.Array made.0 made.1 made.2 = one_type n v.0.0 h.type_value v.0.1 h.has_value ∙ made.3 in
-        let array : IsExpr declared (valid.Structured (type.Array made.0 made.1 made.2)) x = subst (λ t. IsExpr declared (valid.Structured t) x) same v.0.2 in (
-          indexed-form a.kind x index (taken-value a.kind made.2 (IndexedValue x index) made.5 v.1 (λ w p. (made.0, made.1, made.2, array, p, (typed_host a.index, made.4, f)))),
+        let same : v.0.0 ≡ type.Array a.low a.high made.0 = one_type n v.0.0 h.type_value v.0.1 h.has_value ∙ made.1 in
+        let array : IsExpr declared (valid.Structured (type.Array a.low a.high made.0)) x = subst (λ t. IsExpr declared (valid.Structured t) x) same v.0.2 in (
+          indexed-form a.kind x index (taken-value a.kind made.0 (IndexedValue x index) made.3 v.1 (λ w p. (a.low, a.high, made.0, array, p, (typed_host a.index, made.2, f)))),
           value-access a.component whole x (IndexedValue x index) unread g,
         )
 

@@ -1,6 +1,7 @@
 -- What the name of a field gives of a valid form is valid.
 use Rattle.std.proofs.Common.{◌≡◌, ◌+◌, ℕ, nat_le, List, [], ◌∷◌, slice_get, Option, Some, None, refl, subst, sym}
 use Rattle.std.specs.Prelude.{All}
+use Rattle.ep_typed.specs.Trees as tree
 use Rattle.ep_typed.specs.Trees.{Place, Expr, Constant, Text, Read, One, Two, Short, Step, Function, IndexedValue, FieldValue, SetConstant, SetOf, OnSets, Card, Field}
 use Rattle.ep_typed.specs.Valid.{Declarations}
 use Rattle.ep_typed.specs.declared.unit.UnitType.{UnitType}
@@ -116,6 +117,7 @@ module _ (declared : Declarations) (types : TypeValues) (structures : List Struc
     field-valid (Some (Function callee given)) g whole h = value-field (Function callee given) refl (λ place e. cc) g whole h
     field-valid (Some (IndexedValue array index)) g whole h = value-field (IndexedValue array index) refl (λ place e. cc) g whole h
     field-valid (Some (FieldValue inner k)) g whole h = value-field (FieldValue inner k) refl (λ place e. cc) g whole h
+    field-valid (Some (tree.Structured number es)) g whole h = value-field (tree.Structured number es) refl (λ place e. cc) g whole h
     field-valid (Some (Constant z)) g whole h = absurd g
     field-valid (Some (Text bytes)) g whole h = absurd g
     field-valid (Some (One operation x)) g whole h = absurd g

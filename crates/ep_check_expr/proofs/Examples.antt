@@ -112,10 +112,10 @@ function_of how = declaration.Function (integer_parameter how ∷ []) (written (
 
 -- an array of integers by colors, and one of such arrays by Booleans
 abbrev row : StructuredType
-row = record { number = 3; composition = composition.Array (record { index = color; component = type_name.Required simple.Integer; kind = integer }) }
+row = record { number = 3; composition = composition.Array (record { index = color; low = pos 0; high = pos 1; component = type_name.Required simple.Integer; kind = integer }) }
 
 abbrev table : StructuredType
-table = record { number = 4; composition = composition.Array (record { index = host.Boolean; component = type_name.Entry 3; kind = kind.Structured 3 }) }
+table = record { number = 4; composition = composition.Array (record { index = host.Boolean; low = pos 0; high = pos 1; component = type_name.Entry 3; kind = kind.Structured 3 }) }
 
 -- a function of such an array, whose result is a color
 abbrev row_parameter : FormalMode → FormalParameter
@@ -374,7 +374,7 @@ abbrev point : StructuredType
 point = record { number = 5; composition = composition.Record (plain_field (codes "x") (type_name.Required simple.Integer) integer 0 ∷ plain_field (codes "y") (type_name.Entry 0) (kind.Ordinal color) 1 ∷ []) }
 
 abbrev points : StructuredType
-points = record { number = 6; composition = composition.Array (record { index = color; component = type_name.Entry 5; kind = kind.Structured 5 }) }
+points = record { number = 6; composition = composition.Array (record { index = color; low = pos 0; high = pos 1; component = type_name.Entry 5; kind = kind.Structured 5 }) }
 
 -- the record c, the array d, a function e that gives such an array, the integer x, and an interface that exports a color x
 abbrev with_records : List Region

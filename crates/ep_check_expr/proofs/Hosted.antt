@@ -54,6 +54,7 @@ use Rattle.ep_check_expr.specs.Origins.{CompositionHasHost, DeclaresHost, Entrie
 use Rattle.ep_check_expr.proofs.Labels.{set-has}
 use Rattle.ep_check_expr.proofs.Designated.{field-given}
 use Rattle.ep_check_expr.proofs.Indexed.{index-given}
+use Rattle.ep_check_expr.proofs.Structures.{structure-any}
 use Rattle.ep_check_expr.proofs.Keeping.{AreLabels, IsCalled, IsKept, Satisfies, if-satisfies}
 
 -- ---- names
@@ -428,6 +429,7 @@ module _ (scopes : List Region) where
     adds = λ o x y p q. added_comes o x y p q;
     multiplies = λ o x y p q. multiplied_comes o x y p q;
     constructs = set_comes;
+    structures = λ c h n. structure-any IsKnown n (λ form depth. tt) scopes c;
     compares = λ o x y p q. compared_comes o x y;
     applies_one = one_comes;
     applies_two = λ f x y p q. two_comes f x y p;

@@ -20,11 +20,17 @@ use Rattle.ep_check_expr.specs.Indexing.{indexed}
 use Rattle.ep_check_expr.specs.Judgements.{Judged, Accepts, Breaks, Typed, both, when_accepted}
 use Rattle.ep_check_expr.specs.Names.{call_declared, leaf, parenthesized, value_named}
 use Rattle.ep_check_expr.specs.Operators.{signed, negated, added, multiplied, compared}
+use Rattle.ep_check_expr.specs.StructuredValues.{Chosen, Components, Labelled, Valued, Written, structure_judged}
 
 -- what is accepted has the property
 abbrev pub Satisfies : {A : Type 0} → (A → Type 0) → Judged A → Type 0
 Satisfies Q (Accepts t) = Q t
 Satisfies Q (Breaks rules) = ⊤
+
+-- anything that is accepted
+pub any-satisfies : {A : Type 0} (J : Judged A) → Satisfies (λ a. ⊤) J
+any-satisfies (Accepts a) = tt
+any-satisfies (Breaks rules) = tt
 
 -- a form of one part
 pub then-satisfies : {A B : Type 0} (P : A → Type 0) (Q : B → Type 0) (f : A → Judged B) (J : Judged A) → Satisfies P J → ((a : A) → P a → Satisfies Q (f a)) → Satisfies Q (when_accepted f J)
@@ -68,6 +74,27 @@ abbrev pub AreLabels : (Typed → Type 0) → List Label → Type 0
 AreLabels Q [] = ⊤
 AreLabels Q (l ∷ ls) = (Satisfies Q l.low × IsHigh Q l.high) × AreLabels Q ls
 
+-- whatever is asked of a component value, it has it
+abbrev pub IsValued : (Typed → Type 0) → Valued → Type 0
+IsValued Q value = (asked : Option ℕ) → Satisfies Q (value asked)
+
+-- what is written for components has it
+abbrev pub IsWritten : (Typed → Type 0) → Written → Type 0
+IsWritten Q (Labelled ls value) = AreLabels Q ls × IsValued Q value
+IsWritten Q Chosen = ⊤
+
+abbrev pub AreWritten : (Typed → Type 0) → List Written → Type 0
+AreWritten Q [] = ⊤
+AreWritten Q (w ∷ ws) = IsWritten Q w × AreWritten Q ws
+
+abbrev pub IsValuedIf : (Typed → Type 0) → Option Valued → Type 0
+IsValuedIf Q None = ⊤
+IsValuedIf Q (Some value) = IsValued Q value
+
+-- all that stands in the brackets of a structured value has it
+abbrev pub AreComponents : (Typed → Type 0) → Components → Type 0
+AreComponents Q c = AreWritten Q c.elements × IsValuedIf Q c.otherwise
+
 -- what is declared has it with arguments that have it, in code of a depth
 abbrev pub IsCalled : ℕ → (Typed → Type 0) → Meant → Type 0
 IsCalled depth Q (Declares d) = (gs : List Given) → AreGiven Q gs → Satisfies Q (call_declared depth d d.what gs)
@@ -94,4 +121,5 @@ pub record IsKept (Q : Typed → Type 0) (scopes : List Region) : Type 0 where
   pub compares : (o : RelationalOperator) (x y : Typed) → Q x → Q y → Satisfies Q (compared o x y)
   pub applies_one : (f : Function) (x : Typed) → Q x → Satisfies Q (applied_one f x)
   pub constructs : (ls : List Label) → AreLabels Q ls → Satisfies Q (set_judged ls)
+  pub structures : (c : Components) → AreComponents Q c → (n : ℕ) → Satisfies Q (structure_judged scopes c n)
   pub applies_two : (f : Function) (x y : Typed) → Q x → Q y → Satisfies Q (applied_two f x y)

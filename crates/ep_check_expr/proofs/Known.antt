@@ -8,6 +8,7 @@ use Rattle.ep_typed.specs.Operations.{Answer, Number, Fault, is_integer, decides
 use Rattle.ep_typed.specs.Sets.{member_limit}
 use Rattle.ep_typed.specs.SetOperations.{set_answer}
 use Rattle.ep_typed.specs.TypeValues.{TypeValue}
+use Rattle.ep_typed.specs.Trees as tree
 use Rattle.ep_typed.specs.Trees.{Expr, Constant, Text, Read, One, Two, Short, Step, Function, IndexedValue, FieldValue, SetConstant, SetOf, OnSets, Card, Designator, Single, Range, Designators, no_member, next_member}
 use Rattle.ep_typed.specs.Valid.{AreDesignators, Declarations, IsDesignator, IsExpr, IsUnary, IsBinary, IsOnSets}
 use Rattle.ep_typed.specs.Valid as valid
@@ -238,6 +239,7 @@ module _ (declared : Declarations) where
     known-of_kind (Function callee given) k x v f = cc
     known-of_kind (IndexedValue array index) k x v f = cc
     known-of_kind (FieldValue whole number) k x v f = cc
+    known-of_kind (tree.Structured number es) k x v f = cc
     known-of_kind (SetConstant ms) k x v f = set-of_kind v.0 k ms x v.1 (v.2, v.3) f
     known-of_kind (SetOf ds) k x v f =
         subst (λ t. OfKind t x) (sym v.1)
@@ -291,6 +293,7 @@ text_or_known P k (Step down low high x y) f g = g
 text_or_known P k (Function callee given) f g = g
 text_or_known P k (IndexedValue array index) f g = g
 text_or_known P k (FieldValue whole number) f g = g
+text_or_known P k (tree.Structured number es) f g = g
 text_or_known P k (SetConstant members) f g = g
 text_or_known P k (SetOf members) f g = g
 text_or_known P k (OnSets operation x y) f g = g
@@ -361,6 +364,7 @@ module _ (declared : Declarations) (types : TypeValues) (structures : List Struc
   constant-fits kind.File (Some (Function callee given)) s = absurd s
   constant-fits kind.File (Some (IndexedValue array index)) s = absurd s
   constant-fits kind.File (Some (FieldValue whole number)) s = absurd s
+  constant-fits kind.File (Some (tree.Structured number es)) s = absurd s
   constant-fits kind.File (Some (SetConstant members)) s = absurd s
   constant-fits kind.File (Some (SetOf members)) s = absurd s
   constant-fits kind.File (Some (OnSets operation x y)) s = absurd s

@@ -44,6 +44,8 @@ use Rattle.ep_check_expr.proofs.Known.{IsJudgedConstant, constant-fits, text_or_
 use Rattle.ep_check_expr.proofs.Meant.{called-fits, meant-declared, meant_in-declared, value_named-fits}
 use Rattle.ep_check_expr.proofs.Labels.{constructed-plain, labels-weaker}
 use Rattle.ep_check_expr.proofs.Constructed.{constructed-fits}
+use Rattle.ep_check_expr.proofs.Structures.{components-weaker, structure-any, structure-fits}
+use Rattle.ep_check_expr.specs.StructuredValues.{structure_judged}
 use Rattle.ep_check_expr.proofs.Sound.{Fits, signed-fits, negated-fits, added-fits, multiplied-fits, compared-fits, applied_one-fits, applied_two-fits}
 
 -- a number or a character of the text
@@ -99,6 +101,9 @@ module _ (declared : Declarations) (types : TypeValues) (scopes : List Region) w
       compares = λ o x y p q. holds (compared o x y) (compared-fits declared types (structures_of scopes) o x y p.0 q.0) (compared-plain IsRead plain o x y);
       applies_one = λ f x p. holds (applied_one f x) (applied_one-fits declared types (structures_of scopes) f x p.0) (applied_one-plain IsRead plain f x);
       constructs = λ ls p. holds (set_judged ls) (constructed-fits declared types (structures_of scopes) ls (labels-weaker IsValid (λ t. IsFormOf declared types (structures_of scopes) t.kind t.form) (λ t q. q.0) ls p)) (constructed-plain IsRead plain ls);
+      structures = λ c p n.
+          holds (structure_judged scopes c n) (structure-fits declared types scopes agrees c (components-weaker IsValid (λ t. IsFormOf declared types (structures_of scopes) t.kind t.form) (λ t q. q.0) c p) n)
+          (structure-any IsRead n (λ form depth. tt) scopes c);
       applies_two = λ f x y p q. holds (applied_two f x y) (applied_two-fits declared types (structures_of scopes) f x y p.0 q.0) (applied_two-plain IsRead plain f x y);
     }
 
@@ -111,8 +116,8 @@ module _ (declared : Declarations) (types : TypeValues) (scopes : List Region) w
     arguments-hold [] = tt
     arguments-hold (a ∷ more) = (subst Holds (sym (given-value scopes a)) (expression-holds (out-Argument a).value), arguments-hold more)
 
-    value-holds : (v : ComponentValue) → Holds (judged_value scopes v)
-    value-holds v = values-fit IsValid scopes validity_is_kept v
+    value-holds : (v : ComponentValue) (asked : Option ℕ) → Holds (judged_value scopes v asked)
+    value-holds v asked = values-fit IsValid scopes validity_is_kept v asked
 
     access-holds : (a : Access) → Holds (name_judged scopes a)
     access-holds a = accesses-fit IsValid scopes validity_is_kept a
@@ -120,8 +125,8 @@ module _ (declared : Declarations) (types : TypeValues) (scopes : List Region) w
     expression-fits : (e : Expression) → HasForm (judged scopes e)
     expression-fits e = of_kind (judged scopes e) (expression-holds e)
 
-    value-fits : (v : ComponentValue) → HasForm (judged_value scopes v)
-    value-fits v = of_kind (judged_value scopes v) (value-holds v)
+    value-fits : (v : ComponentValue) (asked : Option ℕ) → HasForm (judged_value scopes v asked)
+    value-fits v asked = of_kind (judged_value scopes v asked) (value-holds v asked)
 
 pub expressions_are_sound : ExpressionsAreSound
 expressions_are_sound scopes e t accepted declared types agrees = subst (HasForm declared types scopes) accepted (expression-fits declared types scopes agrees e)
@@ -138,7 +143,7 @@ arguments_are_sound scopes ps arguments t accepted declared types agrees list fs
     subst (Satisfies (λ x. AreActuals declared list fs x.actuals)) accepted (arguments-fit declared types (structures_of scopes) list ps fs (map (given scopes) arguments) is (arguments-hold declared types scopes agrees arguments))
 
 pub values_are_sound : ValuesAreSound
-values_are_sound scopes v t accepted declared types agrees = subst (HasForm declared types scopes) accepted (value-fits declared types scopes agrees v)
+values_are_sound scopes v asked t accepted declared types agrees = subst (HasForm declared types scopes) accepted (value-fits declared types scopes agrees v asked)
 
 module _ (declared : Declarations) (types : TypeValues) (scopes : List Region) where
   -- a constant of a valid form is of its kind
@@ -175,7 +180,7 @@ module _ (declared : Declarations) (types : TypeValues) (scopes : List Region) w
 
 pub constants_are_sound : ConstantsAreSound
 constants_are_sound scopes v c accepted declared agrees =
-    subst IsJudgedConstant accepted (as_constant-fits declared agrees.0 scopes (judged_value scopes v) (value-fits declared agrees.0 scopes agrees.1 v))
+    subst IsJudgedConstant accepted (as_constant-fits declared agrees.0 scopes (judged_value scopes v None) (value-fits declared agrees.0 scopes agrees.1 v None))
 
 -- so is a constant expression
 pub constant_expressions_are_sound : (scopes : List Region) (e : Expression) (c : ConstantForm) → constant_expression scopes e ≡ Accepts c → IsSoundConstant scopes c
@@ -192,7 +197,7 @@ labels_are_sound scopes e c accepted declared agrees =
 
 pub initial_states_are_sound : InitialStatesAreSound
 initial_states_are_sound scopes v c accepted declared agrees =
-    subst IsJudgedConstant accepted (as_initial_state-fits declared agrees.0 scopes (judged_value scopes v) (value-fits declared agrees.0 scopes agrees.1 v))
+    subst IsJudgedConstant accepted (as_initial_state-fits declared agrees.0 scopes (judged_value scopes v None) (value-fits declared agrees.0 scopes agrees.1 v None))
 
 -- ---- hosts
 
@@ -237,7 +242,7 @@ bound_known scopes (Accepts t) c p e = go (varies t) e
 bound_known scopes (Breaks rules) c p e = cc
 
 pub constants_are_known : ConstantsAreKnown
-constants_are_known scopes v c accepted = constant_known scopes (judged_value scopes v) c (values-fit (IsKnown scopes) scopes (knowledge_is_kept scopes) v) accepted
+constants_are_known scopes v c accepted = constant_known scopes (judged_value scopes v None) c (values-fit (IsKnown scopes) scopes (knowledge_is_kept scopes) v None) accepted
 
 pub bounds_are_known : BoundsAreKnown
 bounds_are_known scopes e c accepted = bound_known scopes (judged scopes e) c (expressions-fit (IsKnown scopes) scopes (knowledge_is_kept scopes) e) accepted

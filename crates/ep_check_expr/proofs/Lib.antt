@@ -5,8 +5,10 @@ pub mod Breaking
 pub mod Calls
 pub mod Constructed
 pub mod Labels
+pub mod Listed
 pub mod SetExamples
 pub mod SetForms
+pub mod Elements
 pub mod Examples
 pub mod VariantExamples
 pub mod Folds
@@ -27,6 +29,7 @@ pub mod Selectors
 pub mod SetsOver
 pub mod SameType
 pub mod Sound
+pub mod Structures
 pub mod Gathering
 pub mod Taking
 pub mod Written

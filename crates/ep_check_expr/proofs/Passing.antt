@@ -34,7 +34,7 @@ use Rattle.ep_check_expr.specs.Hosts.{typed_host}
 use Rattle.ep_check_expr.specs.Judgements.{Judged, Accepts, Breaks, Typed}
 use Rattle.ep_check_expr.specs.Operators.{map_both}
 use Rattle.ep_check_expr.specs.declared.forms.TheConstants as limit
-use Rattle.ep_check_expr.proofs.Keeping.{AreGiven, Satisfies, both-satisfies, if-satisfies, then-satisfies, weaker-satisfies}
+use Rattle.ep_check_expr.proofs.Keeping.{AreGiven, Satisfies, both-satisfies, if-satisfies, then-satisfies, weaker-satisfies, any-satisfies}
 use Rattle.ep_check_expr.proofs.Places.{same_number, structured-place}
 use Rattle.ep_check_expr.proofs.SameHost.{host_same}
 use Rattle.ep_check_expr.proofs.SameType.{type_same}
@@ -47,10 +47,6 @@ IfForm P (Some a) = P a
 -- anything that is accepted
 abbrev Any : {A : Type 0} → A → Type 0
 Any a = ⊤
-
-any-satisfies : {A : Type 0} (J : Judged A) → Satisfies Any J
-any-satisfies (Accepts a) = tt
-any-satisfies (Breaks rules) = tt
 
 unless_faults-satisfies : (Q : Typed → Type 0) (rules : List ℕ) (J : Judged Typed) → Satisfies Q J → Satisfies Q (unless_faults rules J)
 unless_faults-satisfies Q [] J h = h
@@ -112,6 +108,7 @@ structured-expr declared types structures n (tree.Read place) f = structured-pla
 structured-expr declared types structures n (tree.Function callee given) f = f.0
 structured-expr declared types structures n (tree.IndexedValue array index) f = f.0
 structured-expr declared types structures n (tree.FieldValue whole number) f = f.0
+structured-expr declared types structures n (tree.Structured number es) f = f.0
 structured-expr declared types structures n (tree.Constant z) f = absurd f
 structured-expr declared types structures n (tree.Text bytes) f = absurd f
 structured-expr declared types structures n (tree.One operation x) f = absurd f

@@ -40,6 +40,7 @@ use Rattle.ep_check_expr.proofs.Designated.{field-given}
 use Rattle.ep_check_expr.proofs.Indexed.{index-given}
 use Rattle.ep_check_expr.proofs.Plain.{deep-plain, spelled-plain, signed-plain, negated-plain, added-plain, multiplied-plain, compared-plain, applied_one-plain, applied_two-plain}
 use Rattle.ep_check_expr.proofs.Labels.{constructed-plain}
+use Rattle.ep_check_expr.proofs.Structures.{structure-any}
 use Rattle.ep_check_expr.proofs.Keeping.{IsCalled, IsKept, Satisfies, if-satisfies}
 use Rattle.ep_check_expr.proofs.Nodes.{given-value}
 
@@ -161,6 +162,7 @@ placing_is_kept scopes = record {
   compares = λ o x y p q. compared-plain IsPlaced plain o x y;
   applies_one = λ f x p. applied_one-plain IsPlaced plain f x;
   constructs = λ ls p. constructed-plain IsPlaced plain ls;
+  structures = λ c h n. structure-any IsPlaced n (λ form depth. tt) scopes c;
   applies_two = λ f x y p q. applied_two-plain IsPlaced plain f x y;
 }
 

@@ -1,5 +1,5 @@
 -- Rows of operands, read from the left.
-use Rattle.std.proofs.Common.{◌≡◌, ℕ, suc, ◌+◌, ◌<◌, Bool, true, false, ◌&&◌, List, ◌∷◌, drop, get_or, length, map, Some, None, refl, sym, ap, ◌∙◌, add-one, drop-cons}
+use Rattle.std.proofs.Common.{◌≡◌, ℕ, suc, ◌+◌, ◌<◌, Bool, true, false, ◌&&◌, List, [], ◌∷◌, ◌++◌, append_assoc, drop, get_or, length, map, Some, None, refl, sym, ap, ◌∙◌, add-one, drop-cons}
 use Rattle.std.specs.Option.{option_or}
 use Rattle.ep_built.specs.Built.{Belonging, Found, at_node, first_in, lines_in, all_are_built}
 use Rattle.ep_check_expr.proofs.Breaking.{both-second, chained-first}
@@ -9,6 +9,10 @@ use Rattle.ep_check_expr.specs.Judgements.{Judged, Accepts, Typed, breaks, both}
 -- the item at a place is the first one of what is left there
 pub left-cons : {I : Type 0} (xs : List I) (i : ℕ) (x : I) → i < length xs → x ≡ get_or xs i x → drop i xs ≡ x ∷ drop (i + 1) xs
 left-cons xs i x h e = rw (add-one, drop-cons xs i x) (ap (λ y. y ∷ drop (suc i) xs) (sym e))
+
+-- the item at a place, behind those before it
+pub pushed_left : {I : Type 0} (before xs : List I) (i : ℕ) (x : I) → i < length xs → x ≡ get_or xs i x → (before ++ x ∷ []) ++ drop (i + 1) xs ≡ before ++ drop i xs
+pushed_left before xs i x h e = append_assoc before (x ∷ []) (drop (i + 1) xs) ∙ ap (λ ys. before ++ ys) (sym (left-cons xs i x h e))
 
 module _ {I O : Type 0} (rule : O → Typed → Typed → Judged Typed) (f : I → Operand O) (xs : List I) (i : ℕ) (x : I) (within : i < length xs) (is : x ≡ get_or xs i x)
     (operator : O) (J : Judged Typed) (form : f x ≡ record { operator = operator; operand = J }) (a : Typed) where

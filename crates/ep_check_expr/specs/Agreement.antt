@@ -1,20 +1,21 @@
 -- Declarations that hold what scopes declare, under which typed forms are valid.
-use Rattle.std.specs.Prelude.{◌≡◌, ℕ, ℤ, pos, All, List, [], ◌∷◌, ◌++◌, Option, Some, None, IsTrue, int_le, ⊤}
+use Rattle.std.specs.Prelude.{◌≡◌, ℕ, pos, All, List, [], ◌∷◌, ◌++◌, Option, Some, None, IsTrue, int_le, ⊤}
 use Rattle.ep_typed.specs.Denoters.{ArrayParts, array_of, base_of, denoter_at, host_of, record_of, bare_type_of}
 use Rattle.ep_typed.specs.Hosts.{greatest, is_of_host, least}
 use Rattle.ep_typed.specs.Hosts as typed
 use Rattle.ep_typed.specs.Operations.{maxint}
 use Rattle.ep_typed.specs.Sets.{IsSet, are_between}
 use Rattle.ep_typed.specs.Steps.{variant_number}
+use Rattle.ep_typed.specs.Trees as tree
 use Rattle.ep_typed.specs.Trees.{Denoter, Denoters, Named, Record, no_denoter, next_denoter, Callee, Place, Variable, Field, entire, Expr, Constant, Text, Read, One, Two, Short, Step, Function, IndexedValue, FieldValue, SetConstant, SetOf, OnSets, Card, Actual, actuals}
-use Rattle.ep_typed.specs.Valid.{Declarations, AreGiven, IsCallee, IsFunction, IsOfKind, IsPlace, IsPlaceWhere, IsExpr, IsProcedure, IsSelection, IsSetOf, IsStructured, IsTagged, IsTypeOf, IsVariableOf}
+use Rattle.ep_typed.specs.Valid.{Declarations, AreGiven, IsCallee, IsDenoter, IsFunction, IsOfKind, IsPlace, IsPlaceWhere, IsExpr, IsProcedure, IsSelection, IsSetOf, IsStructured, IsTagged, IsTypeOf, IsVariableOf}
 use Rattle.ep_typed.specs.Valid as valid
 use Rattle.ep_typed.specs.Viewed.{denoter_of}
 use Rattle.ep_typed.specs.declared.interface.Formal.{Formal}
 use Rattle.ep_typed.specs.declared.interface.RoutineEntry.{RoutineEntry}
 use Rattle.ep_typed.specs.declared.interface.RoutineResult.{RoutineResult}
 use Rattle.ep_typed.specs.declared.unit.UnitType.{UnitType}
-use Rattle.ep_typed.specs.TypeValues.{ComponentTypes, TypeValue, type_among}
+use Rattle.ep_typed.specs.TypeValues.{ComponentTypes, TypeValue, bare_of, type_among}
 use Rattle.ep_typed.specs.TypeValues as type
 use Rattle.ep_typed.specs.declared.value.Value.{Value}
 use Rattle.ep_typed.specs.declared.value.Value.TheVariants as value
@@ -81,6 +82,7 @@ IsFile (Step down low high x y) = ⊥
 IsFile (Function callee given) = ⊥
 IsFile (IndexedValue array index) = ⊥
 IsFile (FieldValue whole number) = ⊥
+IsFile (tree.Structured number es) = ⊥
 IsFile (SetConstant members) = ⊥
 IsFile (SetOf members) = ⊥
 IsFile (OnSets operation x y) = ⊥
@@ -131,9 +133,9 @@ module _ (types : TypeValues) where
   IsValueOfKind kind.Text t = ⊥
   IsValueOfKind kind.File t = ⊥
 
-  -- it is that of an array with an index type of this host, and components of their kind
+  -- it is that of an array with an index type of this host and these bounds, and components of their kind
   abbrev pub IsArrayValue : ArrayType → TypeValue → Type 0
-  IsArrayValue a t = (low high : ℤ) × (of : TypeValue) × (t ≡ type.Array low high of) × IsTypeOf (typed_host a.index) (type.Ordinal low high) × IsValueOfKind a.kind of
+  IsArrayValue a t = (of : TypeValue) × (t ≡ type.Array a.low a.high of) × IsTypeOf (typed_host a.index) (type.Ordinal a.low a.high) × IsValueOfKind a.kind of
 
   -- the component of this number is of the kind; a tag is the one component of a record that has the number
   abbrev pub IsPartValue : Option TagType → ℕ → Kind → ComponentTypes → Type 0
@@ -208,6 +210,12 @@ module _ (types : TypeValues) (list : List UnitType) where
 abbrev pub AreHeld : TypeValues → List StructuredType → Type 0
 AreHeld types structures = (list : List UnitType) × All (HoldsStructure types list) structures
 
+-- In the list of types of the unit in whose code it is named, the structured type is valid under its number, with the one type
+-- value that it has without initial states, and the list holds it.
+abbrev pub IsListed : Declarations → TypeValues → StructuredType → Type 0
+IsListed declared types s =
+    (d : IsDenoter declared.routine_types (Named s.number [])) × (types (type_name.Entry s.number) ≡ Some (bare_of d.type_value)) × HoldsStructure types declared.routine_types s
+
 -- the structured types of the scopes in view
 abbrev pub structures_of : List Region → List StructuredType
 structures_of [] = []
@@ -264,6 +272,7 @@ module _ (declared : Declarations) (types : TypeValues) (structures : List Struc
   IsStructuredForm n (Function callee given) = IsStructuredValue n (Function callee given)
   IsStructuredForm n (IndexedValue array index) = IsStructuredValue n (IndexedValue array index)
   IsStructuredForm n (FieldValue whole number) = IsStructuredValue n (FieldValue whole number)
+  IsStructuredForm n (tree.Structured number es) = IsStructuredValue n (tree.Structured number es)
   IsStructuredForm n (SetConstant members) = ⊥
   IsStructuredForm n (SetOf members) = ⊥
   IsStructuredForm n (OnSets operation x y) = ⊥
@@ -363,10 +372,10 @@ module _ (declared : Declarations) (types : TypeValues) (structures : List Struc
   AreOpen [] = ⊤
   AreOpen (r ∷ rs) = IsOpen r × AreOpen rs
 
-  -- the declarations hold all that the scopes declare
+  -- the declarations hold all that the scopes declare, and list their structured types
   abbrev pub AgreesBy : List Region → Type 0
   AgreesBy [] = ⊤
-  AgreesBy (r ∷ rs) = AreThings r.entries × AreInterfaces r.qualified × AgreesBy rs × AreOpen r.records
+  AgreesBy (r ∷ rs) = AreThings r.entries × AreInterfaces r.qualified × AgreesBy rs × AreOpen r.records × All (IsListed declared types) r.structures
 
 -- alike, where each type has one type value wherever it is named
 abbrev pub Agrees : Declarations → List Region → Type 0

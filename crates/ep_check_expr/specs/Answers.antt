@@ -2,7 +2,7 @@
 use Rattle.std.specs.Prelude.{◌≡◌, ℕ, ◌+◌, suc, nat_eq, nat_le, true, false, map, None, Result, Ok, Err, IsTrue, ⊤}
 use Rattle.std.specs.List.{list_any}
 use Rattle.std.specs.Option.{option_map}
-use Rattle.ep_typed.specs.Viewed.{actual_of, designator_of, expr_of}
+use Rattle.ep_typed.specs.Viewed.{actual_of, designator_of, element_of, expr_of}
 use Rattle.ep_check_expr.specs.Arguments as arguments
 use Rattle.ep_check_expr.specs.Constructors as constructors
 use Rattle.ep_check_expr.specs.Functions.{Given, given_faults}
@@ -10,6 +10,13 @@ use Rattle.ep_check_expr.specs.Judgements as spec
 use Rattle.ep_check_expr.specs.Judgements.{Judged, Accepts, breaks}
 use Rattle.ep_scope.specs.declared.rule.TheConstants as rules
 use Rattle.ep_check_expr.specs.declared.forms.TheConstants as limit
+use Rattle.ep_check_expr.specs.StructuredValues as structured
+use Rattle.ep_check_expr.specs.declared.arranged.Arranged.{Arranged}
+use Rattle.ep_check_expr.specs.declared.arranged.Index.{Index}
+use Rattle.ep_check_expr.specs.declared.arranged.IndexLabels.{IndexLabels}
+use Rattle.ep_check_expr.specs.declared.arranged.IndexLabels.TheVariants as labels
+use Rattle.ep_check_expr.specs.declared.arranged.Ranges.{Ranges}
+use Rattle.ep_check_expr.specs.declared.filled.Filled.{Filled}
 use Rattle.ep_check_expr.specs.declared.arguments.Taken.{Taken}
 use Rattle.ep_check_expr.specs.declared.constructors.Members.{Members}
 use Rattle.ep_check_expr.specs.declared.forms.Typed.{Typed}
@@ -27,6 +34,23 @@ taken_of t = record { actuals = option_map (map actual_of) t.actuals; depth = t.
 -- the plain data of what is gathered of member designators
 abbrev pub members_of : Members → constructors.Members
 members_of m = record { designators = option_map (map designator_of) m.designators; host = m.host; depth = m.depth }
+
+-- the plain data of what structured values have
+abbrev pub index_of : Index → structured.Index
+index_of i = record { form = option_map expr_of i.form; depth = i.depth; constant = i.constant }
+
+abbrev pub ranges_of : Ranges → structured.Ranges
+ranges_of r = record { ranges = r.ranges; depth = r.depth }
+
+abbrev pub labels_of : IndexLabels → structured.IndexLabels
+labels_of (labels.One index) = structured.One (index_of index)
+labels_of (labels.Many ranges) = structured.Many (ranges_of ranges)
+
+abbrev pub arranged_of : Arranged → structured.Arranged
+arranged_of r = record { elements = option_map (map element_of) r.elements; depth = r.depth; indexes = r.indexes }
+
+abbrev pub filled_of : Filled → structured.Filled
+filled_of r = record { elements = option_map (map element_of) r.elements; depth = r.depth; fields = r.fields }
 
 -- the form exactly where it is accepted, or a rule that fails
 abbrev pub AnswersJudged : {T A : Type 0} → (T → A) → Result T Refusal → Judged A → Type 0

@@ -87,7 +87,7 @@ as_initial_state t = if varies t then Breaks (rule.INITIAL_STATE ∷ rule.CONSTA
 module _ (scopes : List Region) where
   -- the value of a constant definition
   abbrev pub constant_judged : ComponentValue → Judged ConstantForm
-  constant_judged v = when_accepted as_constant (judged_value scopes v)
+  constant_judged v = when_accepted as_constant (judged_value scopes v None)
 
   -- a constant expression
   abbrev pub constant_expression : Expression → Judged ConstantForm
@@ -103,7 +103,7 @@ module _ (scopes : List Region) where
 
   -- an initial state
   abbrev pub initial_state_judged : ComponentValue → Judged ConstantForm
-  initial_state_judged v = when_accepted as_initial_state (judged_value scopes v)
+  initial_state_judged v = when_accepted as_initial_state (judged_value scopes v None)
 
 -- under all declarations that hold what the scopes declare, the constant is of its kind
 abbrev pub IsSoundConstant : List Region → ConstantForm → Type 0

@@ -10,10 +10,11 @@ use Rattle.ep_scope.specs.declared.rule.TheConstants as rule
 use Rattle.ep_check_expr.specs.Judgements.{Judged, Accepts, Breaks, Typed, both, when_accepted}
 use Rattle.ep_check_expr.specs.Operators.{are_compatible, map_both, within_depth}
 
--- a member designator: its first value, and its last one where it is a range
+-- a label: its first value, its last one where it is a range, and the name that it is alone, if it is one
 pub record Label : Type 0 where
   pub low : Judged Typed
   pub high : Option (Judged Typed)
+  pub name : Option (List ℕ)
 
 -- What is gathered of member designators: the designators, where all are built, the host of their values, once there is one, and how deep the deepest value is.
 pub record Members : Type 0 where

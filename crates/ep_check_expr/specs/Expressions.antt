@@ -1,10 +1,14 @@
 -- What the static rules say of each expression, by its parts: one clause for each production (ISO 10206, 6.8.1).
-use Rattle.std.specs.Prelude.{ℕ, ℤ, pos, List, [], ◌∷◌, Option, Some, None, if◌then◌else◌}
+use Rattle.std.specs.Prelude.{ℕ, ℤ, pos, List, [], ◌∷◌, map, Option, Some, None, if◌then◌else◌}
+use Rattle.std.specs.Option.{option_map}
+use Rattle.ep_tree.specs.Shapes.{when_empty, when_none, when_plain}
 use Rattle.ep_tree.specs.declared.operator.RelationalOperator.{RelationalOperator}
 use Rattle.ep_tree.specs.declared.operator.AddingOperator.{AddingOperator}
 use Rattle.ep_tree.specs.declared.operator.MultiplyingOperator.{MultiplyingOperator}
 use Rattle.ep_tree.specs.declared.expression.ComponentValue.TheOpen.{ComponentValue-F, Element-F, Factor-F, Selector-F, Access-F, Addend-F, Argument-F, Comparison-F, Expression-F, Label-F, Multiplier-F, Simple-F, Term-F, Values-F}
 use Rattle.ep_tree.specs.declared.expression.ComponentValue.{ComponentValue, fold-ComponentValue}
+use Rattle.ep_tree.specs.declared.expression.Element.{Element, fold-Element}
+use Rattle.ep_tree.specs.declared.expression.Values.{Values, fold-Values}
 use Rattle.ep_tree.specs.declared.expression.Factor.{Factor, fold-Factor}
 use Rattle.ep_tree.specs.declared.expression.Selector.{Selector, fold-Selector}
 use Rattle.ep_tree.specs.declared.expression.Access.{Access, fold-Access}
@@ -30,6 +34,7 @@ use Rattle.ep_check_expr.specs.Hosts.{typed_host}
 use Rattle.ep_check_expr.specs.Indexing.{indexed_all}
 use Rattle.ep_check_expr.specs.Judgements.{Judged, Accepts, Typed, unbuilt, when_accepted, both}
 use Rattle.ep_check_expr.specs.Names.{leaf, parenthesized, value_named, call_named, qualified_value}
+use Rattle.ep_check_expr.specs.StructuredValues.{Chosen, Components, Labelled, Valued, Written, bracketed, named_number, structure_judged}
 use Rattle.ep_check_expr.specs.Operators.{signed, negated, added, multiplied, compared}
 
 -- an operand with the operator before it
@@ -37,9 +42,18 @@ pub record Operand (O : Type 0) : Type 0 where
   pub operator : O
   pub operand : Judged Typed
 
+-- what the rules say of an expression or of a part of one, and the name that it is alone, if it is one
+pub record Said : Type 0 where
+  pub judged : Judged Typed
+  pub alone : Option (List ℕ)
+
+-- what is no name alone
+abbrev pub valued : Judged Typed → Said
+valued x = record { judged = x; alone = None }
+
 -- what the fold gives of each kind of node
 abbrev pub Result : Type 0
-Result = Judged Typed
+Result = Said
 
 abbrev pub Addition : Type 0
 Addition = Operand AddingOperator
@@ -49,10 +63,6 @@ Multiplication = Operand MultiplyingOperator
 
 abbrev pub Relation : Type 0
 Relation = Operand RelationalOperator
-
--- of nodes that no built form has
-abbrev pub Skipped : Type 0
-Skipped = Unit {0}
 
 -- operands after a first one, from left to right
 abbrev pub chained : {O : Type 0} → (O → Typed → Typed → Judged Typed) → Judged Typed → List (Operand O) → Judged Typed
@@ -97,97 +107,121 @@ module _ (scopes : List Region) where
   access_judged name selectors = selected_all (value_named (depth_in scopes) name (meant scopes name)) selectors
 
   -- the results of the parts of a node
-  abbrev pub at_component_value : ComponentValue-F Result Skipped Result Selected Result Addition Given Relation Result Label Multiplication Result Result Skipped → Judged Typed
-  at_component_value (ComponentValue-F.Expression e) = e
-  at_component_value (ComponentValue-F.Bracketed line values) = unbuilt
+  abbrev pub at_component_value : ComponentValue-F Valued Written Result Selected Result Addition Given Relation Result Label Multiplication Result Result Components → Valued
+  at_component_value (ComponentValue-F.Expression e) = λ asked. e.judged
+  at_component_value (ComponentValue-F.Bracketed line values) = bracketed scopes values
 
-  abbrev pub at_element : Element-F Result Skipped Result Selected Result Addition Given Relation Result Label Multiplication Result Result Skipped → Unit {0}
-  at_element e = tt
+  abbrev pub at_element : Element-F Valued Written Result Selected Result Addition Given Relation Result Label Multiplication Result Result Components → Written
+  at_element (Element-F.Labelled line labels value) = Labelled labels value
+  at_element (Element-F.Variant line tag selector values) = Chosen
 
-  abbrev pub at_factor : Factor-F Result Skipped Result Selected Result Addition Given Relation Result Label Multiplication Result Result Skipped → Judged Typed
+  abbrev pub at_factor : Factor-F Valued Written Result Selected Result Addition Given Relation Result Label Multiplication Result Result Components → Said
   at_factor (Factor-F.Access access) = access
-  at_factor (Factor-F.Number line number) = spelled host.Integer number
-  at_factor (Factor-F.Text line bytes) = string_judged bytes
-  at_factor (Factor-F.Nil line) = unbuilt
-  at_factor (Factor-F.Parenthesized line inner) = when_accepted (λ x. Accepts (parenthesized x)) inner
-  at_factor (Factor-F.Not line inner) = when_accepted negated inner
-  at_factor (Factor-F.Set line labels) = set_judged labels
-  at_factor (Factor-F.Structured line name values) = unbuilt
+  at_factor (Factor-F.Number line number) = valued (spelled host.Integer number)
+  at_factor (Factor-F.Text line bytes) = valued (string_judged bytes)
+  at_factor (Factor-F.Nil line) = valued unbuilt
+  at_factor (Factor-F.Parenthesized line inner) = valued (when_accepted (λ x. Accepts (parenthesized x)) inner.judged)
+  at_factor (Factor-F.Not line inner) = valued (when_accepted negated inner.judged)
+  at_factor (Factor-F.Set line labels) = valued (set_judged labels)
+  at_factor (Factor-F.Structured line name values) = valued (when_accepted (structure_judged scopes values) (named_number scopes name.first name.second))
 
-  abbrev pub at_selector : Selector-F Result Skipped Result Selected Result Addition Given Relation Result Label Multiplication Result Result Skipped → Selected
+  abbrev pub at_selector : Selector-F Valued Written Result Selected Result Addition Given Relation Result Label Multiplication Result Result Components → Selected
   at_selector (Selector-F.Field line name) = Field name
-  at_selector (Selector-F.Index line indexes) = Indexes indexes
+  at_selector (Selector-F.Index line indexes) = Indexes (map (λ x. x.judged) indexes)
   at_selector (Selector-F.Dereference line) = Other
   at_selector (Selector-F.Arguments line arguments) = Arguments arguments
 
-  abbrev pub at_access : Access-F Result Skipped Result Selected Result Addition Given Relation Result Label Multiplication Result Result Skipped → Judged Typed
-  at_access a = access_judged a.name a.selectors
+  abbrev pub at_access : Access-F Valued Written Result Selected Result Addition Given Relation Result Label Multiplication Result Result Components → Said
+  at_access a = record { judged = access_judged a.name a.selectors; alone = when_plain a.selectors a.name }
 
-  abbrev pub at_addend : Addend-F Result Skipped Result Selected Result Addition Given Relation Result Label Multiplication Result Result Skipped → Operand AddingOperator
-  at_addend a = record { operator = a.operator; operand = a.term }
+  abbrev pub at_addend : Addend-F Valued Written Result Selected Result Addition Given Relation Result Label Multiplication Result Result Components → Operand AddingOperator
+  at_addend a = record { operator = a.operator; operand = a.term.judged }
 
-  abbrev pub at_argument : Argument-F Result Skipped Result Selected Result Addition Given Relation Result Label Multiplication Result Result Skipped → Given
-  at_argument a = record { value = a.value; width = a.width }
+  abbrev pub at_argument : Argument-F Valued Written Result Selected Result Addition Given Relation Result Label Multiplication Result Result Components → Given
+  at_argument a = record { value = a.value.judged; width = option_map (λ x. x.judged) a.width }
 
-  abbrev pub at_comparison : Comparison-F Result Skipped Result Selected Result Addition Given Relation Result Label Multiplication Result Result Skipped → Operand RelationalOperator
-  at_comparison c = record { operator = c.operator; operand = c.right }
+  abbrev pub at_comparison : Comparison-F Valued Written Result Selected Result Addition Given Relation Result Label Multiplication Result Result Components → Operand RelationalOperator
+  at_comparison c = record { operator = c.operator; operand = c.right.judged }
 
-  abbrev pub at_expression : Expression-F Result Skipped Result Selected Result Addition Given Relation Result Label Multiplication Result Result Skipped → Judged Typed
-  at_expression e = compared_if e.left e.right
+  abbrev pub at_expression : Expression-F Valued Written Result Selected Result Addition Given Relation Result Label Multiplication Result Result Components → Said
+  at_expression e = record { judged = compared_if e.left.judged e.right; alone = when_none e.right e.left.alone }
 
-  abbrev pub at_label : Label-F Result Skipped Result Selected Result Addition Given Relation Result Label Multiplication Result Result Skipped → Label
-  at_label l = record { low = l.low; high = l.high }
+  abbrev pub at_label : Label-F Valued Written Result Selected Result Addition Given Relation Result Label Multiplication Result Result Components → Label
+  at_label l = record { low = l.low.judged; high = option_map (λ x. x.judged) l.high; name = when_none l.high l.low.alone }
 
-  abbrev pub at_multiplier : Multiplier-F Result Skipped Result Selected Result Addition Given Relation Result Label Multiplication Result Result Skipped → Operand MultiplyingOperator
-  at_multiplier m = record { operator = m.operator; operand = m.factor }
+  abbrev pub at_multiplier : Multiplier-F Valued Written Result Selected Result Addition Given Relation Result Label Multiplication Result Result Components → Operand MultiplyingOperator
+  at_multiplier m = record { operator = m.operator; operand = m.factor.judged }
 
   -- a sign belongs to the first term (ISO 10206, 6.8.3.2)
-  abbrev pub at_simple : Simple-F Result Skipped Result Selected Result Addition Given Relation Result Label Multiplication Result Result Skipped → Judged Typed
-  at_simple s = chained added (when_accepted (signed s.sign) s.first) s.more
+  abbrev pub at_simple : Simple-F Valued Written Result Selected Result Addition Given Relation Result Label Multiplication Result Result Components → Said
+  at_simple s = record { judged = chained added (when_accepted (signed s.sign) s.first.judged) s.more; alone = when_none s.sign (when_empty s.more s.first.alone) }
 
-  abbrev pub at_term : Term-F Result Skipped Result Selected Result Addition Given Relation Result Label Multiplication Result Result Skipped → Judged Typed
-  at_term t = chained multiplied t.first t.more
+  abbrev pub at_term : Term-F Valued Written Result Selected Result Addition Given Relation Result Label Multiplication Result Result Components → Said
+  at_term t = record { judged = chained multiplied t.first.judged t.more; alone = when_empty t.more t.first.alone }
 
-  abbrev pub at_values : Values-F Result Skipped Result Selected Result Addition Given Relation Result Label Multiplication Result Result Skipped → Unit {0}
-  at_values v = tt
+  abbrev pub at_values : Values-F Valued Written Result Selected Result Addition Given Relation Result Label Multiplication Result Result Components → Components
+  at_values v = record { elements = v.elements; otherwise = v.otherwise }
 
   -- what the rules say of an expression
+  abbrev pub expression_said : Expression → Said
+  expression_said = fold-Expression Valued Written Result Selected Result Addition Given Relation Result Label Multiplication Result Result Components at_component_value at_element at_factor at_selector at_access at_addend at_argument at_comparison at_expression at_label at_multiplier at_simple at_term at_values
+
   abbrev pub judged : Expression → Judged Typed
-  judged = fold-Expression Result Skipped Result Selected Result Addition Given Relation Result Label Multiplication Result Result Skipped at_component_value at_element at_factor at_selector at_access at_addend at_argument at_comparison at_expression at_label at_multiplier at_simple at_term at_values
+  judged x = (expression_said x).judged
 
   -- of the parts of expressions
+  abbrev pub simple_said : Simple → Said
+  simple_said = fold-Simple Valued Written Result Selected Result Addition Given Relation Result Label Multiplication Result Result Components at_component_value at_element at_factor at_selector at_access at_addend at_argument at_comparison at_expression at_label at_multiplier at_simple at_term at_values
+
   abbrev pub simple_judged : Simple → Judged Typed
-  simple_judged = fold-Simple Result Skipped Result Selected Result Addition Given Relation Result Label Multiplication Result Result Skipped at_component_value at_element at_factor at_selector at_access at_addend at_argument at_comparison at_expression at_label at_multiplier at_simple at_term at_values
+  simple_judged x = (simple_said x).judged
+
+  abbrev pub term_said : Term → Said
+  term_said = fold-Term Valued Written Result Selected Result Addition Given Relation Result Label Multiplication Result Result Components at_component_value at_element at_factor at_selector at_access at_addend at_argument at_comparison at_expression at_label at_multiplier at_simple at_term at_values
 
   abbrev pub term_judged : Term → Judged Typed
-  term_judged = fold-Term Result Skipped Result Selected Result Addition Given Relation Result Label Multiplication Result Result Skipped at_component_value at_element at_factor at_selector at_access at_addend at_argument at_comparison at_expression at_label at_multiplier at_simple at_term at_values
+  term_judged x = (term_said x).judged
+
+  abbrev pub factor_said : Factor → Said
+  factor_said = fold-Factor Valued Written Result Selected Result Addition Given Relation Result Label Multiplication Result Result Components at_component_value at_element at_factor at_selector at_access at_addend at_argument at_comparison at_expression at_label at_multiplier at_simple at_term at_values
 
   abbrev pub factor_judged : Factor → Judged Typed
-  factor_judged = fold-Factor Result Skipped Result Selected Result Addition Given Relation Result Label Multiplication Result Result Skipped at_component_value at_element at_factor at_selector at_access at_addend at_argument at_comparison at_expression at_label at_multiplier at_simple at_term at_values
+  factor_judged x = (factor_said x).judged
 
   abbrev pub addend_judged : Addend → Operand AddingOperator
-  addend_judged = fold-Addend Result Skipped Result Selected Result Addition Given Relation Result Label Multiplication Result Result Skipped at_component_value at_element at_factor at_selector at_access at_addend at_argument at_comparison at_expression at_label at_multiplier at_simple at_term at_values
+  addend_judged = fold-Addend Valued Written Result Selected Result Addition Given Relation Result Label Multiplication Result Result Components at_component_value at_element at_factor at_selector at_access at_addend at_argument at_comparison at_expression at_label at_multiplier at_simple at_term at_values
 
   abbrev pub multiplier_judged : Multiplier → Operand MultiplyingOperator
-  multiplier_judged = fold-Multiplier Result Skipped Result Selected Result Addition Given Relation Result Label Multiplication Result Result Skipped at_component_value at_element at_factor at_selector at_access at_addend at_argument at_comparison at_expression at_label at_multiplier at_simple at_term at_values
+  multiplier_judged = fold-Multiplier Valued Written Result Selected Result Addition Given Relation Result Label Multiplication Result Result Components at_component_value at_element at_factor at_selector at_access at_addend at_argument at_comparison at_expression at_label at_multiplier at_simple at_term at_values
 
   abbrev pub comparison_judged : Comparison → Operand RelationalOperator
-  comparison_judged = fold-Comparison Result Skipped Result Selected Result Addition Given Relation Result Label Multiplication Result Result Skipped at_component_value at_element at_factor at_selector at_access at_addend at_argument at_comparison at_expression at_label at_multiplier at_simple at_term at_values
+  comparison_judged = fold-Comparison Valued Written Result Selected Result Addition Given Relation Result Label Multiplication Result Result Components at_component_value at_element at_factor at_selector at_access at_addend at_argument at_comparison at_expression at_label at_multiplier at_simple at_term at_values
+
+  abbrev pub name_said : Access → Said
+  name_said = fold-Access Valued Written Result Selected Result Addition Given Relation Result Label Multiplication Result Result Components at_component_value at_element at_factor at_selector at_access at_addend at_argument at_comparison at_expression at_label at_multiplier at_simple at_term at_values
 
   abbrev pub name_judged : Access → Judged Typed
-  name_judged = fold-Access Result Skipped Result Selected Result Addition Given Relation Result Label Multiplication Result Result Skipped at_component_value at_element at_factor at_selector at_access at_addend at_argument at_comparison at_expression at_label at_multiplier at_simple at_term at_values
+  name_judged x = (name_said x).judged
 
   abbrev pub selected : Selector → Selected
-  selected = fold-Selector Result Skipped Result Selected Result Addition Given Relation Result Label Multiplication Result Result Skipped at_component_value at_element at_factor at_selector at_access at_addend at_argument at_comparison at_expression at_label at_multiplier at_simple at_term at_values
+  selected = fold-Selector Valued Written Result Selected Result Addition Given Relation Result Label Multiplication Result Result Components at_component_value at_element at_factor at_selector at_access at_addend at_argument at_comparison at_expression at_label at_multiplier at_simple at_term at_values
 
   -- of a label of a set constructor
   abbrev pub labelled : LabelTree → Label
-  labelled = fold-Label Result Skipped Result Selected Result Addition Given Relation Result Label Multiplication Result Result Skipped at_component_value at_element at_factor at_selector at_access at_addend at_argument at_comparison at_expression at_label at_multiplier at_simple at_term at_values
+  labelled = fold-Label Valued Written Result Selected Result Addition Given Relation Result Label Multiplication Result Result Components at_component_value at_element at_factor at_selector at_access at_addend at_argument at_comparison at_expression at_label at_multiplier at_simple at_term at_values
 
   -- of an argument of a call
   abbrev pub given : Argument → Given
-  given = fold-Argument Result Skipped Result Selected Result Addition Given Relation Result Label Multiplication Result Result Skipped at_component_value at_element at_factor at_selector at_access at_addend at_argument at_comparison at_expression at_label at_multiplier at_simple at_term at_values
+  given = fold-Argument Valued Written Result Selected Result Addition Given Relation Result Label Multiplication Result Result Components at_component_value at_element at_factor at_selector at_access at_addend at_argument at_comparison at_expression at_label at_multiplier at_simple at_term at_values
 
   -- of the value of a definition or of an assignment
-  abbrev pub judged_value : ComponentValue → Judged Typed
-  judged_value = fold-ComponentValue Result Skipped Result Selected Result Addition Given Relation Result Label Multiplication Result Result Skipped at_component_value at_element at_factor at_selector at_access at_addend at_argument at_comparison at_expression at_label at_multiplier at_simple at_term at_values
+  abbrev pub judged_value : ComponentValue → Valued
+  judged_value = fold-ComponentValue Valued Written Result Selected Result Addition Given Relation Result Label Multiplication Result Result Components at_component_value at_element at_factor at_selector at_access at_addend at_argument at_comparison at_expression at_label at_multiplier at_simple at_term at_values
+
+  -- of what is written for components
+  abbrev pub element_written : Element → Written
+  element_written = fold-Element Valued Written Result Selected Result Addition Given Relation Result Label Multiplication Result Result Components at_component_value at_element at_factor at_selector at_access at_addend at_argument at_comparison at_expression at_label at_multiplier at_simple at_term at_values
+
+  -- of what stands in the brackets of a structured value
+  abbrev pub components_written : Values → Components
+  components_written = fold-Values Valued Written Result Selected Result Addition Given Relation Result Label Multiplication Result Result Components at_component_value at_element at_factor at_selector at_access at_addend at_argument at_comparison at_expression at_label at_multiplier at_simple at_term at_values

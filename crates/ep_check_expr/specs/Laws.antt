@@ -1,5 +1,5 @@
 -- The laws of typed forms: what the rules accept is valid wherever the declarations hold what the scopes declare, and of a host that is known.
-use Rattle.std.specs.Prelude.{◌≡◌, List, map}
+use Rattle.std.specs.Prelude.{◌≡◌, ℕ, List, Option, map}
 use Rattle.ep_tree.specs.declared.expression.Access.{Access}
 use Rattle.ep_tree.specs.declared.expression.Argument.{Argument}
 use Rattle.ep_tree.specs.declared.expression.ComponentValue.{ComponentValue}
@@ -30,9 +30,9 @@ VariablesAreSound = (scopes : List Region) (a : Access) (t : Typed) → name_jud
 abbrev pub ArgumentsAreSound : Type 0
 ArgumentsAreSound = (scopes : List Region) (ps : List FormalParameter) (arguments : List Argument) (t : Taken) → arguments_judged ps (map (given scopes) arguments) ≡ Accepts t → IsSoundTaken scopes ps t
 
--- so has the value of a definition or of an assignment
+-- so has the value of a definition or of an assignment, whatever is asked of it
 abbrev pub ValuesAreSound : Type 0
-ValuesAreSound = (scopes : List Region) (v : ComponentValue) (t : Typed) → judged_value scopes v ≡ Accepts t → IsSound scopes t
+ValuesAreSound = (scopes : List Region) (v : ComponentValue) (asked : Option ℕ) (t : Typed) → judged_value scopes v asked ≡ Accepts t → IsSound scopes t
 
 -- a constant that is accepted is of its kind
 abbrev pub ConstantsAreSound : Type 0

@@ -15,5 +15,6 @@ pub mod Names
 pub mod Operators
 pub mod Origins
 pub mod SetFolding
+pub mod StructuredValues
 pub mod Shapes
 pub mod Public

@@ -61,7 +61,7 @@ pub fn constant_value(
 {
     match tree {
         ComponentValue::Expression(e) => constant_expression_value(alloc, e.get(), scopes),
-        ComponentValue::Bracketed(_, _) => unreachable!(),
+        ComponentValue::Bracketed(_, _) => Err(Refusal::Rule(rule::STRUCTURED_VALUE)),
     }
 }
 
@@ -119,7 +119,7 @@ pub fn initial_state_value(
     requires { component_value_unbuilt tree.now ≡ None }
     ensures form { AnswersJudged (λ c. c) result (initial_state_judged scopes.now tree.now) }
 {
-    let typed = typed_value(alloc, tree, scopes)?;
+    let typed = typed_value(alloc, tree, None, scopes)?;
     if varies(alloc, &typed)? {
         return Err(Refusal::Rule(rule::INITIAL_STATE));
     }

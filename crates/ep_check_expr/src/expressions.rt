@@ -3,36 +3,40 @@
 ghost use Rattle.std.specs.Prelude.{◌≡◌, true, None, IfOk, map};
 ghost use Rattle.std.specs.List.{list_all};
 ghost use Rattle.std.specs.Option.{option_map};
-ghost use Rattle.ep_built.specs.Built.{component_value_unbuilt, expression_unbuilt, simple_unbuilt, term_unbuilt, factor_unbuilt, access_unbuilt, argument_unbuilt, addend_belonging, multiplier_belonging, form_told, is_component, label_unbuilt, selector_belonging, written_unbuilt, written_value_unbuilt, lines_in, first_in};
+ghost use Rattle.ep_built.specs.Built.{component_value_unbuilt, expression_unbuilt, simple_unbuilt, term_unbuilt, factor_unbuilt, access_unbuilt, argument_unbuilt, addend_belonging, multiplier_belonging, form_told, is_component, label_unbuilt, selector_belonging, values_unbuilt, element_unbuilt, written_unbuilt, written_value_unbuilt, lines_in, first_in};
 ghost use Rattle.ep_typed.specs.Viewed.{expr_of};
 ghost use Rattle.ep_scope.specs.Scopes.{depth_in, meant};
-ghost use Rattle.ep_check_expr.specs.Answers.{members_of, taken_of, typed_of, AnswersJudged, AnswersTyped, AnswersGiven};
+ghost use Rattle.ep_check_expr.specs.Answers.{arranged_of, filled_of, index_of, labels_of, members_of, ranges_of, taken_of, typed_of, AnswersJudged, AnswersTyped, AnswersGiven};
 ghost use Rattle.ep_check_expr.specs.Arguments.{IsReading, arguments_judged};
 ghost use Rattle.ep_check_expr.specs.Constructors.{set_judged, with_label};
-ghost use Rattle.ep_check_expr.specs.Expressions.{chained, labelled, judged, judged_value, addend_judged, multiplier_judged, simple_judged, term_judged, factor_judged, name_judged, selected, selected_all, given, string_judged};
+ghost use Rattle.ep_check_expr.specs.Expressions.{chained, components_written, element_written, labelled, judged, judged_value, addend_judged, multiplier_judged, simple_judged, term_judged, factor_judged, name_judged, selected, selected_all, given, string_judged};
 ghost use Rattle.ep_check_expr.specs.Functions.{applied};
 ghost use Rattle.ep_check_expr.specs.Indexing.{indexed_all};
-ghost use Rattle.ep_check_expr.specs.Judgements.{Accepts};
+ghost use Rattle.ep_check_expr.specs.Judgements.{Accepts, when_accepted};
 ghost use Rattle.ep_check_expr.specs.Names.{call_declared, call_named};
 ghost use Rattle.ep_check_expr.specs.Operators.{added, multiplied};
+ghost use Rattle.ep_check_expr.specs.StructuredValues.{array_begun, array_element, array_elements, array_judged, index_judged, labels_judged, no_ranges, nothing_filled, range_labelled, ranges_labelled, record_element, record_elements, record_judged, structure_judged};
 
 use crate::arguments::Taken;
+use crate::arranged::{Arranged, Index, IndexLabels, Ranges, taken_index};
 use crate::constructors::Members;
 use crate::fields::designated;
+use crate::filled::{Filled, asked_first, label_places};
 use crate::forms::{Refusal, Typed};
 use crate::functions::{applied_to_one, applied_to_two, takes};
 use crate::indexing::indexed;
 use crate::names::{named, qualified, undeclared};
 use crate::operators::{added, compared, multiplied, negated, signed};
-use crate::shapes::{arguments_first, bare, field_first};
+use crate::shapes::{arguments_first, bare, field_first, single_label};
+use crate::structured::{asked_by, named_number};
 use ep_base::Name;
 use ep_scope::{
-    Declaration, Declared, FormalParameter, Function, Host, Meaning, Required, View, depth_in,
-    meaning_of, rule,
+    ArrayType, Composition, Declaration, Declared, FieldType, FormalParameter, Function, Host,
+    Meaning, Required, View, depth_in, meaning_of, rule, structure_of,
 };
 use ep_tree::{
-    Access, Addend, Argument, ComponentValue, Expression, Factor, Label, Multiplier, Selector,
-    Simple, Term,
+    Access, Addend, Argument, ComponentValue, Element, Expression, Factor, Label, Multiplier,
+    Selector, Simple, Term, Values,
 };
 use std::alloc::Global;
 
@@ -78,17 +82,265 @@ pub fn written_expression(
 /// The typed form of a value that is assigned or defined, or a rule that fails in it. The forms of the value are all built.
 ///
 /// `cvalue = expr | "[" values "]"`
+#[cycle(typed)]
 pub fn typed_value(
     alloc: Global,
     tree: &ComponentValue,
+    asked: Option<u32>,
     scopes: &View<'_>,
 ) -> Result<Typed, Refusal>
     requires { component_value_unbuilt tree.now ≡ None }
-    ensures typed { AnswersTyped result (judged_value scopes.now tree.now) }
+    ensures typed { AnswersTyped result (judged_value scopes.now tree.now asked) }
 {
     match tree {
         ComponentValue::Expression(e) => typed_expression(alloc, e.get(), scopes),
-        ComponentValue::Bracketed(_, _) => unreachable!(),
+        ComponentValue::Bracketed(_, values) => match asked {
+            Some(number) => structured(alloc, number, values.get(), scopes),
+            None => Err(Refusal::Rule(rule::STRUCTURED_VALUE)),
+        },
+    }
+}
+
+/// `"[" values "]"`, of the structured type of this number
+#[cycle(typed)]
+fn structured(
+    alloc: Global,
+    number: u32,
+    values: &Values,
+    scopes: &View<'_>,
+) -> Result<Typed, Refusal>
+    requires built { values_unbuilt values.now ≡ None }
+    ensures { AnswersTyped result (structure_judged scopes.now (components_written scopes.now values.now) number) }
+{
+    match structure_of(scopes, number) {
+        Some(Composition::Array(of)) => array(alloc, number, *of, values, scopes),
+        Some(Composition::Record(fields)) => {
+            record(alloc, number, fields.items(), values, scopes)
+        }
+        None => Err(Refusal::Rule(rule::STRUCTURED_VALUE)),
+    }
+}
+
+/// `values`, of an array
+#[cycle(typed)]
+fn array(
+    alloc: Global,
+    number: u32,
+    of: ArrayType,
+    values: &Values,
+    scopes: &View<'_>,
+) -> Result<Typed, Refusal>
+    requires built { values_unbuilt values.now ≡ None }
+    ensures { AnswersTyped result (array_judged number of (components_written scopes.now values.now)) }
+{
+    let begun = array_begun(alloc, of, values, scopes)?;
+    let all = with_elements(alloc, of, values.elements.items(), begun, scopes)?;
+    all.finished(alloc, number, of, values.otherwise.is_some())
+}
+
+/// `[ "otherwise" cvalue ]`, of an array, which gives all components a value
+#[cycle(typed)]
+fn array_begun(
+    alloc: Global,
+    of: ArrayType,
+    values: &Values,
+    scopes: &View<'_>,
+) -> Result<Arranged, Refusal>
+    requires built { values_unbuilt values.now ≡ None }
+    ensures { AnswersJudged arranged_of result
+        (array_begun of (components_written scopes.now values.now).otherwise) }
+{
+    match &values.otherwise {
+        None => Ok(Arranged::nothing(alloc)),
+        Some(value) => {
+            let value = typed_value(alloc, value.get(), asked_by(of.kind), scopes)?;
+            Arranged::all(alloc, of, value)
+        }
+    }
+}
+
+/// `element { ";" element }`, of an array
+#[cycle(typed)]
+fn with_elements(
+    alloc: Global,
+    of: ArrayType,
+    elements: &[Element],
+    before: Arranged,
+    scopes: &View<'_>,
+) -> Result<Arranged, Refusal>
+    requires built { first_in (map element_unbuilt elements.now) ≡ None }
+    ensures { AnswersJudged arranged_of result
+        (array_elements of (map (element_written scopes.now) elements.now) (arranged_of before)) }
+{
+    let mut arranged = before;
+    for element in elements {
+        arranged = with_element(alloc, of, element, arranged, scopes)?;
+    }
+    Ok(arranged)
+}
+
+/// `element`, of an array, after those before it
+#[cycle(typed)]
+fn with_element(
+    alloc: Global,
+    of: ArrayType,
+    element: &Element,
+    before: Arranged,
+    scopes: &View<'_>,
+) -> Result<Arranged, Refusal>
+    requires built { element_unbuilt element.now ≡ None }
+    ensures { AnswersJudged arranged_of result
+        (array_element of (element_written scopes.now element.now) (arranged_of before)) }
+{
+    match element {
+        Element::Labelled(_, labels, value) => {
+            let labels = index_labels(alloc, of, labels.items(), scopes)?;
+            let value = typed_value(alloc, value, asked_by(of.kind), scopes)?;
+            labels.given(of, before, value)
+        }
+        Element::Variant(_, _, _, _) => Err(Refusal::Rule(rule::STRUCTURED_VALUE)),
+    }
+}
+
+/// `label { "," label }`, of an element of an array
+#[cycle(typed)]
+fn index_labels(
+    alloc: Global,
+    of: ArrayType,
+    labels: &[Label],
+    scopes: &View<'_>,
+) -> Result<IndexLabels, Refusal>
+    requires built { first_in (map label_unbuilt labels.now) ≡ None }
+    ensures { AnswersJudged labels_of result (labels_judged of (map (labelled scopes.now) labels.now)) }
+{
+    match single_label(labels) {
+        Some(low) => {
+            let index = array_index(alloc, of, low, scopes)?;
+            Ok(IndexLabels::One(index))
+        }
+        None => {
+            let ranges = ranges(alloc, of, labels, scopes)?;
+            Ok(IndexLabels::Many(ranges))
+        }
+    }
+}
+
+/// `expr`, an index of an array
+#[cycle(typed)]
+fn array_index(
+    alloc: Global,
+    of: ArrayType,
+    tree: &Expression,
+    scopes: &View<'_>,
+) -> Result<Index, Refusal>
+    requires built { expression_unbuilt tree.now ≡ None }
+    ensures { AnswersJudged index_of result (when_accepted (index_judged of) (judged scopes.now tree.now)) }
+{
+    let value = typed_expression(alloc, tree, scopes)?;
+    taken_index(alloc, of, value)
+}
+
+/// `label { "," label }`, of indexes
+#[cycle(typed)]
+fn ranges(
+    alloc: Global,
+    of: ArrayType,
+    labels: &[Label],
+    scopes: &View<'_>,
+) -> Result<Ranges, Refusal>
+    requires built { first_in (map label_unbuilt labels.now) ≡ None }
+    ensures { AnswersJudged ranges_of result
+        (ranges_labelled of (map (labelled scopes.now) labels.now) no_ranges) }
+{
+    let mut ranges = Ranges::nothing(alloc);
+    for label in labels {
+        ranges = with_range(alloc, of, label, ranges, scopes)?;
+    }
+    Ok(ranges)
+}
+
+/// `label`, of indexes, after those before it
+#[cycle(typed)]
+fn with_range(
+    alloc: Global,
+    of: ArrayType,
+    label: &Label,
+    before: Ranges,
+    scopes: &View<'_>,
+) -> Result<Ranges, Refusal>
+    requires built { label_unbuilt label.now ≡ None }
+    ensures { AnswersJudged ranges_of result
+        (range_labelled of (labelled scopes.now label.now) (ranges_of before)) }
+{
+    let low = array_index(alloc, of, label.low.get(), scopes)?;
+    match &label.high {
+        None => Ok(before.with(&low, &low)?),
+        Some(last) => {
+            let high = array_index(alloc, of, last.get(), scopes)?;
+            Ok(before.with(&low, &high)?)
+        }
+    }
+}
+
+/// `values`, of a record, which has no `otherwise`
+#[cycle(typed)]
+fn record(
+    alloc: Global,
+    number: u32,
+    fields: &[FieldType],
+    values: &Values,
+    scopes: &View<'_>,
+) -> Result<Typed, Refusal>
+    requires built { values_unbuilt values.now ≡ None }
+    ensures { AnswersTyped result (record_judged number fields.now (components_written scopes.now values.now)) }
+{
+    if values.otherwise.is_some() {
+        return Err(Refusal::Rule(rule::STRUCTURED_VALUE));
+    }
+    let all = record_elements(alloc, fields, values.elements.items(), scopes)?;
+    all.finished(alloc, number, fields)
+}
+
+/// `element { ";" element }`, of a record
+#[cycle(typed)]
+fn record_elements(
+    alloc: Global,
+    fields: &[FieldType],
+    elements: &[Element],
+    scopes: &View<'_>,
+) -> Result<Filled, Refusal>
+    requires built { first_in (map element_unbuilt elements.now) ≡ None }
+    ensures { AnswersJudged filled_of result
+        (record_elements fields.now (map (element_written scopes.now) elements.now) nothing_filled) }
+{
+    let mut filled = Filled::nothing(alloc);
+    for element in elements {
+        filled = with_fields(alloc, fields, element, filled, scopes)?;
+    }
+    Ok(filled)
+}
+
+/// `element`, of a record, after those before it
+#[cycle(typed)]
+fn with_fields(
+    alloc: Global,
+    fields: &[FieldType],
+    element: &Element,
+    before: Filled,
+    scopes: &View<'_>,
+) -> Result<Filled, Refusal>
+    requires built { element_unbuilt element.now ≡ None }
+    ensures { AnswersJudged filled_of result
+        (record_element fields.now (element_written scopes.now element.now) (filled_of before)) }
+{
+    match element {
+        Element::Labelled(_, labels, value) => {
+            let places = label_places(alloc, fields, labels.items())?;
+            let asked = asked_first(fields, places.items());
+            let value = typed_value(alloc, value, asked, scopes)?;
+            before.with_fields(alloc, fields, places.items(), value)
+        }
+        Element::Variant(_, _, _, _) => Err(Refusal::Rule(rule::STRUCTURED_VALUE)),
     }
 }
 
@@ -177,7 +429,10 @@ fn factor(alloc: Global, f: &Factor, scopes: &View<'_>) -> Result<Typed, Refusal
         }
         Factor::Nil(_) => unreachable!(),
         Factor::Set(_, labels) => set(alloc, labels.items(), scopes),
-        Factor::Structured(_, _, _) => unreachable!(),
+        Factor::Structured(_, name, values) => {
+            let number = named_number(name, scopes)?;
+            structured(alloc, number, values.get(), scopes)
+        }
     }
 }
 

@@ -49,6 +49,7 @@ pub fn folded_form(alloc: Global, e: &TypedExpr) -> Result<Folded, NoMemory>
         TypedExpr::Function(_, _) => Ok(Folded::Varies),
         TypedExpr::IndexedValue(_, _) => Ok(Folded::Varies),
         TypedExpr::FieldValue(_, _) => Ok(Folded::Varies),
+        TypedExpr::Structured(_, _) => Ok(Folded::Varies),
         TypedExpr::Unary(operation, operand) => {
             let operand = folded_form(alloc, operand.get())?;
             Ok(unary_folded(*operation, operand))
@@ -125,7 +126,7 @@ fn set(members: Bytes) -> Folded
 }
 
 /// The number that is known.
-fn number_in(known: &KnownValue) -> i64
+pub(crate) fn number_in(known: &KnownValue) -> i64
     ensures { result ≡ spec.number_in known.now }
 {
     match known {

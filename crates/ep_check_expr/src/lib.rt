@@ -5,16 +5,18 @@
 //! `typed_arguments` what is given for the formal parameters of a procedure or function of a unit.
 //! specs/Expressions.antt says which typed form an expression has and which rules fail, by one clause for each
 //! production; specs/Operators.antt, specs/Functions.antt, specs/Arguments.antt, specs/Indexing.antt,
-//! specs/Constructors.antt, specs/Names.antt and specs/Constants.antt have the rules, on parts that are accepted. By `laws_of_expressions` what they accept is valid.
+//! specs/Constructors.antt, specs/StructuredValues.antt, specs/Names.antt and specs/Constants.antt have the rules, on parts that are accepted. By `laws_of_expressions` what they accept is valid.
 #![tactic(auto)]
 
 mod access;
 mod answers;
 mod arguments;
+mod arranged;
 mod constants;
 mod constructors;
 mod expressions;
 mod fields;
+mod filled;
 mod folding;
 mod forms;
 mod functions;
@@ -25,6 +27,7 @@ mod names;
 mod operators;
 mod sets;
 mod shapes;
+mod structured;
 
 pub use access::Access;
 pub use answers::{Broken, ExpressionRefusal, constant, expression};
@@ -41,3 +44,4 @@ pub use forms::{DEPTH, Refusal, Typed, greatest, least};
 pub use laws::laws_of_expressions;
 pub use levels::{callee_at, field_place, own_place, tagged_place};
 pub use names::undeclared;
+pub use structured::asked_by;

@@ -2,11 +2,12 @@
 
 ghost use Rattle.std.specs.Prelude.{◌≡◌};
 ghost use Rattle.std.specs.Option.{option_copied, option_map};
-ghost use Rattle.ep_tree.specs.Shapes.{bare};
+ghost use Rattle.ep_tree.specs.Shapes.{as_identifier, bare};
+ghost use Rattle.ep_check_expr.specs.StructuredValues.{label_name, single_label};
 ghost use Rattle.ep_check_expr.specs.Shapes.{arguments_first, field_first, split_of};
 
 use ep_base::Name;
-use ep_tree::{Argument, Expression, Factor, Selector};
+use ep_tree::{Argument, Expression, Factor, Label, Selector};
 
 /// The factor of an expression that is nothing more.
 pub(crate) fn bare(e: &Expression) -> Option<&Factor>
@@ -24,6 +25,39 @@ pub(crate) fn bare(e: &Expression) -> Option<&Factor>
         Some(term.first.get())
     } else {
         None
+    }
+}
+
+/// The name that an expression is alone, if it is one.
+fn identifier(e: &Expression) -> Option<&Name>
+    ensures { option_copied result ≡ as_identifier e.now }
+{
+    match bare(e)? {
+        Factor::Access(a) if a.selectors.items().is_empty() => Some(&a.name),
+        _ => None,
+    }
+}
+
+/// The name that a label is alone, if it is one.
+pub(crate) fn label_name(l: &Label) -> Option<&Name>
+    ensures { option_copied result ≡ label_name l.now }
+{
+    match &l.high {
+        None => identifier(l.low.get()),
+        Some(_) => None,
+    }
+}
+
+/// The index of labels that are one index alone.
+pub(crate) fn single_label(labels: &[Label]) -> Option<&Expression>
+    ensures { option_copied result ≡ single_label labels.now }
+{
+    match labels {
+        [label] => match &label.high {
+            None => Some(label.low.get()),
+            Some(_) => None,
+        },
+        _ => None,
     }
 }
 

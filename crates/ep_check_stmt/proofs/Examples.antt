@@ -185,7 +185,7 @@ color = host.Enumeration (record { number = 0; last = 1 })
 
 -- an array of integers by colors
 abbrev row : StructuredType
-row = record { number = 3; composition = composition.Array (record { index = color; component = type_name.Required simple.Integer; kind = kind.Ordinal host.Integer }) }
+row = record { number = 3; composition = composition.Array (record { index = color; low = pos 0; high = pos 1; component = type_name.Required simple.Integer; kind = kind.Ordinal host.Integer }) }
 
 -- a variable of the array type of a number
 abbrev array : ℕ → Declaration

@@ -1,6 +1,7 @@
 pub mod Branches
 pub mod Called
 pub mod CaseParts
+pub mod Compounds
 pub mod Examples
 pub mod BuiltParts
 pub mod Gathered

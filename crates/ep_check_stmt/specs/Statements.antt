@@ -57,6 +57,8 @@ use Rattle.ep_check_expr.specs.Functions.{Given}
 use Rattle.ep_check_expr.specs.Names.{field_place, tagged_place, undeclared}
 use Rattle.ep_check_expr.specs.Operators.{map_both}
 use Rattle.ep_check_expr.specs.Expressions.{given, judged, judged_value, name_judged}
+use Rattle.ep_check_expr.specs.StructuredValues.{asked_by}
+use Rattle.ep_tree.specs.declared.expression.ComponentValue.{ComponentValue}
 use Rattle.ep_check_stmt.specs.Cases.{CaseSelector, own_ranges, selector_judged}
 use Rattle.ep_check_stmt.specs.RoutineForms.{RoutineForm, formals_at}
 use Rattle.ep_check_stmt.specs.Threats.{expr_threatens, inner_threatens, is_variable, place_threatens, threatens}
@@ -113,6 +115,11 @@ pub data Receiver : Type 0 where
 pub record Target : Type 0 where
   pub receiver : Option Receiver
   pub kind : Kind
+
+-- the structured type that a value for it is to have, where it has one
+abbrev pub asked_of : Judged Target → Option ℕ
+asked_of (Accepts t) = asked_by t.kind
+asked_of (Breaks rules) = None
 
 -- A function in whose block the statements are, maybe deeper, where its name is assigned to for the result: its number among the routines of the unit, how many routines are around its variables, itself among them, the variable that has the result, and the kind of that (ISO 10206, 6.7.2).
 pub record FunctionResult : Type 0 where
@@ -613,6 +620,10 @@ module _ (context : Context) where
   abbrev pub target_judged : syntax_access.Access → Judged Target
   target_judged a = target_of_selectors a (out-Access a).selectors
 
+  -- the value that is assigned, which may be a structured value without the name of its type
+  abbrev pub value_judged : syntax_access.Access → ComponentValue → Judged Typed
+  value_judged a v = judged_value context.scopes v (asked_of (target_judged a))
+
   -- an item of a statement inside of `for` statements with these control variables
   abbrev pub stmt_item : List Entire → ℕ → Judged (Option Stmt) → Judgement Stmt
   stmt_item controls line s = at_item line (unless_threatening (stmt_threat context.routines) controls s)
@@ -727,7 +738,7 @@ with_judged c controls line (Accepts o) body =
 
 abbrev pub at_statement : Statement-F (Under Stmt) ArmJudged (Under Stmts) (Under Stmts) → Under Stmt
 at_statement (Statement-F.Empty line) c controls = Passes tree.Empty
-at_statement (Statement-F.Assignment line access v) c controls = stmt_item c controls line (both (assigned c.locals line) (target_judged c access) (judged_value c.scopes v))
+at_statement (Statement-F.Assignment line access v) c controls = stmt_item c controls line (both (assigned c.locals line) (target_judged c access) (value_judged c access v))
 at_statement (Statement-F.Call line access) c controls = stmt_item c controls line (name_called c line (out-Access access).name (call_arguments (out-Access access).selectors))
 at_statement (Statement-F.Compound statements) c controls = formed tree.Compound (statements c controls)
 at_statement (Statement-F.If line e then_part other) c controls = if_judged line (condition_judged c controls line e) (then_part c controls) (else_judged other c controls (then_part c controls))

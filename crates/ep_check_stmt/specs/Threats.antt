@@ -8,7 +8,7 @@ use Rattle.ep_tree.specs.declared.statement.Statement.TheOpen.{Statement-F, Arm-
 use Rattle.ep_tree.specs.declared.statement.Statement.{Statement, fold-Statement}
 use Rattle.ep_tree.specs.declared.statement.Arm.{Arm, fold-Arm}
 use Rattle.ep_tree.specs.declared.statement.Compound.{Compound, fold-Compound}
-use Rattle.ep_typed.specs.Trees.{Entire, OfUnit, OfRoutine, entire, Place, Variable, Own, Standard, Indexed, Field, Variant, Expr, Constant, Text, Read, One, Two, Short, Step, Function, IndexedValue, FieldValue, Actual, Evaluated, Accessed, Actuals, no_actual, next_actual, Item, Plain, Wide, Stmt, Stmts, Empty, Assign, AssignTag, If, While, Repeat, For, ForIn, With, Procedure, Case, Halt, Write, none, next, Arms, no_arm, next_arm, Other, no_other, otherwise_do, SetOf, OnSets, Card, Designator, Single, Range, Designators, no_member, next_member, SetConstant}
+use Rattle.ep_typed.specs.Trees.{Structured, Element, AtIndex, AtField, SameField, AtRanges, Elements, no_element, next_element, Entire, OfUnit, OfRoutine, entire, Place, Variable, Own, Standard, Indexed, Field, Variant, Expr, Constant, Text, Read, One, Two, Short, Step, Function, IndexedValue, FieldValue, Actual, Evaluated, Accessed, Actuals, no_actual, next_actual, Item, Plain, Wide, Stmt, Stmts, Empty, Assign, AssignTag, If, While, Repeat, For, ForIn, With, Procedure, Case, Halt, Write, none, next, Arms, no_arm, next_arm, Other, no_other, otherwise_do, SetOf, OnSets, Card, Designator, Single, Range, Designators, no_member, next_member, SetConstant}
 use Rattle.ep_typed.specs.Trees as tree
 use Rattle.ep_typed.specs.declared.interface.Formal.{Formal}
 use Rattle.ep_typed.specs.declared.interface.FormalMode.{FormalMode}
@@ -52,6 +52,18 @@ module _ (formals_of : List ℕ → ℕ → List Formal) (variable : Entire) whe
     expr_threatens (SetOf members) = members_threaten members
     expr_threatens (OnSets operation x y) = expr_threatens x || expr_threatens y
     expr_threatens (Card x) = expr_threatens x
+    expr_threatens (Structured number es) = elements_threaten es
+
+    -- whether an index or a value in what a component of a structured value is given does
+    pub element_threatens : Element → Bool
+    element_threatens (AtIndex x y) = expr_threatens x || expr_threatens y
+    element_threatens (AtField steps x) = expr_threatens x
+    element_threatens (SameField from to) = false
+    element_threatens (AtRanges ranges x) = expr_threatens x
+
+    pub elements_threaten : Elements → Bool
+    elements_threaten no_element = false
+    elements_threaten (next_element e more) = element_threatens e || elements_threaten more
 
     -- whether a value of a member designator does
     pub member_threatens : Designator → Bool

@@ -11,11 +11,11 @@ ghost use Rattle.ep_typed.specs.Trees as tree;
 ghost use Rattle.ep_typed.specs.Trees.{Arms, Expr, Stmt, Stmts};
 ghost use Rattle.ep_typed.specs.Viewed.{arm_of, expr_of, other_of, stmt_of};
 ghost use Rattle.ep_check_expr.specs.Answers.{typed_of};
-ghost use Rattle.ep_check_expr.specs.Expressions.{judged, judged_value};
+ghost use Rattle.ep_check_expr.specs.Expressions.{judged};
 ghost use Rattle.ep_check_expr.specs.Judgements.{both};
 ghost use Rattle.ep_check_stmt.specs.Answers.{AnswersForm, AnswersRow, arms_of, context_of, entire_of, fails_among, locals_of, numbered, opened_of, stmts_of, target_of};
 ghost use Rattle.ep_check_stmt.specs.Statements as spec;
-ghost use Rattle.ep_check_stmt.specs.Statements.{Judgement, after, arm_judged, arm_row, arms_in_order, assigned, component_rules, compound_judged, compound_under, condition_judged, control_judged, declared_called, for_in_judged, for_judged, formed, if_judged, in_order, name_called, none_opened, own_called, records_opened, repeat_judged, required_called, statement_judged, target_judged, tested, with_judged};
+ghost use Rattle.ep_check_stmt.specs.Statements.{Judgement, after, arm_judged, arm_row, arms_in_order, assigned, component_rules, compound_judged, compound_under, condition_judged, control_judged, declared_called, for_in_judged, for_judged, formed, if_judged, in_order, name_called, none_opened, own_called, records_opened, repeat_judged, required_called, statement_judged, target_judged, value_judged, tested, with_judged};
 
 use crate::cases::{arm_form, case_form, no_otherwise, otherwise_form};
 use crate::loops::{falls_by, for_form, one_more};
@@ -28,8 +28,8 @@ use crate::targets::Target;
 use crate::threats::Entire;
 use ep_base::{Boxed, Line, List, Name};
 use ep_check_expr::{
-    Refusal, Typed, callee_at, given_value, typed_arguments, typed_expression, typed_value,
-    undeclared,
+    Refusal, Typed, asked_by, callee_at, given_value, typed_arguments, typed_expression,
+    typed_value, undeclared,
 };
 use ep_scope::{
     Declaration, Declared, FormalParameter, Host, Kind, Meaning, Procedure, Required, View,
@@ -601,10 +601,11 @@ impl<'a> Context<'a> {
         requires value { component_value_unbuilt value.now ≡ None }
         ensures { AnswersForm (option_map stmt_of) result (both (assigned (context_of self.now).locals line)
             (target_judged (context_of self.now) access.now)
-            (judged_value self.now.scopes.now value.now)) }
+            (value_judged (context_of self.now) access.now value.now)) }
     {
         let target = self.target(access)?;
-        let value = typed_value(self.alloc, value, self.scopes)?;
+        let asked = asked_by(target.kind);
+        let value = typed_value(self.alloc, value, asked, self.scopes)?;
         assigned(self.alloc, self.locals, line, target, value)
     }
 

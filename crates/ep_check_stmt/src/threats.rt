@@ -5,7 +5,7 @@ ghost use Rattle.std.specs.Prelude.{◌≡◌, IfOk, nat_eq, map, position, slic
 ghost use Rattle.ep_typed.specs.Trees as tree;
 ghost use Rattle.ep_typed.specs.Trees.{entire, stmts};
 ghost use Rattle.ep_typed.specs.Viewed as viewed;
-ghost use Rattle.ep_typed.specs.Viewed.{actual_of, arm_of, designator_of, expr_of, item_of, place_of, stmt_of};
+ghost use Rattle.ep_typed.specs.Viewed.{actual_of, arm_of, designator_of, element_of, expr_of, item_of, place_of, stmt_of};
 ghost use Rattle.ep_check_stmt.specs.Answers.{entire_of};
 ghost use Rattle.ep_check_stmt.specs.RoutineForms.{formals_at, formals_if, routine_form};
 ghost use Rattle.ep_check_stmt.specs.Threats as spec;
@@ -14,8 +14,8 @@ ghost use Rattle.ep_check_stmt.specs.Threats.{any_true, arm_assigns, statement_a
 use ep_base::{Name, NoMemory};
 use ep_tree::{Access, Arm, Compound, Statement};
 use ep_typed::{
-    Actual, CaseArm, EntireVariable, Formal, FormalMode, MemberDesignator, TypedExpr, TypedPlace,
-    TypedStmt, UnitRoutine, WriteItem,
+    Actual, CaseArm, Element, EntireVariable, Formal, FormalMode, MemberDesignator, TypedExpr,
+    TypedPlace, TypedStmt, UnitRoutine, WriteItem,
 };
 use std::alloc::{AllocError, Global};
 
@@ -278,7 +278,41 @@ pub(crate) fn expr_threatens(x: &TypedExpr, routines: &[UnitRoutine], variable: 
                 || expr_threatens(right.get(), routines, variable)
         }
         TypedExpr::Card(operand) => expr_threatens(operand.get(), routines, variable),
+        TypedExpr::Structured(_, elements) => {
+            elements_threaten(elements.items(), routines, variable)
+        }
     }
+}
+
+/// Whether an index or a value in what a component of a structured value is given does.
+#[cycle(threats_in_expressions)]
+fn element_threatens(e: &Element, routines: &[UnitRoutine], variable: Entire<'_>) -> bool
+    ensures { result ≡ spec.element_threatens (formals_at (map routine_form routines.now)) (entire_of variable.entry)
+        (element_of e.now) }
+{
+    match e {
+        Element::AtIndex(index, value) => {
+            expr_threatens(index.get(), routines, variable)
+                || expr_threatens(value.get(), routines, variable)
+        }
+        Element::AtField(_, value) => expr_threatens(value.get(), routines, variable),
+        Element::SameField(_, _) => false,
+        Element::AtRanges(_, value) => expr_threatens(value.get(), routines, variable),
+    }
+}
+
+/// Whether what components are given does.
+#[cycle(threats_in_expressions)]
+fn elements_threaten(all: &[Element], routines: &[UnitRoutine], variable: Entire<'_>) -> bool
+    ensures { result ≡ spec.elements_threaten (formals_at (map routine_form routines.now)) (entire_of variable.entry)
+        (tree.elements (map element_of all.now)) }
+{
+    for e in all {
+        if element_threatens(e, routines, variable) {
+            return true;
+        }
+    }
+    false
 }
 
 /// Whether a value of a member designator does.

@@ -16,7 +16,6 @@ use Rattle.ep_tree.specs.declared.types.Plain.{Plain}
 use Rattle.ep_tree.specs.declared.types.Structure.{Structure, out-Structure, roll-Structure, roll-out-Structure}
 use Rattle.ep_tree.specs.declared.types.Structure.TheVariants as structure
 use Rattle.ep_typed.specs.declared.denoter.Denoter.{Denoter}
-use Rattle.ep_scope.specs.declared.kind.Host.{Host}
 use Rattle.ep_check_expr.specs.Judgements.{Judged, Accepts, Breaks, when_accepted}
 use Rattle.ep_check_expr.specs.declared.forms.Refusal.{Refusal}
 use Rattle.ep_check_expr.specs.declared.forms.Refusal.TheVariants.{Rule, NoMemory}
@@ -25,7 +24,8 @@ use Rattle.ep_check_stmt.proofs.judged.Refusing.{part_refused}
 use Rattle.ep_check_stmt.proofs.judged.Rounds.{next_item}
 use Rattle.ep_check_unit.specs.Answers.{arrays_below, index_of, indexes_written, named_in}
 use Rattle.ep_check_unit.specs.Blocks.{Block}
-use Rattle.ep_check_unit.specs.Declarations.{ListJudged, Part, PartJudged, Section, VariantJudged, Written, array_over, array_part, at_core, at_field_section, at_fields, at_plain, at_structure, at_type_denoter, at_variant, at_variant_part, core_part, index_host, plain_part, settled, settled_part, structure_part, structured, type_denoter}
+use Rattle.ep_check_unit.specs.Declarations.{ListJudged, Part, PartJudged, Section, VariantJudged, Written, array_over, array_part, at_core, at_field_section, at_fields, at_plain, at_structure, at_type_denoter, at_variant, at_variant_part, core_part, index_values, plain_part, settled, settled_part, structure_part, structured, type_denoter}
+use Rattle.ep_check_unit.specs.declared.labels.TagValues.{TagValues}
 use Rattle.ep_check_unit.specs.declared.types.IndexType.{IndexType}
 use Rattle.ep_check_unit.specs.declared.types.NamedType.{NamedType}
 use Rattle.ep_check_unit.proofs.Forms.{map_push}
@@ -33,7 +33,7 @@ use Rattle.ep_check_unit.proofs.Subranges.{accepted_same}
 
 -- index types
 abbrev Indexes : Type 0
-Indexes = List (Denoter × ℕ × Host)
+Indexes = List (Denoter × ℕ × TagValues)
 
 -- a judgement is what it accepts, or breaks the same rules
 alone : (j : Judged Written) → j ≡ when_accepted (λ w. Accepts w) j
@@ -45,43 +45,43 @@ abbrev pub over_components : ℕ → Part → Judged (Indexes × Block) → Judg
 over_components line of j = when_accepted (λ r. when_accepted (λ w. Accepts (arrays_below line r.0 w)) (settled_part of line r.1)) j
 
 -- the same but for the last array
-abbrev pub last_over : ℕ → Part → Denoter → ℕ → Host → Judged (Indexes × Block) → Judged Written
-last_over line of d n h j = when_accepted (λ r. when_accepted (λ w. Accepts (array_over d n h (arrays_below line r.0 w))) (settled_part of line r.1)) j
+abbrev pub last_over : ℕ → Part → Denoter → ℕ → TagValues → Judged (Indexes × Block) → Judged Written
+last_over line of d n v j = when_accepted (λ r. when_accepted (λ w. Accepts (array_over d n v (arrays_below line r.0 w))) (settled_part of line r.1)) j
 
-last_settled : (line : ℕ) (of : Part) (d : Denoter) (n : ℕ) (h : Host) (j : Judged (Indexes × Block))
-    → when_accepted (λ w. Accepts (settled line w)) (when_accepted (λ below. Accepts (array_over d n h below)) (over_components line of j)) ≡ over_components line of (when_accepted (λ r. Accepts ((d, n, h) ∷ r.0, r.1)) j)
-last_settled line of d n h (Breaks rules) = refl
-last_settled line of d n h (Accepts r) = at (settled_part of line r.1)
+last_settled : (line : ℕ) (of : Part) (d : Denoter) (n : ℕ) (v : TagValues) (j : Judged (Indexes × Block))
+    → when_accepted (λ w. Accepts (settled line w)) (when_accepted (λ below. Accepts (array_over d n v below)) (over_components line of j)) ≡ over_components line of (when_accepted (λ r. Accepts ((d, n, v) ∷ r.0, r.1)) j)
+last_settled line of d n v (Breaks rules) = refl
+last_settled line of d n v (Accepts r) = at (settled_part of line r.1)
   where
-    at : (k : Judged Written) → when_accepted (λ w. Accepts (settled line w)) (when_accepted (λ below. Accepts (array_over d n h below)) (when_accepted (λ w. Accepts (arrays_below line r.0 w)) k)) ≡ when_accepted (λ w. Accepts (settled line (array_over d n h (arrays_below line r.0 w)))) k
+    at : (k : Judged Written) → when_accepted (λ w. Accepts (settled line w)) (when_accepted (λ below. Accepts (array_over d n v below)) (when_accepted (λ w. Accepts (arrays_below line r.0 w)) k)) ≡ when_accepted (λ w. Accepts (settled line (array_over d n v (arrays_below line r.0 w)))) k
     at (Accepts w) = refl
     at (Breaks rules) = refl
 
-last_written : (line : ℕ) (of : Part) (d : Denoter) (n : ℕ) (h : Host) (j : Judged (Indexes × Block)) → when_accepted (λ below. Accepts (array_over d n h below)) (over_components line of j) ≡ last_over line of d n h j
-last_written line of d n h (Breaks rules) = refl
-last_written line of d n h (Accepts r) = at (settled_part of line r.1)
+last_written : (line : ℕ) (of : Part) (d : Denoter) (n : ℕ) (v : TagValues) (j : Judged (Indexes × Block)) → when_accepted (λ below. Accepts (array_over d n v below)) (over_components line of j) ≡ last_over line of d n v j
+last_written line of d n v (Breaks rules) = refl
+last_written line of d n v (Accepts r) = at (settled_part of line r.1)
   where
-    at : (k : Judged Written) → when_accepted (λ below. Accepts (array_over d n h below)) (when_accepted (λ w. Accepts (arrays_below line r.0 w)) k) ≡ when_accepted (λ w. Accepts (array_over d n h (arrays_below line r.0 w))) k
+    at : (k : Judged Written) → when_accepted (λ below. Accepts (array_over d n v below)) (when_accepted (λ w. Accepts (arrays_below line r.0 w)) k) ≡ when_accepted (λ w. Accepts (array_over d n v (arrays_below line r.0 w))) k
     at (Accepts w) = refl
     at (Breaks rules) = refl
 
--- by an index type that is judged first, and its host
-settled_first : (line : ℕ) (of : Part) (is : List Part) (i : Judged Written) (h : Written → Judged Host) → ((b : Block) → settled_part (array_part of is) line b ≡ over_components line of (indexes_written line is b))
-    → when_accepted (λ w. Accepts (settled line w)) (when_accepted (λ w. when_accepted (λ g. when_accepted (λ below. Accepts (array_over w.denoter w.nodes g below)) (settled_part (array_part of is) line w.block)) (h w)) i)
-    ≡ over_components line of (when_accepted (λ w. when_accepted (λ g. when_accepted (λ r. Accepts ((w.denoter, w.nodes, g) ∷ r.0, r.1)) (indexes_written line is w.block)) (h w)) i)
-settled_first line of is (Breaks rules) h same = refl
-settled_first line of is (Accepts w) h same = at (h w)
+-- by an index type that is judged first, and its values
+settled_first : (line : ℕ) (of : Part) (is : List Part) (i : Judged Written) (values : Written → Judged TagValues) → ((b : Block) → settled_part (array_part of is) line b ≡ over_components line of (indexes_written line is b))
+    → when_accepted (λ w. Accepts (settled line w)) (when_accepted (λ w. when_accepted (λ v. when_accepted (λ below. Accepts (array_over w.denoter w.nodes v below)) (settled_part (array_part of is) line w.block)) (values w)) i)
+    ≡ over_components line of (when_accepted (λ w. when_accepted (λ v. when_accepted (λ r. Accepts ((w.denoter, w.nodes, v) ∷ r.0, r.1)) (indexes_written line is w.block)) (values w)) i)
+settled_first line of is (Breaks rules) values same = refl
+settled_first line of is (Accepts w) values same = at (values w)
   where
-    at : (k : Judged Host)
-        → when_accepted (λ v. Accepts (settled line v)) (when_accepted (λ g. when_accepted (λ below. Accepts (array_over w.denoter w.nodes g below)) (settled_part (array_part of is) line w.block)) k)
-        ≡ over_components line of (when_accepted (λ g. when_accepted (λ r. Accepts ((w.denoter, w.nodes, g) ∷ r.0, r.1)) (indexes_written line is w.block)) k)
+    at : (k : Judged TagValues)
+        → when_accepted (λ x. Accepts (settled line x)) (when_accepted (λ v. when_accepted (λ below. Accepts (array_over w.denoter w.nodes v below)) (settled_part (array_part of is) line w.block)) k)
+        ≡ over_components line of (when_accepted (λ v. when_accepted (λ r. Accepts ((w.denoter, w.nodes, v) ∷ r.0, r.1)) (indexes_written line is w.block)) k)
     at (Breaks rules) = refl
-    at (Accepts g) = ap (λ s. when_accepted (λ v. Accepts (settled line v)) (when_accepted (λ below. Accepts (array_over w.denoter w.nodes g below)) s)) (same w.block) ∙ last_settled line of w.denoter w.nodes g (indexes_written line is w.block)
+    at (Accepts v) = ap (λ s. when_accepted (λ x. Accepts (settled line x)) (when_accepted (λ below. Accepts (array_over w.denoter w.nodes v below)) s)) (same w.block) ∙ last_settled line of w.denoter w.nodes v (indexes_written line is w.block)
 
 -- what is below an index type
 pub settled_below : (line : ℕ) (of : Part) (is : List Part) (b : Block) → settled_part (array_part of is) line b ≡ over_components line of (indexes_written line is b)
 settled_below line of [] b = alone (settled_part of line b)
-settled_below line of (i ∷ is) b = settled_first line of is (settled_part i line b) (λ w. index_host w.kind) (λ c. settled_below line of is c)
+settled_below line of (i ∷ is) b = settled_first line of is (settled_part i line b) index_values (λ c. settled_below line of is c)
 
 -- the array of all index types, by the first one and the others; one without index types is its component
 abbrev pub by_first : ℕ → Part → Judged (Indexes × Block) → Judged Written
@@ -89,26 +89,26 @@ by_first line of (Breaks rules) = Breaks rules
 by_first line of (Accepts ([], b)) = of.written line b
 by_first line of (Accepts (i ∷ is, b)) = when_accepted (λ w. Accepts (array_over i.0 i.1 i.2 (arrays_below line is w))) (settled_part of line b)
 
-first_over : (line : ℕ) (of : Part) (d : Denoter) (n : ℕ) (h : Host) (j : Judged (Indexes × Block)) → last_over line of d n h j ≡ by_first line of (when_accepted (λ r. Accepts ((d, n, h) ∷ r.0, r.1)) j)
-first_over line of d n h (Accepts r) = refl
-first_over line of d n h (Breaks rules) = refl
+first_over : (line : ℕ) (of : Part) (d : Denoter) (n : ℕ) (v : TagValues) (j : Judged (Indexes × Block)) → last_over line of d n v j ≡ by_first line of (when_accepted (λ r. Accepts ((d, n, v) ∷ r.0, r.1)) j)
+first_over line of d n v (Accepts r) = refl
+first_over line of d n v (Breaks rules) = refl
 
-written_first : (line : ℕ) (of : Part) (is : List Part) (i : Judged Written) (h : Written → Judged Host)
-    → when_accepted (λ w. when_accepted (λ g. when_accepted (λ below. Accepts (array_over w.denoter w.nodes g below)) (settled_part (array_part of is) line w.block)) (h w)) i
-    ≡ by_first line of (when_accepted (λ w. when_accepted (λ g. when_accepted (λ r. Accepts ((w.denoter, w.nodes, g) ∷ r.0, r.1)) (indexes_written line is w.block)) (h w)) i)
-written_first line of is (Breaks rules) h = refl
-written_first line of is (Accepts w) h = at (h w)
+written_first : (line : ℕ) (of : Part) (is : List Part) (i : Judged Written) (values : Written → Judged TagValues)
+    → when_accepted (λ w. when_accepted (λ v. when_accepted (λ below. Accepts (array_over w.denoter w.nodes v below)) (settled_part (array_part of is) line w.block)) (values w)) i
+    ≡ by_first line of (when_accepted (λ w. when_accepted (λ v. when_accepted (λ r. Accepts ((w.denoter, w.nodes, v) ∷ r.0, r.1)) (indexes_written line is w.block)) (values w)) i)
+written_first line of is (Breaks rules) values = refl
+written_first line of is (Accepts w) values = at (values w)
   where
-    at : (k : Judged Host)
-        → when_accepted (λ g. when_accepted (λ below. Accepts (array_over w.denoter w.nodes g below)) (settled_part (array_part of is) line w.block)) k
-        ≡ by_first line of (when_accepted (λ g. when_accepted (λ r. Accepts ((w.denoter, w.nodes, g) ∷ r.0, r.1)) (indexes_written line is w.block)) k)
+    at : (k : Judged TagValues)
+        → when_accepted (λ v. when_accepted (λ below. Accepts (array_over w.denoter w.nodes v below)) (settled_part (array_part of is) line w.block)) k
+        ≡ by_first line of (when_accepted (λ v. when_accepted (λ r. Accepts ((w.denoter, w.nodes, v) ∷ r.0, r.1)) (indexes_written line is w.block)) k)
     at (Breaks rules) = refl
-    at (Accepts g) = ap (when_accepted (λ below. Accepts (array_over w.denoter w.nodes g below))) (settled_below line of is w.block) ∙ (last_written line of w.denoter w.nodes g (indexes_written line is w.block) ∙ first_over line of w.denoter w.nodes g (indexes_written line is w.block))
+    at (Accepts v) = ap (when_accepted (λ below. Accepts (array_over w.denoter w.nodes v below))) (settled_below line of is w.block) ∙ (last_written line of w.denoter w.nodes v (indexes_written line is w.block) ∙ first_over line of w.denoter w.nodes v (indexes_written line is w.block))
 
 -- so an array is written
 array_by_first : (line : ℕ) (of : Part) (is : List Part) (b : Block) → (array_part of is).written line b ≡ by_first line of (indexes_written line is b)
 array_by_first line of [] b = refl
-array_by_first line of (i ∷ is) b = written_first line of is (settled_part i line b) (λ w. index_host w.kind)
+array_by_first line of (i ∷ is) b = written_first line of is (settled_part i line b) index_values
 
 -- ---- index types one after another
 
@@ -117,21 +117,21 @@ abbrev pub behind : Indexes → Judged (Indexes × Block) → Judged (Indexes ×
 behind all j = when_accepted (λ r. Accepts (all ++ r.0, r.1)) j
 
 -- one more stands behind those before
-one_behind : (all : Indexes) (d : Denoter × ℕ × Host) (j : Judged (Indexes × Block)) → behind (all ++ d ∷ []) j ≡ behind all (when_accepted (λ r. Accepts (d ∷ r.0, r.1)) j)
+one_behind : (all : Indexes) (d : Denoter × ℕ × TagValues) (j : Judged (Indexes × Block)) → behind (all ++ d ∷ []) j ≡ behind all (when_accepted (λ r. Accepts (d ∷ r.0, r.1)) j)
 one_behind all d (Accepts r) = ap (λ xs. Accepts (xs, r.1)) (append_assoc all (d ∷ []) r.0)
 one_behind all d (Breaks rules) = refl
 
 pub next_index : (line : ℕ) (plains : List Plain) (n : ℕ) (p : Plain) → n < length plains → p ≡ get_or plains n p
-    → (made pushed : List IndexType) (index : NamedType) (host : Host) (b new : Block) (all : Judged (Indexes × Block)) → pushed ≡ made ++ record { name = index.name; host = host; nodes = index.nodes } ∷ []
-    → settled_part (plain_part p) line b ≡ Accepts (named_in new index) → index_host index.kind ≡ Accepts host
+    → (made pushed : List IndexType) (index : NamedType) (values : TagValues) (b new : Block) (all : Judged (Indexes × Block)) → pushed ≡ made ++ record { name = index.name; values = values; nodes = index.nodes } ∷ []
+    → settled_part (plain_part p) line b ≡ Accepts (named_in new index) → index_values (named_in new index) ≡ Accepts values
     → behind (map index_of made) (indexes_written line (map plain_part (drop n plains)) b) ≡ all → behind (map index_of pushed) (indexes_written line (map plain_part (drop (n + 1) plains)) new) ≡ all
-next_index line plains n p lt is made pushed index host b new all push settles hosts same =
+next_index line plains n p lt is made pushed index values b new all push settles valued same =
     let rest : List Part = map plain_part (drop (n + 1) plains) in
-    let item : IndexType = record { name = index.name; host = host; nodes = index.nodes } in
+    let item : IndexType = record { name = index.name; values = values; nodes = index.nodes } in
     let step : indexes_written line (map plain_part (drop n plains)) b ≡ when_accepted (λ r. Accepts (index_of item ∷ r.0, r.1)) (indexes_written line rest new) =
     ap (λ xs. indexes_written line (map plain_part xs) b) (next_item plains n p lt is)
-    ∙ (ap (when_accepted (λ w. when_accepted (λ h. when_accepted (λ r. Accepts ((w.denoter, w.nodes, h) ∷ r.0, r.1)) (indexes_written line rest w.block)) (index_host w.kind))) settles
-    ∙ ap (when_accepted (λ h. when_accepted (λ r. Accepts ((type_denoter index.name, index.nodes, h) ∷ r.0, r.1)) (indexes_written line rest new))) hosts) in
+    ∙ (ap (when_accepted (λ w. when_accepted (λ v. when_accepted (λ r. Accepts ((w.denoter, w.nodes, v) ∷ r.0, r.1)) (indexes_written line rest w.block)) (index_values w))) settles
+    ∙ ap (when_accepted (λ v. when_accepted (λ r. Accepts ((type_denoter index.name, index.nodes, v) ∷ r.0, r.1)) (indexes_written line rest new))) valued) in
     ap (λ xs. behind (map index_of xs) (indexes_written line rest new)) push
     ∙ (ap (λ xs. behind xs (indexes_written line rest new)) (map_push index_of made item)
     ∙ (one_behind (map index_of made) (index_of item) (indexes_written line rest new)
@@ -176,22 +176,22 @@ module _ (line : ℕ) (s : Structure) (at : ℕ) (is : List Plain) (of : Plain) 
         empty (x ∷ xs) e = cc
 
     module _ (first : IndexType) (others : List IndexType) (split : made ≡ first ∷ others) where
-      pub split_written : (structure_part s).written line b ≡ when_accepted (λ w. Accepts (array_over (type_denoter first.name) first.nodes first.host (arrays_below line (map index_of others) w))) (settled_part (plain_part of) line new)
+      pub split_written : (structure_part s).written line b ≡ when_accepted (λ w. Accepts (array_over (type_denoter first.name) first.nodes first.values (arrays_below line (map index_of others) w))) (settled_part (plain_part of) line new)
       split_written = made_first ∙ ap (λ xs. by_first line (plain_part of) (Accepts (map index_of xs, new))) split
 
       -- the component is refused
       pub component_refused : (e : Refusal) → Refuses e (settled_part (plain_part of) line new) → Refuses e ((structure_part s).written line b)
       component_refused e h =
           subst (Refuses e) (sym split_written)
-          (part_refused (λ w. Accepts (array_over (type_denoter first.name) first.nodes first.host (arrays_below line (map index_of others) w))) e (settled_part (plain_part of) line new) h)
+          (part_refused (λ w. Accepts (array_over (type_denoter first.name) first.nodes first.values (arrays_below line (map index_of others) w))) e (settled_part (plain_part of) line new) h)
 
       -- the array over its components
       pub array_accepted : (below : NamedType) (component : Written) (last : Block) → settled_part (plain_part of) line new ≡ Accepts component → Accepts (arrays_below line (map index_of others) component) ≡ Accepts (named_in last below)
-          → (structure_part s).written line b ≡ Accepts (array_over (type_denoter first.name) first.nodes first.host (named_in last below))
+          → (structure_part s).written line b ≡ Accepts (array_over (type_denoter first.name) first.nodes first.values (named_in last below))
       array_accepted below component last settles under =
           split_written
-          ∙ (ap (when_accepted (λ w. Accepts (array_over (type_denoter first.name) first.nodes first.host (arrays_below line (map index_of others) w)))) settles
-          ∙ ap (λ w. Accepts (array_over (type_denoter first.name) first.nodes first.host w)) (accepted_same (named_in last below) (arrays_below line (map index_of others) component) (sym under)))
+          ∙ (ap (when_accepted (λ w. Accepts (array_over (type_denoter first.name) first.nodes first.values (arrays_below line (map index_of others) w)))) settles
+          ∙ ap (λ w. Accepts (array_over (type_denoter first.name) first.nodes first.values w)) (accepted_same (named_in last below) (arrays_below line (map index_of others) component) (sym under)))
 
 -- ---- a part that is no name
 

@@ -45,7 +45,7 @@ use Rattle.ep_check_expr.specs.Names.{undeclared}
 use Rattle.ep_check_expr.specs.declared.constants.ConstantForm.{ConstantForm}
 use Rattle.ep_check_stmt.proofs.judged.Fits.{Any, Fits, fits_then, fits_both, fits_any}
 use Rattle.ep_check_stmt.specs.Statements.{Judgement, Passes, Waits, Fails}
-use Rattle.ep_check_unit.specs.Declarations.{unless_large, Fielded, Gathered, Labelled, ListJudged, Listed, Part as DenoterPart, PartJudged as VariantsJudged, Section, Tag, VariantJudged, all_fields, completing_added, completing_written, field_of, fields_named, labels_noted, list_ended, list_written, record_over, selection_of, tag_written, unless_left_out, variant_added, variant_list, variant_listing, variant_part_written, variant_written, variants_after, variants_written, none_gathered, section_written, sections_written, set_on, set_over, unless_wide, all_variables_declared, and_then, array_over, at_line, common_host, constant_definition, constant_entered, begun, begun_with, constants_declared, denoter_part, fitting_state, may_begin, with_initial_state, declaration_ended, declared_type, entered, enumerated, enumeration, index_host, next_enumeration, noted, ordered, range, scopes_of, settled, settled_part, settled_type, Standing, Stands, Falls, subrange, type_definition, type_definitions, type_entered, type_meant, type_named, type_written, unused, variable_declaration, variable_entered, variables_declared, variables_entered, with_constant, with_name, with_type, is_outermost, with_own_variable, with_unit_variable, with_variable, own_thing, Written}
+use Rattle.ep_check_unit.specs.Declarations.{unless_large, Fielded, Gathered, Labelled, ListJudged, Listed, Part as DenoterPart, PartJudged as VariantsJudged, Section, Tag, VariantJudged, all_fields, completing_added, completing_written, field_of, fields_named, labels_noted, list_ended, list_written, record_over, selection_of, tag_written, unless_left_out, variant_added, variant_list, variant_listing, variant_part_written, variant_written, variants_after, variants_written, none_gathered, section_written, sections_written, set_on, set_over, unless_wide, all_variables_declared, and_then, array_over, at_line, common_host, constant_definition, constant_entered, begun, begun_with, constants_declared, denoter_part, fitting_state, may_begin, with_initial_state, declaration_ended, declared_type, entered, enumerated, enumeration, index_host, index_values, next_enumeration, noted, ordered, range, scopes_of, settled, settled_part, settled_type, Standing, Stands, Falls, subrange, type_definition, type_definitions, type_entered, type_meant, type_named, type_written, unused, variable_declaration, variable_entered, variables_declared, variables_entered, with_constant, with_name, with_type, is_outermost, with_own_variable, with_unit_variable, with_variable, own_thing, Written}
 use Rattle.ep_check_unit.specs.Functions.{if_given, in_block, is_assigned, is_in_view, own_name_entered, result_entered, routine_declaration, row_gives, same_result}
 use Rattle.ep_check_unit.specs.Routines.{BodyJudged, Headed, PartJudged, all_declared, assigns_among, block_declared, body_closed, body_declared, body_ended, declared_routine, formals_entered, forwarded, has_body, headed_again, headed_first, headed_over, headed_then, heading_entered, identified_again, identified_over, inside_declared, is_repeated, of_body, of_part, of_routine, part_judged, parts_declared, result_headed, result_judged, routine_body_judged, routine_judged, routine_there, scope_opened, sections_judged, start_headed, start_name, statements_judged, with_routine}
 use Rattle.ep_check_unit.specs.declared.functions.HeadingResult.{HeadingResult}
@@ -129,9 +129,9 @@ module _ (n : List ℕ) where
 
   array_written-kept : (index of : DenoterPart) → IsKeptPart index → IsKeptPart of → IsKeptPart (over_part index of)
   array_written-kept index of h g line b i =
-      fits_then IsIn IsIn (λ w. when_accepted (λ host. when_accepted (λ below. Accepts (array_over w.denoter w.nodes host below)) (settled_part of line w.block)) (index_host w.kind)) (settled_part index line b) (settled_part-kept index h line b i)
-      (λ w j. fits_then Any IsIn (λ host. when_accepted (λ below. Accepts (array_over w.denoter w.nodes host below)) (settled_part of line w.block)) (index_host w.kind) (fits_any (index_host w.kind))
-      (λ host k. fits_then IsIn IsIn (λ below. Accepts (array_over w.denoter w.nodes host below)) (settled_part of line w.block) (settled_part-kept of g line w.block j) (λ below l. l)))
+      fits_then IsIn IsIn (λ w. when_accepted (λ v. when_accepted (λ below. Accepts (array_over w.denoter w.nodes v below)) (settled_part of line w.block)) (index_values w)) (settled_part index line b) (settled_part-kept index h line b i)
+      (λ w j. fits_then Any IsIn (λ v. when_accepted (λ below. Accepts (array_over w.denoter w.nodes v below)) (settled_part of line w.block)) (index_values w) (fits_any (index_values w))
+      (λ v k. fits_then IsIn IsIn (λ below. Accepts (array_over w.denoter w.nodes v below)) (settled_part of line w.block) (settled_part-kept of g line w.block j) (λ below l. l)))
 
   set_written-kept : (base : DenoterPart) → IsKeptPart base → IsKeptPart (set_part base)
   set_written-kept base h line b i =

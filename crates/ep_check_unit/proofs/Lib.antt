@@ -1,4 +1,5 @@
 pub mod Bodies
+pub mod ConstantValues
 pub mod Defined
 pub mod Denoters
 pub mod Examples

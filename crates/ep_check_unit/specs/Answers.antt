@@ -3,7 +3,6 @@ use Rattle.std.specs.Prelude.{◌≡◌, ℕ, Bool, true, List, [], ◌∷◌, l
 use Rattle.ep_typed.specs.declared.denoter.Denoter.{Denoter}
 use Rattle.ep_typed.specs.declared.tree.CaseRange.{CaseRange}
 use Rattle.ep_typed.specs.declared.value.Value.{Value}
-use Rattle.ep_scope.specs.declared.kind.Host.{Host}
 use Rattle.ep_scope.specs.declared.kind.Kind.{Kind}
 use Rattle.ep_check_expr.specs.Judgements.{Judged, Accepts, when_accepted}
 use Rattle.ep_check_expr.specs.declared.forms.Refusal.{Refusal}
@@ -24,6 +23,7 @@ use Rattle.ep_check_unit.specs.declared.types.IndexType.{IndexType}
 use Rattle.ep_check_unit.specs.declared.types.NamedType.{NamedType}
 use Rattle.ep_check_unit.specs.declared.types.Written.{Written}
 use Rattle.ep_check_unit.specs.declared.labels.Labels.{Labels}
+use Rattle.ep_check_unit.specs.declared.labels.TagValues.{TagValues}
 use Rattle.ep_check_unit.specs.declared.records.Listing.{Listing}
 use Rattle.ep_check_unit.specs.declared.records.WrittenField.{WrittenField}
 use Rattle.ep_check_unit.specs.declared.variants.Gathered.{Gathered}
@@ -70,17 +70,17 @@ abbrev pub written_in : Block → Written → spec.Written
 written_in b w = record { denoter = w.denoter; of = w.of; kind = w.kind; nodes = w.nodes; block = b }
 
 -- an index type, as the denoter of an array has it
-abbrev pub index_of : IndexType → Denoter × ℕ × Host
-index_of i = (spec.type_denoter i.name, i.nodes, i.host)
+abbrev pub index_of : IndexType → Denoter × ℕ × TagValues
+index_of i = (spec.type_denoter i.name, i.nodes, i.values)
 
 -- index types from left to right, each with an entry where it needs one, and the block behind them
-abbrev pub indexes_written : ℕ → List spec.Part → Block → Judged (List (Denoter × ℕ × Host) × Block)
+abbrev pub indexes_written : ℕ → List spec.Part → Block → Judged (List (Denoter × ℕ × TagValues) × Block)
 indexes_written line [] b = Accepts ([], b)
 indexes_written line (p ∷ ps) b =
-    when_accepted (λ w. when_accepted (λ h. when_accepted (λ r. Accepts ((w.denoter, w.nodes, h) ∷ r.0, r.1)) (indexes_written line ps w.block)) (spec.index_host w.kind)) (spec.settled_part p line b)
+    when_accepted (λ w. when_accepted (λ v. when_accepted (λ r. Accepts ((w.denoter, w.nodes, v) ∷ r.0, r.1)) (indexes_written line ps w.block)) (spec.index_values w)) (spec.settled_part p line b)
 
 -- arrays of these index types over a type, the innermost first, each with an entry of its own
-abbrev pub arrays_below : ℕ → List (Denoter × ℕ × Host) → spec.Written → spec.Written
+abbrev pub arrays_below : ℕ → List (Denoter × ℕ × TagValues) → spec.Written → spec.Written
 arrays_below line [] w = w
 arrays_below line (i ∷ is) w = spec.settled line (spec.array_over i.0 i.1 i.2 (arrays_below line is w))
 

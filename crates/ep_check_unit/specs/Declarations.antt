@@ -315,31 +315,6 @@ abbrev pub index_host : Kind → Judged Host
 index_host (kind.Ordinal h) = Accepts h
 index_host _ = Breaks (rule.ORDINAL ∷ [])
 
--- a structured type more in the innermost scope
-abbrev pub with_structure : StructuredType → Block → Block
-with_structure s b = record b { scopes = with_inner_structure b.scopes s }
-
--- the array type of an index type with this host, whose components are so
-abbrev pub array_over : Denoter → ℕ → Host → Written → Written
-array_over index nodes h of =
-    record {
-      denoter = denoter.Array index of.denoter;
-      of = next_type of.block;
-      kind = kind.Structured (length of.block.types);
-      nodes = counted (counted 1 nodes) of.nodes;
-      block = with_structure (record { number = length of.block.types; composition = composition.Array (record { index = h; component = of.of; kind = of.kind }) }) of.block;
-    }
-
--- an array of this index type and these components
-abbrev pub array_written : Part → Part → ℕ → Block → Judged Written
-array_written index of line b =
-    when_accepted (λ i. when_accepted (λ h. when_accepted (λ below. Accepts (array_over i.denoter i.nodes h below)) (settled_part of line i.block)) (index_host i.kind)) (settled_part index line b)
-
--- An array of several index types is an array of the first one, whose components are an array of the others (ISO 10206, 6.4.3.2).
-abbrev pub array_part : Part → List Part → Part
-array_part of [] = of
-array_part of (i ∷ is) = record { is_name = false; written = array_written i (array_part of is) }
-
 -- the type value of a subrange or an enumeration, by its own denoter, whatever it begins with
 abbrev pub ordinal_value : tree.Denoter → Option TypeValue
 ordinal_value (tree.Subrange host low high) = subrange_type low high
@@ -351,6 +326,35 @@ ordinal_value _ = None
 abbrev pub value_of : List UnitType → TypeName → Option TypeValue
 value_of types (type_name.Required r) = Some (required_type r)
 value_of types (type_name.Entry number) = found_of ordinal_value (slice_get types number)
+
+-- the values of an index type, or of the type of a tag (ISO 10206, 6.4.3.4)
+abbrev pub index_values : Written → Judged TagValues
+index_values w = when_accepted (λ h. tag_values h (value_of w.block.types w.of)) (index_host w.kind)
+
+-- a structured type more in the innermost scope
+abbrev pub with_structure : StructuredType → Block → Block
+with_structure s b = record b { scopes = with_inner_structure b.scopes s }
+
+-- the array type of an index type with these values, whose components are so
+abbrev pub array_over : Denoter → ℕ → TagValues → Written → Written
+array_over index nodes v of =
+    record {
+      denoter = denoter.Array index of.denoter;
+      of = next_type of.block;
+      kind = kind.Structured (length of.block.types);
+      nodes = counted (counted 1 nodes) of.nodes;
+      block = with_structure (record { number = length of.block.types; composition = composition.Array (record { index = v.host; low = v.low; high = v.high; component = of.of; kind = of.kind }) }) of.block;
+    }
+
+-- an array of this index type and these components
+abbrev pub array_written : Part → Part → ℕ → Block → Judged Written
+array_written index of line b =
+    when_accepted (λ i. when_accepted (λ v. when_accepted (λ below. Accepts (array_over i.denoter i.nodes v below)) (settled_part of line i.block)) (index_values i)) (settled_part index line b)
+
+-- An array of several index types is an array of the first one, whose components are an array of the others (ISO 10206, 6.4.3.2).
+abbrev pub array_part : Part → List Part → Part
+array_part of [] = of
+array_part of (i ∷ is) = record { is_name = false; written = array_written i (array_part of is) }
 
 -- whether the values of a type may be members of sets: all of them have ordinal numbers of 0 to 255 (own)
 abbrev pub are_members : Option TypeValue → Bool
@@ -463,7 +467,7 @@ tag_named name w values = record { name = name; denoter = w.denoter; of = w.of; 
 
 -- its type is ordinal
 abbrev pub tag_of : List ℕ → Written → Judged Tag
-tag_of name w = when_accepted (λ values. Accepts (tag_named name w values)) (when_accepted (λ h. tag_values h (value_of w.block.types w.of)) (index_host w.kind))
+tag_of name w = when_accepted (λ values. Accepts (tag_named name w values)) (index_values w)
 
 -- selection by a discriminant is not built
 abbrev pub tag_written : VariantSelector → Block → Judged Tag

@@ -26,7 +26,7 @@ use Rattle.ep_check_unit.specs.declared.labels.TagValues.{TagValues}
 abbrev pub mislabelled : {A : Type 0} → Judged A
 mislabelled = Breaks (rule.VARIANT_LABELS ∷ [])
 
--- the values of a tag of an ordinal type, by its host
+-- the values of an ordinal type, which is that of a tag or an index type, by its host
 abbrev pub tag_values : Host → Option TypeValue → Judged TagValues
 tag_values h (Some (type.Ordinal low high)) = Accepts (record { host = h; low = low; high = high })
 tag_values h _ = Breaks (rule.ORDINAL ∷ [])

@@ -1,7 +1,7 @@
 //! Declarations, item by item.
 
 ghost use Rattle.std.specs.Prelude.{◌≡◌, None, IfOk, map};
-ghost use Rattle.ep_built.specs.Built.{component_value_unbuilt, constant_unbuilt, first_in, type_denoter_unbuilt, type_unbuilt, variable_unbuilt};
+ghost use Rattle.ep_built.specs.Built.{constant_value_unbuilt, constant_unbuilt, first_in, type_denoter_unbuilt, type_unbuilt, variable_unbuilt};
 ghost use Rattle.ep_check_expr.specs.Judgements.{when_accepted};
 ghost use Rattle.ep_check_unit.specs.Answers.{AnswersBlock, AnswersStanding};
 ghost use Rattle.ep_check_unit.specs.Blocks.{block_of};
@@ -49,12 +49,13 @@ impl Block {
     }
 
     /// `id "=" cvalue`
+    #[tactic(auto, using(crate::proofs::ConstantValues::value_built))]
     fn define_constant(
         &mut self,
         alloc: Global,
         definition: &ConstantDefinition,
     ) -> Result<(), Refusal>
-        requires { component_value_unbuilt definition.now.value ≡ None }
+        requires { constant_value_unbuilt definition.now.value ≡ None }
         ensures { AnswersBlock result (block_of self.new)
             (constant_definition definition.now (block_of self.old)) }
     {

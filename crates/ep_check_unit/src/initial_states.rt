@@ -1,7 +1,7 @@
 //! Initial states as an item writes them (ISO 10206, 6.6).
 
 ghost use Rattle.std.specs.Prelude.{◌≡◌, None};
-ghost use Rattle.ep_built.specs.Built.{component_value_unbuilt};
+ghost use Rattle.ep_built.specs.Built.{constant_value_unbuilt};
 ghost use Rattle.ep_check_stmt.specs.Answers.{AnswersForm};
 ghost use Rattle.ep_check_unit.specs.Answers.{named_in, written_in};
 ghost use Rattle.ep_check_unit.specs.Blocks.{block_of};
@@ -30,6 +30,7 @@ fn may_begin(constant: Kind, of: Kind) -> bool
 
 impl Block {
     /// A type, by its name, with an initial state, in an item on this line.
+    #[tactic(auto, using(crate::proofs::ConstantValues::value_built))]
     pub(crate) fn begun_with(
         &mut self,
         alloc: Global,
@@ -37,7 +38,7 @@ impl Block {
         of: NamedType,
         value: &ComponentValue,
     ) -> Result<Written, Refusal>
-        requires { component_value_unbuilt value.now ≡ None }
+        requires { constant_value_unbuilt value.now ≡ None }
         ensures { AnswersForm (written_in (block_of self.new)) result
             (begun_with line value.now (named_in (block_of self.old) of)) }
     {

@@ -25,7 +25,7 @@ use ep_typed::{
 use std::alloc::Global;
 use std::mem;
 
-/// The values of a tag.
+/// The values of a tag, or those of an index type.
 #[derive(Clone, Copy, Drop)]
 pub(crate) struct TagValues {
     /// The host of its type.
@@ -36,7 +36,7 @@ pub(crate) struct TagValues {
     pub(crate) high: i64,
 }
 
-/// The values of a tag of a required type, whose host this is.
+/// The values of a required type, whose host this is.
 fn required_values(host: Host, required: RequiredType) -> TagValues
     ensures { spec.tag_values host (Some (required_type required)) ≡ Accepts result }
 {
@@ -48,7 +48,7 @@ fn required_values(host: Host, required: RequiredType) -> TagValues
     TagValues { host, low, high }
 }
 
-/// Those of a tag of a subrange or an enumeration, by its own denoter, whatever it begins with.
+/// Those of a subrange or an enumeration, by its own denoter, whatever it begins with.
 fn denoted_values(host: Host, denoter: &Denoter) -> Result<TagValues, Refusal>
     ensures { AnswersForm (λ t. t) result (spec.tag_values host (ordinal_value (denoter_of denoter.now))) }
 {
@@ -70,7 +70,7 @@ fn denoted_values(host: Host, denoter: &Denoter) -> Result<TagValues, Refusal>
     }
 }
 
-/// The values of a tag of this ordinal type, whose host this is.
+/// The values of this ordinal type, whose host this is, of a tag or of an index type.
 pub(crate) fn tag_values(types: &[UnitType], host: Host, of: TypeName) -> Result<TagValues, Refusal>
     ensures { AnswersForm (λ t. t) result (spec.tag_values host (value_of types.now of)) }
 {

@@ -10,10 +10,10 @@ ghost use Rattle.ep_check_stmt.specs.Answers.{AnswersForm, fails_among};
 ghost use Rattle.ep_check_unit.specs.Answers.{AnswersBlock, arrays_below, fields_in, gathered_in, index_of, indexes_written, listed_in, named_in, written_in};
 ghost use Rattle.ep_check_unit.specs.Declarations as spec;
 ghost use Rattle.ep_check_unit.specs.Blocks.{Block as BlockNow, block_of};
-ghost use Rattle.ep_check_unit.specs.Declarations.{array_over, common_host, core_part, core_written, counted, unless_large, index_host, plain_part, settled, settled_part, settled_type, structure_part, type_written, completing_written, fields_judged, none_gathered, record_written, section_part, variant_judged, variant_written, variants_judged, variants_written, sections_written, enumerated, enumeration, host_denoter, next_type, number_in, ordered, range, required_host, scopes_of, subrange_denoter, type_denoter, type_meant, written_by};
+ghost use Rattle.ep_check_unit.specs.Declarations.{array_over, common_host, core_part, core_written, counted, unless_large, index_host, index_values, plain_part, settled, settled_part, settled_type, structure_part, type_written, completing_written, fields_judged, none_gathered, record_written, section_part, variant_judged, variant_written, variants_judged, variants_written, sections_written, enumerated, enumeration, host_denoter, next_type, number_in, ordered, range, required_host, scopes_of, subrange_denoter, type_denoter, type_meant, written_by};
 
 use crate::block::{Block, number};
-use crate::labels::TagValues;
+use crate::labels::{TagValues, tag_values};
 use crate::records::{Listing, WrittenField, WrittenFields, add_fields, plain_list};
 use crate::variants::{Gathered, variant_list};
 use ep_base::{Boxed, Line, List, Name, Names, NoMemory};
@@ -88,8 +88,8 @@ impl NamedType {
 pub(crate) struct IndexType {
     /// Its name.
     pub(crate) name: TypeName,
-    /// Its host.
-    pub(crate) host: Host,
+    /// Its values.
+    pub(crate) values: TagValues,
     /// How many nodes it has.
     pub(crate) nodes: u32,
 }
@@ -564,10 +564,10 @@ impl Block {
         let mut all = List::new(alloc);
         for plain in plains {
             let index = self.settled_plain(alloc, line, plain)?;
-            let host = index_host(index.kind)?;
+            let values = self.index_values(index)?;
             all.push(IndexType {
                 name: index.name,
-                host,
+                values,
                 nodes: index.nodes,
             })?;
         }
@@ -695,6 +695,14 @@ impl Block {
         })
     }
 
+    /// The values of an index type, or of the type of a tag.
+    pub(crate) fn index_values(&self, of: NamedType) -> Result<TagValues, Refusal>
+        ensures { AnswersForm (λ v. v) result (index_values (named_in (block_of self.now) of)) }
+    {
+        let host = index_host(of.kind)?;
+        tag_values(self.types.items(), host, of.of)
+    }
+
     /// The array type of this index type, whose components are so.
     fn array_over(
         &mut self,
@@ -703,11 +711,14 @@ impl Block {
         below: NamedType,
     ) -> Result<Written, Refusal>
         ensures { AnswersForm (written_in (block_of self.new)) result
-            (Accepts (array_over (type_denoter index.name) index.nodes index.host (named_in (block_of self.old) below))) }
+            (Accepts (array_over (type_denoter index.name) index.nodes index.values (named_in (block_of self.old) below))) }
     {
         let number = number(self.types.items().len())?;
+        let TagValues { host, low, high } = index.values;
         let composition = Composition::Array(ArrayType {
-            index: index.host,
+            index: host,
+            low,
+            high,
             component: below.of,
             kind: below.kind,
         });

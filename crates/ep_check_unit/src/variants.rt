@@ -10,9 +10,9 @@ ghost use Rattle.ep_check_unit.specs.Declarations.{bounds_nodes, fields_joined, 
 ghost use Rattle.ep_check_unit.specs.Labels.{variant_labelled};
 
 use crate::block::{Block, number};
-use crate::labels::{Labels, TagValues, tag_values, take_variant};
+use crate::labels::{Labels, TagValues, take_variant};
 use crate::records::{Listing, WrittenField, denoted, nodes, own_fields};
-use crate::types::{NamedType, counted, index_host, type_denoter};
+use crate::types::{NamedType, counted, type_denoter};
 use ep_base::{Boxed, Line, List, Name, NoMemory};
 use ep_check_expr::Refusal;
 use ep_scope::{
@@ -376,8 +376,7 @@ impl Block {
             unreachable!()
         };
         let of = self.named_type(of)?;
-        let host = index_host(of.kind)?;
-        let values = tag_values(self.types.items(), host, of.of)?;
+        let values = self.index_values(of)?;
         Ok(Tag { name, of, values })
     }
 

@@ -337,6 +337,27 @@ Call:0=|budget|10000\n\
 Call:0=|error 25 at 1|10001=20000\n\
 Text:0 Call:1 Return Routine:1 Arg:0 Call:1=|error 25 at 5|60006=80000";
 
+/// The routine that gives the value of a component of an array to others, with the one that leaves two operands in the
+/// other order: for components 3 to 5, of which the last is written; for the last one only, so that the one before it
+/// has no value; and for components up to the greatest number.
+const FILLED: &str = "\
+Push:1 Push:5 TOrd Push:0 TArr Make:0 Slot:0 Push:1 Index Push:7 Store Slot:0 Push:1 Push:3 Push:5 Call:2 \
+Unit:-1:1 Slot:0 Push:5 Index Load Form Put Return \
+Routine:2 Arg:1 Arg:0 Return \
+Routine:4:1 Arg:0 Bind:0 Peek:2 Dup Slot:0 Call:1 Index Slot:0 Peek:1 Index Load Store \
+Dup Peek:3 Cmp:2 JumpFalse:46 Push:1 Add Jump:30 Drop Return=7|normal|90\n\
+Push:1 Push:5 TOrd Push:0 TArr Make:0 Slot:0 Push:1 Index Push:7 Store Slot:0 Push:1 Push:5 Push:5 Call:2 \
+Unit:-1:1 Slot:0 Push:4 Index Load Form Put Return \
+Routine:2 Arg:1 Arg:0 Return \
+Routine:4:1 Arg:0 Bind:0 Peek:2 Dup Slot:0 Call:1 Index Slot:0 Peek:1 Index Load Store \
+Dup Peek:3 Cmp:2 JumpFalse:46 Push:1 Add Jump:30 Drop Return=|error 1 at 21|47\n\
+Push:9223372036854775806 Push:9223372036854775807 TOrd Push:0 TArr Make:0 Slot:0 Push:9223372036854775806 Index \
+Push:7 Store Slot:0 Push:9223372036854775806 Push:9223372036854775806 Push:9223372036854775807 Call:2 \
+Unit:-1:1 Slot:0 Push:9223372036854775807 Index Load Form Put Return \
+Routine:2 Arg:1 Arg:0 Return \
+Routine:4:1 Arg:0 Bind:0 Peek:2 Dup Slot:0 Call:1 Index Slot:0 Peek:1 Index Load Store \
+Dup Peek:3 Cmp:2 JumpFalse:46 Push:1 Add Jump:30 Drop Return=7|normal|68";
+
 /// Levels of routines: the second one is declared in the first, and the third in it too.
 const LEVELS: &str = "\
 Call:1 Return Routine:0:1 Push:0 Make:0 Slot:0 Push:5 Store Call:2:1 Return \
@@ -629,6 +650,7 @@ fn each_row_comes_to_what_the_table_of_instructions_says(rt: HostRuntime) -> Res
         DISPOSALS,
         ARGUMENTS,
         CALLS,
+        FILLED,
         LEVELS,
         SUMS,
         TRUTHS,

@@ -38,7 +38,7 @@ const EXPRESSIONS: &[Trees] = &[
             (op::MOD, 0, 0, 3),
         ],
         0,
-        0,
+        2,
     ),
     // chr(65)
     (
@@ -50,7 +50,7 @@ const EXPRESSIONS: &[Trees] = &[
             (op::CHECK, run_error::SUCCESSOR as i64, 0, 3),
         ],
         0,
-        0,
+        2,
     ),
     // pred of a char, two back
     (
@@ -64,7 +64,7 @@ const EXPRESSIONS: &[Trees] = &[
             (op::STEP, 0, 0, 3),
         ],
         0,
-        0,
+        2,
     ),
     // one variable < another one
     (
@@ -74,39 +74,195 @@ const EXPRESSIONS: &[Trees] = &[
             Step::Two(Binary::Less),
         ],
         &[
-            (op::UNIT, 0, 0, 3),
+            (op::UNIT, 2, 0, 3),
             (op::LOAD, 0, 0, 3),
-            (op::UNIT, 1, 0, 3),
+            (op::UNIT, 3, 0, 3),
             (op::LOAD, 0, 0, 3),
             (op::CMP, 2, 0, 3),
         ],
         0,
-        2,
+        4,
     ),
     // a field of a component of the array that a function gives
     (
         &[
-            Step::Function(2),
+            Step::Function(5),
             Step::Constant(5),
             Step::Indexed,
             Step::Field(1),
         ],
         &[
-            (op::CALL, 0, 0, 3),
+            (op::CALL, 2, 0, 3),
             (op::JUMP, 2, 0, 3),
             (op::PUSH, 5, 0, 3),
             (op::INDEX, 0, 0, 3),
             (op::FIELD, 1, 0, 3),
         ],
         0,
-        1,
+        3,
+    ),
+    // D[1: 5; 2: 6], where D is the type of number 2
+    (
+        &[
+            Step::Constant(1),
+            Step::Constant(5),
+            Step::AtIndex,
+            Step::Constant(2),
+            Step::Constant(6),
+            Step::AtIndex,
+            Step::Structured(2),
+        ],
+        &[
+            (op::CALL, 4, 0, 3),
+            (op::NEW, 0, 0, 3),
+            (op::DUP, 0, 0, 3),
+            (op::DEREF, 0, 0, 3),
+            (op::DUP, 0, 0, 3),
+            (op::PUSH, 1, 0, 3),
+            (op::INDEX, 0, 0, 3),
+            (op::PUSH, 5, 0, 3),
+            (op::STORE, 0, 0, 3),
+            (op::DUP, 0, 0, 3),
+            (op::PUSH, 2, 0, 3),
+            (op::INDEX, 0, 0, 3),
+            (op::PUSH, 6, 0, 3),
+            (op::STORE, 0, 0, 3),
+            (op::LOAD, 0, 0, 3),
+            (op::CALL, 0, 0, 3),
+            (op::DISPOSE, 0, 0, 3),
+        ],
+        0,
+        2,
+    ),
+    // D[1, 3..5: 7], where D is the type of number 2
+    (
+        &[
+            Step::Constant(7),
+            Step::AtRanges(&[(1, 1), (3, 5)]),
+            Step::Structured(2),
+        ],
+        &[
+            (op::CALL, 4, 0, 3),
+            (op::NEW, 0, 0, 3),
+            (op::DUP, 0, 0, 3),
+            (op::DEREF, 0, 0, 3),
+            (op::DUP, 0, 0, 3),
+            (op::PUSH, 1, 0, 3),
+            (op::INDEX, 0, 0, 3),
+            (op::PUSH, 7, 0, 3),
+            (op::STORE, 0, 0, 3),
+            (op::DUP, 0, 0, 3),
+            (op::PUSH, 1, 0, 3),
+            (op::PUSH, 1, 0, 3),
+            (op::PUSH, 1, 0, 3),
+            (op::CALL, 1, 0, 3),
+            (op::DUP, 0, 0, 3),
+            (op::PUSH, 1, 0, 3),
+            (op::PUSH, 3, 0, 3),
+            (op::PUSH, 5, 0, 3),
+            (op::CALL, 1, 0, 3),
+            (op::LOAD, 0, 0, 3),
+            (op::CALL, 0, 0, 3),
+            (op::DISPOSE, 0, 0, 3),
+        ],
+        0,
+        2,
+    ),
+    // R[a: 7], where R is the type of number 0 and a its second field
+    (
+        &[Step::Constant(7), Step::AtField(&[1]), Step::Structured(0)],
+        &[
+            (op::CALL, 2, 0, 3),
+            (op::NEW, 0, 0, 3),
+            (op::DUP, 0, 0, 3),
+            (op::DEREF, 0, 0, 3),
+            (op::DUP, 0, 0, 3),
+            (op::FIELD, 1, 0, 3),
+            (op::PUSH, 7, 0, 3),
+            (op::STORE, 0, 0, 3),
+            (op::LOAD, 0, 0, 3),
+            (op::CALL, 0, 0, 3),
+            (op::DISPOSE, 0, 0, 3),
+        ],
+        0,
+        2,
+    ),
+    // Q[a, b: 7; case k: 1 of [d: 8]], where Q is the type of number 1, a its second field and b its first, and k is at
+    // steps 2 and 0, and d the first field of a variant that is component 4
+    (
+        &[
+            Step::Constant(7),
+            Step::AtField(&[1]),
+            Step::SameField(&[1], &[0]),
+            Step::Constant(1),
+            Step::AtField(&[2, 0]),
+            Step::Constant(8),
+            Step::AtField(&[4, 0]),
+            Step::Structured(1),
+        ],
+        &[
+            (op::CALL, 3, 0, 3),
+            (op::NEW, 0, 0, 3),
+            (op::DUP, 0, 0, 3),
+            (op::DEREF, 0, 0, 3),
+            (op::DUP, 0, 0, 3),
+            (op::FIELD, 1, 0, 3),
+            (op::PUSH, 7, 0, 3),
+            (op::STORE, 0, 0, 3),
+            (op::DUP, 0, 0, 3),
+            (op::DUP, 0, 0, 3),
+            (op::FIELD, 0, 0, 3),
+            (op::CALL, 0, 0, 3),
+            (op::FIELD, 1, 0, 3),
+            (op::LOAD, 0, 0, 3),
+            (op::STORE, 0, 0, 3),
+            (op::DUP, 0, 0, 3),
+            (op::FIELD, 2, 0, 3),
+            (op::FIELD, 0, 0, 3),
+            (op::PUSH, 1, 0, 3),
+            (op::STORE, 0, 0, 3),
+            (op::DUP, 0, 0, 3),
+            (op::FIELD, 4, 0, 3),
+            (op::FIELD, 0, 0, 3),
+            (op::PUSH, 8, 0, 3),
+            (op::STORE, 0, 0, 3),
+            (op::LOAD, 0, 0, 3),
+            (op::CALL, 0, 0, 3),
+            (op::DISPOSE, 0, 0, 3),
+        ],
+        0,
+        2,
+    ),
+    // with two steps on both sides
+    (
+        &[Step::SameField(&[2, 0], &[4, 1]), Step::Structured(1)],
+        &[
+            (op::CALL, 3, 0, 3),
+            (op::NEW, 0, 0, 3),
+            (op::DUP, 0, 0, 3),
+            (op::DEREF, 0, 0, 3),
+            (op::DUP, 0, 0, 3),
+            (op::DUP, 0, 0, 3),
+            (op::FIELD, 4, 0, 3),
+            (op::FIELD, 1, 0, 3),
+            (op::CALL, 0, 0, 3),
+            (op::FIELD, 2, 0, 3),
+            (op::FIELD, 0, 0, 3),
+            (op::LOAD, 0, 0, 3),
+            (op::STORE, 0, 0, 3),
+            (op::LOAD, 0, 0, 3),
+            (op::CALL, 0, 0, 3),
+            (op::DISPOSE, 0, 0, 3),
+        ],
+        0,
+        2,
     ),
     // the same text twice
     (
         &[Step::Text(b"ab"), Step::Text(b"ab")],
         &[(op::TEXT, 0, 0, 3), (op::TEXT, 0, 0, 3)],
         1,
-        0,
+        2,
     ),
 ];
 
@@ -116,12 +272,12 @@ const STATEMENTS: &[Trees] = &[
     (
         &[Step::Constant(7), Step::Assign(4, 5)],
         &[
-            (op::UNIT, 0, 0, 4),
+            (op::UNIT, 2, 0, 4),
             (op::PUSH, 7, 0, 4),
             (op::STORE, 0, 0, 4),
         ],
         0,
-        1,
+        3,
     ),
     // if true then halt else halt, on lines 4, 5 and 6
     (
@@ -134,7 +290,7 @@ const STATEMENTS: &[Trees] = &[
             (op::HALT, 0, 0, 6),
         ],
         0,
-        0,
+        2,
     ),
     // if true then halt
     (
@@ -146,7 +302,7 @@ const STATEMENTS: &[Trees] = &[
             (op::JUMP, 4, 0, 4),
         ],
         0,
-        0,
+        2,
     ),
     // begin halt; while false do halt end
     (
@@ -165,19 +321,19 @@ const STATEMENTS: &[Trees] = &[
             (op::JUMP, 1, 0, 5),
         ],
         0,
-        0,
+        2,
     ),
     // the same procedure twice
     (
-        &[Step::Procedure(4, 2), Step::Procedure(5, 2)],
+        &[Step::Procedure(4, 5), Step::Procedure(5, 5)],
         &[
-            (op::CALL, 0, 0, 4),
+            (op::CALL, 2, 0, 4),
             (op::JUMP, 2, 0, 4),
-            (op::CALL, 0, 0, 5),
+            (op::CALL, 2, 0, 5),
             (op::JUMP, 4, 0, 5),
         ],
         0,
-        1,
+        3,
     ),
     // writeln
     (
@@ -189,7 +345,7 @@ const STATEMENTS: &[Trees] = &[
             (op::PUT, 0, 0, 4),
         ],
         0,
-        0,
+        2,
     ),
 ];
 
@@ -208,7 +364,7 @@ const WRITES: &[Trees] = &[
             (op::PUT, 0, 0, 4),
         ],
         0,
-        0,
+        2,
     ),
     (
         &[
@@ -223,7 +379,7 @@ const WRITES: &[Trees] = &[
             (op::PUT, 0, 0, 4),
         ],
         0,
-        0,
+        2,
     ),
     (
         &[
@@ -238,7 +394,7 @@ const WRITES: &[Trees] = &[
             (op::PUT, 0, 0, 4),
         ],
         0,
-        0,
+        2,
     ),
     (
         &[
@@ -252,7 +408,7 @@ const WRITES: &[Trees] = &[
             (op::PUT, 0, 0, 4),
         ],
         1,
-        0,
+        2,
     ),
     (
         &[
@@ -269,7 +425,7 @@ const WRITES: &[Trees] = &[
             (op::PUT, 0, 0, 4),
         ],
         0,
-        0,
+        2,
     ),
     (
         &[
@@ -287,7 +443,7 @@ const WRITES: &[Trees] = &[
             (op::PUT, 0, 0, 4),
         ],
         0,
-        0,
+        2,
     ),
     (
         &[
@@ -304,7 +460,7 @@ const WRITES: &[Trees] = &[
             (op::PUT, 0, 0, 4),
         ],
         0,
-        0,
+        2,
     ),
     (
         &[
@@ -321,7 +477,7 @@ const WRITES: &[Trees] = &[
             (op::PUT, 0, 0, 4),
         ],
         0,
-        0,
+        2,
     ),
 ];
 
@@ -467,18 +623,42 @@ fn program(alloc: Global) -> Result<Unit, Unbuilt> {
     unit_of(alloc, types, variables, statements)
 }
 
-/// The code of that program, with that of its type behind it.
+/// The code of that program, with that of the two routines that structured values call and of its type behind it.
 const PROGRAM: &[Row] = &[
-    (op::CALL, 0, 0, 1),
+    (op::CALL, 2, 0, 1),
     (op::MAKE, 0, 0, 1),
     (op::PUSH, 0, 0, 2),
     (op::PUSH, 9, 0, 2),
     (op::T_ORD, 0, 0, 2),
     (op::MAKE, 1, 0, 2),
-    (op::UNIT, 1, 0, 4),
+    (op::UNIT, 3, 0, 4),
     (op::PUSH, 7, 0, 4),
     (op::STORE, 0, 0, 4),
     (op::RETURN, 0, 0, 0),
+    (op::RETURN, 0, 0, 0),
+    (op::ARG, 1, 0, 0),
+    (op::ARG, 0, 0, 0),
+    (op::RETURN, 0, 0, 0),
+    (op::ARG, 0, 0, 0),
+    (op::BIND, 0, 0, 0),
+    (op::PEEK, 2, 0, 0),
+    (op::DUP, 0, 0, 0),
+    (op::SLOT, 0, 0, 0),
+    (op::CALL, 0, 0, 0),
+    (op::INDEX, 0, 0, 0),
+    (op::SLOT, 0, 0, 0),
+    (op::PEEK, 1, 0, 0),
+    (op::INDEX, 0, 0, 0),
+    (op::LOAD, 0, 0, 0),
+    (op::STORE, 0, 0, 0),
+    (op::DUP, 0, 0, 0),
+    (op::PEEK, 3, 0, 0),
+    (op::CMP, 2, 0, 0),
+    (op::JUMP_FALSE, 33, 0, 0),
+    (op::PUSH, 1, 0, 0),
+    (op::ADD, 0, 0, 0),
+    (op::JUMP, 17, 0, 0),
+    (op::DROP, 0, 0, 0),
     (op::RETURN, 0, 0, 0),
     (op::PUSH, 0, 0, 1),
     (op::PUSH, 9, 0, 1),
@@ -486,15 +666,18 @@ const PROGRAM: &[Row] = &[
     (op::RETURN, 0, 0, 1),
 ];
 
-/// Whether an object has this code, its start at 0, its stop at 10 and the routine of its type at 11.
+/// Whether an object has this code, its start at 0, its stop at 10, the routine that leaves two operands in
+/// the other order at 11, the one that gives the value of a component to others at 14, and the routine of its type at 35.
 fn is_program(object: &Object) -> bool {
-    let [start, stop, digit] = object.routines.items() else {
+    let [start, stop, swap, fill, digit] = object.routines.items() else {
         return false;
     };
-    let entries = start.entry == 0 && stop.entry == 10 && digit.entry == 11;
+    let first = start.entry == 0 && stop.entry == 10 && swap.entry == 11;
+    let entries = first && fill.entry == 14 && digit.entry == 35;
+    let arguments = swap.arguments == 2 && fill.arguments == 4 && fill.slots == 1;
     let numbers = object.start == 0 && object.stop == 1 && object.unit_slots == 2;
-    let references = object.references.items().len() == 2;
-    entries && numbers && references && are(object.instructions.items(), PROGRAM)
+    let references = object.references.items().len() == 4;
+    entries && arguments && numbers && references && are(object.instructions.items(), PROGRAM)
 }
 
 #[test]
@@ -557,6 +740,30 @@ const STARTED: &[Row] = &[
     (op::T_INIT, 0, 0, 2),
     (op::MAKE, 1, 0, 2),
     (op::RETURN, 0, 0, 0),
+    (op::RETURN, 0, 0, 0),
+    (op::ARG, 1, 0, 0),
+    (op::ARG, 0, 0, 0),
+    (op::RETURN, 0, 0, 0),
+    (op::ARG, 0, 0, 0),
+    (op::BIND, 0, 0, 0),
+    (op::PEEK, 2, 0, 0),
+    (op::DUP, 0, 0, 0),
+    (op::SLOT, 0, 0, 0),
+    (op::CALL, 0, 0, 0),
+    (op::INDEX, 0, 0, 0),
+    (op::SLOT, 0, 0, 0),
+    (op::PEEK, 1, 0, 0),
+    (op::INDEX, 0, 0, 0),
+    (op::LOAD, 0, 0, 0),
+    (op::STORE, 0, 0, 0),
+    (op::DUP, 0, 0, 0),
+    (op::PEEK, 3, 0, 0),
+    (op::CMP, 2, 0, 0),
+    (op::JUMP_FALSE, 41, 0, 0),
+    (op::PUSH, 1, 0, 0),
+    (op::ADD, 0, 0, 0),
+    (op::JUMP, 25, 0, 0),
+    (op::DROP, 0, 0, 0),
     (op::RETURN, 0, 0, 0),
 ];
 

@@ -14,12 +14,10 @@ use Rattle.ep_typed.specs.Laws.{IsLonger}
 use Rattle.ep_typed.specs.Meaning.{activation, takes_all, make_all_own, results_given, routine_does, type_does, handler_of, meaning, make_all, exec, weights_of}
 use Rattle.ep_typed.specs.Printing.{Result}
 use Rattle.ep_typed.specs.Routines.{result_variable}
-use Rattle.ep_typed.specs.Viewed.{stmt_of}
 use Rattle.ep_typed.specs.Steps.{Outcome, Gives, Ends, Cut, Computation, State, state_of, cut, stop, go_on, bind, spend, first_state}
 use Rattle.ep_typed.specs.Steps as meant
 use Rattle.ep_typed.specs.declared.unit.Unit.{Unit as TypedUnit}
 use Rattle.ep_typed.specs.declared.unit.UnitRoutine.{UnitRoutine}
-use Rattle.ep_typed.specs.declared.unit.UnitType.{UnitType}
 use Rattle.ep_check_unit.specs.Blocks.{RoutineForm, routine_form}
 use Rattle.ep_drive.specs.GoRuns.{run_within, IsRun, GoFinishes, EndsSo, MeansSo, GoMeans, GoSettles}
 use Rattle.ep_drive.specs.Outcomes.{run_status, end_status}

@@ -2,7 +2,8 @@
 use Rattle.std.specs.Prelude.{◌≡◌, ℕ, zero, suc, ◌+◌, ◌^◌, ◌<◌, List, [], ◌∷◌, ◌++◌, Some, length, slice_get}
 use Rattle.ep_outside.specs.Known.{IsPrefix}
 use Rattle.ep_gen_code.specs.Instructions.{reference}
-use Rattle.ep_object.specs.Promises.{type_routine}
+use Rattle.ep_gen_code.specs.Referring.{type_reference}
+use Rattle.ep_object.specs.Promises.{swap_routine}
 use Rattle.ep_object.specs.declared.code.Instr.{Instr}
 use Rattle.ep_object.specs.declared.code.Reference.{Reference}
 use Rattle.ep_typed.specs.declared.unit.Unit.{Unit as TypedUnit}
@@ -10,18 +11,17 @@ use Rattle.ep_gen_code.specs.declared.code.Code.{Code}
 use Rattle.ep_gen_code.specs.declared.code.TheConstants as code
 
 -- references to so many routines of a unit, from this number on
-abbrev pub types_named : List ℕ → ℕ → ℕ → List Reference
-types_named unit first zero = []
-types_named unit first (suc n) = types_named unit first n ++ reference unit (first + n) ∷ []
+abbrev pub in_row : List ℕ → ℕ → ℕ → List Reference
+in_row unit first zero = []
+in_row unit first (suc n) = in_row unit first n ++ reference unit (first + n) ∷ []
 
--- No code of a unit yet: there are the references to the routines that elaborate its types, each of which has the number of the
--- type.
+-- no code of a unit yet, but for its first references
 abbrev pub begun_code : TypedUnit → Code
 begun_code u =
     record {
       instructions = [];
       texts = [];
-      references = types_named u.name (type_routine (length u.routines) 0) (length u.types);
+      references = in_row u.name (swap_routine (length u.routines)) (type_reference (length u.types));
       constant_types = [];
       line = code.NO_LINE;
     }

@@ -2,3 +2,4 @@ pub mod Credit
 pub mod Growth
 pub mod Instructions
 pub mod Jumps
+pub mod Referring

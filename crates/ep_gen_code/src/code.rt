@@ -1,13 +1,12 @@
 //! Code under construction.
 
-ghost use Rattle.std.specs.Prelude.{◌≡◌, [], ◌∷◌, IfOk, OnOk, length};
+ghost use Rattle.std.specs.Prelude.{◌≡◌, [], ◌∷◌, IfOk, OnOk};
 ghost use Rattle.ep_gen_code.specs.Instructions.{instr};
-ghost use Rattle.ep_gen_code.specs.Growth.{Grows, IsTable, begun_code, types_named};
-ghost use Rattle.ep_object.specs.Promises.{type_routine};
+ghost use Rattle.ep_gen_code.specs.Growth.{Grows, IsTable, begun_code};
 
-use crate::jumps::{field_number, place_number};
+use crate::references::first_references;
 use ep_base::{Line, List, NoMemory};
-use ep_object::{ConstantTypes, Instr, Instrs, Reference, References, Texts};
+use ep_object::{ConstantTypes, Instr, Instrs, References, Texts};
 use ep_typed::Unit;
 use std::alloc::Global;
 
@@ -30,13 +29,13 @@ pub struct Code {
 }
 
 impl Code {
-    /// No code of a unit yet, at no line. The first references are those to the routines that elaborate the unit's types, in
-    /// their order. Where memory is wanting, or a number would not fit a field, it is refused.
+    /// No code of a unit yet, at no line, with its first references. Where memory is wanting, or a number would not fit a field, it
+    /// is refused.
     pub fn new(alloc: Global, unit: &Unit) -> Result<Code, NoMemory>
         ensures begun { IfOk result (λ code. code ≡ begun_code unit.now) }
         ensures small { IfOk result (λ code. IsTable code.references) }
     {
-        let references = type_references(alloc, unit)?;
+        let references = first_references(alloc, unit)?;
         Ok(Code {
             instructions: List::new(alloc),
             texts: List::new(alloc),
@@ -45,22 +44,6 @@ impl Code {
             line: NO_LINE,
         })
     }
-}
-
-/// The references to the routines that elaborate the types of a unit, which stand behind those of the unit, its start and
-/// its stop.
-fn type_references(alloc: Global, unit: &Unit) -> Result<References, NoMemory>
-    ensures named { IfOk result (λ references. references ≡ types_named unit.now.name (type_routine (length unit.now.routines) 0) (length unit.now.types)) }
-    ensures small { IfOk result (λ references. IsTable references) }
-{
-    let first = field_number(unit.routines.items().len())? as u64 + 2;
-    let mut references = List::new(alloc);
-    for (index, _) in unit.types.items().iter().enumerate() {
-        let number = place_number(first + index as u64)?;
-        let unit = unit.name.copy(alloc)?;
-        references.push(Reference { unit, number })?;
-    }
-    Ok(references)
 }
 
 /// Appends one instruction, at the line that is set.

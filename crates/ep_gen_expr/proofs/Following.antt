@@ -2,41 +2,40 @@
 use Rattle.std.proofs.Common.{◌≡◌, ℕ, ℤ, pos, zero, suc, Option, None, ◌+◌, ◌<◌, ◌≤◌, Bool, List, [], ◌∷◌, ◌++◌, length, Some, slice_get, refl, sym, ap, ◌∙◌, subst, arith, append_assoc, length-append, true, false}
 use Rattle.std.specs.Bool.{⊤}
 use Rattle.ep_object.specs.Activations.{KnowsNames}
-use Rattle.ep_object.specs.Follows.{point, Facts, Follows, IsNotLeft, Lands, Lasts, Fragment, SameRoutine, Operands, OnTop, PlaceOnTop, Inside}
+use Rattle.ep_object.specs.Follows.{point, Facts, Lasts, Fragment, SameRoutine, Operands, OnTop, PlaceOnTop, Inside}
 use Rattle.ep_object.specs.Matching.{Slots, AreAmong, Grown, kept_slots, Memory, at, Injection, IsLike, IsSpot, HasType, HasOwnType, Matches}
 use Rattle.ep_object.specs.Matching.{at as standing}
 use Rattle.ep_object.specs.Operands.{Operand}
 use Rattle.ep_object.specs.Operands as operand
 use Rattle.ep_object.specs.Placing.{Placement, CodeStands}
-use Rattle.ep_object.specs.Promises.{Passing, ByValue, ByReference, ArePassed, CallsAreKept, ResultsOnTop, RoutineKeeps, credit_of}
+use Rattle.ep_object.specs.Promises.{Passing, ByValue, ByReference, ArePassed, CallsAreKept, FillStands, ResultsOnTop, RoutineKeeps, SwapStands, credit_of}
 use Rattle.ep_object.specs.Scene.{Scene, TextStands, VariableStands}
 use Rattle.ep_object.specs.Runs.{unit_in}
 use Rattle.ep_object.specs.declared.code.Image.{Image}
 use Rattle.ep_object.specs.declared.code.Instr.{Instr}
 use Rattle.ep_object.specs.declared.code.Reference.{Reference}
 use Rattle.ep_object.specs.declared.state.Place.{Place as PlaceOf}
-use Rattle.ep_object.proofs.following.Bind.{follows_paid, follows_give}
-use Rattle.ep_object.proofs.following.Choices.{Reads, ReadsResult, fragment_fetch, follows_fetch, follows_read, fragment_using}
-use Rattle.ep_object.proofs.following.Fragments.{Does, FailsWith, landed, fragment_less, fragment_post, fragment_to, fragment_paid, fragment_give, fragment_credit, fragment_bind_place, fragment_bind_number}
-use Rattle.ep_object.proofs.matching.Growing.{not_left-here, unit_in-same, inside_here, is_spot-grown, describes-grown}
-use Rattle.ep_object.proofs.rows.FieldRow.{IsAmong, among_there, field_does, field_fails}
+use Rattle.ep_object.proofs.following.Choices.{Reads, fragment_fetch, follows_fetch, fragment_using}
+use Rattle.ep_object.proofs.following.Fragments.{FailsWith, fragment_less, fragment_post, fragment_to, fragment_paid, fragment_give, fragment_credit, fragment_bind_place, fragment_bind_number}
+use Rattle.ep_object.proofs.matching.Growing.{unit_in-same, inside_here, is_spot-grown, describes-grown}
 use Rattle.ep_object.proofs.rows.IndexRow.{index_fails, index_reads}
 use Rattle.ep_object.proofs.rows.OwnRows.{own_reads, level_reads}
-use Rattle.ep_object.proofs.rows.PlaceRows.{unit_reads, load_fails, load_reads}
+use Rattle.ep_object.proofs.rows.PlaceRows.{unit_reads}
 use Rattle.ep_object.proofs.rows.TextRows.{text_pushes}
 use Rattle.ep_typed.specs.Steady.{Steady, IsSteadyHandler}
 use Rattle.ep_typed.specs.Calls.{Handler}
 use Rattle.ep_typed.proofs.Steady.{steady_bind, steady_if, steady_spend, steady_give, steady_answered, steady_eval, steady_read, steady_active, steady_indexed, steady_selected}
 use Rattle.ep_typed.specs.Meaning.{eval, arguments, place}
-use Rattle.ep_typed.specs.Results.{result_of, weight_of}
+use Rattle.ep_typed.specs.Results.{weight_of}
 use Rattle.ep_typed.specs.Operations.{decides}
 use Rattle.ep_typed.specs.Printing.{Result, number_of}
 use Rattle.ep_typed.specs.Printing as result
 use Rattle.ep_typed.specs.Denoters.{bare_type_of}
 use Rattle.ep_typed.specs.Steps.{Component, Computation, bind, give, spend, component, component_number, type_at, own_variable, has_ended, variant_number}
 use Rattle.ep_typed.specs.Steps as meaning
-use Rattle.ep_typed.specs.Trees.{Callee, Place, Variable, Own, Standard, Indexed, Field, Variant, Expr, Constant, Text, Read, One, Two, Short, Step, Function, IndexedValue, FieldValue, SetConstant, SetOf, OnSets, Card, Designator, Single, Range, Designators, no_member, next_member, Actual, Evaluated, Accessed, Actuals, no_actual, next_actual}
-use Rattle.ep_typed.specs.Valid.{Declarations, Kind, Ordinal, Bytes, Structured, Set, IsUnary, IsBinary, IsTypeOfKind, IsExpr, AreDesignators, AreGiven, IsDesignator, IsDeclaredUp, Level, variables_at, variables_up}
+use Rattle.ep_typed.specs.Trees as tree
+use Rattle.ep_typed.specs.Trees.{Element, AtIndex, AtField, SameField, AtRanges, Elements, no_element, next_element, Callee, Place, Variable, Own, Standard, Indexed, Field, Variant, Expr, Constant, Text, Read, One, Two, Short, Step, Function, IndexedValue, FieldValue, SetConstant, SetOf, OnSets, Card, Designator, Single, Range, Designators, no_member, next_member, Actual, Evaluated, Accessed, Actuals, no_actual, next_actual}
+use Rattle.ep_typed.specs.Valid.{Declarations, Kind, Ordinal, Bytes, Structured, Set, IsUnary, IsBinary, IsTypeOfKind, IsExpr, IsElement, AreElements, AreDesignators, AreGiven, IsDesignator, IsDeclaredUp, Level, variables_at, variables_up}
 use Rattle.ep_typed.specs.declared.interface.Formal.{Formal}
 use Rattle.ep_typed.specs.declared.interface.RoutineEntry.{RoutineEntry}
 use Rattle.ep_typed.specs.declared.unit.UnitType.{UnitType}
@@ -45,13 +44,14 @@ use Rattle.ep_typed.specs.declared.operations.ShortOperation.{ShortOperation}
 use Rattle.ep_typed.specs.declared.operations.Unary.{Unary}
 use Rattle.ep_typed.specs.Hosts.{Host, least, greatest}
 use Rattle.ep_typed.specs.Hosts as host
-use Rattle.ep_typed.specs.TypeValues.{ComponentTypes, TypeValue, type_among}
+use Rattle.ep_typed.specs.TypeValues.{ComponentTypes, TypeValue, bare_of, type_among}
 use Rattle.ep_typed.specs.TypeValues as type
 use Rattle.ep_typed.specs.declared.tree.Selection.{Selection}
 use Rattle.ep_typed.specs.declared.unit.UnitVariable.{UnitVariable}
 use Rattle.ep_gen_code.specs.Credit.{least_credit}
+use Rattle.ep_gen_code.specs.Referring.{AreReferred, IsFillReferred, IsSwapReferred}
 use Rattle.ep_gen_expr.specs.Following.{HasPlaceType, IsValidPlace}
-use Rattle.ep_gen_expr.specs.ExprCode.{IsPlaceCode, IsExprCode, IsActualCode, AreActualsCode, IsDesignatorCode, AreDesignatorsCode, one_code, set_code, two_code, keep_code, step_code, variant_code}
+use Rattle.ep_gen_expr.specs.ExprCode.{IsPlaceCode, IsExprCode, IsElementCode, AreElementsCode, begin_code, end_code, IsActualCode, AreActualsCode, IsDesignatorCode, AreDesignatorsCode, one_code, set_code, two_code, keep_code, step_code, variant_code, reach_code, first_code, ranges_code}
 use Rattle.ep_gen_code.specs.Instructions.{reference, instr, push, bare, members_code}
 use Rattle.ep_gen_expr.proofs.Answering.{Evaluates, IsFollowed, IsPlaceFollowed}
 use Rattle.ep_gen_expr.proofs.Arguments.{Fits, fits, IsArgumentFollowed, AreArgumentsFollowed, value_follows, accessed_follows, none_follows, next_follows}
@@ -65,34 +65,17 @@ use Rattle.ep_gen_expr.proofs.Stays.{variant_length}
 use Rattle.ep_gen_expr.proofs.PlaceTypes.{IsArrayWhere, IsRecordWhere, IsVariantWhere, valid_place, typed_place, kind_place, variable_type}
 use Rattle.ep_gen_expr.proofs.Sets.{IsDesignatorFollowed, AreDesignatorsFollowed, card_follows, constructor_follows, next_member_follows, no_member_follows, on_sets_follows, range_follows, single_follows}
 use Rattle.ep_gen_expr.proofs.Stepping.{step_follows}
+use Rattle.ep_gen_expr.proofs.WholeStructures.{named_within, structured_follows}
+use Rattle.ep_gen_expr.proofs.Components.{loaded_follows, selected_follows}
+use Rattle.ep_gen_expr.proofs.FilledRanges.{at_ranges_follow}
+use Rattle.ep_gen_expr.proofs.SameFields.{same_field_follows}
+use Rattle.ep_gen_expr.proofs.StructuredValues.{AreElementsFollowed, IsElementFollowed, at_field_follows, at_index_follows, next_element_follows, no_element_follows}
 use Rattle.ep_gen_expr.proofs.TwoOperands.{BinaryFollows, binary_follows}
 use Rattle.ep_gen_expr.proofs.ValueParts.{field_value_follows, indexed_value_follows}
 use Rattle.ep_object.specs.declared.op.TheConstants as op
 use Rattle.ep_typed.specs.declared.run_error.TheConstants as run_error
 
--- `Load` of a variable that has ended, where the routine is one of the unit
-load_ends : (declared : Declarations) (G : Image) (unit : List ℕ) (at_place line : ℕ) (kind : Kind) (t : TypeValue) → IsTypeOfKind kind t
-    → slice_get G.instructions at_place ≡ Some (instr op.LOAD (pos 0) 0 line)
-    → (injection : Injection) (memory : Memory) (below : List Operand) (a : Component) (q : PlaceOf)
-    → IsSpot injection memory.types a q → IsLike memory.types q.type_number t
-    → unit_in G memory.frames ≡ unit → (s : meaning.State) → Matches declared G injection s memory
-    → has_ended a.allocation s ≡ true
-    → FailsWith G (at at_place (operand.Place q ∷ below) memory s.trace) 0 11 unit line s
-load_ends declared G unit at_place line kind t of_kind has injection memory below a q spot described unit_is s matches ended =
-    subst (λ u. FailsWith G (at at_place (operand.Place q ∷ below) memory s.trace) 0 11 u line s) unit_is (load_fails declared G at_place line below kind t a q of_kind has injection memory spot described s matches ended)
-
--- `Field` of one
-field_ends : (declared : Declarations) (G : Image) (unit : List ℕ) (at_place line : ℕ) (ts : ComponentTypes) (k : ℕ) (of : TypeValue) → IsAmong 0 ts k of
-    → slice_get G.instructions at_place ≡ Some (instr op.FIELD (pos k) 0 line)
-    → (injection : Injection) (memory : Memory) (below : List Operand) (a : Component) (q : PlaceOf)
-    → IsSpot injection memory.types a q → IsLike memory.types q.type_number (type.Record ts)
-    → unit_in G memory.frames ≡ unit → (s : meaning.State) → Matches declared G injection s memory
-    → has_ended a.allocation s ≡ true
-    → FailsWith G (at at_place (operand.Place q ∷ below) memory s.trace) 0 run_error.DISPOSED unit line s
-field_ends declared G unit at_place line ts k of among has injection memory below a q spot described unit_is s matches ended =
-    subst (λ u. FailsWith G (at at_place (operand.Place q ∷ below) memory s.trace) 0 run_error.DISPOSED u line s) unit_is (field_fails declared G at_place line below ts k of a q has injection memory spot described among s matches ended)
-
--- `Index` of one
+-- `Index` of a variable that has ended, where the routine is one of the unit
 index_ends : (declared : Declarations) (G : Image) (unit : List ℕ) (at_place line : ℕ) (low high : ℤ) (of : TypeValue) (z : ℤ)
     → slice_get G.instructions at_place ≡ Some (instr op.INDEX (pos 0) 0 line)
     → (injection : Injection) (memory : Memory) (below : List Operand) (a : Component) (q : PlaceOf)
@@ -157,7 +140,7 @@ module _ {declared : Declarations} {G : Image} {untouched : Slots} {Here : Facts
       → Reads declared G Here (standing at_place (operand.Word z ∷ operand.Place q ∷ below) memory s.trace) run_error.INDEX unit line (at_place + 1) (λ k. Inside untouched injection memory (PlaceOnTop of below (component a k))) s (component_number (type_at a s) z)
   index_finds at_place line low high of z has injection memory below a q spot described unit_is s matches here living =
       subst (λ u. Reads declared G Here (standing at_place (operand.Word z ∷ operand.Place q ∷ below) memory s.trace) run_error.INDEX u line (at_place + 1) (λ k. Inside untouched injection memory (PlaceOnTop of below (component a k))) s (component_number (type_at a s) z)) unit_is
-      (index_reads declared G at_place line below low high of z a q has injection memory spot described s matches here living)
+      (index_reads declared G at_place line below low high of z a q has injection memory spot described s matches living here)
 
   -- the component of an array at an index, by the array, the index and `Index`
   indexed_follows : (n : ℕ) (h : Host) (low high : ℤ) (t : TypeValue) (q : Place) (x : Expr) (line at : ℕ) (xs ys : List Instr)
@@ -176,46 +159,22 @@ module _ {declared : Declarations} {G : Image} {untouched : Slots} {Here : Facts
       (λ s matches ended. index_ends declared G unit last line low high t z has.0 v2 m2 below a b spot2 described2 home s matches ended) (omega arith)
       (λ s matches here living. follows_fetch {e = λ c. d + 8} (point v2 m2 last (operand.Word z ∷ operand.Place b ∷ below)) (λ s. component_number (type_at a s) z) (λ k. component a k) s (index_finds last line low high t z has.0 v2 m2 below a b spot2 described2 home s matches here living) (omega arith) (λ k. omega arith))))))
 
-  -- one instruction with its step, which leaves a component
-  field_paid : (n d : ℕ) {from : ℕ} {operands : List Operand} {to : ℕ} {Then : Component → Operands} (s : meaning.State) (injection : Injection) (memory : Memory) (c : Component)
-      → Does declared G Here (standing from operands memory s.trace) 0 to (Inside untouched injection memory (Then c)) s
-      → Follows (λ k. IsNotLeft memory.frames k.frames) G (suc n) (standing from operands memory s.trace) s (spend 1 (give c)) (λ x. Lands declared G Here to (Inside untouched injection memory (Then x))) (d + 8) (λ c. d + 8)
-  field_paid n d s injection memory c does =
-      follows_paid {v = 0} {w = 0} {d1 = d + 8} (not_left-here memory.frames) refl does.does (omega arith) (omega arith) (omega arith) (follows_give c (omega arith) (landed does))
-
   -- the component of a record, by the record and `Field`
   field_follows : (n : ℕ) (ts : ComponentTypes) (k : ℕ) (t : TypeValue) → type_among ts k ≡ Some t → (q : Place) (line at : ℕ) (xs : List Instr)
       → IsPlaceFollowed declared G untouched Here p call g unit n (type.Record ts) q line at xs
       → CodeStands G ps p references (at + length xs) (instr op.FIELD (pos k) 0 line ∷ [])
       → IsPlaceFollowed declared G untouched Here p call g unit n t (Field q k) line at (xs ++ instr op.FIELD (pos k) 0 line ∷ [])
   field_follows n ts k t is q line at xs follows has injection memory below d le unit_is =
-      let middle : ℕ = p.instructions.before + (at + length xs) in
-      let among : IsAmong 0 ts k t = among_there 0 ts k t is in
       fragment_bind_place (λ a. steady_selected call steady_call g unit line a k) (follows injection memory below d le unit_is) (λ a b longer after grown routine spot described.
-      let home : unit_in G after.frames ≡ unit = unit_in-same G routine ∙ unit_is in
-      fragment_less {n = suc n} (omega arith) (fragment_to (omega (arith, length-append xs (instr op.FIELD (pos k) 0 line ∷ []))) (fragment_using {n = suc n} {e = λ c. d + 8} a.allocation
-      (λ s matches ended. field_ends declared G unit middle line ts k t among has.0 longer after below a b spot described home s matches ended) (omega arith)
-      (λ s matches here living. field_paid n d s longer after (component a k) (field_does declared G middle line below ts k t a b has.0 longer after spot described among s matches here living)))))
-
-  -- what `Load` finds of a variable of a type whose values are of the kind
-  load_finds : (place line : ℕ) (kind : Kind) (t : TypeValue) → IsTypeOfKind kind t
-      → slice_get G.instructions place ≡ Some (instr op.LOAD (pos 0) 0 line)
-      → (injection : Injection) (memory : Memory) (below : List Operand) (a : Component) (q : PlaceOf)
-      → IsSpot injection memory.types a q → IsLike memory.types q.type_number t
-      → unit_in G memory.frames ≡ unit → (s : meaning.State) → Matches declared G injection s memory
-      → Here injection s memory → has_ended a.allocation s ≡ false
-      → ReadsResult declared G Here (at place (operand.Place q ∷ below) memory s.trace) 0 1 unit line (place + 1) (λ r. Inside untouched injection memory (OnTop kind below r)) s (result_of a s)
-  load_finds place line kind t of_kind has injection memory below a q spot described unit_is s matches here living =
-      subst (λ u. ReadsResult declared G Here (at place (operand.Place q ∷ below) memory s.trace) 0 1 u line (place + 1) (λ r. Inside untouched injection memory (OnTop kind below r)) s (result_of a s)) unit_is (load_reads declared G place line below kind t a q of_kind has injection memory spot described s matches here living)
+      fragment_to (omega (arith, length-append xs (instr op.FIELD (pos k) 0 line ∷ [])))
+      (selected_follows call g unit line n (p.instructions.before + (at + length xs)) ts k t is has.0 longer after below a b (d + 8) (omega arith) (unit_in-same G routine ∙ unit_is) spot described))
 
   -- the value of a variable, by its place and `Load`
   read_follows : (n : ℕ) (kind : Kind) (t : TypeValue) → IsTypeOfKind kind t → (q : Place) (line at : ℕ) (xs : List Instr) → IsPlaceFollowed declared G untouched Here p call g unit n t q line at xs → CodeStands G ps p references (at + length xs) (bare line op.LOAD ∷ []) → IsFollowed declared G untouched Here p call g unit n kind (Read q) line at (xs ++ bare line op.LOAD ∷ [])
   read_follows n kind t of_kind q line at xs follows has injection memory below d le unit_is =
-      let middle : ℕ = p.instructions.before + (at + length xs) in
       fragment_bind_place (steady_read call steady_call g unit line) (follows injection memory below d le unit_is) (λ a q longer after grown routine spot described.
-      fragment_less {n = suc n} (omega arith) (fragment_to (omega (arith, length-append xs (bare line op.LOAD ∷ []))) (fragment_using {n = suc n} {e = λ r. d + 8 + weight_of r} a.allocation
-      (λ s matches ended. load_ends declared G unit middle line kind t of_kind has.0 longer after below a q spot described (unit_in-same G routine ∙ unit_is) s matches ended) (omega arith)
-      (λ s matches here living. follows_read {e = λ r. d + 8 + weight_of r} (point longer after middle (operand.Place q ∷ below)) (result_of a) s (load_finds middle line kind t of_kind has.0 longer after below a q spot described (unit_in-same G routine ∙ unit_is) s matches here living) (omega arith) (λ r. omega arith)))))
+      fragment_to (omega (arith, length-append xs (bare line op.LOAD ∷ [])))
+      (fragment_credit {d = d + 8} (omega arith) (λ r. omega arith) (loaded_follows call g unit line n (p.instructions.before + (at + length xs)) kind t of_kind has.0 longer after below a q (d + 8) (omega arith) (unit_in-same G routine ∙ unit_is) spot described)))
 
   -- an operation with one operand
   one_follows : (n : ℕ) (operation : Unary) (x : Expr) (k kind : Kind) → IsUnary operation k kind → (line at : ℕ) (xs : List Instr) → IsFollowed declared G untouched Here p call g unit n k x line at xs → CodeStands G ps p references at (xs ++ one_code line operation) → IsFollowed declared G untouched Here p call g unit n kind (One operation x) line at (xs ++ one_code line operation)
@@ -281,7 +240,7 @@ module _ {declared : Declarations} {G : Image} {untouched : Slots} {Here : Facts
         fragment_to (ap (λ m. p.instructions.before + m) (sym ends))
         (active_follows declared G untouched Here ps p references call g unit room line (at + length xs) k s ts t low high has_tag has_variant has inside n longer after below a b spot described (unit_in-same G routine ∙ unit_is) d le))
 
-    module _ (lasts : Lasts untouched Here) (among : AreAmong untouched (kept_slots declared G)) (n : ℕ) (kept : CallsAreKept declared G ps call n) where
+    module _ (lasts : Lasts untouched Here) (among : AreAmong untouched (kept_slots declared G)) (n : ℕ) (kept : CallsAreKept declared G ps call n) (unit_is : unit ≡ declared.routine_unit) (referred : AreReferred declared unit declared.routine_types references) (swap_referred : IsSwapReferred declared unit references) (fill_referred : IsFillReferred declared unit references) where
       mutual
         -- What the machine does from the code of a place follows the meaning of the place.
         pub place_follows : (q : Place) → IsValidPlace declared q → (t : TypeValue) → HasPlaceType declared q t → (line at : ℕ) (code : List Instr) → IsPlaceCode texts references line at q code → CodeStands G ps p references at code → at + length code < p.instructions.own → IsPlaceFollowed declared G untouched Here p call g unit n t q line at code
@@ -403,6 +362,15 @@ module _ {declared : Declarations} {G : Image} {untouched : Slots} {Here : Facts
             (λ injection memory below d le unit_is.
             fragment_post (λ r longer after pushed i. record { grown = i.grown; routine = i.routine; operands_are = record { members = ms; is_members = (i.operands_are).0; is_set = is_set; is = (i.operands_are).1 } })
             (fragment_to (omega arith) (set_follows ps p references call g unit line n ms is_set at (subst (λ c. CodeStands G ps p references at c) is stands) injection memory below d)))
+        expression_follows kind (tree.Structured number es) (d, is_kind, structured, are) line at code (xs, es_code, is) stands inside =
+            let all : CodeStands G ps p references at (begin_code line number ++ (xs ++ end_code line)) = subst (λ c. CodeStands G ps p references at c) is stands in
+            let ends : length code ≡ 7 + length xs = omega (arith, ap length is, length-append xs (end_code line)) in
+            let types_are : declared.types unit ≡ declared.routine_types = ap declared.types unit_is ∙ scene.own_types_are in
+            let some : 0 < length (declared.types unit) = omega (arith, named_within declared.routine_types number d.type_value d.typed, ap length types_are) in
+            let here : CodeStands G ps p references (at + 4) (xs ++ end_code line) = subst (λ i. CodeStands G ps p references i (xs ++ end_code line)) {x = at + 1 + 1 + 1 + 1} {y = at + 4} (omega arith) all.1.1.1.1 in
+            followed_as n kind (Structured (bare_of d.type_value)) (tree.Structured number es) line at code (begin_code line number ++ (xs ++ end_code line)) is_kind is
+            (structured_follows declared G untouched Here lasts among ps p references call steady_call n kept g unit line declared.routine_types types_are referred swap_referred number d.type_value d.typed structured es at xs
+            (elements_follow (kept.swaps unit some) (kept.fills unit some) (bare_of d.type_value) es are line (at + 4) xs es_code (code_front G ps p references (at + 4) xs (end_code line) here) (omega (arith, ends, inside))) all)
         expression_follows kind (SetOf ds) (h, is_kind, are) line at code (xs, members, is) stands inside =
             let none : Instr = bare line op.SET_NONE in
             let all : CodeStands G ps p references at (none ∷ xs) = subst (λ c. CodeStands G ps p references at c) is stands in
@@ -428,6 +396,61 @@ module _ {declared : Declarations} {G : Image} {untouched : Slots} {Here : Facts
             followed_as n kind (Ordinal host.Integer) (Card x) line at code (xs ++ card ∷ []) is_kind is
             (card_follows ps p references call steady_call g unit line n h x at xs
             (expression_follows (Set h) x is_x line at xs x_code (code_front G ps p references at xs (card ∷ []) all) (omega (arith, ends, inside))) last.0)
+
+        -- What a component of a structured value is given, where the unit has the routines that it calls.
+        element_follows : SwapStands G ps unit (length (declared.routines unit)) → FillStands G ps unit (length (declared.routines unit)) → (t : TypeValue) (e : Element) → IsElement declared t e → (line at : ℕ) (is : List Instr) → IsElementCode texts references line at e is → CodeStands G ps p references at is → at + length is < p.instructions.own
+            → IsElementFollowed declared G untouched Here lasts ps p references call steady_call g unit line n t e at is
+        element_follows swap fill (type.Ordinal low high) e valid line at code is stands inside = absurd valid
+        element_follows swap fill type.Text e valid line at code is stands inside = absurd valid
+        element_follows swap fill (type.Set low high) e valid line at code is stands inside = absurd valid
+        element_follows swap fill (type.Initial of start) e valid line at code is stands inside = absurd valid
+        element_follows swap fill (type.Array low high of) (AtField steps x) valid line at code is stands inside = absurd valid
+        element_follows swap fill (type.Array low high of) (SameField from to) valid line at code is stands inside = absurd valid
+        element_follows swap fill (type.Record ts) (AtIndex x y) valid line at code is stands inside = absurd valid
+        element_follows swap fill (type.Record ts) (AtRanges ranges x) valid line at code is stands inside = absurd valid
+        element_follows swap fill (type.Array low high of) (AtRanges [] x) (bounds, some, within, its) line at code is stands inside = absurd some
+        element_follows swap fill (type.Array low high of) (AtRanges (r ∷ more) x) ((h, bounds), some, within, (k, of_kind, is_x)) line at code (xs, x_code, is) stands inside =
+            let first : List Instr = first_code line (r ∷ more) in
+            let behind : List Instr = bare line op.STORE ∷ ranges_code line r.low (r ∷ more) in
+            let all : CodeStands G ps p references at (first ++ (xs ++ behind)) = subst (λ c. CodeStands G ps p references at c) is stands in
+            let ends : length code ≡ 3 + length xs + length behind = omega (arith, ap length is, length-append first (xs ++ behind), length-append xs behind) in
+            let here : CodeStands G ps p references (at + 3) (xs ++ behind) = code_back G ps p references at first (xs ++ behind) all in
+            subst (λ c. IsElementFollowed declared G untouched Here lasts ps p references call steady_call g unit line n (type.Array low high of) (AtRanges (r ∷ more) x) at c) (sym is)
+            (at_ranges_follow declared G untouched Here lasts ps p references call steady_call g unit line n fill fill_referred low high bounds.3 bounds.4 of k of_kind r more within x at xs
+            (expression_follows k x is_x line (at + 3) xs x_code (code_front G ps p references (at + 3) xs behind here) (omega (arith, ends, inside))) all)
+        element_follows swap fill (type.Array low high of) (AtIndex x y) ((h, index_of, is_x), (k, of_kind, is_y)) line at code (xs, ys, x_code, y_code, is) stands inside =
+            let store : List Instr = bare line op.STORE ∷ [] in
+            let behind : List Instr = bare line op.INDEX ∷ (ys ++ store) in
+            let all : CodeStands G ps p references at (bare line op.DUP ∷ (xs ++ behind)) = subst (λ c. CodeStands G ps p references at c) is stands in
+            let ends : length code ≡ length xs + length ys + 3 = omega (arith, ap length is, length-append xs behind, length-append ys store) in
+            let rest = code_back G ps p references (at + 1) xs behind all.1 in
+            subst (λ c. IsElementFollowed declared G untouched Here lasts ps p references call steady_call g unit line n (type.Array low high of) (AtIndex x y) at c) (sym is)
+            (at_index_follows declared G untouched Here lasts ps p references call steady_call g unit line n low high of h k x y of_kind at xs ys
+            (expression_follows (Ordinal h) x is_x line (at + 1) xs x_code (code_front G ps p references (at + 1) xs behind all.1) (omega (arith, ends, inside)))
+            (expression_follows k y is_y line (at + 1 + length xs + 1) ys y_code (code_front G ps p references (at + 1 + length xs + 1) ys store rest.1) (omega (arith, ends, inside))) all)
+        element_follows swap fill (type.Record ts) (AtField steps x) (k, (of, leads, of_kind), is_x) line at code (xs, x_code, is) stands inside =
+            let store : List Instr = bare line op.STORE ∷ [] in
+            let reach : List Instr = reach_code line steps in
+            let all : CodeStands G ps p references at (reach ++ (xs ++ store)) = subst (λ c. CodeStands G ps p references at c) is stands in
+            let ends : length code ≡ length reach + length xs + 1 = omega (arith, ap length is, length-append reach (xs ++ store), length-append xs store) in
+            let here : CodeStands G ps p references (at + length reach) (xs ++ store) = code_back G ps p references at reach (xs ++ store) all in
+            subst (λ c. IsElementFollowed declared G untouched Here lasts ps p references call steady_call g unit line n (type.Record ts) (AtField steps x) at c) (sym is)
+            (at_field_follows declared G untouched Here lasts ps p references call steady_call g unit line n ts of k steps x leads of_kind at xs
+            (expression_follows k x is_x line (at + length reach) xs x_code (code_front G ps p references (at + length reach) xs store here) (omega (arith, ends, inside))) all)
+        element_follows swap fill (type.Record ts) (SameField from to) (k, source, goal) line at code is stands inside =
+            subst (λ c. IsElementFollowed declared G untouched Here lasts ps p references call steady_call g unit line n (type.Record ts) (SameField from to) at c) (sym is)
+            (same_field_follows declared G untouched Here lasts ps p references call steady_call g unit line n swap swap_referred ts from to k source goal at (subst (λ c. CodeStands G ps p references at c) is stands))
+
+        -- What components are given, in order.
+        elements_follow : SwapStands G ps unit (length (declared.routines unit)) → FillStands G ps unit (length (declared.routines unit)) → (t : TypeValue) (es : Elements) → AreElements declared t es → (line at : ℕ) (is : List Instr) → AreElementsCode texts references line at es is → CodeStands G ps p references at is → at + length is < p.instructions.own
+            → AreElementsFollowed declared G untouched Here lasts ps p references call steady_call g unit line n t es at is
+        elements_follow swap fill t no_element valid line at is code stands inside = no_element_follows declared G untouched Here lasts ps p references call steady_call g unit line n t at is code
+        elements_follow swap fill t (next_element e es) (valid, others) line at is (xs, ys, e_code, es_code, parts) stands inside =
+            let all : CodeStands G ps p references at (xs ++ ys) = subst (λ c. CodeStands G ps p references at c) parts stands in
+            let ends : length is ≡ length xs + length ys = omega (arith, ap length parts, length-append xs ys) in
+            next_element_follows declared G untouched Here lasts ps p references call steady_call g unit line n t e es at xs ys is parts
+            (element_follows swap fill t e valid line at xs e_code (code_front G ps p references at xs ys all) (omega (arith, ends, inside)))
+            (elements_follow swap fill t es others line (at + length xs) ys es_code (code_back G ps p references at xs ys all) (omega (arith, ends, inside)))
 
         -- a member designator
         designator_follows : (h : Host) (d : Designator) → IsDesignator declared h d → (line at : ℕ) (is : List Instr) → IsDesignatorCode texts references line at d is → CodeStands G ps p references at is → at + length is < p.instructions.own

@@ -4,8 +4,15 @@ pub mod Forms
 pub mod ShortCircuit
 pub mod ActualForms
 pub mod SetForms
+pub mod StructuredForms
 pub mod MemberForms
 pub mod Sets
+pub mod Nameless
+pub mod Components
+pub mod StructuredValues
+pub mod SameFields
+pub mod FilledRanges
+pub mod WholeStructures
 pub mod PlaceTypes
 pub mod Arguments
 pub mod Calls

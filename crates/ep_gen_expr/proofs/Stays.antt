@@ -4,17 +4,18 @@ use Rattle.std.specs.Prelude.{if◌then◌else◌}
 use Rattle.ep_outside.specs.Known.{IsPrefix}
 use Rattle.ep_object.specs.declared.code.Instr.{Instr}
 use Rattle.ep_object.specs.declared.code.Reference.{Reference}
-use Rattle.ep_typed.specs.Trees.{Place, Variable, Own, Standard, Indexed, Field, Variant, Expr, Constant, Text, Read, One, Two, Short, Step, Function, IndexedValue, FieldValue, SetConstant, SetOf, OnSets, Card, Designator, Single, Range, Designators, no_member, next_member, Actual, Evaluated, Accessed, Actuals, no_actual, next_actual}
+use Rattle.ep_typed.specs.Trees.{Structured, Element, AtIndex, AtField, SameField, AtRanges, Elements, no_element, next_element, Place, Variable, Own, Standard, Indexed, Field, Variant, Expr, Constant, Text, Read, One, Two, Short, Step, Function, IndexedValue, FieldValue, SetConstant, SetOf, OnSets, Card, Designator, Single, Range, Designators, no_member, next_member, Actual, Evaluated, Accessed, Actuals, no_actual, next_actual}
 use Rattle.ep_typed.specs.declared.operations.Unary.{Unary}
 use Rattle.ep_typed.specs.declared.operations.Unary.TheVariants as unary
 use Rattle.ep_typed.specs.declared.operations.ShortOperation.{ShortOperation}
 use Rattle.ep_typed.specs.declared.operations.ShortOperation.TheVariants as short
-use Rattle.ep_typed.specs.Nodes.{place_nodes, expr_nodes, actual_nodes, actuals_nodes, designator_nodes, designators_nodes, labels_nodes}
+use Rattle.ep_typed.specs.Nodes.{place_nodes, expr_nodes, actual_nodes, actuals_nodes, element_nodes, elements_nodes, designator_nodes, designators_nodes, labels_nodes}
 use Rattle.ep_typed.specs.Steps.{is_number}
 use Rattle.ep_typed.specs.declared.tree.CaseRange.{CaseRange}
 use Rattle.ep_typed.specs.declared.tree.Selection.{Selection}
-use Rattle.ep_gen_expr.specs.ExprCode.{IsPlaceCode, IsExprCode, IsActualCode, AreActualsCode, IsDesignatorCode, AreDesignatorsCode, one_code, set_code, two_code, keep_code, step_code, test_code, tests_code, labels_code, labels_count, tag_code, rest_code, ends_code, variant_code}
+use Rattle.ep_gen_expr.specs.ExprCode.{first_code, first_index, range_code, ranges_code, IsElementCode, AreElementsCode, end_code, IsPlaceCode, IsExprCode, IsActualCode, AreActualsCode, IsDesignatorCode, AreDesignatorsCode, one_code, set_code, two_code, keep_code, step_code, test_code, tests_code, labels_code, labels_count, tag_code, rest_code, ends_code, variant_code, steps_code, reach_code, same_code}
 use Rattle.ep_gen_code.specs.Instructions.{instr, reference, members_code, bare}
+use Rattle.ep_gen_code.specs.declared.references.TheConstants as routine
 use Rattle.ep_gen_code.proofs.Pushed.{get_later}
 use Rattle.ep_object.specs.declared.op.TheConstants as op
 
@@ -46,6 +47,18 @@ module _ (ts us : List (List ℕ)) (rs ss : List Reference) (line : ℕ) (a : Is
     expr_code_stays at (SetOf ds) is h = (h.0, designators_code_stays (at + 1) ds h.0 h.1, h.2)
     expr_code_stays at (OnSets operation x y) is h = (h.0, h.1, expr_code_stays at x h.0 h.2, expr_code_stays (at + length h.0) y h.1 h.3, h.4)
     expr_code_stays at (Card x) is h = (h.0, expr_code_stays at x h.0 h.1, h.2)
+    expr_code_stays at (Structured number es) is h = (h.0, elements_code_stays (at + 4) es h.0 h.1, h.2)
+
+    -- that of what components are given
+    pub element_code_stays : (at : ℕ) (e : Element) (is : List Instr) → IsElementCode ts rs line at e is → IsElementCode us ss line at e is
+    element_code_stays at (AtIndex x y) is h = (h.0, h.1, expr_code_stays (at + 1) x h.0 h.2, expr_code_stays (at + 1 + length h.0 + 1) y h.1 h.3, h.4)
+    element_code_stays at (AtField steps x) is h = (h.0, expr_code_stays (at + length (reach_code line steps)) x h.0 h.1, h.2)
+    element_code_stays at (SameField from to) is h = h
+    element_code_stays at (AtRanges ranges x) is h = (h.0, expr_code_stays (at + length (first_code line ranges)) x h.0 h.1, h.2)
+
+    pub elements_code_stays : (at : ℕ) (es : Elements) (is : List Instr) → AreElementsCode ts rs line at es is → AreElementsCode us ss line at es is
+    elements_code_stays at no_element is h = h
+    elements_code_stays at (next_element e more) is h = (h.0, h.1, element_code_stays at e h.0 h.2, elements_code_stays (at + length h.0) more h.1 h.3, h.4)
 
     -- that of member designators
     pub designator_code_stays : (at : ℕ) (d : Designator) (is : List Instr) → IsDesignatorCode ts rs line at d is → IsDesignatorCode us ss line at d is
@@ -118,6 +131,22 @@ members_short : (line : ℕ) (ms : List ℕ) → length (members_code line ms) �
 members_short line [] = omega arith
 members_short line (m ∷ ms) = let rest = members_short line ms in omega (arith, rest)
 
+-- one instruction for each step
+pub steps_length : (line : ℕ) (steps : List ℕ) → length (steps_code line steps) ≡ length steps
+steps_length line [] = refl
+steps_length line (k ∷ ks) = ap suc (steps_length line ks)
+
+-- and five besides for what is the same as another component
+same_length : (line : ℕ) (from to : List ℕ) → length (same_code line from to) ≡ 5 + length from + length to
+same_length line from to =
+    let last : List Instr = steps_code line from ++ bare line op.LOAD ∷ bare line op.STORE ∷ [] in
+    omega (arith, length-append (reach_code line to) (instr op.CALL (pos routine.SWAP) 0 line ∷ last), length-append (steps_code line from) (bare line op.LOAD ∷ bare line op.STORE ∷ []), steps_length line from, steps_length line to)
+
+-- five for each range
+ranges_length : (line : ℕ) (from : ℤ) (rs : List CaseRange) → length (ranges_code line from rs) ≡ 5 * length rs
+ranges_length line from [] = refl
+ranges_length line from (r ∷ rs) = omega (arith, length-append (range_code line from r) (ranges_code line from rs), ranges_length line from rs)
+
 -- a call behind code that is short, and one more instruction
 call_short : (xs : List Instr) (i j : Instr) (is : List Instr) → is ≡ xs ++ i ∷ j ∷ [] → (k : ℕ) → length xs ≤ 32 * k → length is + 8 ≤ 32 * (1 + k)
 call_short xs i j is e k p = omega (arith, ap length e, length-append xs (i ∷ j ∷ []), p)
@@ -159,6 +188,23 @@ module _ (ts : List (List ℕ)) (rs : List Reference) (line : ℕ) where
         omega (arith, ap length h.4, length-append h.0 (h.1 ++ set_code line operation ∷ []), length-append h.1 (set_code line operation ∷ []), expr_code_short at x h.0 h.2, expr_code_short (at + length h.0) y h.1 h.3)
     expr_code_short at (Card x) is h = omega (arith, ap length h.2, length-append h.0 (bare line op.CARD ∷ []), expr_code_short at x h.0 h.1)
     expr_code_short at (FieldValue x number) is h = omega (arith, ap length h.2, length-append h.0 (instr op.FIELD (pos number) 0 line ∷ []), expr_code_short at x h.0 h.1)
+    expr_code_short at (Structured number es) is h =
+        omega (arith, ap length h.2, length-append h.0 (end_code line), elements_code_short (at + 4) es h.0 h.1)
+
+    -- that of what components are given
+    pub element_code_short : (at : ℕ) (e : Element) (is : List Instr) → IsElementCode ts rs line at e is → length is ≤ 32 * element_nodes e
+    element_code_short at (AtIndex x y) is h =
+        omega (arith, ap length h.4, length-append h.0 (bare line op.INDEX ∷ (h.1 ++ bare line op.STORE ∷ [])), length-append h.1 (bare line op.STORE ∷ []), expr_code_short (at + 1) x h.0 h.2, expr_code_short (at + 1 + length h.0 + 1) y h.1 h.3)
+    element_code_short at (AtField steps x) is h =
+        omega (arith, ap length h.2, length-append (reach_code line steps) (h.0 ++ bare line op.STORE ∷ []), length-append h.0 (bare line op.STORE ∷ []), steps_length line steps, expr_code_short (at + length (reach_code line steps)) x h.0 h.1)
+    element_code_short at (SameField from to) is h = omega (arith, ap length h, same_length line from to)
+    element_code_short at (AtRanges ranges x) is h =
+        let fills : List Instr = ranges_code line (first_index ranges) ranges in
+        omega (arith, ap length h.2, length-append h.0 (bare line op.STORE ∷ fills), ranges_length line (first_index ranges) ranges, expr_code_short (at + length (first_code line ranges)) x h.0 h.1)
+
+    pub elements_code_short : (at : ℕ) (es : Elements) (is : List Instr) → AreElementsCode ts rs line at es is → length is ≤ 32 * elements_nodes es
+    elements_code_short at no_element is h = omega (arith, ap length h)
+    elements_code_short at (next_element e more) is h = omega (arith, ap length h.4, length-append h.0 h.1, element_code_short at e h.0 h.2, elements_code_short (at + length h.0) more h.1 h.3)
 
     -- that of member designators
     pub designator_code_short : (at : ℕ) (d : Designator) (is : List Instr) → IsDesignatorCode ts rs line at d is → length is ≤ 32 * designator_nodes d

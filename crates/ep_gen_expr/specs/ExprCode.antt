@@ -7,7 +7,7 @@ use Rattle.ep_object.specs.declared.code.Instr.{Instr}
 use Rattle.ep_object.specs.declared.code.Reference.{Reference}
 use Rattle.ep_typed.specs.Operations.{last_char}
 use Rattle.ep_typed.specs.Steps.{is_number, variant_number}
-use Rattle.ep_typed.specs.Trees.{Place, Variable, Own, Standard, Indexed, Field, Variant, Expr, Constant, Text, Read, One, Two, Short, Step, Function, IndexedValue, FieldValue, SetConstant, SetOf, OnSets, Card, Designator, Single, Range, Designators, no_member, next_member, Actual, Evaluated, Accessed, Actuals, no_actual, next_actual}
+use Rattle.ep_typed.specs.Trees.{Place, Variable, Own, Standard, Indexed, Field, Variant, Expr, Constant, Text, Read, One, Two, Short, Step, Function, IndexedValue, FieldValue, SetConstant, SetOf, OnSets, Card, Structured, Element, AtIndex, AtField, SameField, AtRanges, Elements, no_element, next_element, Designator, Single, Range, Designators, no_member, next_member, Actual, Evaluated, Accessed, Actuals, no_actual, next_actual}
 use Rattle.ep_typed.specs.declared.operations.Unary.{Unary}
 use Rattle.ep_typed.specs.declared.operations.Unary.TheVariants as unary
 use Rattle.ep_typed.specs.declared.operations.Binary.{Binary}
@@ -17,6 +17,8 @@ use Rattle.ep_typed.specs.declared.operations.SetOperation.TheVariants as set
 use Rattle.ep_typed.specs.declared.operations.ShortOperation.{ShortOperation}
 use Rattle.ep_typed.specs.declared.operations.ShortOperation.TheVariants as short
 use Rattle.ep_gen_code.specs.Instructions.{bare, instr, members_code, push, reference}
+use Rattle.ep_gen_code.specs.Referring.{type_reference}
+use Rattle.ep_gen_code.specs.declared.references.TheConstants as routine
 use Rattle.ep_object.specs.declared.op.TheConstants as op
 use Rattle.ep_gen_expr.specs.declared.operations.TheConstants as cmp
 use Rattle.ep_gen_expr.specs.declared.standard.TheConstants as constant
@@ -134,6 +136,48 @@ module _ (line : ℕ) where
       let bad = at + 7 + 6 * labels_count s.labels + 1 in
       tag_code bad s.tag ++ (labels_code (bad + 1) bad number 0 (at + 7) s.labels ++ rest_code (bad + 1) bad s number ∷ ends_code s number)
 
+-- Before the components of a structured value of the type with this number: the type, a variable of it without a name, and its
+-- place above its number.
+abbrev pub begin_code : ℕ → ℕ → List Instr
+begin_code line number = instr op.CALL (pos (type_reference number)) 0 line ∷ bare line op.NEW ∷ bare line op.DUP ∷ bare line op.DEREF ∷ []
+
+-- Behind them: its value, the routine that leaves two operands in the other order, and the end of the variable.
+abbrev pub end_code : ℕ → List Instr
+end_code line = bare line op.LOAD ∷ instr op.CALL (pos routine.SWAP) 0 line ∷ bare line op.DISPOSE ∷ []
+
+-- with a record on top: the component inside of it to which steps lead
+abbrev pub steps_code : ℕ → List ℕ → List Instr
+steps_code line [] = []
+steps_code line (k ∷ ks) = instr op.FIELD (pos k) 0 line ∷ steps_code line ks
+
+-- the same above the record
+abbrev pub reach_code : ℕ → List ℕ → List Instr
+reach_code line steps = bare line op.DUP ∷ steps_code line steps
+
+-- With a record on top: the component that is given what another one has, the routine that leaves that and the record in the
+-- other order, the other component, its value, and `Store`.
+abbrev pub same_code : ℕ → List ℕ → List ℕ → List Instr
+same_code line from to =
+    bare line op.DUP ∷ (reach_code line to ++ instr op.CALL (pos routine.SWAP) 0 line ∷ (steps_code line from ++ bare line op.LOAD ∷ bare line op.STORE ∷ []))
+
+-- the first index of ranges, of which there is at least one
+abbrev pub first_index : List CaseRange → ℤ
+first_index [] = pos 0
+first_index (r ∷ more) = r.low
+
+-- with an array on top: the component of it with the first index of ranges, above it
+abbrev pub first_code : ℕ → List CaseRange → List Instr
+first_code line ranges = bare line op.DUP ∷ push line (first_index ranges) ∷ bare line op.INDEX ∷ []
+
+-- With an array on top: what gives the value of the component with an index to those with the indexes of a range.
+abbrev pub range_code : ℕ → ℤ → CaseRange → List Instr
+range_code line from r = bare line op.DUP ∷ push line from ∷ push line r.low ∷ push line r.high ∷ instr op.CALL (pos routine.FILL) 0 line ∷ []
+
+-- the same of ranges, in order
+abbrev pub ranges_code : ℕ → ℤ → List CaseRange → List Instr
+ranges_code line from [] = []
+ranges_code line from (r ∷ more) = range_code line from r ++ ranges_code line from more
+
 module _ (texts : List (List ℕ)) (references : List Reference) (line : ℕ) where
   abbrev mutual
     -- The code of a place that begins at this place of the object, whose instructions have this line. An indexed variable (ISO
@@ -171,6 +215,26 @@ module _ (texts : List (List ℕ)) (references : List Reference) (line : ℕ) wh
     IsExprCode at (SetOf ds) is = (xs : List Instr) × AreDesignatorsCode (at + 1) ds xs × (is ≡ bare line op.SET_NONE ∷ xs)
     IsExprCode at (OnSets operation x y) is = (xs ys : List Instr) × IsExprCode at x xs × IsExprCode (at + length xs) y ys × (is ≡ xs ++ (ys ++ set_code line operation ∷ []))
     IsExprCode at (Card x) is = (xs : List Instr) × IsExprCode at x xs × (is ≡ xs ++ bare line op.CARD ∷ [])
+    -- a structured value (ISO 10206, 6.8.7.1)
+    IsExprCode at (Structured number es) is = (xs : List Instr) × AreElementsCode (at + 4) es xs × (is ≡ begin_code line number ++ (xs ++ end_code line))
+
+    -- The code of what a component of the place on top is given: that place again, the index and `Index` (ISO 10206, 6.8.7.2), or
+    -- a `Field` for each step (6.8.7.3), the value, and `Store`.
+    pub IsElementCode : ℕ → Element → List Instr → Type 0
+    IsElementCode at (AtIndex x y) is =
+        (xs ys : List Instr) × IsExprCode (at + 1) x xs × IsExprCode (at + 1 + length xs + 1) y ys
+        × (is ≡ bare line op.DUP ∷ (xs ++ bare line op.INDEX ∷ (ys ++ bare line op.STORE ∷ [])))
+    IsElementCode at (AtField steps x) is =
+        (xs : List Instr) × IsExprCode (at + length (reach_code line steps)) x xs × (is ≡ reach_code line steps ++ (xs ++ bare line op.STORE ∷ []))
+    IsElementCode at (SameField from to) is = is ≡ same_code line from to
+    IsElementCode at (AtRanges ranges x) is =
+        (xs : List Instr) × IsExprCode (at + length (first_code line ranges)) x xs × (is ≡ first_code line ranges ++ (xs ++ bare line op.STORE ∷ ranges_code line (first_index ranges) ranges))
+
+    -- in order
+    pub AreElementsCode : ℕ → Elements → List Instr → Type 0
+    AreElementsCode at no_element is = is ≡ []
+    AreElementsCode at (next_element e more) is =
+        (xs ys : List Instr) × IsElementCode at e xs × AreElementsCode (at + length xs) more ys × (is ≡ xs ++ ys)
 
     -- the code of a member designator: the value and `SetAdd`, or the first and the last value and `SetSpan`
     pub IsDesignatorCode : ℕ → Designator → List Instr → Type 0

@@ -2,20 +2,23 @@
 
 ghost use Rattle.std.specs.Prelude.{OnOk, map};
 ghost use Rattle.ep_typed.specs.Trees as tree;
-ghost use Rattle.ep_typed.specs.Trees.{entire, Card, Constant, Field, FieldValue, Function, Indexed, IndexedValue, One, OnSets, Own, Range, Read, SetConstant, SetOf, Short, Single, Step, Text, Two, Variable, Variant};
-ghost use Rattle.ep_typed.specs.Viewed.{actual_of, callee_of, designator_of, entire_of, expr_of, place_of};
-ghost use Rattle.ep_gen_expr.specs.Growth.{AppendsActual, AppendsActuals, AppendsDesignator, AppendsExpr, AppendsPlace};
+ghost use Rattle.ep_typed.specs.Trees.{entire, AtField, AtIndex, AtRanges, Card, Constant, Field, FieldValue, Function, Indexed, IndexedValue, One, OnSets, Own, Range, Read, SameField, SetConstant, SetOf, Short, Single, Step, Structured, Text, Two, Variable, Variant};
+ghost use Rattle.ep_typed.specs.Viewed.{actual_of, callee_of, designator_of, element_of, entire_of, expr_of, place_of};
+ghost use Rattle.ep_gen_expr.specs.Growth.{AppendsActual, AppendsActuals, AppendsDesignator, AppendsElement, AppendsElements, AppendsExpr, AppendsPlace};
 
 use crate::operations::{apply_binary, apply_on_sets, apply_step, apply_unary, keep_operand};
 use crate::standard::standard_code;
+use crate::structured::{
+    begin_structured, end_structured, fill_ranges, reach_field, reach_first, same_field,
+};
 use crate::tables::{reference_number, text_number};
 use crate::variants::active_code;
 use ep_base::{Name, NoMemory};
 use ep_gen_code::{Code, emit, land, next_place};
 use ep_object::op;
 use ep_typed::{
-    Actual, Binary, Callee, EntireVariable, MemberDesignator, Selection, SetOperation,
-    ShortOperation, TypedExpr, TypedPlace, Unary,
+    Actual, Binary, Callee, CaseRange, Element, EntireVariable, MemberDesignator, Selection,
+    SetOperation, ShortOperation, TypedExpr, TypedPlace, Unary,
 };
 use std::alloc::Global;
 
@@ -143,6 +146,9 @@ pub fn expression_code(alloc: Global, e: &TypedExpr, code: &mut Code) -> Result<
             on_sets_code(alloc, *operation, left.get(), right.get(), code)
         }
         TypedExpr::Card(operand) => card_code(alloc, operand.get(), code),
+        TypedExpr::Structured(number, elements) => {
+            structured_code(alloc, *number, elements.items(), code)
+        }
     }
 }
 
@@ -419,4 +425,101 @@ fn actual_code(alloc: Global, actual: &Actual, code: &mut Code) -> Result<(), No
         Actual::Value(value) => expression_code(alloc, value.get(), code),
         Actual::Variable(place) => place_code(alloc, place, code),
     }
+}
+
+/// Appends the code of a structured value, by a variable without a name that is given the components.
+#[cycle(expression)]
+fn structured_code(
+    alloc: Global,
+    number: u32,
+    elements: &[Element],
+    code: &mut Code,
+) -> Result<(), NoMemory>
+    ensures { OnOk result (AppendsExpr code.old code.new (Structured number (tree.elements (map element_of elements.now)))) }
+{
+    begin_structured(number, code)?;
+    elements_code(alloc, elements, code)?;
+    end_structured(code)
+}
+
+/// Appends the code of what components of the place on top are given, in order.
+#[cycle(expression)]
+fn elements_code(alloc: Global, elements: &[Element], code: &mut Code) -> Result<(), NoMemory>
+    ensures { OnOk result (AppendsElements code.old code.new (tree.elements (map element_of elements.now))) }
+{
+    for element in elements {
+        element_code(alloc, element, code)?;
+    }
+    Ok(())
+}
+
+/// Appends the code of what a component of the place on top is given.
+#[cycle(expression)]
+fn element_code(alloc: Global, element: &Element, code: &mut Code) -> Result<(), NoMemory>
+    ensures { OnOk result (AppendsElement code.old code.new (element_of element.now)) }
+{
+    match element {
+        Element::AtIndex(index, value) => at_index_code(alloc, index.get(), value.get(), code),
+        Element::AtField(steps, value) => at_field_code(alloc, steps.items(), value.get(), code),
+        Element::SameField(from, to) => same_field_code(from.items(), to.items(), code),
+        Element::AtRanges(ranges, value) => {
+            at_ranges_code(alloc, ranges.items(), value.get(), code)
+        }
+    }
+}
+
+/// Appends the code of what the component of an array at an index is given.
+#[cycle(expression)]
+fn at_index_code(
+    alloc: Global,
+    index: &TypedExpr,
+    value: &TypedExpr,
+    code: &mut Code,
+) -> Result<(), NoMemory>
+    ensures { OnOk result (AppendsElement code.old code.new (AtIndex (expr_of index.now) (expr_of value.now))) }
+{
+    emit(code, op::DUP, 0, 0)?;
+    expression_code(alloc, index, code)?;
+    emit(code, op::INDEX, 0, 0)?;
+    expression_code(alloc, value, code)?;
+    emit(code, op::STORE, 0, 0)
+}
+
+/// Appends the code of what the component of a record is given to which the steps lead.
+#[cycle(expression)]
+fn at_field_code(
+    alloc: Global,
+    steps: &[u32],
+    value: &TypedExpr,
+    code: &mut Code,
+) -> Result<(), NoMemory>
+    ensures { OnOk result (AppendsElement code.old code.new (AtField steps.now (expr_of value.now))) }
+{
+    reach_field(steps, code)?;
+    expression_code(alloc, value, code)?;
+    emit(code, op::STORE, 0, 0)
+}
+
+/// Appends the code of what the components of an array with the indexes of ranges are given.
+#[cycle(expression)]
+fn at_ranges_code(
+    alloc: Global,
+    ranges: &[CaseRange],
+    value: &TypedExpr,
+    code: &mut Code,
+) -> Result<(), NoMemory>
+    ensures { OnOk result (AppendsElement code.old code.new (AtRanges ranges.now (expr_of value.now))) }
+{
+    reach_first(ranges, code)?;
+    expression_code(alloc, value, code)?;
+    emit(code, op::STORE, 0, 0)?;
+    fill_ranges(ranges, code)
+}
+
+/// Appends the code of a component of a record that is given what another one has.
+#[tactic(auto, using(crate::proofs::StructuredForms::appends_same_field))]
+fn same_field_code(from: &[u32], to: &[u32], code: &mut Code) -> Result<(), NoMemory>
+    ensures { OnOk result (AppendsElement code.old code.new (SameField from.now to.now)) }
+{
+    same_field(from, to, code)
 }

@@ -10,6 +10,7 @@ mod laws;
 mod operations;
 mod ranges;
 mod standard;
+mod structured;
 mod tables;
 mod variants;
 

@@ -1,8 +1,9 @@
 -- The machine follows the elaboration of types.
-use Rattle.std.proofs.Common.{◌≡◌, ℕ, ℤ, pos, zero, suc, ◌+◌, ◌*◌, ◌-◌, ◌≤◌, ◌<◌, IsTrue, List, [], ◌∷◌, ◌++◌, length, length-append, Option, Some, slice_get, refl, sym, ap, ◌∙◌, subst, arith}
+use Rattle.std.proofs.Common.{◌≡◌, ℕ, ℤ, pos, suc, ◌+◌, ◌*◌, ◌-◌, ◌≤◌, ◌<◌, IsTrue, List, [], ◌∷◌, ◌++◌, length, length-append, Some, slice_get, refl, sym, ap, ◌∙◌, subst, arith}
 use Rattle.std.specs.Prelude.{int_le, neg_ℤ}
-use Rattle.ep_gen_code.specs.Instructions.{bare, instr, reference}
+use Rattle.ep_gen_code.specs.Instructions.{bare, instr}
 use Rattle.ep_gen_code.specs.Credit.{least_credit}
+use Rattle.ep_gen_code.specs.Referring.{AreReferred, type_reference}
 use Rattle.ep_gen_code.proofs.Placed.{code_front, code_back}
 use Rattle.ep_gen_type.specs.TypeCode.{ordinal_code, how_many, start_code, each_code, type_code}
 use Rattle.ep_gen_type.proofs.InitialStates.{start_follows}
@@ -11,7 +12,7 @@ use Rattle.ep_object.specs.Follows.{point, Facts, Lasts, Fragment, Inside, TypeO
 use Rattle.ep_object.specs.Matching.{AreAmong, Slots, Memory, Injection, Describes, IsLike, kept_slots}
 use Rattle.ep_object.specs.Operands.{Operand, Word}
 use Rattle.ep_object.specs.Placing.{Placement, CodeStands}
-use Rattle.ep_object.specs.Promises.{CallsAt, CallsAreKept, TypeKeeps, type_credit, type_routine}
+use Rattle.ep_object.specs.Promises.{CallsAt, CallsAreKept, TypeKeeps, type_credit}
 use Rattle.ep_object.specs.Runs.{unit_in}
 use Rattle.ep_object.specs.declared.code.Image.{Image}
 use Rattle.ep_object.specs.declared.code.Reference.{Reference}
@@ -22,7 +23,7 @@ use Rattle.ep_object.proofs.matching.Growing.{described-longer, inside_here, uni
 use Rattle.ep_object.specs.Starts.{AreStarts, AreStartsOfEach}
 use Rattle.ep_object.proofs.rows.NewTypes.{AreDescribed, stacked, ord_does, arr_does, rec_does, set_does}
 use Rattle.ep_object.proofs.rows.Rows.{push_pushes}
-use Rattle.ep_typed.specs.Steady.{Steady, IsSteadyHandler}
+use Rattle.ep_typed.specs.Steady.{IsSteadyHandler}
 use Rattle.ep_typed.specs.declared.denoter.RequiredType.TheVariants as simple
 use Rattle.ep_typed.specs.Calls.{Handler}
 use Rattle.ep_typed.specs.Sets.{is_ordinal}
@@ -39,11 +40,6 @@ use Rattle.ep_typed.specs.TypeValues.{ComponentTypes, TypeValue, bare_of}
 use Rattle.ep_typed.specs.TypeValues as type
 use Rattle.ep_typed.specs.declared.unit.UnitType.{UnitType}
 use Rattle.ep_object.specs.declared.op.TheConstants as op
-
--- each type of a unit has a reference of its number, to the routine that elaborates it
-abbrev pub AreReferred : Declarations → List ℕ → List UnitType → List Reference → Type 0
-AreReferred declared unit types references =
-    (index : ℕ) → index < length types → slice_get references index ≡ Some (reference unit (type_routine (length (declared.routines unit)) index))
 
 -- no constant of an enumeration is before the first one
 from_zero : (n : ℕ) → IsTrue (int_le (pos 0) (pos n))
@@ -106,12 +102,12 @@ module _ (declared : Declarations) (G : Image) (untouched : Slots) (Here : Facts
 
   module _ (types : List UnitType) (types_are : declared.types unit ≡ types) (among : AreAmong untouched (kept_slots declared G)) (kept : CallsAreKept declared G ps call n) (referred : AreReferred declared unit types references) where
     -- a name, by a call of the routine that elaborates its type
-    named_elaborates : (at index : ℕ) (t : TypeValue) → IsTyped types (Named index []) t → index < length types → IsElaborated at (instr op.CALL (pos index) 0 line ∷ []) t (call.named_type unit line index)
+    named_elaborates : (at index : ℕ) (t : TypeValue) → IsTyped types (Named index []) t → index < length types → IsElaborated at (instr op.CALL (pos (type_reference index)) 0 line ∷ []) t (call.named_type unit line index)
     named_elaborates at index t typed within stands injection memory below d enough home =
         let keeps : TypeKeeps declared G ps call n unit index t = kept.types unit index t (subst (λ l. IsTyped l (Named index []) t) (sym types_are) typed) in
         let place : ℕ = p.instructions.before + at in
         let calls : CallsAt G place keeps.routine 0 line =
-        record { instruction = instr op.CALL (pos keeps.routine) 0 line; stands = stands.0 ∙ ap (λ i. Some i) (rw (referred index within) (keeps.placed (instr op.CALL (pos index) 0 line))); is_call = refl; names = refl; parent = refl; at_line = refl } in
+        record { instruction = instr op.CALL (pos keeps.routine) 0 line; stands = stands.0 ∙ ap (λ i. Some i) (rw (referred index within) (keeps.placed (instr op.CALL (pos (type_reference index)) 0 line))); is_call = refl; names = refl; parent = refl; at_line = refl } in
         fragment_to (omega arith) (fragment_credit {d = 0} {e = λ a. type_credit} (omega arith) (λ a. omega arith)
         (type_follows lasts among place injection memory below (λ s. keeps.promise place line calls injection s memory below home)))
 

@@ -3,9 +3,9 @@ use Rattle.std.proofs.Common.{◌≡◌, ◌∙◌, ℕ, ℤ, pos, zero, suc, �
 use Rattle.std.specs.Bool.{◌==◌}
 use Rattle.std.proofs.lemmas.List.{nil_from_length}
 use Rattle.std.proofs.lemmas.Option.{slice_get_past, slice_get_read}
+use Rattle.ep_gen_code.specs.Referring.{type_reference}
 use Rattle.ep_gen_code.specs.Instructions.{bare, instr, members_code, push}
 use Rattle.ep_gen_code.specs.Growth.{Grows}
-use Rattle.ep_object.specs.declared.code.Instr.{Instr}
 use Rattle.ep_gen_code.specs.declared.code.Code.{Code}
 use Rattle.std.proofs.lemmas.List.{map_more, take_more}
 use Rattle.ep_gen_code.proofs.Growing.{grows_at, grows_none}
@@ -42,7 +42,7 @@ empty xs is =
 
 module _ (a : Code) where
   -- a name without a tuple
-  pub by_name : {b : Code} (k : ℕ) (tuple : List Bound) → true ≡ (length tuple == 0) → Grows a b (instr op.CALL (pos k) 0 a.line ∷ []) → Grows a b (type_code a.line (tree.Named k (map bound_of tuple)))
+  pub by_name : {b : Code} (k : ℕ) (tuple : List Bound) → true ≡ (length tuple == 0) → Grows a b (instr op.CALL (pos (type_reference k)) 0 a.line ∷ []) → Grows a b (type_code a.line (tree.Named k (map bound_of tuple)))
   by_name {b = b} k tuple none grows = subst (λ bs. Grows a b (type_code a.line (tree.Named k (map bound_of bs)))) (sym (empty tuple none)) grows
 
   -- one with a tuple

@@ -1,7 +1,8 @@
 -- The code that elaborates types, which leaves the type's number. It has the order of the elaboration: the parts of an array
 -- or a record in the order of the text, the base type of a set, or a type and its initial state, and then the array, the record,
 -- the set or the type with the initial state. A type that has a name is elaborated by a routine of its own.
-use Rattle.std.specs.Prelude.{ℕ, ℤ, pos, zero, suc, List, [], ◌∷◌, ◌++◌, Option, Some}
+use Rattle.std.specs.Prelude.{ℕ, ℤ, pos, suc, List, [], ◌∷◌, ◌++◌, Option, Some}
+use Rattle.ep_gen_code.specs.Referring.{type_reference}
 use Rattle.ep_gen_code.specs.Instructions.{bare, instr, members_code, push}
 use Rattle.ep_object.specs.declared.code.Instr.{Instr}
 use Rattle.ep_typed.specs.Denoters.{enumeration_type, required_type, subrange_type}
@@ -34,10 +35,10 @@ how_many (next_denoter d ds) = suc (how_many ds)
 
 module _ (line : ℕ) where
   abbrev mutual
-    -- the code of a denoter; a name is a call of the routine that elaborates it, whose reference has the number of the type
+    -- the code of a denoter; a name is a call of the routine that elaborates it, whose reference has one more than the number of the type
     pub type_code : Denoter → List Instr
     type_code (Required r) = simple_code line (Some (required_type r))
-    type_code (Named index []) = instr op.CALL (pos index) 0 line ∷ []
+    type_code (Named index []) = instr op.CALL (pos (type_reference index)) 0 line ∷ []
     type_code (Named index (b ∷ bs)) = []
     type_code (Subrange host low high) = simple_code line (subrange_type low high)
     type_code (Enumeration names) = simple_code line (enumeration_type names)

@@ -9,7 +9,7 @@ ghost use Rattle.ep_gen_type.specs.TypeCode.{each_code, ordinal_code, simple_cod
 ghost use Rattle.ep_typed.specs.declared.value.Value.TheVariants as constant;
 
 use ep_base::{Name, NoMemory};
-use ep_gen_code::{Code, emit, field_number, place_number};
+use ep_gen_code::{Code, emit, field_number, place_number, type_reference};
 use ep_object::op;
 use ep_typed::{
     Bound, Denoter, FieldPart, RecordField, RequiredType, Selector, UnitType, Value, Variant,
@@ -40,7 +40,7 @@ fn name_code(number: u32, tuple: &[Bound], code: &mut Code) -> Result<(), NoMemo
     if !tuple.is_empty() {
         return Ok(());
     }
-    emit(code, op::CALL, number as i64, 0)
+    emit(code, op::CALL, type_reference(number), 0)
 }
 
 /// Appends the code of an array, behind that of its index type and that of its components.

@@ -21,6 +21,7 @@ mod Routines
 mod Sized
 pub mod Simple
 pub mod Starts
+mod StructureRoutines
 pub mod StmtMoves
 pub mod StmtForms
 pub mod StmtStays

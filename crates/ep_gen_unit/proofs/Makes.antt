@@ -5,7 +5,8 @@ use Rattle.ep_gen_code.specs.Credit.{least_credit}
 use Rattle.ep_gen_code.specs.Instructions.{instr}
 use Rattle.ep_gen_unit.specs.StmtCode.{make_code, make_all_code}
 use Rattle.ep_gen_type.specs.TypeCode.{type_code}
-use Rattle.ep_gen_type.proofs.Elaborating.{AreReferred, elaborates}
+use Rattle.ep_gen_code.specs.Referring.{AreReferred}
+use Rattle.ep_gen_type.proofs.Elaborating.{elaborates}
 use Rattle.ep_object.specs.Promises.{CallsAreKept}
 use Rattle.ep_gen_unit.specs.UnitLaws.{AreDeclared}
 use Rattle.ep_gen_unit.proofs.Sized.{fragment_sized, sized_gains}

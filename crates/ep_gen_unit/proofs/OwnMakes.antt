@@ -7,7 +7,8 @@ use Rattle.ep_gen_code.proofs.Placed.{instr_at}
 use Rattle.ep_gen_expr.proofs.PlaceTypes.{has_bare_type}
 use Rattle.ep_gen_unit.specs.StmtCode.{make_code, make_all_code, value_code, place_taken, take_code, take_all_code}
 use Rattle.ep_gen_type.specs.TypeCode.{type_code}
-use Rattle.ep_gen_type.proofs.Elaborating.{AreReferred, elaborates}
+use Rattle.ep_gen_code.specs.Referring.{AreReferred}
+use Rattle.ep_gen_type.proofs.Elaborating.{elaborates}
 use Rattle.ep_gen_unit.proofs.Sized.{fragment_sized}
 use Rattle.ep_gen_unit.proofs.Parts.{code_stands-parts}
 use Rattle.ep_object.specs.Activations.{InActivation}

@@ -16,11 +16,14 @@ use Rattle.ep_typed.specs.declared.interface.Formal.{Formal}
 use Rattle.ep_typed.specs.declared.interface.RoutineResult.{RoutineResult}
 use Rattle.ep_typed.specs.declared.run_error.TheConstants as run_error
 use Rattle.ep_typed.specs.declared.unit.UnitVariable.{UnitVariable}
-use Rattle.ep_gen_code.specs.Instructions.{instr, bare}
+use Rattle.ep_gen_code.specs.Instructions.{instr, bare, push}
+use Rattle.ep_gen_code.specs.Referring.{type_reference}
+use Rattle.ep_gen_code.specs.declared.references.TheConstants as routine
 use Rattle.ep_gen_code.specs.Growth.{Grows, IsTable, AreDistinct, begun_code}
 use Rattle.ep_gen_code.proofs.Named.{named_distinct}
 use Rattle.ep_gen_type.specs.TypeCode.{type_code}
-use Rattle.ep_object.specs.Promises.{type_routine}
+use Rattle.ep_object.specs.Promises.{copying_code, next_code, swap_routine}
+use Rattle.ep_object.specs.WordRows.{less}
 use Rattle.ep_typed.specs.Denoters.{definition_of}
 use Rattle.ep_typed.specs.Meaning.{line_where}
 use Rattle.ep_typed.specs.declared.unit.UnitType.{UnitType}
@@ -33,8 +36,8 @@ use Rattle.std.specs.Prelude.{is_some, true, false}
 use Rattle.ep_typed.specs.Denoters.{host_of}
 use Rattle.ep_typed.specs.Hosts.{Host}
 use Rattle.ep_gen_code.specs.Jumps.{IsNextPlace}
-use Rattle.ep_gen_unit.specs.StmtGrowth.{Follows, AppendsStmt, AppendsStart, AppendsRoutine, AppendsRoutines, AppendsType, AppendsTypes, IsCompact, MakesBlock, MakesOwn, MakesResult, assembled}
-use Rattle.ep_gen_unit.specs.UnitCode.{IsProgramCode, IsRoutineCode, IsTypeCode, AreRoutinesCode, AreTypesCode, StandsIn, elaborating_code, own_code, its_end, entry_of, plain_at, routine_at}
+use Rattle.ep_gen_unit.specs.StmtGrowth.{Follows, AppendsStmt, AppendsStart, AppendsRoutine, AppendsRoutines, AppendsFill, AppendsSwap, AppendsType, AppendsTypes, IsCompact, MakesBlock, MakesOwn, MakesResult, assembled}
+use Rattle.ep_gen_unit.specs.UnitCode.{IsProgramCode, IsSwapCode, swap_code, IsFillCode, fill_code, IsRoutineCode, IsTypeCode, AreRoutinesCode, AreTypesCode, StandsIn, elaborating_code, own_code, its_end, entry_of, plain_at, routine_at}
 use Rattle.ep_gen_unit.proofs.Following.{later_follows, stmt_later, follows_none, follows_grows, follows_line, follows_then, grown_length}
 use Rattle.ep_object.specs.declared.op.TheConstants as op
 
@@ -366,10 +369,61 @@ pub appends_type : {b c : Code} (a : Code) (t : UnitType) (entry line : ℕ) →
 appends_type {c = c} a t entry line next at p q =
     record { starts = next.is_length; follows = subst (λ l. Follows a c (type_code l (definition_of t) ++ bare l op.RETURN ∷ [])) at (follows_line a line (follows_grows (grows_at (λ l. bare l op.RETURN ∷ []) p q))) }
 
+-- the code that leaves two operands in the other order
+pub appends_swap : {b c d : Code} (a : Code) (entry : ℕ) → IsNextPlace a entry → Grows (record a { line = code.NO_LINE }) b (instr op.ARG (pos 1) 0 code.NO_LINE ∷ []) → Grows b c (instr op.ARG (pos 0) 0 b.line ∷ []) → Grows c d (bare c.line op.RETURN ∷ []) → AppendsSwap a d entry
+appends_swap {b = b} {d = d} a entry next upper lower last =
+    record { starts = next.is_length; follows = follows_line a code.NO_LINE (follows_grows (grows_at (λ l. instr op.ARG (pos 0) 0 l ∷ bare l op.RETURN ∷ []) upper (grows_at (λ l. bare l op.RETURN ∷ []) lower last))) }
+
+-- it is the code of the routine
+swap_stands : {e g : Code} (entry : ℕ) → AppendsSwap e g entry → IsSwapCode g.instructions (routine_at entry 2 0)
+swap_stands {e = e} entry p =
+    record {
+      plain = refl;
+      stands = record {
+        before = e.instructions;
+        after = [];
+        is = let f = p.follows in f.instructions ∙ ap (λ l. e.instructions ++ l) (sym (append-nil swap_code));
+        from = sym p.starts;
+      };
+    }
+
+-- the code that gives the value of a component of an array to others
+pub grows_copying : {a b c d e f g h i j : Code} → Grows a b (bare a.line op.DUP ∷ []) → Grows b c (bare b.line op.SLOT ∷ []) → Grows c d (instr op.CALL (pos routine.SWAP) 0 c.line ∷ []) → Grows d e (bare d.line op.INDEX ∷ []) → Grows e f (bare e.line op.SLOT ∷ []) → Grows f g (instr op.PEEK (pos 1) 0 f.line ∷ [])
+    → Grows g h (bare g.line op.INDEX ∷ []) → Grows h i (bare h.line op.LOAD ∷ []) → Grows i j (bare i.line op.STORE ∷ []) → Grows a j (copying_code routine.SWAP a.line)
+grows_copying p q r s t u v w x =
+    grows_at (λ l. bare l op.STORE ∷ []) (grows_at (λ l. bare l op.LOAD ∷ []) (grows_at (λ l. bare l op.INDEX ∷ []) (grows_at (λ l. instr op.PEEK (pos 1) 0 l ∷ []) (grows_at (λ l. bare l op.SLOT ∷ [])
+    (grows_at (λ l. bare l op.INDEX ∷ []) (grows_at (λ l. instr op.CALL (pos routine.SWAP) 0 l ∷ []) (grows_at (λ l. bare l op.SLOT ∷ []) p q) r) s) t) u) v) w) x
+
+pub grows_next : {a b c d e f g h i j : Code} (entry : ℕ) → Grows a b (bare a.line op.DUP ∷ []) → Grows b c (instr op.PEEK (pos 3) 0 b.line ∷ []) → Grows c d (instr op.CMP less 0 c.line ∷ []) → Grows d e (instr op.JUMP_FALSE (pos (entry + 19)) 0 d.line ∷ []) → Grows e f (push e.line (pos 1) ∷ []) → Grows f g (bare f.line op.ADD ∷ [])
+    → Grows g h (instr op.JUMP (pos (entry + 3)) 0 g.line ∷ []) → Grows h i (bare h.line op.DROP ∷ []) → Grows i j (bare i.line op.RETURN ∷ []) → Grows a j (next_code entry a.line)
+grows_next entry p q r s t u v w x =
+    grows_at (λ l. bare l op.RETURN ∷ []) (grows_at (λ l. bare l op.DROP ∷ []) (grows_at (λ l. instr op.JUMP (pos (entry + 3)) 0 l ∷ []) (grows_at (λ l. bare l op.ADD ∷ []) (grows_at (λ l. push l (pos 1) ∷ [])
+    (grows_at (λ l. instr op.JUMP_FALSE (pos (entry + 19)) 0 l ∷ []) (grows_at (λ l. instr op.CMP less 0 l ∷ []) (grows_at (λ l. instr op.PEEK (pos 3) 0 l ∷ []) p q) r) s) t) u) v) w) x
+
+pub appends_fill : {b c d e f : Code} (a : Code) (entry : ℕ) → IsNextPlace a entry → Grows (record a { line = code.NO_LINE }) b (instr op.ARG (pos 0) 0 code.NO_LINE ∷ []) → Grows b c (bare b.line op.BIND ∷ []) → Grows c d (instr op.PEEK (pos 2) 0 c.line ∷ []) → Grows d e (copying_code routine.SWAP d.line) → Grows e f (next_code entry e.line) → AppendsFill a f entry
+appends_fill a entry next p q r s t =
+    record {
+      starts = next.is_length;
+      follows = follows_line a code.NO_LINE (follows_grows (grows_at (next_code entry) (grows_at (copying_code routine.SWAP) (grows_at (λ l. instr op.PEEK (pos 2) 0 l ∷ []) (grows_at (λ l. bare l op.BIND ∷ []) p q) r) s) t));
+    }
+
+-- it is the code of the routine
+fill_stands : {e g : Code} (entry : ℕ) → AppendsFill e g entry → IsFillCode g.instructions (routine_at entry 4 1)
+fill_stands {e = e} entry p =
+    record {
+      plain = refl;
+      stands = record {
+        before = e.instructions;
+        after = [];
+        is = let f = p.follows in f.instructions ∙ ap (λ l. e.instructions ++ l) (sym (append-nil (fill_code entry)));
+        from = sym p.starts;
+      };
+    }
+
 -- the object of a program, from the code of its start, of its routines and of its types
-module _ (u : TypedUnit) {a b e f : Code} (begins : a ≡ begun_code u) (few : IsTable a.references) (name : List ℕ) (named : name ≡ u.name) (slots stop_entry start : ℕ) (appends : AppendsStart a b u stop_entry)
-    (rs : List UnitRoutine) (routines_are : rs ≡ u.routines) (entries : List CodeRoutine) (types : List UnitType) (types_are : types ≡ u.types) (more : AppendsRoutines b e types rs entries) (before after : List CodeRoutine)
-    (all : before ≡ entries ++ plain_at 0 ∷ plain_at stop_entry ∷ []) (ts : List UnitType) (ts_are : ts ≡ u.types) (last : AppendsTypes e f ts before after) (starts : start ≡ length entries) (o : Object) (is : o ≡ assembled name f after start slots) where
+module _ (u : TypedUnit) {a b e h i f : Code} (begins : a ≡ begun_code u) (few : IsTable a.references) (name : List ℕ) (named : name ≡ u.name) (slots stop_entry swap_entry fill_entry start : ℕ) (appends : AppendsStart a b u stop_entry)
+    (rs : List UnitRoutine) (routines_are : rs ≡ u.routines) (entries : List CodeRoutine) (types : List UnitType) (types_are : types ≡ u.types) (more : AppendsRoutines b e types rs entries) (swap : AppendsSwap e h swap_entry) (fill : AppendsFill h i fill_entry) (before after : List CodeRoutine)
+    (all : before ≡ entries ++ plain_at 0 ∷ plain_at stop_entry ∷ routine_at swap_entry 2 0 ∷ routine_at fill_entry 4 1 ∷ []) (ts : List UnitType) (ts_are : ts ≡ u.types) (last : AppendsTypes i f ts before after) (starts : start ≡ length entries) (o : Object) (is : o ≡ assembled name f after start slots) where
   whole : AppendsStart (begun_code u) b u stop_entry
   whole = subst (λ code. AppendsStart code b u stop_entry) begins appends
 
@@ -379,31 +433,45 @@ module _ (u : TypedUnit) {a b e f : Code} (begins : a ≡ begun_code u) (few : I
   stops : stop_entry ≡ length (make_all_code 0 (made_by_unit u)) + length whole.code + 1
   stops = omega (arith, whole.stops)
 
-  behind_start : Follows b f (more.code ++ last.code)
-  behind_start = follows_then more.follows last.follows
+  behind_swap : Follows h f (fill_code fill_entry ++ last.code)
+  behind_swap = follows_then fill.follows last.follows
+
+  -- the code behind that of the routines
+  abbrev rest : List Instr
+  rest = swap_code ++ (fill_code fill_entry ++ last.code)
+
+  behind_routines : Follows e f rest
+  behind_routines = follows_then swap.follows behind_swap
+
+  behind_start : Follows b f (more.code ++ rest)
+  behind_start = follows_then more.follows behind_routines
 
   its_blocks : AreRoutinesCode f.texts f.references f.instructions u.types u.routines entries
   its_blocks =
-      routines_longer u.types u.routines entries last.follows
+      routines_longer u.types u.routines entries behind_routines
       (subst (λ l. AreRoutinesCode e.texts e.references e.instructions l u.routines entries) types_are (subst (λ l. AreRoutinesCode e.texts e.references e.instructions types l entries) routines_are more.blocks))
 
-  all_code : Follows (begun_code u) f ((make_all_code 0 (made_by_unit u) ++ (whole.code ++ return_code ∷ return_code ∷ [])) ++ (more.code ++ last.code))
+  all_code : Follows (begun_code u) f ((make_all_code 0 (made_by_unit u) ++ (whole.code ++ return_code ∷ return_code ∷ [])) ++ (more.code ++ rest))
   all_code = follows_then whole.follows behind_start
 
   pub is_program : slots ≡ length (unit_variables u) → IsProgramCode u o
   is_program n = subst (λ object. IsProgramCode u object) (sym is) (record {
     code = whole.code;
     is_code = subst (λ at. IsStmtCode f.texts f.references at (stmt_of u.start) whole.code) begins_block (stmt_later (0 + length (make_all_code 0 (made_by_unit u))) (stmt_of u.start) whole.code (later_follows behind_start) whole.is_code);
-    others = more.code ++ last.code;
+    others = more.code ++ rest;
     instructions =
-        all_code.instructions ∙ (append_assoc (make_all_code 0 (made_by_unit u)) (whole.code ++ return_code ∷ return_code ∷ []) (more.code ++ last.code)
-        ∙ ap (λ l. make_all_code 0 (made_by_unit u) ++ l) (append_assoc whole.code (return_code ∷ return_code ∷ []) (more.code ++ last.code)));
+        all_code.instructions ∙ (append_assoc (make_all_code 0 (made_by_unit u)) (whole.code ++ return_code ∷ return_code ∷ []) (more.code ++ rest)
+        ∙ ap (λ l. make_all_code 0 (made_by_unit u) ++ l) (append_assoc whole.code (return_code ∷ return_code ∷ []) (more.code ++ rest)));
     entries = entries;
     blocks = its_blocks;
+    swapping = routine_at swap_entry 2 0;
+    swaps = let x = swap_stands swap_entry swap in record { plain = x.plain; stands = let g = behind_swap in stands_longer (fill_code fill_entry ++ last.code) g.instructions x.stands };
+    filling = routine_at fill_entry 4 1;
+    fills = let x = fill_stands fill_entry fill in record { plain = x.plain; stands = let g = last.follows in stands_longer last.code g.instructions x.stands };
     elaborating = last.entries;
     types = subst (λ l. AreTypesCode f.instructions l last.entries) ts_are last.types;
     named = all_code.references.begins;
-    routines = last.are ∙ (ap (λ l. l ++ last.entries) (all ∙ ap (λ at. entries ++ plain_at 0 ∷ plain_at at ∷ []) stops) ∙ append_assoc entries (plain_at 0 ∷ plain_at (length (make_all_code 0 (made_by_unit u)) + length whole.code + 1) ∷ []) last.entries);
+    routines = last.are ∙ (ap (λ l. l ++ last.entries) (all ∙ ap (λ at. entries ++ plain_at 0 ∷ plain_at at ∷ routine_at swap_entry 2 0 ∷ routine_at fill_entry 4 1 ∷ []) stops) ∙ append_assoc entries (plain_at 0 ∷ plain_at (length (make_all_code 0 (made_by_unit u)) + length whole.code + 1) ∷ routine_at swap_entry 2 0 ∷ routine_at fill_entry 4 1 ∷ []) last.entries);
     start = starts ∙ its_blocks.count;
     stop = ap (λ k. k + 1) (starts ∙ its_blocks.count);
     unit_slots = n;
@@ -420,5 +488,5 @@ module _ (u : TypedUnit) {a b e f : Code} (begins : a ≡ begun_code u) (few : I
     few_references = all_code.references.small (subst (λ (code : Code). IsTable code.references) begins few);
     few_instructions = small;
     texts = all_code.texts.distinct nothing_distinct;
-    references = all_code.references.distinct (named_distinct u.name (type_routine (length u.routines) 0) (length u.types));
+    references = all_code.references.distinct (named_distinct u.name (swap_routine (length u.routines)) (type_reference (length u.types)));
   })

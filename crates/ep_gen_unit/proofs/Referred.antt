@@ -1,23 +1,38 @@
--- The references to the routines that elaborate the types of a unit.
-use Rattle.std.proofs.Common.{◌≡◌, ◌+◌, if◌then◌else◌, [], map, length, Some, slice_get, refl, ap, ◌∙◌, subst, arith}
+-- The references that the code of a unit begins with.
+use Rattle.std.proofs.Common.{◌≡◌, ℕ, ◌+◌, ◌<◌, if◌then◌else◌, [], map, length, Some, slice_get, refl, ap, ◌∙◌, subst, arith}
 use Rattle.std.proofs.lemmas.List.{length-map}
 use Rattle.ep_gen_code.proofs.Named.{named_at}
 use Rattle.ep_gen_code.proofs.Pushed.{get_later}
 use Rattle.ep_gen_code.specs.Instructions.{reference}
-use Rattle.ep_gen_type.proofs.Elaborating.{AreReferred}
+use Rattle.ep_gen_code.specs.Referring.{AreReferred, IsFillReferred, IsSwapReferred, type_reference}
+use Rattle.ep_gen_code.specs.declared.references.TheConstants as routine
 use Rattle.ep_gen_unit.specs.UnitCode.{IsProgramCode}
 use Rattle.ep_gen_unit.proofs.Declared.{name_same}
-use Rattle.ep_object.specs.Promises.{type_routine}
+use Rattle.ep_object.specs.Promises.{fill_routine, swap_routine, type_routine}
 use Rattle.ep_object.specs.declared.code.Object.{Object}
 use Rattle.ep_typed.specs.Valid.{Declarations, heading_of, own}
 use Rattle.ep_typed.specs.declared.unit.Unit.{Unit as TypedUnit}
 
--- in the code of a program each type has a reference of its number
+-- in the code of a program each of the first references is to one of the routines behind the stop
+first_referred : (u : TypedUnit) (o : Object) → IsProgramCode u o → (k : ℕ) → k < type_reference (length u.types) → slice_get o.references k ≡ Some (reference u.name (swap_routine (length u.routines) + k))
+first_referred u o is k less = get_later k (reference u.name (swap_routine (length u.routines) + k)) is.named (named_at u.name (swap_routine (length u.routines)) (type_reference (length u.types)) k less)
+
+-- those behind the first two are to those that elaborate types
 pub types_referred : (declared : Declarations) (u : TypedUnit) (o : Object) → IsProgramCode u o → length (declared.routines u.name) ≡ length u.routines → AreReferred declared u.name u.types o.references
 types_referred declared u o is many index less =
-    let stands : slice_get o.references index ≡ Some (reference u.name (type_routine (length u.routines) 0 + index)) =
-    get_later index (reference u.name (type_routine (length u.routines) 0 + index)) is.named (named_at u.name (type_routine (length u.routines) 0) (length u.types) index less) in
-    subst (λ k. slice_get o.references index ≡ Some (reference u.name k)) {x = length u.routines + 2 + 0 + index} {y = length (declared.routines u.name) + 2 + index} (omega (arith, many)) stands
+    subst (λ k. slice_get o.references (type_reference index) ≡ Some (reference u.name k)) {x = swap_routine (length u.routines) + type_reference index} {y = type_routine (length (declared.routines u.name)) index} (omega (arith, many))
+    (first_referred u o is (type_reference index) (omega (arith, less)))
+
+-- and these to those that structured values call
+pub swap_referred : (declared : Declarations) (u : TypedUnit) (o : Object) → IsProgramCode u o → length (declared.routines u.name) ≡ length u.routines → IsSwapReferred declared u.name o.references
+swap_referred declared u o is many =
+    subst (λ k. slice_get o.references routine.SWAP ≡ Some (reference u.name k)) {x = swap_routine (length u.routines) + routine.SWAP} {y = swap_routine (length (declared.routines u.name))} (omega (arith, many))
+    (first_referred u o is routine.SWAP (omega arith))
+
+pub fill_referred : (declared : Declarations) (u : TypedUnit) (o : Object) → IsProgramCode u o → length (declared.routines u.name) ≡ length u.routines → IsFillReferred declared u.name o.references
+fill_referred declared u o is many =
+    subst (λ k. slice_get o.references routine.FILL ≡ Some (reference u.name k)) {x = swap_routine (length u.routines) + routine.FILL} {y = fill_routine (length (declared.routines u.name))} (omega (arith, many))
+    (first_referred u o is routine.FILL (omega arith))
 
 -- as many routines are declared alone as the unit has
 pub own_count : (u : TypedUnit) → length ((own u).routines u.name) ≡ length u.routines

@@ -43,7 +43,7 @@ use Rattle.ep_typed.specs.declared.unit.Unit.{Unit as TypedUnit}
 use Rattle.ep_typed.specs.declared.unit.UnitType.{UnitType}
 
 -- what stands behind a list
-behind_list : {A : Type 0} (xs ys : List A) (k : ℕ) → slice_get (xs ++ ys) (length xs + k) ≡ slice_get ys k
+pub behind_list : {A : Type 0} (xs ys : List A) (k : ℕ) → slice_get (xs ++ ys) (length xs + k) ≡ slice_get ys k
 behind_list [] ys k = ap (slice_get ys) {x = 0 + k} {y = k} (omega arith)
 behind_list (x ∷ xs) ys k = ap (slice_get (x ∷ (xs ++ ys))) {x = suc (length xs) + k} {y = suc (length xs + k)} (omega arith) ∙ behind_list xs ys k
 
@@ -88,10 +88,10 @@ module _ (u : TypedUnit) (o : Object) (is : IsProgramCode u o) (G : Image) (ps :
       let second = code_stands-parts G ps p o.references (0 + length s.before) (code ++ last) s.after first.1 in
       let third = code_stands-parts G ps p o.references (0 + length s.before) code last second.0 in
       let at : 0 + length s.before ≡ x.0.entry = omega (arith, s.from) in
-      let behind : slice_get o.routines (length is.entries + suc (suc index)) ≡ slice_get is.elaborating index = ap (λ l. slice_get l (length is.entries + suc (suc index))) is.routines ∙ behind_list is.entries (plain_at 0 ∷ plain_at _ ∷ is.elaborating) (suc (suc index)) in
+      let behind : slice_get o.routines (length is.entries + suc (suc (suc (suc index)))) ≡ slice_get is.elaborating index = ap (λ l. slice_get l (length is.entries + suc (suc (suc (suc index))))) is.routines ∙ behind_list is.entries (plain_at 0 ∷ plain_at _ ∷ is.swapping ∷ is.filling ∷ is.elaborating) (suc (suc (suc (suc index)))) in
       record {
         entry = x.0;
-        in_object = subst (λ k. slice_get o.routines k ≡ Some x.0) {x = length is.entries + suc (suc index)} {y = length u.routines + 2 + index} (omega (arith, blocks.count)) (behind ∙ x.1);
+        in_object = subst (λ k. slice_get o.routines k ≡ Some x.0) {x = length is.entries + suc (suc (suc (suc index)))} {y = length u.routines + 4 + index} (omega (arith, blocks.count)) (behind ∙ x.1);
         plain = h.plain;
         code_stands = subst (λ k. CodeStands G ps p o.references k code) at third.0;
         end_stands = subst (λ k. CodeStands G ps p o.references (k + length code) last) at third.1;

@@ -6,8 +6,8 @@ use Rattle.ep_gen_expr.proofs.Following.{place_follows, expression_follows, call
 use Rattle.ep_gen_unit.specs.StmtCode.{make_all_code, return_code}
 use Rattle.ep_gen_unit.specs.UnitCode.{IsProgramCode, plain_at}
 use Rattle.ep_gen_unit.specs.UnitLaws.{AreDeclared, idle_stop}
-use Rattle.ep_gen_type.proofs.Elaborating.{AreReferred}
-use Rattle.ep_gen_unit.proofs.Referred.{own_count, types_referred}
+use Rattle.ep_gen_code.specs.Referring.{AreReferred}
+use Rattle.ep_gen_unit.proofs.Referred.{fill_referred, own_count, swap_referred, types_referred}
 use Rattle.ep_gen_unit.proofs.Declared.{own_is, own_declared, own_types, own_valid, made_declared}
 use Rattle.ep_gen_unit.proofs.Makes.{VariablesAreFree, make_all_moves, same_frame}
 use Rattle.ep_gen_unit.proofs.Parts.{code_stands-parts}
@@ -145,13 +145,13 @@ module _ (u : TypedUnit) (o : Object) (is : IsProgramCode u o) (G : Image) (ps :
   start_is =
       let blocks = is.blocks in
       ap (slice_get o.routines) (is.start ∙ sym blocks.count)
-      ∙ (ap (λ l. slice_get l (length is.entries)) is.routines ∙ behind is.entries (plain_at 0) (plain_at (ends_block + 1) ∷ is.elaborating))
+      ∙ (ap (λ l. slice_get l (length is.entries)) is.routines ∙ behind is.entries (plain_at 0) (plain_at (ends_block + 1) ∷ is.swapping ∷ is.filling ∷ is.elaborating))
 
   stop_is : slice_get o.routines o.stop ≡ Some (plain_at (ends_block + 1))
   stop_is =
       let blocks = is.blocks in
       ap (slice_get o.routines) (is.stop ∙ ap (λ k. k + 1) (sym blocks.count))
-      ∙ (ap (λ l. slice_get l (length is.entries + 1)) is.routines ∙ one_behind is.entries (plain_at 0) (plain_at (ends_block + 1)) is.elaborating)
+      ∙ (ap (λ l. slice_get l (length is.entries + 1)) is.routines ∙ one_behind is.entries (plain_at 0) (plain_at (ends_block + 1)) (is.swapping ∷ is.filling ∷ is.elaborating))
 
   -- the stop does nothing
   pub stop_simulates : (declared : Declarations) (n : ℕ)
@@ -185,6 +185,10 @@ module _ (u : TypedUnit) (o : Object) (is : IsProgramCode u o) (G : Image) (ps :
     referred : AreReferred declared (placed_object_unit p o).name (declared.types (placed_object_unit p o).name) o.references
     referred =
         subst (λ n. AreReferred declared n (declared.types n) o.references) (sym is.name) (subst (λ ts. AreReferred declared u.name ts o.references) (sym types) (types_referred declared u o is many))
+
+    -- the same by the unit's name
+    own_referred : AreReferred declared u.name declared.routine_types o.references
+    own_referred = subst (λ ts. AreReferred declared u.name ts o.references) (sym types ∙ (sym (ap declared.types of_unit) ∙ scene.own_types_are)) (types_referred declared u o is many)
 
     -- the machine makes the variables of the unit
     makes : {Here : Facts} → Lasts (kept_slots declared G) Here
@@ -221,9 +225,9 @@ module _ (u : TypedUnit) (o : Object) (is : IsProgramCode u o) (G : Image) (ps :
               let whole = of_object in
               let knows : KnowsNames declared (Since (kept_slots declared G) injection s memory) = λ longer t after since. none_named declared no_routine longer t after in
               let body = body_follows {Here = Since (kept_slots declared G) injection s memory} since_lasts ps p call steady_call n u o is stands.code room whole.instructions scene
-              (λ x_kind x is_x line at code is_code x_stands inside v1 m1 operands d enough x_home. expression_follows ps p o.texts o.references scene knows call steady_call n u.name room since_lasts among_same n kept x_kind x is_x line at code is_code x_stands inside v1 m1 operands d (omega arith) x_home)
-              (λ q q_valid t has_type line at code is_code x_stands inside v1 m1 operands d enough x_home. place_follows ps p o.texts o.references scene knows call steady_call n u.name room since_lasts among_same n kept q q_valid t has_type line at code is_code x_stands inside v1 m1 operands d (omega arith) x_home)
-              (λ line at to callee k given xs r keeps given_valid is_code is_declared named xs_stands xs_inside v1 m1 operands d enough x_home rest steady behind. call_then ps p o.texts o.references scene knows call steady_call n u.name room since_lasts among_same n kept {to = to} line at callee k given xs r keeps given_valid is_code is_declared named xs_stands xs_inside v1 m1 operands d enough x_home rest steady (λ rs longer after pushed grown routine top. fragment_credit {d = d} {e = λ b. d} (omega arith) (λ b. omega arith) (behind rs longer after pushed grown routine top)))
+              (λ x_kind x is_x line at code is_code x_stands inside v1 m1 operands d enough x_home. expression_follows ps p o.texts o.references scene knows call steady_call n u.name room since_lasts among_same n kept (sym of_unit) own_referred (swap_referred declared u o is many) (fill_referred declared u o is many) x_kind x is_x line at code is_code x_stands inside v1 m1 operands d (omega arith) x_home)
+              (λ q q_valid t has_type line at code is_code x_stands inside v1 m1 operands d enough x_home. place_follows ps p o.texts o.references scene knows call steady_call n u.name room since_lasts among_same n kept (sym of_unit) own_referred (swap_referred declared u o is many) (fill_referred declared u o is many) q q_valid t has_type line at code is_code x_stands inside v1 m1 operands d (omega arith) x_home)
+              (λ line at to callee k given xs r keeps given_valid is_code is_declared named xs_stands xs_inside v1 m1 operands d enough x_home rest steady behind. call_then ps p o.texts o.references scene knows call steady_call n u.name room since_lasts among_same n kept (sym of_unit) own_referred (swap_referred declared u o is many) (fill_referred declared u o is many) {to = to} line at callee k given xs r keeps given_valid is_code is_declared named xs_stands xs_inside v1 m1 operands d enough x_home rest steady (λ rs longer after pushed grown routine top. fragment_credit {d = d} {e = λ b. d} (omega arith) (λ b. omega arith) (behind rs longer after pushed grown routine top)))
               kept (binds injection s memory enters.without_calls enters.in_unit) valid (makes since_lasts) injection memory below routine_credit (omega arith) (home o.start (plain_at 0) start_is memory.frames enters.without_calls enters.runs) (record { calls = enters.without_calls; unit = enters.in_unit }) in
               follows_from (at_entry o.start (plain_at 0) start_is (omega (arith, instructions_own)) enters)
               (follows_less {n = n} (omega arith) (follows_post (λ a t l lands. record { place = p.instructions.before + ends_block; instruction = return_code; stands = returns_stand.0; returns = (let routine = lands.post.routine in subst (λ (x : State). obey G return_code x ≡ light Returns) (sym lands.is) (returns_from (p.instructions.before + ends_block) lands.operands lands.memory t.trace (no_calls memory.frames.calls lands.memory.frames.calls routine.calls enters.without_calls))); lands = lands }) (body.by s enters.matches (since_here injection s memory))));

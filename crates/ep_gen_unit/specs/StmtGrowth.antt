@@ -7,7 +7,7 @@ use Rattle.ep_gen_code.specs.Jumps.{landed}
 use Rattle.ep_gen_code.specs.declared.code.Code.{Code}
 use Rattle.ep_gen_unit.specs.StmtCode.{IsItemCode, AreItemsCode, IsStmtCode, AreStmtsCode, AreBoundsCode, IsFirstCode, IsTestCode, IsUndefineCode, IsLeastCode, IsKeptCode, IsBindCode, make_all_code, return_code, end_code, AreArmsCode, IsOtherCode}
 use Rattle.ep_gen_unit.specs.TagCode.{IsTriedCode, IsChangeCode, IsTakenCode}
-use Rattle.ep_gen_unit.specs.UnitCode.{AreRoutinesCode, AreTypesCode, elaborating_code, own_code, entry_of, its_end}
+use Rattle.ep_gen_unit.specs.UnitCode.{fill_code, swap_code, AreRoutinesCode, AreTypesCode, elaborating_code, own_code, entry_of, its_end}
 use Rattle.ep_object.specs.declared.code.CodeRoutine.{CodeRoutine}
 use Rattle.ep_object.specs.declared.code.Instr.{Instr}
 use Rattle.ep_object.specs.declared.code.Object.{Object}
@@ -161,6 +161,16 @@ pub record AppendsRoutines (old new : Code) (types : List UnitType) (rs : List U
   pub code : List Instr
   pub follows : Follows old new code
   pub blocks : AreRoutinesCode new.texts new.references new.instructions types rs entries
+
+-- The code that leaves two operands in the other order is appended, and this is its entry.
+pub record AppendsSwap (old new : Code) (entry : ℕ) : Type 0 where
+  pub starts : entry ≡ length old.instructions
+  pub follows : Follows old new swap_code
+
+-- The code that gives the value of a component of an array to others is appended, and this is its entry.
+pub record AppendsFill (old new : Code) (entry : ℕ) : Type 0 where
+  pub starts : entry ≡ length old.instructions
+  pub follows : Follows old new (fill_code entry)
 
 -- The code that elaborates a type is appended, and this is its entry.
 pub record AppendsType (old new : Code) (t : UnitType) (entry : ℕ) : Type 0 where

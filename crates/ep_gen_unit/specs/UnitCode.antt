@@ -1,8 +1,11 @@
 -- Which object is the code of a program: its start makes the variables and runs the block, its stop does nothing, and behind
--- them stands the code of its routines and of those that elaborate its types.
-use Rattle.std.specs.Prelude.{◌≡◌, ℕ, ◌+◌, false, List, [], ◌∷◌, ◌++◌, Some, length, slice_get}
-use Rattle.ep_gen_code.specs.Growth.{types_named}
-use Rattle.ep_gen_code.specs.Instructions.{bare}
+-- them stands the code of its routines, of the two that structured values call, and of those that elaborate its types.
+use Rattle.std.specs.Prelude.{◌≡◌, ℕ, pos, ◌+◌, false, List, [], ◌∷◌, ◌++◌, Some, length, slice_get}
+use Rattle.ep_gen_code.specs.Growth.{in_row}
+use Rattle.ep_gen_code.specs.Instructions.{bare, instr}
+use Rattle.ep_gen_code.specs.Referring.{type_reference}
+use Rattle.ep_gen_code.specs.declared.code.TheConstants as code
+use Rattle.ep_gen_code.specs.declared.references.TheConstants as routine
 use Rattle.ep_gen_type.specs.TypeCode.{type_code}
 use Rattle.ep_gen_unit.specs.StmtCode.{IsStmtCode, take_all_code, make_all_code, return_code, end_code}
 use Rattle.ep_object.specs.declared.code.CodeRoutine.{CodeRoutine}
@@ -10,7 +13,7 @@ use Rattle.ep_object.specs.declared.code.Instr.{Instr}
 use Rattle.ep_object.specs.declared.code.Object.{Object}
 use Rattle.ep_object.specs.declared.code.Reference.{Reference}
 use Rattle.ep_object.specs.declared.op.TheConstants as op
-use Rattle.ep_object.specs.Promises.{type_routine}
+use Rattle.ep_object.specs.Promises.{filling_code, swap_routine}
 use Rattle.ep_outside.specs.Known.{IsPrefix}
 use Rattle.ep_typed.specs.Denoters.{definition_of}
 use Rattle.ep_typed.specs.Meaning.{line_where}
@@ -79,21 +82,43 @@ pub record AreTypesCode (instructions : List Instr) (ts : List UnitType) (entrie
   pub count : length entries ≡ length ts
   pub each : (k : ℕ) (t : UnitType) (x : CodeRoutine) → slice_get ts k ≡ Some t → slice_get entries k ≡ Some x → IsTypeCode instructions t x
 
+-- the code that takes two operands, and leaves them in the other order
+abbrev pub swap_code : List Instr
+swap_code = instr op.ARG (pos 1) 0 code.NO_LINE ∷ instr op.ARG (pos 0) 0 code.NO_LINE ∷ return_code ∷ []
+
+-- at the entry of a routine that takes two operands stands that code
+pub record IsSwapCode (instructions : List Instr) (x : CodeRoutine) : Type 0 where
+  pub plain : x ≡ routine_at x.entry 2 0
+  pub stands : StandsIn instructions x.entry swap_code
+
+-- the code, at this place, that gives the value of a component of an array to others
+abbrev pub fill_code : ℕ → List Instr
+fill_code entry = filling_code entry routine.SWAP code.NO_LINE
+
+-- at the entry of a routine that takes four operands and has one slot stands that code
+pub record IsFillCode (instructions : List Instr) (x : CodeRoutine) : Type 0 where
+  pub plain : x ≡ routine_at x.entry 4 1
+  pub stands : StandsIn instructions x.entry (fill_code x.entry)
+
 -- the object of a program
 pub record IsProgramCode (u : TypedUnit) (o : Object) : Type 0 where
   -- the code of the block
   pub code : List Instr
   pub is_code : IsStmtCode o.texts o.references (length (make_all_code 0 (made_by_unit u))) (stmt_of u.start) code
-  -- the code of the routines, and of those that elaborate types
+  -- the code of the other routines
   pub others : List Instr
   pub instructions : o.instructions ≡ make_all_code 0 (made_by_unit u) ++ (code ++ return_code ∷ return_code ∷ others)
   pub entries : List CodeRoutine
   pub blocks : AreRoutinesCode o.texts o.references o.instructions u.types u.routines entries
+  pub swapping : CodeRoutine
+  pub swaps : IsSwapCode o.instructions swapping
+  pub filling : CodeRoutine
+  pub fills : IsFillCode o.instructions filling
   pub elaborating : List CodeRoutine
   pub types : AreTypesCode o.instructions u.types elaborating
-  -- the references to the latter, each of which has the number of the type
-  pub named : IsPrefix (types_named u.name (type_routine (length u.routines) 0) (length u.types)) o.references
-  pub routines : o.routines ≡ entries ++ plain_at 0 ∷ plain_at (length (make_all_code 0 (made_by_unit u)) + length code + 1) ∷ elaborating
+  -- the first references, to the routines behind the stop
+  pub named : IsPrefix (in_row u.name (swap_routine (length u.routines)) (type_reference (length u.types))) o.references
+  pub routines : o.routines ≡ entries ++ plain_at 0 ∷ plain_at (length (make_all_code 0 (made_by_unit u)) + length code + 1) ∷ swapping ∷ filling ∷ elaborating
   pub start : o.start ≡ length u.routines
   pub stop : o.stop ≡ length u.routines + 1
   pub unit_slots : o.unit_slots ≡ length (unit_variables u)

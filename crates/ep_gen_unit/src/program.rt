@@ -3,26 +3,31 @@
 ghost use Rattle.std.specs.Prelude.{◌≡◌, ◌+◌, ◌<◌, ◌^◌, OnOk, IfOk, length};
 ghost use Rattle.ep_gen_code.specs.Growth.{Grows};
 ghost use Rattle.ep_gen_unit.specs.StmtCode.{function_end, result_code, make_code, make_all_code, value_code, place_taken, take_code, take_all_code};
-ghost use Rattle.ep_gen_unit.specs.StmtGrowth.{AppendsEnd, AppendsStart, AppendsRoutine, AppendsRoutines, AppendsType, AppendsTypes, Follows, IsCompact, MakesBlock, MakesOwn, MakesResult, assembled};
+ghost use Rattle.ep_gen_unit.specs.StmtGrowth.{AppendsEnd, AppendsFill, AppendsStart, AppendsRoutine, AppendsRoutines, AppendsSwap, AppendsType, AppendsTypes, Follows, IsCompact, MakesBlock, MakesOwn, MakesResult, assembled};
 ghost use Rattle.ep_typed.specs.Auxiliaries.{block_auxiliaries, with_variables};
 ghost use Rattle.ep_typed.specs.Denoters.{host_of};
 ghost use Rattle.ep_typed.specs.Meaning.{line_where};
 ghost use Rattle.ep_typed.specs.Viewed.{denoter_of, stmt_of};
 ghost use Rattle.ep_gen_unit.specs.UnitCode.{IsProgramCode, routine_at};
+ghost use Rattle.ep_gen_code.specs.declared.references.TheConstants as routine;
+ghost use Rattle.ep_object.specs.Promises.{copying_code, next_code};
 
 use crate::statements::statement_code;
 use ep_base::{Line, List, Name, NoMemory};
-use ep_gen_code::{Code, NO_LINE, emit, field_number, next_place};
+use ep_gen_code::{Code, NO_LINE, SWAP, emit, field_number, next_place};
+use ep_gen_expr::apply_binary;
 use ep_gen_type::{elaborate, is_ordinal};
 use ep_object::{CodeRoutine, CodeRoutines, Object, op};
 use ep_typed::{
-    Denoter, Formal, FormalMode, TypedStmt, Unit, UnitRoutine, UnitType, UnitVariable,
+    Binary, Denoter, Formal, FormalMode, TypedStmt, Unit, UnitRoutine, UnitType, UnitVariable,
     block_auxiliaries, first_for, first_for_in, run_error, with_count,
 };
 use std::alloc::{AllocError, Global};
 
 /// The object of a program. Its first routines are those of the program, by their numbers; the one after them makes
-/// the variables and runs the block, the next one does nothing, and the others elaborate the types, by their numbers. Where memory is wanting, or the code or a table would reach 2 ^ 32 - 1 entries, the program is refused.
+/// the variables and runs the block, the next one does nothing, then there is one that leaves two operands in the other order and
+/// one that gives the value of a component of an array to others, and the last ones elaborate the types, by their numbers. Where
+/// memory is wanting, or the code or a table would reach 2 ^ 32 - 1 entries, the program is refused.
 pub fn program_code(alloc: Global, u: &Unit) -> Result<Object, NoMemory>
     ensures program { IfOk result (λ o. IsProgramCode u.now o) }
     ensures compact { IfOk result (λ o. IsCompact o) }
@@ -36,6 +41,10 @@ pub fn program_code(alloc: Global, u: &Unit) -> Result<Object, NoMemory>
     let start = field_number(routines.items().len())?;
     routines.push(routine_at(0, 0, 0))?;
     routines.push(routine_at(stop_entry, 0, 0))?;
+    let swap_entry = swap_code(&mut code)?;
+    routines.push(routine_at(swap_entry, 2, 0))?;
+    let fill_entry = fill_code(&mut code)?;
+    routines.push(routine_at(fill_entry, 4, 1))?;
     types_code(u.types.items(), &mut routines, &mut code)?;
     // A place of the code has to fit a field of an instruction.
     next_place(&code)?;
@@ -53,6 +62,62 @@ fn start_code(alloc: Global, u: &Unit, code: &mut Code) -> Result<u32, NoMemory>
     let stop_entry = next_place(code)?;
     emit(code, op::RETURN, 0, 0)?;
     Ok(stop_entry)
+}
+
+/// Appends the code of the routine that leaves two operands in the other order, and answers its entry.
+fn swap_code(code: &mut Code) -> Result<u32, NoMemory>
+    ensures { IfOk result (λ entry. AppendsSwap code.old code.new entry) }
+{
+    let entry = next_place(code)?;
+    code.line = NO_LINE;
+    emit(code, op::ARG, 1, 0)?;
+    emit(code, op::ARG, 0, 0)?;
+    emit(code, op::RETURN, 0, 0)?;
+    Ok(entry)
+}
+
+/// Appends the code of the routine that gives the value of a component of an array to others, and answers its entry.
+fn fill_code(code: &mut Code) -> Result<u32, NoMemory>
+    ensures { IfOk result (λ entry. AppendsFill code.old code.new entry) }
+{
+    let entry = next_place(code)?;
+    code.line = NO_LINE;
+    emit(code, op::ARG, 0, 0)?;
+    emit(code, op::BIND, 0, 0)?;
+    emit(code, op::PEEK, 2, 0)?;
+    copy_component(code)?;
+    next_component(entry, code)?;
+    Ok(entry)
+}
+
+/// Appends what stores the value of the component of which it is given in the one with the index on top, which stays there.
+fn copy_component(code: &mut Code) -> Result<(), NoMemory>
+    ensures { OnOk result (Grows code.old code.new (copying_code routine.SWAP code.old.line)) }
+{
+    emit(code, op::DUP, 0, 0)?;
+    emit(code, op::SLOT, 0, 0)?;
+    emit(code, op::CALL, SWAP as i64, 0)?;
+    emit(code, op::INDEX, 0, 0)?;
+    emit(code, op::SLOT, 0, 0)?;
+    emit(code, op::PEEK, 1, 0)?;
+    emit(code, op::INDEX, 0, 0)?;
+    emit(code, op::LOAD, 0, 0)?;
+    emit(code, op::STORE, 0, 0)
+}
+
+/// Appends what goes on with the next index, in the code that begins at this entry, or returns behind the last one.
+fn next_component(entry: u32, code: &mut Code) -> Result<(), NoMemory>
+    ensures { OnOk result (Grows code.old code.new (next_code entry code.old.line)) }
+{
+    emit(code, op::DUP, 0, 0)?;
+    emit(code, op::PEEK, 3, 0)?;
+    apply_binary(Binary::Less, code)?;
+    emit(code, op::JUMP_FALSE, (entry as u64 + 19) as i64, 0)?;
+    emit(code, op::PUSH, 1, 0)?;
+    emit(code, op::ADD, 0, 0)?;
+    emit(code, op::JUMP, (entry as u64 + 3) as i64, 0)?;
+    emit(code, op::DROP, 0, 0)?;
+    emit(code, op::RETURN, 0, 0)
 }
 
 /// Appends the code of the routines that elaborate these types, and their entries to the others.

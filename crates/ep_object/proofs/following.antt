@@ -2,9 +2,11 @@ pub mod Bind
 pub mod Calling
 pub mod Choices
 pub mod Declaring
+pub mod Filling
 pub mod Fragments
 pub mod Losing
 pub mod Routines
 pub mod Promising
 pub mod Simulating
+pub mod Swapping
 pub mod Weights

@@ -1,3 +1,4 @@
+pub mod Assigned
 pub mod Awaiting
 pub mod BareValues
 pub mod Beginning
@@ -8,6 +9,7 @@ pub mod Elements
 pub mod Endings
 pub mod Growing
 pub mod HiddenWords
+pub mod Indexes
 pub mod Levels
 pub mod Likes
 pub mod Names

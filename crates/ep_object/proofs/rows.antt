@@ -7,6 +7,7 @@ pub mod FrameRows
 pub mod IndexRow
 pub mod InitialRow
 pub mod MakeRow
+pub mod NamelessRows
 pub mod Meeting
 pub mod NewTypes
 pub mod OwnRows

@@ -1,6 +1,6 @@
 -- What a routine promises to the code that calls it, whoever made either. It is said over the `Call` instruction, from
 -- before it to after the instruction that leaves the routine, whose tick may have an effect as any other.
-use Rattle.std.specs.Prelude.{◌≡◌, ℕ, ℤ, pos, ◌+◌, ◌*◌, ◌≤◌, ◌⊎◌, IsTrue, List, [], ◌∷◌, Option, Some, None, length, slice_get, ⊤}
+use Rattle.std.specs.Prelude.{◌≡◌, ℕ, ℤ, pos, ◌+◌, ◌*◌, ◌≤◌, ◌<◌, ◌⊎◌, IsTrue, List, [], ◌∷◌, ◌++◌, Option, Some, None, length, slice_get, ⊤}
 use Rattle.ep_typed.specs.Denoters.{bare_type_of}
 use Rattle.ep_typed.specs.Viewed.{denoter_of}
 use Rattle.ep_typed.specs.declared.interface.Formal.{Formal}
@@ -17,9 +17,13 @@ use Rattle.ep_object.specs.Runs.{run, unit_in}
 use Rattle.ep_object.specs.Simulates.{KeepPace, StaysIn, EndsAfter, StaysAfter}
 use Rattle.ep_object.specs.State.{State, Running}
 use Rattle.ep_object.specs.Table as table
-use Rattle.ep_object.specs.Table.{op_of}
+use Rattle.ep_object.specs.Table.{instr, op_of}
+use Rattle.ep_object.specs.WordRows.{less}
 use Rattle.ep_object.specs.declared.code.Image.{Image}
+use Rattle.ep_object.specs.declared.code.ImageRoutine.{ImageRoutine}
 use Rattle.ep_object.specs.declared.code.Instr.{Instr}
+use Rattle.ep_object.specs.declared.op.TheConstants as op
+use Rattle.ep_object.specs.Routines.{routine_of}
 use Rattle.ep_object.specs.declared.state.Place.{Place as PlaceOf}
 use Rattle.ep_object.specs.Placing.{Placement, placed_call}
 use Rattle.ep_typed.specs.Calls.{Argument, Value, Variable, Handler}
@@ -144,10 +148,18 @@ pub record RoutineKeeps (declared : Declarations) (G : Image) (ps : List Placeme
   pub placed : (i : Instr) → placed_call ps (Some (record { unit = unit; number = number })) i ≡ record i { a = pos routine }
   pub promise : Promises declared G routine n (declared.types unit) (declared.around unit number) formals results (λ from line levels arguments. call.routine from line (record { unit = unit; number = number; levels = levels }) arguments)
 
--- the number, among the routines of a unit that has so many of its own, of the one that elaborates the type of this number:
--- they stand behind its own ones, its start and its stop
+-- the number, among the routines of a unit that has so many of its own, of the one that leaves two operands in the other order:
+-- it stands behind them, its start and its stop
+abbrev pub swap_routine : ℕ → ℕ
+swap_routine routines = routines + 2
+
+-- of the one that gives the value of a component of an array to others, which stands behind it
+abbrev pub fill_routine : ℕ → ℕ
+fill_routine routines = routines + 3
+
+-- and of the one that elaborates the type of this number, which stand behind that
 abbrev pub type_routine : ℕ → ℕ → ℕ
-type_routine routines index = routines + 2 + index
+type_routine routines index = routines + 4 + index
 
 -- the credit behind the elaboration of a type
 abbrev pub type_credit : ℕ
@@ -167,12 +179,82 @@ pub record TypeKeeps (declared : Declarations) (G : Image) (ps : List Placement)
       (point injection memory place below) (call.named_type unit line index) (place + 1)
       (λ a. Inside (kept_slots declared G) injection memory (TypeOnTop t below a)) 0 (λ a. type_credit)
 
--- every routine that is declared does so, and so does that of every type that has a type value
+-- The routine of this number in the image takes two operands, has no slots, and begins at a place where the upper one is taken
+-- out first, then the lower one, and then it returns: it leaves the two in the other order.
+pub record IsSwap (G : Image) (routine : ℕ) : Type 0 where
+  pub its : ImageRoutine
+  pub there : routine_of G routine ≡ Some its
+  pub numbered : routine < length G.routines
+  pub takes : its.arguments ≡ 2
+  pub line : ℕ
+  pub first : slice_get G.instructions its.entry ≡ Some (instr op.ARG (pos 1) 0 line)
+  pub second : slice_get G.instructions (its.entry + 1) ≡ Some (instr op.ARG (pos 0) 0 line)
+  pub returns : slice_get G.instructions (its.entry + 1 + 1) ≡ Some (instr op.RETURN (pos 0) 0 line)
+
+-- A unit with so many routines has such a routine in the image, by which a call that names it is placed.
+pub record SwapStands (G : Image) (ps : List Placement) (unit : List ℕ) (routines : ℕ) : Type 0 where
+  pub routine : ℕ
+  pub swaps : IsSwap G routine
+  pub placed : (i : Instr) → placed_call ps (Some (record { unit = unit; number = swap_routine routines })) i ≡ record i { a = pos routine }
+
+-- In the routine that gives the value of a component of an array to others, with the index on top of one that gets it, which stays
+-- there: the index is doubled, and the place of the array gets below it by a call of the routine with this number, which leaves two
+-- operands in the other order; then the value is loaded and stored.
+abbrev pub copying_code : (swap line : ℕ) → List Instr
+copying_code swap line =
+    instr op.DUP (pos 0) 0 line ∷ instr op.SLOT (pos 0) 0 line ∷ instr op.CALL (pos swap) 0 line ∷ instr op.INDEX (pos 0) 0 line
+    ∷ instr op.SLOT (pos 0) 0 line ∷ instr op.PEEK (pos 1) 0 line ∷ instr op.INDEX (pos 0) 0 line
+    ∷ instr op.LOAD (pos 0) 0 line ∷ instr op.STORE (pos 0) 0 line ∷ []
+
+-- behind that: the next index, where this one is below the last one, and else the end of the routine, which has this entry
+abbrev pub next_code : (entry line : ℕ) → List Instr
+next_code entry line =
+    instr op.DUP (pos 0) 0 line ∷ instr op.PEEK (pos 3) 0 line ∷ instr op.CMP less 0 line ∷ instr op.JUMP_FALSE (pos (entry + 19)) 0 line
+    ∷ instr op.PUSH (pos 1) 0 line ∷ instr op.ADD (pos 0) 0 line ∷ instr op.JUMP (pos (entry + 3)) 0 line
+    ∷ instr op.DROP (pos 0) 0 line ∷ instr op.RETURN (pos 0) 0 line ∷ []
+
+-- a turn, and what is behind it
+abbrev pub turning_code : (entry swap line : ℕ) → List Instr
+turning_code entry swap line = copying_code swap line ++ next_code entry line
+
+-- The code of that routine. It takes the place of the array, which goes into its slot, the index of the component that has the value,
+-- and the indexes of the first and of the last one that get it.
+abbrev pub filling_code : (entry swap line : ℕ) → List Instr
+filling_code entry swap line =
+    instr op.ARG (pos 0) 0 line ∷ instr op.BIND (pos 0) 0 line ∷ instr op.PEEK (pos 2) 0 line ∷ turning_code entry swap line
+
+-- these instructions stand in the image from this place on
+abbrev pub StandFrom : Image → ℕ → List Instr → Type 0
+StandFrom G place [] = ⊤
+StandFrom G place (i ∷ is) = (slice_get G.instructions place ≡ Some i) × StandFrom G (place + 1) is
+
+-- The routine of this number in the image takes four operands, has one slot, and has that code.
+pub record IsFill (G : Image) (routine : ℕ) : Type 0 where
+  pub its : ImageRoutine
+  pub there : routine_of G routine ≡ Some its
+  pub numbered : routine < length G.routines
+  pub takes : its.arguments ≡ 4
+  pub has_slot : its.slots ≡ 1
+  pub swap : ℕ
+  pub swaps : IsSwap G swap
+  pub line : ℕ
+  pub stands : StandFrom G its.entry (filling_code its.entry swap line)
+
+-- A unit with so many routines has such a routine in the image, by which a call that names it is placed.
+pub record FillStands (G : Image) (ps : List Placement) (unit : List ℕ) (routines : ℕ) : Type 0 where
+  pub routine : ℕ
+  pub fills : IsFill G routine
+  pub placed : (i : Instr) → placed_call ps (Some (record { unit = unit; number = fill_routine routines })) i ≡ record i { a = pos routine }
+
+-- Every routine that is declared does so, and so does that of every type that has a type value. Each unit with types has the
+-- routine that leaves two operands in the other order, and the one that gives the value of a component to others.
 pub record CallsAreKept (declared : Declarations) (G : Image) (ps : List Placement) (call : Handler) (n : ℕ) : Type 0 where
   pub routines : (unit : List ℕ) (number : ℕ) (r : RoutineEntry)
       → slice_get (declared.routines unit) number ≡ Some r → RoutineKeeps declared G ps call n unit number r
   pub types : (unit : List ℕ) (index : ℕ) (t : TypeValue)
       → IsTyped (declared.types unit) (Named index []) t → TypeKeeps declared G ps call n unit index t
+  pub swaps : (unit : List ℕ) → 0 < length (declared.types unit) → SwapStands G ps unit (length (declared.routines unit))
+  pub fills : (unit : List ℕ) → 0 < length (declared.types unit) → FillStands G ps unit (length (declared.routines unit))
 
 -- ---- what this says of runs from a call
 

@@ -50,6 +50,10 @@ impl Drop for Composition {
 pub struct ArrayType {
     /// The host of its index type.
     pub index: Host,
+    /// The least value of its index type.
+    pub low: i64,
+    /// The greatest one.
+    pub high: i64,
     /// The type of its components.
     pub component: TypeName,
     /// Their kind.

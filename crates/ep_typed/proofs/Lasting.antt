@@ -1,9 +1,10 @@
 -- With more steps, and more turns of its loops, a computation comes to the same, or goes on from where it was cut.
-use Rattle.std.proofs.Common.{◌≡◌, ℕ, ℤ, pos, negsuc, zero, suc, ◌+◌, List, [], ◌∷◌, Option, Some, None, Bool, true, false, length, refl, ap, arith}
+use Rattle.std.proofs.Common.{◌≡◌, ℕ, ℤ, pos, negsuc, zero, suc, ◌+◌, ◌*◌, List, [], ◌∷◌, Option, Some, None, Bool, true, false, length, refl, ap, arith}
 use Rattle.std.specs.Prelude.{if◌then◌else◌}
 use Rattle.ep_typed.specs.Controls.{in_order, next_value, has_more, others}
 use Rattle.ep_typed.specs.Denoters.{definition_of, required_type, subrange_type, enumeration_type, array_type, set_type, start_by}
-use Rattle.ep_typed.specs.Meaning.{clears, clears_all, tag_tested, selected_by, selected_now, is_another, changes_variant, sets_tag, assigns_tag, looks, argument, arguments, extended, collected, members_found, one_result, weights_of, results_given, initialized, takes_by, takes_all, elaborate, elaborate_each, answered, indexed, selected, selecting, selects, chosen, active, part, place, eval, write_piece, write_wide, write_item, write_items, assign, turns, turns_until, assigns, undefines, turns_to, counts, takes_least, member_turn, names, exec, exec_all, elaborated, elaborated_where, make, make_all, make_own, make_all_own, start_of, starts_of, routine_in, type_in, line_where, activation, runs_routine, routine_does, type_does, handler_of, read, assign_living, tried, exec_arms, exec_other, begins, begins_where}
+use Rattle.ep_typed.specs.Meaning.{clears, clears_all, tag_tested, selected_by, selected_now, is_another, changes_variant, sets_tag, assigns_tag, looks, argument, arguments, extended, collected, first_located, located, reached, given, taken, gives, gives_all, members_found, one_result, weights_of, results_given, initialized, takes_by, takes_all, elaborate, elaborate_each, answered, indexed, selected, selecting, selects, chosen, active, part, place, eval, write_piece, write_wide, write_item, write_items, assign, turns, turns_until, assigns, undefines, turns_to, counts, takes_least, member_turn, names, exec, exec_all, elaborated, elaborated_where, make, make_all, make_own, make_all_own, start_of, starts_of, routine_in, type_in, line_where, activation, runs_routine, routine_does, type_does, handler_of, read, assign_living, tried, exec_arms, exec_other, begins, begins_where}
+use Rattle.ep_typed.specs.Nameless.{begins_nameless, fills, fills_all, newest_nameless, range_count}
 use Rattle.ep_typed.specs.Operations.{Answer, Number, Fault, is_same, is_true, decides, is_in}
 use Rattle.ep_typed.specs.Printing.{Result, number_of, members_of, plain_text, wide_text, piece_events}
 use Rattle.ep_typed.specs.Printing as result
@@ -15,7 +16,7 @@ use Rattle.ep_typed.specs.Steps.{Value as ValueOf}
 use Rattle.ep_typed.specs.SetOperations.{set_answer}
 use Rattle.ep_typed.specs.Sets.{least_member, with_number, with_numbers}
 use Rattle.ep_typed.specs.Results.{misfit, result_of, suits, unresulting, value_of, weight_of}
-use Rattle.ep_typed.specs.Trees.{Array, Enumeration, Subrange, Named, Record, Set, Required, Denoter, Denoters, no_denoter, next_denoter, Callee, Place, Variable, Own, Standard, Indexed, Field, Variant, Expr, Constant, Text, Read, One, Two, Short, Step, Function, IndexedValue, FieldValue, SetOf, OnSets, Card, Designator, Single, Range, Designators, no_member, next_member, Actual, Evaluated, Accessed, Actuals, no_actual, next_actual, Item, Plain, Wide, Stmt, Stmts, Empty, Compound, Assign, Tagging, AssignTag, If, While, Repeat, Control, For, MemberControl, ForIn, With, Procedure, Halt, Write, none, next, Case, Arms, no_arm, next_arm, Other, no_other, otherwise_do, Entire, OfUnit, OfRoutine, entire, SetConstant, Initial, constant_expr}
+use Rattle.ep_typed.specs.Trees.{Array, Enumeration, Subrange, Named, Record, Set, Required, Denoter, Denoters, no_denoter, next_denoter, Callee, Place, Variable, Own, Standard, Indexed, Field, Variant, Expr, Constant, Text, Read, One, Two, Short, Step, Function, IndexedValue, FieldValue, SetOf, OnSets, Card, Designator, Single, Range, Designators, no_member, next_member, Actual, Evaluated, Accessed, Actuals, no_actual, next_actual, Item, Plain, Wide, Stmt, Stmts, Empty, Compound, Assign, Tagging, AssignTag, If, While, Repeat, Control, For, MemberControl, ForIn, With, Procedure, Halt, Write, none, next, Case, Arms, no_arm, next_arm, Other, no_other, otherwise_do, Entire, OfUnit, OfRoutine, entire, SetConstant, Initial, constant_expr, Structured, Element, AtIndex, AtField, SameField, AtRanges, Elements, no_element, next_element}
 use Rattle.ep_typed.specs.Routines.{made_variables, made_by_unit}
 use Rattle.ep_typed.specs.Viewed.{denoter_of, stmt_of}
 use Rattle.ep_typed.specs.declared.interface.Formal.{Formal}
@@ -32,7 +33,7 @@ use Rattle.ep_typed.specs.declared.tree.Selection.{Selection}
 use Rattle.ep_typed.specs.TypeValues as type
 use Rattle.ep_typed.specs.TypeValues.{TypeValue, set_size, Start}
 use Rattle.ep_typed.specs.Laws.{IsLonger, MeaningsLast}
-use Rattle.ep_typed.proofs.Steady.{steady_looks, grows_refl, grows_trans, grows_quiet, grows_events, grows_type, grows_counted, grows_made, grows_made_own, steady_give, steady_cut, steady_stop, steady_bind, steady_spend, steady_change, steady_fetch, steady_fetch_or, steady_turns, steady_turns_until, steady_turns_to, steady_in_call, steady_handler_of, steady_using, steady_assign_living}
+use Rattle.ep_typed.proofs.Steady.{grows_depth, grows_ended, grows_nameless, grows_range, steady_given_living, steady_looks, grows_refl, grows_trans, grows_quiet, grows_events, grows_type, grows_counted, grows_made, grows_made_own, steady_give, steady_cut, steady_stop, steady_bind, steady_spend, steady_change, steady_fetch, steady_fetch_or, steady_turns, steady_turns_until, steady_turns_to, steady_in_call, steady_handler_of, steady_using, steady_assign_living}
 use Rattle.ep_typed.specs.declared.run_error.TheConstants as run_error
 
 -- What one computation comes to, another one comes to with more steps.
@@ -161,6 +162,22 @@ lasting_selects : {A : Type 0} (call other : Handler) (h i : ℕ) (unit : List �
     → Lasting (selects call h unit s z chosen none) (selects other i unit s z chosen2 none2)
 lasting_selects call other h i unit s z x y = lasting_selecting call other h i unit z s.labels 0 x (lasting_if s.completed (x (length s.labels)) y)
 
+-- a variable without a name
+lasting_newest_nameless : (t : TypeValue) → Lasting (newest_nameless t) (newest_nameless t)
+lasting_newest_nameless t = record { steady = record { by = λ m s. grows_nameless t s }; by = λ m k s. refl }
+
+lasting_begins_nameless : (t : TypeValue) → Lasting (begins_nameless t) (begins_nameless t)
+lasting_begins_nameless t =
+    lasting_bind {c = change (counted t)} {f = λ _. spend (suc (size_of t + size_of t)) (newest_nameless t)} (lasting_change (grows_counted t)) (λ _. lasting_spend (suc (size_of t + size_of t)) (lasting_newest_nameless t))
+
+-- one value of many components
+lasting_fills : (c : Component) (r : Result) (range : CaseRange) → Lasting (fills c r range) (fills c r range)
+lasting_fills c r range = lasting_bind (lasting_change grows_depth) (λ _. lasting_spend (suc (range_count range * suc (weight_of r))) (lasting_change (grows_range c range (value_of r))))
+
+lasting_fills_all : (c : Component) (r : Result) (ranges : List CaseRange) → Lasting (fills_all c r ranges) (fills_all c r ranges)
+lasting_fills_all c r [] = lasting_give tt
+lasting_fills_all c r (range ∷ more) = lasting_bind (lasting_fills c r range) (λ _. lasting_fills_all c r more)
+
 -- ---- the forms
 
 module _ (call other : Handler) (lasts : IsLastingHandler call other) (g j : ℕ) (unit : List ℕ) where
@@ -201,6 +218,28 @@ module _ (call other : Handler) (lasts : IsLastingHandler call other) (g j : ℕ
   lasting_members_found : (line : ℕ) (o : Option (List ℕ)) → Lasting (members_found call g unit line o) (members_found other (g + j) unit line o)
   lasting_members_found line o = lasting_fetch (Error run_error.SET_MEMBER unit line) (λ s. o)
 
+  -- what a component of a structured value under way is given
+  lasting_located : (line : ℕ) (c : Component) (z : ℤ) → Lasting (located call g unit line c z) (located other (g + j) unit line c z)
+  lasting_located line c z = lasting_using _ c.allocation (lasting_bind (lasting_fetch _ _) (λ k. lasting_give (component c k)))
+
+  lasting_first_located : (line : ℕ) (c : Component) (ranges : List CaseRange) → Lasting (first_located call g unit line c ranges) (first_located other (g + j) unit line c ranges)
+  lasting_first_located line c [] = lasting_cut
+  lasting_first_located line c (r ∷ more) = lasting_located line c r.low
+
+  lasting_reached : (line : ℕ) (c : Component) (steps : List ℕ) → Lasting (reached call g unit line c steps) (reached other (g + j) unit line c steps)
+  lasting_reached line c [] = lasting_give c
+  lasting_reached line c (k ∷ ks) = lasting_bind (lasting_selected line c k) (λ d. lasting_reached line d ks)
+
+  lasting_given : (line : ℕ) (c : Component) (r : Result) → Lasting (given call g unit line c r) (given other (g + j) unit line c r)
+  lasting_given line c r = lasting_using _ c.allocation (record { steady = steady_given_living other lasts.steady (g + j) unit line c r; by = λ m k s. go m k s (suits (type_at c s) r) })
+    where
+      go : (m k : ℕ) (s : State) (b : Bool) → IsLonger k ((if b then spend (suc (weight_of r)) (change (assigned c (value_of r))) else stop (Error (misfit r) unit line)) m s) ((if b then spend (suc (weight_of r)) (change (assigned c (value_of r))) else stop (Error (misfit r) unit line)) (m + k) s)
+      go m k s true = let x = lasting_spend (suc (weight_of r)) (lasting_change (λ t. grows_quiet t (assigned c (value_of r) t) refl refl)) in x.by m k s
+      go m k s false = refl
+
+  lasting_taken : (line n : ℕ) → Lasting (taken call g unit line n) (taken other (g + j) unit line n)
+  lasting_taken line n = lasting_using _ n (lasting_bind (lasting_fetch _ _) (λ r. lasting_bind (lasting_change grows_depth) (λ _. lasting_bind (lasting_change (grows_ended (n ∷ []))) (λ _. lasting_give r))))
+
   mutual
     -- a place
     lasting_place : (line : ℕ) (p : Place) → Lasting (place call g unit line p) (place other (g + j) unit line p)
@@ -232,6 +271,20 @@ module _ (call other : Handler) (lasts : IsLastingHandler call other) (g j : ℕ
     lasting_eval line (SetOf ds) = lasting_spend 1 (lasting_bind (lasting_collected line [] ds) (λ ms. lasting_give (result.Members ms)))
     lasting_eval line (OnSets operation x y) = lasting_bind (lasting_eval line x) (λ a. lasting_bind (lasting_eval line y) (λ b. lasting_spend 1 (lasting_give (set_answer operation a b))))
     lasting_eval line (Card x) = lasting_bind (lasting_eval line x) (λ a. lasting_spend 1 (lasting_give (result.Number (pos (length (members_of a))))))
+    lasting_eval line (Structured of es) =
+        lasting_bind (lasts.named_type unit line of) (λ t. lasting_bind (lasting_begins_nameless t) (λ n. lasting_bind (lasting_gives_all line (whole n) es) (λ _. lasting_taken line n)))
+
+    -- what components are given
+    lasting_gives : (line : ℕ) (c : Component) (e : Element) → Lasting (gives call g unit line c e) (gives other (g + j) unit line c e)
+    lasting_gives line c (AtIndex x y) = lasting_bind (lasting_eval line x) (λ z. lasting_bind (lasting_located line c (number_of z)) (λ d. lasting_bind (lasting_eval line y) (lasting_given line d)))
+    lasting_gives line c (AtField steps x) = lasting_bind (lasting_reached line c steps) (λ d. lasting_bind (lasting_eval line x) (lasting_given line d))
+    lasting_gives line c (SameField from to) = lasting_bind (lasting_reached line c to) (λ d. lasting_bind (lasting_change grows_depth) (λ _. lasting_bind (lasting_reached line c from) (λ source. lasting_bind (lasting_read line source) (lasting_given line d))))
+    lasting_gives line c (AtRanges ranges x) =
+        lasting_bind (lasting_first_located line c ranges) (λ d. lasting_bind (lasting_eval line x) (λ r. lasting_bind (lasting_given line d r) (λ _. lasting_fills_all c r ranges)))
+
+    lasting_gives_all : (line : ℕ) (c : Component) (es : Elements) → Lasting (gives_all call g unit line c es) (gives_all other (g + j) unit line c es)
+    lasting_gives_all line c no_element = lasting_give tt
+    lasting_gives_all line c (next_element e more) = lasting_bind (lasting_gives line c e) (λ _. lasting_gives_all line c more)
 
     -- arguments
     lasting_argument : (line : ℕ) (a : Actual) → Lasting (argument call g unit line a) (argument other (g + j) unit line a)

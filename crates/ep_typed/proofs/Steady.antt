@@ -1,24 +1,25 @@
 -- No computation takes back an event, or room that was lost.
-use Rattle.std.proofs.Common.{◌≡◌, ℕ, ℤ, pos, negsuc, zero, suc, ◌+◌, List, [], ◌∷◌, ◌++◌, Option, Some, None, Bool, true, false, IsTrue, length, refl, sym, ap, ◌∙◌, append_assoc, append-nil}
+use Rattle.std.proofs.Common.{◌≡◌, ℕ, ℤ, pos, negsuc, zero, suc, ◌+◌, ◌*◌, List, [], ◌∷◌, ◌++◌, Option, Some, None, Bool, true, false, IsTrue, length, refl, sym, ap, ◌∙◌, append_assoc, append-nil}
 use Rattle.std.specs.Prelude.{if◌then◌else◌}
 use Rattle.std.specs.List.{list_any}
 use Rattle.ep_outside.specs.Known.{IsPrefix}
 use Rattle.ep_typed.specs.Controls.{in_order, next_value, has_more, others}
 use Rattle.ep_typed.specs.Denoters.{definition_of, required_type, subrange_type, enumeration_type, array_type, set_type, start_by}
 use Rattle.ep_typed.specs.Events.{Trace}
-use Rattle.ep_typed.specs.Meaning.{clears, clears_all, tag_tested, selected_by, selected_now, is_another, changes_variant, sets_tag, assigns_tag, looks, argument, arguments, extended, collected, members_found, one_result, weights_of, result_at, results_given, initialized, takes_by, takes_all, elaborate, elaborate_each, answered, indexed, selected, selecting, selects, chosen, active, part, place, eval, write_piece, write_wide, write_item, write_items, assign, turns, turns_until, assigns, undefines, turns_to, counts, takes_least, member_turn, names, exec, exec_all, elaborated, elaborated_where, make, make_all, make_own, make_all_own, start_of, starts_of, routine_in, type_in, line_where, activation, runs_routine, routine_does, type_does, handler_of, read, assign_living, tried, exec_arms, exec_other, begins, begins_where}
+use Rattle.ep_typed.specs.Meaning.{clears, clears_all, tag_tested, selected_by, selected_now, is_another, changes_variant, sets_tag, assigns_tag, looks, argument, arguments, extended, collected, first_located, located, reached, given_living, given, taken, gives, gives_all, members_found, one_result, weights_of, result_at, results_given, initialized, takes_by, takes_all, elaborate, elaborate_each, answered, indexed, selected, selecting, selects, chosen, active, part, place, eval, write_piece, write_wide, write_item, write_items, assign, turns, turns_until, assigns, undefines, turns_to, counts, takes_least, member_turn, names, exec, exec_all, elaborated, elaborated_where, make, make_all, make_own, make_all_own, start_of, starts_of, routine_in, type_in, line_where, activation, runs_routine, routine_does, type_does, handler_of, read, assign_living, tried, exec_arms, exec_other, begins, begins_where}
+use Rattle.ep_typed.specs.Nameless.{all_assigned, assigned_from, begins_nameless, fills, fills_all, made_nameless, newest_nameless, range_assigned, range_count, takes_nameless, with_depth}
 use Rattle.ep_typed.specs.Operations.{Answer, Number, Fault, is_same, is_true, decides, is_in}
 use Rattle.ep_typed.specs.Printing.{Result, number_of, members_of, plain_text, wide_text, piece_events}
 use Rattle.ep_typed.specs.Printing as result
 use Rattle.ep_typed.specs.Calls.{Argument, Value, Handler, activation_words, entered, given_back, in_call}
 use Rattle.ep_typed.specs.Calls as argument_is
 use Rattle.ep_typed.specs.Steady.{Grows, Steady, IsSteadyHandler}
-use Rattle.ep_typed.specs.Steps.{Call, End, Normal, Halted, Error, Undefined, State, Outcome, Gives, Ends, Cut, state_of, Computation, give, cut, stop, go_on, bind, spend, change, found, fetch, fetch_or, with_events, assigned, type_at, Component, component, is_number, variant_number, whole, size_of, same_type, Resources, watched, words_of_type, sized, met, with_type, counted, made, made_own, allocate, allocate_own, newest_assigned, with_bound, with_own_bound, standard_file, using, has_ended, own_variable, is_within, variants_count}
+use Rattle.ep_typed.specs.Steps.{Call, End, Normal, Halted, Error, Undefined, State, Outcome, Gives, Ends, Cut, state_of, Computation, give, cut, stop, go_on, bind, spend, change, found, fetch, fetch_or, with_events, assigned, type_at, Component, component, component_number, is_number, variant_number, whole, size_of, same_type, Resources, watched, words_of_type, sized, met, with_type, counted, made, made_own, allocate, allocate_own, newest_assigned, with_bound, with_own_bound, standard_file, using, has_ended, own_variable, is_within, variants_count, with_all_ended}
 use Rattle.ep_typed.specs.Steps.{Value as ValueOf}
 use Rattle.ep_typed.specs.SetOperations.{set_answer}
 use Rattle.ep_typed.specs.Sets.{least_member, with_number, with_numbers}
 use Rattle.ep_typed.specs.Results.{misfit, result_of, suits, unresulting, value_of, weight_of}
-use Rattle.ep_typed.specs.Trees.{Array, Enumeration, Subrange, Named, Record, Set, Required, Denoter, Denoters, no_denoter, next_denoter, Callee, Place, Variable, Own, Standard, Indexed, Field, Variant, Expr, Constant, Text, Read, One, Two, Short, Step, Function, IndexedValue, FieldValue, SetOf, OnSets, Card, Designator, Single, Range, Designators, no_member, next_member, Actual, Evaluated, Accessed, Actuals, no_actual, next_actual, Item, Plain, Wide, Stmt, Stmts, Empty, Compound, Assign, Tagging, AssignTag, If, While, Repeat, Control, For, MemberControl, ForIn, With, Procedure, Halt, Write, none, next, Case, Arms, no_arm, next_arm, Other, no_other, otherwise_do, Entire, OfUnit, OfRoutine, entire, SetConstant, Initial, constant_expr}
+use Rattle.ep_typed.specs.Trees.{Array, Enumeration, Subrange, Named, Record, Set, Required, Denoter, Denoters, no_denoter, next_denoter, Callee, Place, Variable, Own, Standard, Indexed, Field, Variant, Expr, Constant, Text, Read, One, Two, Short, Step, Function, IndexedValue, FieldValue, SetOf, OnSets, Card, Designator, Single, Range, Designators, no_member, next_member, Actual, Evaluated, Accessed, Actuals, no_actual, next_actual, Item, Plain, Wide, Stmt, Stmts, Empty, Compound, Assign, Tagging, AssignTag, If, While, Repeat, Control, For, MemberControl, ForIn, With, Procedure, Halt, Write, none, next, Case, Arms, no_arm, next_arm, Other, no_other, otherwise_do, Entire, OfUnit, OfRoutine, entire, SetConstant, Initial, constant_expr, Structured, Element, AtIndex, AtField, SameField, AtRanges, Elements, no_element, next_element}
 use Rattle.ep_typed.specs.Routines.{made_variables, made_by_unit}
 use Rattle.ep_typed.specs.Viewed.{denoter_of, stmt_of}
 use Rattle.ep_typed.specs.declared.interface.Formal.{Formal}
@@ -193,6 +194,43 @@ steady_selects call h unit s z x y = steady_selecting call h unit z s.labels 0 x
 pub steady_looks : (v : Component) → Steady (looks v)
 steady_looks v = record { by = λ m s. grows_refl s }
 
+-- a variable without a name that is made
+pub grows_nameless : (t : TypeValue) (s : State) → Grows s (made_nameless t s)
+grows_nameless t s = grows_quiet s (made_nameless t s) refl refl
+
+pub steady_begins_nameless : (t : TypeValue) → Steady (begins_nameless t)
+steady_begins_nameless t =
+    steady_bind {c = change (counted t)} {f = λ _. spend (suc (size_of t + size_of t)) (newest_nameless t)} (steady_change (grows_counted t)) (λ _. steady_spend (suc (size_of t + size_of t)) (record { by = λ m s. grows_nameless t s }))
+
+-- and that ends
+pub grows_depth : (s : State) → Grows s (with_depth s)
+grows_depth s = record { events = record { rest = []; is = sym (append-nil s.trace) }; lost = λ h. rw h refl }
+
+-- one value of many components
+grows_all_assigned : (c : Component) (k n : ℕ) (value : ValueOf) (s : State) → Grows s (all_assigned c k n value s)
+grows_all_assigned c k zero value s = grows_refl s
+grows_all_assigned c k (suc n) value s = grows_trans (grows_quiet s (assigned (component c k) value s) refl refl) (grows_all_assigned c (suc k) n value (assigned (component c k) value s))
+
+pub grows_range : (c : Component) (range : CaseRange) (value : ValueOf) (s : State) → Grows s (range_assigned c range value s)
+grows_range c range value s = go (component_number (type_at c s) range.low)
+  where
+    go : (o : Option ℕ) → Grows s (assigned_from c o (range_count range) value s)
+    go None = grows_refl s
+    go (Some k) = grows_all_assigned c k (range_count range) value s
+
+pub steady_fills : (c : Component) (r : Result) (range : CaseRange) → Steady (fills c r range)
+steady_fills c r range = steady_bind (steady_change grows_depth) (λ _. steady_spend (suc (range_count range * suc (weight_of r))) (steady_change (grows_range c range (value_of r))))
+
+pub steady_fills_all : (c : Component) (r : Result) (ranges : List CaseRange) → Steady (fills_all c r ranges)
+steady_fills_all c r [] = steady_give tt
+steady_fills_all c r (range ∷ more) = steady_bind (steady_fills c r range) (λ _. steady_fills_all c r more)
+
+pub grows_ended : (ns : List ℕ) (s : State) → Grows s (with_all_ended ns s)
+grows_ended ns s = record { events = record { rest = []; is = sym (append-nil s.trace) }; lost = λ h. h }
+
+pub steady_takes : (ended undefined : End) (n : ℕ) → Steady (takes_nameless ended undefined n)
+steady_takes ended undefined n = steady_using ended n (steady_bind (steady_fetch undefined (result_of (whole n))) (λ r. steady_bind (steady_change grows_depth) (λ _. steady_bind (steady_change (grows_ended (n ∷ []))) (λ _. steady_give r))))
+
 -- ---- the forms
 
 module _ (call : Handler) (steady : IsSteadyHandler call) (g : ℕ) (unit : List ℕ) where
@@ -234,6 +272,32 @@ module _ (call : Handler) (steady : IsSteadyHandler call) (g : ℕ) (unit : List
   steady_members_found : (line : ℕ) (o : Option (List ℕ)) → Steady (members_found call g unit line o)
   steady_members_found line o = steady_fetch (Error run_error.SET_MEMBER unit line) (λ s. o)
 
+  -- what a component of a structured value under way is given
+  pub steady_located : (line : ℕ) (c : Component) (z : ℤ) → Steady (located call g unit line c z)
+  steady_located line c z = steady_using _ c.allocation (steady_bind (steady_fetch _ _) (λ k. steady_give (component c k)))
+
+  steady_first_located : (line : ℕ) (c : Component) (ranges : List CaseRange) → Steady (first_located call g unit line c ranges)
+  steady_first_located line c [] = steady_cut
+  steady_first_located line c (r ∷ more) = steady_located line c r.low
+
+  pub steady_reached : (line : ℕ) (c : Component) (steps : List ℕ) → Steady (reached call g unit line c steps)
+  steady_reached line c [] = steady_give c
+  steady_reached line c (k ∷ ks) = steady_bind (steady_selected line c k) (λ d. steady_reached line d ks)
+
+  pub steady_given_living : (line : ℕ) (c : Component) (r : Result) → Steady (given_living call g unit line c r)
+  steady_given_living line c r = record { by = λ m s. go m s (suits (type_at c s) r) }
+    where
+      go : (m : ℕ) (s : State) (b : Bool) → Grows s (state_of ((if b then spend (suc (weight_of r)) (change (assigned c (value_of r))) else stop (Error (misfit r) unit line)) m s))
+      go m s true = let x = steady_spend (suc (weight_of r)) (steady_change (λ t. grows_quiet t (assigned c (value_of r) t) refl refl)) in x.by m s
+      go m s false = grows_refl s
+
+  pub steady_given : (line : ℕ) (c : Component) (r : Result) → Steady (given call g unit line c r)
+  steady_given line c r = steady_using _ c.allocation (steady_given_living line c r)
+
+  -- and what it is in the end
+  pub steady_taken : (line n : ℕ) → Steady (taken call g unit line n)
+  steady_taken line n = steady_takes _ _ n
+
   mutual
     -- a place
     pub steady_place : (line : ℕ) (p : Place) → Steady (place call g unit line p)
@@ -264,6 +328,19 @@ module _ (call : Handler) (steady : IsSteadyHandler call) (g : ℕ) (unit : List
     steady_eval line (SetOf ds) = steady_spend 1 (steady_bind (steady_collected line [] ds) (λ ms. steady_give (result.Members ms)))
     steady_eval line (OnSets operation x y) = steady_bind (steady_eval line x) (λ a. steady_bind (steady_eval line y) (λ b. steady_spend 1 (steady_give (set_answer operation a b))))
     steady_eval line (Card x) = steady_bind (steady_eval line x) (λ a. steady_spend 1 (steady_give (result.Number (pos (length (members_of a))))))
+    steady_eval line (Structured of es) =
+        steady_bind (steady.named_type unit line of) (λ t. steady_bind (steady_begins_nameless t) (λ n. steady_bind (steady_gives_all line (whole n) es) (λ _. steady_taken line n)))
+
+    -- what components are given
+    pub steady_gives : (line : ℕ) (c : Component) (e : Element) → Steady (gives call g unit line c e)
+    steady_gives line c (AtIndex x y) = steady_bind (steady_eval line x) (λ z. steady_bind (steady_located line c (number_of z)) (λ d. steady_bind (steady_eval line y) (steady_given line d)))
+    steady_gives line c (AtField steps x) = steady_bind (steady_reached line c steps) (λ d. steady_bind (steady_eval line x) (steady_given line d))
+    steady_gives line c (SameField from to) = steady_bind (steady_reached line c to) (λ d. steady_bind (steady_change grows_depth) (λ _. steady_bind (steady_reached line c from) (λ source. steady_bind (steady_read line source) (steady_given line d))))
+    steady_gives line c (AtRanges ranges x) = steady_bind (steady_first_located line c ranges) (λ d. steady_bind (steady_eval line x) (λ r. steady_bind (steady_given line d r) (λ _. steady_fills_all c r ranges)))
+
+    pub steady_gives_all : (line : ℕ) (c : Component) (es : Elements) → Steady (gives_all call g unit line c es)
+    steady_gives_all line c no_element = steady_give tt
+    steady_gives_all line c (next_element e more) = steady_bind (steady_gives line c e) (λ _. steady_gives_all line c more)
 
     -- arguments
     steady_argument : (line : ℕ) (a : Actual) → Steady (argument call g unit line a)

@@ -7,6 +7,7 @@ pub mod Events
 pub mod Hosts
 pub mod Laws
 pub mod Meaning
+pub mod Nameless
 pub mod Nodes
 pub mod Operations
 pub mod Printing

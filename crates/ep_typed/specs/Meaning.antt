@@ -5,11 +5,12 @@ use Rattle.ep_typed.specs.Calls.{Argument, Value, Handler, activation_words, in_
 use Rattle.ep_typed.specs.Calls as argument_is
 use Rattle.ep_typed.specs.Controls.{in_order, next_value, has_more, others}
 use Rattle.ep_typed.specs.Denoters.{required_type, subrange_type, enumeration_type, array_type, set_type, definition_of, start_by}
-use Rattle.ep_typed.specs.Trees.{Denoter, Required, Named, Subrange, Enumeration, Array, Record, Denoters, no_denoter, next_denoter, Set, Initial, constant_expr, Callee, Place, Variable, Own, Standard, Indexed, Field, Variant, Expr, Constant, Text, Read, One, Two, Short, Step, Function, IndexedValue, FieldValue, SetOf, OnSets, Card, Designator, Single, Range, Designators, no_member, next_member, Actual, Evaluated, Accessed, Actuals, no_actual, next_actual, Item, Plain, Wide, Stmt, Stmts, Empty, Compound, Assign, Tagging, AssignTag, If, While, Repeat, Control, For, MemberControl, ForIn, With, Procedure, Halt, Write, none, next, Case, Arms, no_arm, next_arm, Other, no_other, otherwise_do, Entire, OfUnit, OfRoutine, entire, SetConstant}
+use Rattle.ep_typed.specs.Trees.{Denoter, Required, Named, Subrange, Enumeration, Array, Record, Denoters, no_denoter, next_denoter, Set, Initial, constant_expr, Callee, Place, Variable, Own, Standard, Indexed, Field, Variant, Expr, Constant, Text, Read, One, Two, Short, Step, Function, IndexedValue, FieldValue, SetOf, OnSets, Card, Designator, Single, Range, Designators, no_member, next_member, Actual, Evaluated, Accessed, Actuals, no_actual, next_actual, Item, Plain, Wide, Stmt, Stmts, Empty, Compound, Assign, Tagging, AssignTag, If, While, Repeat, Control, For, MemberControl, ForIn, With, Procedure, Halt, Write, none, next, Case, Arms, no_arm, next_arm, Other, no_other, otherwise_do, Entire, OfUnit, OfRoutine, entire, SetConstant, Structured, Element, AtIndex, AtField, SameField, AtRanges, Elements, no_element, next_element}
 use Rattle.ep_typed.specs.Routines.{made_variables, made_by_unit}
 use Rattle.ep_typed.specs.Viewed.{denoter_of, stmt_of}
 use Rattle.ep_typed.specs.Steps.{Call, Normal, Halted, Error, Undefined, Outcome, Computation, give, cut, stop, bind, spend, change, fetch, fetch_or, with_events, assigned, type_at, whole, Component, component, component_number, is_number, tag_of, variant_number, with_type, allocate, allocate_own, own_variable, newest_assigned, with_bound, with_own_bound, standard_file, first_state, using, is_within, size_of, variants_count}
 use Rattle.ep_typed.specs.Operations.{Answer, Number, Fault, unary_answer, binary_answer, step_answer, is_same, is_true, decides, is_in}
+use Rattle.ep_typed.specs.Nameless.{begins_nameless, fills_all, takes_nameless, with_depth}
 use Rattle.ep_typed.specs.Printing.{Result, Bytes, number_of, members_of, line_end, plain_text, wide_text, piece_events}
 use Rattle.ep_typed.specs.Printing as result
 use Rattle.ep_typed.specs.Results.{misfit, part_at, part_of, result_of, suits, unresulting, value_of, weight_of}
@@ -103,6 +104,33 @@ module _ (call : Handler) (g : ℕ) (unit : List ℕ) where
   abbrev pub members_found : ℕ → Option (List ℕ) → Computation (List ℕ)
   members_found line o = fetch (Error run_error.SET_MEMBER unit line) (λ s. o)
 
+  -- The component of a structured value under way that is given next, at an index: an error where that is outside of the
+  -- bounds. No step is spent for it.
+  abbrev pub located : ℕ → Component → ℤ → Computation Component
+  located line c z =
+      using (Error run_error.DISPOSED unit line) c.allocation (bind (fetch (Error run_error.INDEX unit line) (λ s. component_number (type_at c s) z)) (λ k. give (component c k)))
+
+  -- the one at the first index in some ranges
+  abbrev pub first_located : ℕ → Component → List CaseRange → Computation Component
+  first_located line c [] = cut
+  first_located line c (r ∷ more) = located line c r.low
+
+  -- the one to which steps lead, each of which spends a step as the place of a field does
+  abbrev pub reached : ℕ → Component → List ℕ → Computation Component
+  reached line c [] = give c
+  reached line c (k ∷ ks) = bind (selected line c k) (λ d. reached line d ks)
+
+  -- It is given a value, as an assignment gives one, which spends a step and what the value weighs.
+  abbrev pub given_living : ℕ → Component → Result → Computation (Unit {0})
+  given_living line c r m s = (if suits (type_at c s) r then spend (suc (weight_of r)) (change (assigned c (value_of r))) else stop (Error (misfit r) unit line)) m s
+
+  abbrev pub given : ℕ → Component → Result → Computation (Unit {0})
+  given line c r = using (Error run_error.DISPOSED unit line) c.allocation (given_living line c r)
+
+  -- what it is when all is given, which ends it
+  abbrev pub taken : ℕ → ℕ → Computation Result
+  taken line n = takes_nameless (Error run_error.DISPOSED unit line) (Error run_error.UNDEFINED_VALUE unit line) n
+
   abbrev mutual
     -- a place is a variable; an undefined value where that is not made yet
     pub place : ℕ → Place → Computation Component
@@ -134,6 +162,22 @@ module _ (call : Handler) (g : ℕ) (unit : List ℕ) where
     eval line (SetOf ds) = spend 1 (bind (collected line [] ds) (λ ms. give (result.Members ms)))
     eval line (OnSets operation x y) = bind (eval line x) (λ a. bind (eval line y) (λ b. spend 1 (give (set_answer operation a b))))
     eval line (Card x) = bind (eval line x) (λ a. spend 1 (give (result.Number (pos (length (members_of a))))))
+    -- a structured value: its type is elaborated, a variable of it is made without a name, is given its components, and is taken
+    eval line (Structured of es) = bind (call.named_type unit line of) (λ t. bind (begins_nameless t) (λ n. bind (gives_all line (whole n) es) (λ _. taken line n)))
+
+    -- a component of a structured value under way: which one it is, and then its value
+    pub gives : ℕ → Component → Element → Computation (Unit {0})
+    gives line c (AtIndex x y) = bind (eval line x) (λ z. bind (located line c (number_of z)) (λ d. bind (eval line y) (given line d)))
+    gives line c (AtField steps x) = bind (reached line c steps) (λ d. bind (eval line x) (given line d))
+    -- between the two components a call is under way on the machine, whose depth counts
+    gives line c (SameField from to) = bind (reached line c to) (λ d. bind (change with_depth) (λ _. bind (reached line c from) (λ source. bind (read line source) (given line d))))
+    -- the first of the components is given the value, and then all of them have it
+    gives line c (AtRanges ranges x) = bind (first_located line c ranges) (λ d. bind (eval line x) (λ r. bind (given line d r) (λ _. fills_all c r ranges)))
+
+    -- in order
+    pub gives_all : ℕ → Component → Elements → Computation (Unit {0})
+    gives_all line c no_element = give tt
+    gives_all line c (next_element e more) = bind (gives line c e) (λ _. gives_all line c more)
 
     -- an argument: a value, or a variable (ISO 10206, 6.7.3)
     pub argument : ℕ → Actual → Computation Argument

@@ -89,6 +89,24 @@ mutual
     OnSets : (operation : SetOperation) (left right : Expr) → Expr
     -- how many members a set has
     Card : (operand : Expr) → Expr
+    -- a structured value (ISO 10206, 6.8.7.1): the type at this place of the unit's list of types, and what its components are
+    -- given
+    Structured : (of : ℕ) (elements : Elements) → Expr
+
+  -- What a component of a structured value is given: the one of an array at an index, or the one of a record to which steps
+  -- lead, each the number of a component.
+  pub data Element : Type 0 where
+    AtIndex : (index value : Expr) → Element
+    AtField : (steps : List ℕ) (value : Expr) → Element
+    -- the component to which the second steps lead, which is given what that has to which the first lead
+    SameField : (from to : List ℕ) → Element
+    -- the components of an array at the indexes in ranges, which are all given one value
+    AtRanges : (ranges : List CaseRange) (value : Expr) → Element
+
+  -- what components are given, in order
+  pub data Elements : Type 0 where
+    no_element : Elements
+    next_element : (first : Element) (rest : Elements) → Elements
 
   -- an actual parameter: the value of an expression, or a variable that is accessed
   pub data Actual : Type 0 where
@@ -113,6 +131,10 @@ mutual
 abbrev pub designators : List Designator → Designators
 designators [] = no_member
 designators (d ∷ more) = next_member d (designators more)
+
+abbrev pub elements : List Element → Elements
+elements [] = no_element
+elements (e ∷ more) = next_element e (elements more)
 
 -- a constant as an expression
 abbrev pub constant_expr : Value → Expr

@@ -9,7 +9,7 @@ use Rattle.ep_typed.specs.Results.{has_base_for}
 use Rattle.ep_typed.specs.Sets.{IsSet, are_between, is_ordinal}
 use Rattle.ep_typed.specs.Steps.{is_within, variant_number, variants_count}
 use Rattle.ep_typed.specs.Trees as tree
-use Rattle.ep_typed.specs.Trees.{Fixed, Denoter, Required, Named, Subrange, Enumeration, Array, Record, Denoters, no_denoter, next_denoter, Initial, Callee, Place, Variable, Own, Standard, Indexed, Field, Variant, Expr, Constant, Text, Read, One, Two, Short, Step, Function, IndexedValue, FieldValue, SetOf, OnSets, Card, Designator, Single, Range, Designators, no_member, next_member, Actual, Evaluated, Accessed, Actuals, no_actual, next_actual, Item, Plain, Wide, Stmt, Stmts, Empty, Compound, Assign, Tagging, AssignTag, If, While, Repeat, Control, For, MemberControl, ForIn, With, Procedure, Halt, Write, none, next, Case, Arms, no_arm, next_arm, Other, no_other, otherwise_do, Entire, OfUnit, OfRoutine, entire, SetConstant}
+use Rattle.ep_typed.specs.Trees.{Fixed, Denoter, Required, Named, Subrange, Enumeration, Array, Record, Denoters, no_denoter, next_denoter, Initial, Callee, Place, Variable, Own, Standard, Indexed, Field, Variant, Expr, Constant, Text, Read, One, Two, Short, Step, Function, IndexedValue, FieldValue, SetOf, OnSets, Card, Designator, Single, Range, Designators, no_member, next_member, Actual, Evaluated, Accessed, Actuals, no_actual, next_actual, Item, Plain, Wide, Stmt, Stmts, Empty, Compound, Assign, Tagging, AssignTag, If, While, Repeat, Control, For, MemberControl, ForIn, With, Procedure, Halt, Write, none, next, Case, Arms, no_arm, next_arm, Other, no_other, otherwise_do, Entire, OfUnit, OfRoutine, entire, SetConstant, Element, AtIndex, AtField, SameField, AtRanges, Elements, no_element, next_element}
 pub use Rattle.ep_typed.specs.Routines.{heading_of, formal_variable, variables_of, unit_variables}
 use Rattle.ep_typed.specs.Routines.{first_with, made_by_unit}
 use Rattle.ep_typed.specs.Viewed.{denoter_of, stmt_of}
@@ -87,6 +87,20 @@ IsTypeOfKind (Ordinal h) t = IsTypeOf h t
 IsTypeOfKind Bytes t = ⊥
 IsTypeOfKind (Structured u) t = (u ≡ t) × IsStructured u
 IsTypeOfKind (Set h) t = IsSetOf h t
+
+-- the indexes of a range are in order, and lie within these bounds
+abbrev pub IsRangeWithin : ℤ → ℤ → CaseRange → Type 0
+IsRangeWithin low high r = IsTrue (int_le low r.low) × IsTrue (int_le r.low r.high) × IsTrue (int_le r.high high)
+
+-- the steps, of which there is at least one, lead through records from one with these components to a component of the type
+abbrev pub LeadTo : ComponentTypes → List ℕ → TypeValue → Type 0
+LeadTo ts [] of = ⊥
+LeadTo ts (k ∷ []) of = type_among ts k ≡ Some of
+LeadTo ts (k ∷ j ∷ more) of = (us : ComponentTypes) × (type_among ts k ≡ Some (type.Record us)) × LeadTo us (j ∷ more) of
+
+-- they lead to one whose values are of the kind
+abbrev pub LeadToKind : ComponentTypes → List ℕ → Kind → Type 0
+LeadToKind ts steps kind = (of : TypeValue) × LeadTo ts steps of × IsTypeOfKind kind of
 
 -- a routine by its number, with its variables, and the first number of those that no code makes
 pub record Level : Type 0 where
@@ -233,12 +247,50 @@ abbrev pub labels_joined : List (List CaseRange) → List CaseRange
 labels_joined [] = []
 labels_joined (ranges ∷ more) = ranges ++ labels_joined more
 
+-- Under a list of types the constant may be the initial state of a type, whose values it may still lie outside of: a value of
+-- the host of an ordinal type, or a set over that of a set type (ISO 10206, 6.6).
+abbrev pub IsStartFor : List UnitType → Denoter → Value → Type 0
+IsStartFor types d (value.Word w) = (h : Host) × (host_of types d ≡ Some h) × IsTrue (is_of_host h w)
+IsStartFor types d (value.Text bytes) = ⊥
+IsStartFor types d (value.Set ms) = (h : Host) × IsOfKind (Set h) types d × IsSet ms × IsTrue (are_between (least h) (greatest h) ms)
+
+-- The denoter has the type value and breaks no rule: the bounds of a subrange are in order and of its host, and an
+-- enumeration has no more constants than there are integers; the values of a set's base type may be members; an initial state is
+-- one for the type.
+mutual
+  pub data IsTyped (types : List UnitType) : Denoter → TypeValue → Type 0 where
+    required : (r : RequiredType) → IsTyped types (Required r) (required_type r)
+    named : (index : ℕ) (t : UnitType) {v : TypeValue} → slice_get types index ≡ Some t → IsTyped types (definition_of t) v → IsTyped types (Named index []) v
+    subrange : (of : Denoter) (low high : ℤ) (h : Host) → host_of types of ≡ Some h → IsTypeOf h (type.Ordinal low high)
+        → IsTyped types (Subrange of (Fixed low) (Fixed high)) (type.Ordinal low high)
+    enumeration : (first : List ℕ) (others : List (List ℕ)) → IsTrue (is_integer (pos (length others)))
+        → IsTyped types (Enumeration (first ∷ others)) (type.Ordinal (pos 0) (pos (length others)))
+    array : (index component : Denoter) (i : TypeValue) (low high : ℤ) (of : TypeValue) → IsTyped types index i → bare_of i ≡ type.Ordinal low high
+        → IsTyped types component of → IsTyped types (Array index component) (type.Array low high of)
+    components : (ds : Denoters) (ts : ComponentTypes) → AreTyped types ds ts → IsTyped types (Record ds) (type.Record ts)
+    set : (base : Denoter) (b : TypeValue) (low high : ℤ) → IsTyped types base b → bare_of b ≡ type.Ordinal low high → IsTrue (is_ordinal low) → IsTrue (is_ordinal high)
+        → IsTyped types (tree.Set base) (type.Set low high)
+    initial : (of : Denoter) (v : Value) (t : TypeValue) (start : Start) → IsTyped types of t → start_by v ≡ Some start → IsStartFor types of v
+        → IsTyped types (Initial of v) (type.Initial t start)
+
+  -- one for one
+  pub data AreTyped (types : List UnitType) : Denoters → ComponentTypes → Type 0 where
+    none_typed : AreTyped types no_denoter type.no_component
+    next_typed : (d : Denoter) (ds : Denoters) (t : TypeValue) (ts : ComponentTypes) → IsTyped types d t → AreTyped types ds ts
+        → AreTyped types (next_denoter d ds) (type.next_component t ts)
+
+-- under a list of types a valid denoter has a type value
+pub record IsDenoter (types : List UnitType) (d : Denoter) : Type 0 where
+  pub type_value : TypeValue
+  pub has_type : type_of types d ≡ Some type_value
+  pub typed : IsTyped types d type_value
+
 module _ (declared : Declarations) where
   -- the first value of a range is not above the last one, and both are of the host
   abbrev pub IsRange : Host → CaseRange → Type 0
   IsRange h r = IsTrue (int_le r.low r.high) × IsTrue (is_of_host h r.low) × IsTrue (is_of_host h r.high)
 
-  -- an arm or a variant has at least one range
+  -- an arm, a variant or one value of an array has at least one range
   abbrev pub HasRange : List CaseRange → Type 0
   HasRange [] = ⊥
   HasRange (r ∷ rs) = ⊤
@@ -286,7 +338,23 @@ module _ (declared : Declarations) where
     IsExpr kind (SetOf ds) = (h : Host) × (kind ≡ Set h) × AreDesignators h ds
     IsExpr kind (OnSets operation x y) = (k l : Kind) × IsOnSets operation k l kind × IsExpr k x × IsExpr l y
     IsExpr kind (Card x) = (h : Host) × (kind ≡ Ordinal host.Integer) × IsExpr (Set h) x
+    -- a structured value of an array or record type of the unit in whose code it stands
+    IsExpr kind (tree.Structured of es) =
+        (d : IsDenoter declared.routine_types (Named of [])) × (kind ≡ Structured (bare_of d.type_value)) × IsStructured (bare_of d.type_value) × AreElements (bare_of d.type_value) es
     IsExpr kind (FieldValue x number) = (ts : ComponentTypes) × (of : TypeValue) × IsExpr (Structured (type.Record ts)) x × (type_among ts number ≡ Some of) × IsTypeOfKind kind of
+
+    -- what a component of the type is given is of a kind that it may have
+    pub IsElement : TypeValue → Element → Type 0
+    IsElement (type.Array low high of) (AtIndex x y) = ((h : Host) × IsTypeOf h (type.Ordinal low high) × IsExpr (Ordinal h) x) × ((k : Kind) × IsTypeOfKind k of × IsExpr k y)
+    IsElement (type.Record ts) (AtField steps x) = (k : Kind) × LeadToKind ts steps k × IsExpr k x
+    IsElement (type.Record ts) (SameField from to) = (k : Kind) × LeadToKind ts from k × LeadToKind ts to k
+    IsElement (type.Array low high of) (AtRanges ranges x) =
+        ((h : Host) × IsTypeOf h (type.Ordinal low high)) × HasRange ranges × All (IsRangeWithin low high) ranges × ((k : Kind) × IsTypeOfKind k of × IsExpr k x)
+    IsElement t e = ⊥
+
+    pub AreElements : TypeValue → Elements → Type 0
+    AreElements t no_element = ⊤
+    AreElements t (next_element e more) = IsElement t e × AreElements t more
 
     -- what a designator gives is of the host
     pub IsDesignator : Host → Designator → Type 0
@@ -412,44 +480,6 @@ abbrev mutual
   pub AreTypeValues : ComponentTypes → Type 0
   AreTypeValues type.no_component = ⊤
   AreTypeValues (type.next_component t ts) = IsTypeValue t × AreTypeValues ts
-
--- Under a list of types the constant may be the initial state of a type, whose values it may still lie outside of: a value of
--- the host of an ordinal type, or a set over that of a set type (ISO 10206, 6.6).
-abbrev pub IsStartFor : List UnitType → Denoter → Value → Type 0
-IsStartFor types d (value.Word w) = (h : Host) × (host_of types d ≡ Some h) × IsTrue (is_of_host h w)
-IsStartFor types d (value.Text bytes) = ⊥
-IsStartFor types d (value.Set ms) = (h : Host) × IsOfKind (Set h) types d × IsSet ms × IsTrue (are_between (least h) (greatest h) ms)
-
--- The denoter has the type value and breaks no rule: the bounds of a subrange are in order and of its host, and an
--- enumeration has no more constants than there are integers; the values of a set's base type may be members; an initial state is
--- one for the type.
-mutual
-  pub data IsTyped (types : List UnitType) : Denoter → TypeValue → Type 0 where
-    required : (r : RequiredType) → IsTyped types (Required r) (required_type r)
-    named : (index : ℕ) (t : UnitType) {v : TypeValue} → slice_get types index ≡ Some t → IsTyped types (definition_of t) v → IsTyped types (Named index []) v
-    subrange : (of : Denoter) (low high : ℤ) (h : Host) → host_of types of ≡ Some h → IsTypeOf h (type.Ordinal low high)
-        → IsTyped types (Subrange of (Fixed low) (Fixed high)) (type.Ordinal low high)
-    enumeration : (first : List ℕ) (others : List (List ℕ)) → IsTrue (is_integer (pos (length others)))
-        → IsTyped types (Enumeration (first ∷ others)) (type.Ordinal (pos 0) (pos (length others)))
-    array : (index component : Denoter) (i : TypeValue) (low high : ℤ) (of : TypeValue) → IsTyped types index i → bare_of i ≡ type.Ordinal low high
-        → IsTyped types component of → IsTyped types (Array index component) (type.Array low high of)
-    components : (ds : Denoters) (ts : ComponentTypes) → AreTyped types ds ts → IsTyped types (Record ds) (type.Record ts)
-    set : (base : Denoter) (b : TypeValue) (low high : ℤ) → IsTyped types base b → bare_of b ≡ type.Ordinal low high → IsTrue (is_ordinal low) → IsTrue (is_ordinal high)
-        → IsTyped types (tree.Set base) (type.Set low high)
-    initial : (of : Denoter) (v : Value) (t : TypeValue) (start : Start) → IsTyped types of t → start_by v ≡ Some start → IsStartFor types of v
-        → IsTyped types (Initial of v) (type.Initial t start)
-
-  -- one for one
-  pub data AreTyped (types : List UnitType) : Denoters → ComponentTypes → Type 0 where
-    none_typed : AreTyped types no_denoter type.no_component
-    next_typed : (d : Denoter) (ds : Denoters) (t : TypeValue) (ts : ComponentTypes) → IsTyped types d t → AreTyped types ds ts
-        → AreTyped types (next_denoter d ds) (type.next_component t ts)
-
--- under a list of types a valid denoter has a type value
-pub record IsDenoter (types : List UnitType) (d : Denoter) : Type 0 where
-  pub type_value : TypeValue
-  pub has_type : type_of types d ≡ Some type_value
-  pub typed : IsTyped types d type_value
 
 -- under a list of types the denoter is that of an ordinal type
 pub record IsOrdinal (types : List UnitType) (d : Denoter) : Type 0 where

@@ -19,8 +19,9 @@ use Rattle.ep_typed.specs.declared.tree.Callee.{Callee}
 use Rattle.ep_typed.specs.declared.tree.TypedPlace.{TypedPlace}
 use Rattle.ep_typed.specs.declared.tree.TypedExpr.{TypedExpr}
 use Rattle.ep_typed.specs.declared.tree.Actual.TheOpen as expr
-use Rattle.ep_typed.specs.declared.tree.Actual.TheOpen.{Actual-F, MemberDesignator-F, TypedExpr-F, TypedPlace-F}
-use Rattle.ep_typed.specs.declared.tree.Actual.TheFolds.{fold-Actual, fold-MemberDesignator, fold-TypedExpr, fold-TypedPlace}
+use Rattle.ep_typed.specs.declared.tree.Actual.TheOpen.{Actual-F, Element-F, MemberDesignator-F, TypedExpr-F, TypedPlace-F}
+use Rattle.ep_typed.specs.declared.tree.Actual.TheFolds.{fold-Actual, fold-Element, fold-MemberDesignator, fold-TypedExpr, fold-TypedPlace}
+use Rattle.ep_typed.specs.declared.tree.Element.{Element}
 use Rattle.ep_typed.specs.declared.tree.MemberDesignator.{MemberDesignator}
 use Rattle.ep_typed.specs.declared.tree.WriteItem.{WriteItem}
 use Rattle.ep_typed.specs.declared.tree.EntireVariable.{EntireVariable}
@@ -100,7 +101,7 @@ variants_of = fold-VariantPart tree.Denoter tree.Denoter (List tree.Denoter) tre
 abbrev pub callee_of : Callee → tree.Callee
 callee_of c = record { unit = c.unit; number = c.number; levels = c.levels }
 
-abbrev pub place_step : TypedPlace-F tree.Actual tree.Designator tree.Expr tree.Place → tree.Place
+abbrev pub place_step : TypedPlace-F tree.Actual tree.Element tree.Designator tree.Expr tree.Place → tree.Place
 place_step (expr.«TypedPlace::Variable» unit number) = tree.Variable unit number
 place_step (expr.Own levels number) = tree.Own levels number
 place_step (expr.Standard file) = tree.Standard file
@@ -108,7 +109,7 @@ place_step (expr.Indexed array index) = tree.Indexed array index
 place_step (expr.Field whole number) = tree.Field whole number
 place_step (expr.Variant whole selection number) = tree.Variant whole selection number
 
-abbrev pub expr_step : TypedExpr-F tree.Actual tree.Designator tree.Expr tree.Place → tree.Expr
+abbrev pub expr_step : TypedExpr-F tree.Actual tree.Element tree.Designator tree.Expr tree.Place → tree.Expr
 expr_step (expr.Constant value) = tree.Constant value
 expr_step (expr.Text bytes) = tree.Text bytes
 expr_step (expr.Read place) = tree.Read place
@@ -123,26 +124,36 @@ expr_step (expr.SetConstant members) = tree.SetConstant members
 expr_step (expr.Set members) = tree.SetOf (tree.designators members)
 expr_step (expr.OnSets operation left right) = tree.OnSets operation left right
 expr_step (expr.Card operand) = tree.Card operand
+expr_step (expr.Structured of elements) = tree.Structured of (tree.elements elements)
 
-abbrev pub actual_step : Actual-F tree.Actual tree.Designator tree.Expr tree.Place → tree.Actual
+abbrev pub element_step : Element-F tree.Actual tree.Element tree.Designator tree.Expr tree.Place → tree.Element
+element_step (expr.AtIndex index value) = tree.AtIndex index value
+element_step (expr.AtField steps value) = tree.AtField steps value
+element_step (expr.SameField from to) = tree.SameField from to
+element_step (expr.AtRanges ranges value) = tree.AtRanges ranges value
+
+abbrev pub actual_step : Actual-F tree.Actual tree.Element tree.Designator tree.Expr tree.Place → tree.Actual
 actual_step (expr.Value value) = tree.Evaluated value
 actual_step (expr.«Actual::Variable» place) = tree.Accessed place
 
-abbrev pub designator_step : MemberDesignator-F tree.Actual tree.Designator tree.Expr tree.Place → tree.Designator
+abbrev pub designator_step : MemberDesignator-F tree.Actual tree.Element tree.Designator tree.Expr tree.Place → tree.Designator
 designator_step (expr.Single value) = tree.Single value
 designator_step (expr.Range first last) = tree.Range first last
 
 abbrev pub place_of : TypedPlace → tree.Place
-place_of = fold-TypedPlace tree.Actual tree.Designator tree.Expr tree.Place actual_step designator_step expr_step place_step
+place_of = fold-TypedPlace tree.Actual tree.Element tree.Designator tree.Expr tree.Place actual_step element_step designator_step expr_step place_step
 
 abbrev pub expr_of : TypedExpr → tree.Expr
-expr_of = fold-TypedExpr tree.Actual tree.Designator tree.Expr tree.Place actual_step designator_step expr_step place_step
+expr_of = fold-TypedExpr tree.Actual tree.Element tree.Designator tree.Expr tree.Place actual_step element_step designator_step expr_step place_step
 
 abbrev pub actual_of : Actual → tree.Actual
-actual_of = fold-Actual tree.Actual tree.Designator tree.Expr tree.Place actual_step designator_step expr_step place_step
+actual_of = fold-Actual tree.Actual tree.Element tree.Designator tree.Expr tree.Place actual_step element_step designator_step expr_step place_step
 
 abbrev pub designator_of : MemberDesignator → tree.Designator
-designator_of = fold-MemberDesignator tree.Actual tree.Designator tree.Expr tree.Place actual_step designator_step expr_step place_step
+designator_of = fold-MemberDesignator tree.Actual tree.Element tree.Designator tree.Expr tree.Place actual_step element_step designator_step expr_step place_step
+
+abbrev pub element_of : Element → tree.Element
+element_of = fold-Element tree.Actual tree.Element tree.Designator tree.Expr tree.Place actual_step element_step designator_step expr_step place_step
 
 abbrev pub wide : Print → TypedExpr → Option TypedExpr → tree.Item
 wide print value None = tree.Plain print (expr_of value)

@@ -34,9 +34,10 @@ pub use laws::{laws_of_denoters, laws_of_meanings};
 pub use nodes::unit_nodes;
 pub use operations::{Binary, Print, SetOperation, ShortOperation, Unary};
 pub use tree::{
-    Actual, Actuals, Callee, CaseArm, CaseArms, CaseRange, CaseRanges, EntireVariable, ForControl,
-    MemberControl, MemberDesignator, MemberDesignators, Selection, StandardFile, TagControl,
-    TypedExpr, TypedExprs, TypedPlace, TypedStmt, TypedStmts, VariantLabels, WriteItem, WriteItems,
+    Actual, Actuals, Callee, CaseArm, CaseArms, CaseRange, CaseRanges, ComponentSteps, Element,
+    Elements, EntireVariable, ForControl, MemberControl, MemberDesignator, MemberDesignators,
+    Selection, StandardFile, TagControl, TypedExpr, TypedExprs, TypedPlace, TypedStmt, TypedStmts,
+    VariantLabels, WriteItem, WriteItems,
 };
 pub use unit::{
     RoutineNumbers, Unit, UnitRoutine, UnitRoutines, UnitType, UnitTypes, UnitVariable,

@@ -2,14 +2,14 @@
 
 ghost use Rattle.std.specs.Prelude.{◌≡◌, min, map, sum};
 ghost use Rattle.ep_typed.specs.Nodes as nodes;
-ghost use Rattle.ep_typed.specs.Viewed.{actual_of, arm_of, designator_of, entire_of, expr_of, item_of, place_of, stmt_of};
+ghost use Rattle.ep_typed.specs.Viewed.{actual_of, arm_of, designator_of, element_of, entire_of, expr_of, item_of, place_of, stmt_of};
 ghost use Rattle.ep_typed.specs.Trees as tree;
 ghost use Rattle.ep_typed.specs.Trees.{stmts};
 
 use crate::denoter::{Denoter, FieldPart, RecordField, Selector, Variant, VariantPart};
 use crate::interface::{ConstantEntry, Formal, RoutineResult, SchemaFormal};
 use crate::tree::{
-    Actual, CaseArm, CaseRanges, EntireVariable, MemberDesignator, TypedExpr, TypedPlace,
+    Actual, CaseArm, CaseRanges, Element, EntireVariable, MemberDesignator, TypedExpr, TypedPlace,
     TypedStmt, WriteItem,
 };
 use crate::unit::{Unit, UnitRoutine, UnitType, UnitVariable};
@@ -473,6 +473,7 @@ fn expression(x: &TypedExpr) -> u64
                 .saturating_add(1)
         }
         TypedExpr::Card(operand) => expression(operand.get()).saturating_add(1),
+        TypedExpr::Structured(_, given) => elements(given.items()).saturating_add(1),
     }
 }
 
@@ -496,5 +497,38 @@ fn designator(d: &MemberDesignator) -> u64
         MemberDesignator::Range(first, last) => {
             expression(first.get()).saturating_add(expression(last.get()))
         }
+    }
+}
+
+#[cycle(expressions)]
+fn elements(all: &[Element]) -> u64
+    ensures { result ≡ min (nodes.elements_nodes (tree.elements (map element_of all.now))) u64.MAX }
+{
+    let mut total = 0;
+    for e in all {
+        total = element(e).saturating_add(total);
+    }
+    total
+}
+
+#[cycle(expressions)]
+fn element(e: &Element) -> u64
+    ensures { result ≡ min (nodes.element_nodes (element_of e.now)) u64.MAX }
+{
+    match e {
+        Element::AtIndex(index, value) => {
+            expression(index.get()).saturating_add(expression(value.get()))
+        }
+        Element::AtField(steps, value) => {
+            (steps.items().len() as u64).saturating_add(expression(value.get()))
+        }
+        Element::SameField(from, to) => {
+            (from.items().len() as u64)
+                .saturating_add(to.items().len() as u64)
+                .saturating_add(1)
+        }
+        Element::AtRanges(ranges, value) => (ranges.items().len() as u64)
+            .saturating_mul(3)
+            .saturating_add(expression(value.get())),
     }
 }

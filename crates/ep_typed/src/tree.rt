@@ -125,7 +125,31 @@ pub enum TypedExpr {
     OnSets(SetOperation, Boxed<TypedExpr>, Boxed<TypedExpr>),
     /// `card`
     Card(Boxed<TypedExpr>),
+    /// A structured value (ISO 10206, 6.8.7.1): the number of its type in the unit's list of types, and what its components
+    /// are given.
+    Structured(u32, Elements),
 }
+
+/// What a component of a structured value is given.
+#[cycle(expression)]
+#[derive(Drop)]
+pub enum Element {
+    /// The component of an array at an index, and its value (ISO 10206, 6.8.7.2).
+    AtIndex(Boxed<TypedExpr>, Boxed<TypedExpr>),
+    /// The component of a record to which these steps lead, and its value (ISO 10206, 6.8.7.3).
+    AtField(ComponentSteps, Boxed<TypedExpr>),
+    /// The component of a record to which the second steps lead is given what that has to which the first lead.
+    SameField(ComponentSteps, ComponentSteps),
+    /// The components of an array at the indexes in these ranges, of which there is at least one and none is empty, and the
+    /// value that all of them have. It is evaluated once (ISO 10206, 6.8.7.2).
+    AtRanges(CaseRanges, Boxed<TypedExpr>),
+}
+
+/// Steps from a record to a component inside of it, each the number of a component; there is at least one.
+pub type ComponentSteps = List<u32>;
+
+/// What the components of a structured value are given, in order.
+pub type Elements = List<Element>;
 
 /// What a set constructor says of members.
 #[cycle(expression)]

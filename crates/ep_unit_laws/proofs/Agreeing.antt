@@ -1,11 +1,11 @@
 -- The declarations of a unit, in the blocks that are under way, hold what the scopes of a block declare, where the unit holds the block.
-use Rattle.std.proofs.Common.{◌≡◌, ℕ, zero, suc, ◌<◌, ◌≤◌, ◌-◌, Bool, true, false, List, [], ◌∷◌, ◌++◌, map, length, Option, Some, None, slice_get, bytes_eq, refl, sym, ap, ◌∙◌, subst, arith}
-use Rattle.std.proofs.lemmas.List.Elements.{All-cons, All-head, All-nil, All-tail}
+use Rattle.std.proofs.Common.{◌≡◌, ℕ, zero, suc, ◌<◌, ◌≤◌, ◌-◌, Bool, true, false, List, [], ◌∷◌, ◌++◌, map, length, Option, Some, None, option_map, slice_get, bytes_eq, refl, sym, ap, ◌∙◌, subst, arith}
+use Rattle.std.proofs.lemmas.List.Elements.{All-cons, All-head, All-nil, All-tail, All-weaker}
 use Rattle.std.proofs.lemmas.Slice.Eq.{bytes_eq-Decides}
 use Rattle.std.specs.Prelude.{All, drop, if◌then◌else◌}
 use Rattle.ep_typed.specs.Denoters.{host_of, bare_type_of}
 use Rattle.ep_typed.specs.Trees as tree
-use Rattle.ep_typed.specs.TypeValues.{TypeValue}
+use Rattle.ep_typed.specs.TypeValues.{TypeValue, bare_of}
 use Rattle.ep_typed.specs.Valid as valid
 use Rattle.ep_typed.specs.Valid.{Declarations, IsCallee, IsDeclaredUp, IsOfKind, IsPlace, around_in, heading_of, in_routine, levels_of, own}
 use Rattle.ep_typed.specs.Auxiliaries.{block_auxiliaries, with_variables}
@@ -31,7 +31,7 @@ use Rattle.ep_scope.specs.declared.thing.Declaration.TheVariants as declaration
 use Rattle.ep_scope.specs.declared.thing.Declared.{Declared}
 use Rattle.ep_scope.specs.declared.thing.Thing.{Thing}
 use Rattle.ep_scope.specs.declared.thing.Thing.TheVariants as thing
-use Rattle.ep_check_expr.specs.Agreement.{Agrees, AgreesBy, AreInterfaces, AreOpen, AreParameters, AreThings, Arrays, HasKind, HoldsStructure, IsDeclaration, IsDenoterOf, IsKind, IsMadeOf, Records, Structure, IsFunctionWith, IsOfType, IsStoredIn, IsThing, structures_of}
+use Rattle.ep_check_expr.specs.Agreement.{Agrees, AgreesBy, AreInterfaces, AreOpen, AreParameters, AreThings, Arrays, HasKind, HoldsStructure, IsDeclaration, IsDenoterOf, IsKind, IsListed, IsMadeOf, Records, Structure, IsFunctionWith, IsOfType, IsStoredIn, IsThing, structures_of}
 use Rattle.ep_check_expr.specs.Arguments.{callee_at, callee_levels}
 use Rattle.ep_check_expr.specs.Hosts.{typed_host}
 use Rattle.ep_check_unit.specs.Declarations.{scopes_of, type_denoter}
@@ -271,6 +271,10 @@ module _ (u : TypedUnit) (es : List Enclosing) where
   parameters_typed i unit ps formals le e same x =
       subst (λ types. AreParameters (type_values u) types ps formals) (sym (types_own u unit e)) (subst (AreParameters (type_values u) u.types ps) (sym same) (parameters_hold u i ps le x))
 
+  -- the unit lists a structured type
+  structure_listed : (i : ℕ) (s : StructuredType) → i ≤ length u.types → HoldsStructuredType u i s → IsListed within (type_values u) s
+  structure_listed i s le x = (x.denoter, ap (option_map bare_of) x.denoter.has_type, structure_holds u i s le x)
+
   module _ (structures : List StructuredType) (all : All (HoldsStructure (type_values u) u.types) structures) where
     declared_holds : (i : ℕ) (d : Declared) (what : Declaration) → i ≤ length u.types → d.unit ≡ u.name → HoldsDeclaration u es i d what → IsDeclaration within (type_values u) structures (length es) d what
     declared_holds i d (declaration.Constant k v) le e x = x.0
@@ -300,6 +304,7 @@ module _ (u : TypedUnit) (es : List Enclosing) where
       subst (AreInterfaces within (type_values u) structures (length es)) (sym x.1.0) tt,
       scopes_hold i rs le x.3,
       subst (AreOpen within (type_values u) structures (length es)) (sym x.1.1) tt,
+      All-weaker (HoldsStructuredType u i) (IsListed within (type_values u)) (λ s. structure_listed i s le) r.structures x.2,
     )
 
   -- the variable of a result is there

@@ -6,7 +6,7 @@ use Rattle.ep_typed.specs.Denoters.{ArrayParts, bare_type_of}
 use Rattle.ep_typed.specs.Hosts as typed
 use Rattle.ep_typed.specs.Hosts.{is_of_host}
 use Rattle.ep_typed.specs.Trees as tree
-use Rattle.ep_typed.specs.Valid.{IsAround, IsConstant, IsFormal, IsFormalBy, IsProcedure, IsResult, IsStmt, IsType, IsVariable, Level, first_with_in, heading_of, in_routine, levels_of, own, variables_at, variables_in}
+use Rattle.ep_typed.specs.Valid.{IsAround, IsConstant, IsDenoter, IsFormal, IsFormalBy, IsProcedure, IsResult, IsStmt, IsType, IsVariable, Level, first_with_in, heading_of, in_routine, levels_of, own, variables_at, variables_in}
 use Rattle.ep_typed.specs.Viewed.{denoter_of}
 use Rattle.ep_typed.specs.declared.denoter.Denoter.TheVariants as denoter
 use Rattle.ep_typed.proofs.Forms.{required_is, named_is}
@@ -231,10 +231,11 @@ module _ (u : TypedUnit) where
   HoldsComposition i (composition.Record fs) (Records ds) = HoldsFields i fs ds
   HoldsComposition i c s = ⊥
 
-  -- the structured type is made so under its number, and so is its type value
+  -- the structured type is made so under its number, where the list has a valid type, and so is its type value
   pub record HoldsStructuredType (i : ℕ) (s : StructuredType) : Type 0 where
     pub structure : Structure
     pub has_structure : HasStructure u.types (tree.Named s.number []) structure
+    pub denoter : IsDenoter u.types (tree.Named s.number [])
     pub components : HoldsComposition i s.composition structure
     pub type_value : TypeValue
     pub has_value : bare_type_of u.types (tree.Named s.number []) ≡ Some type_value
@@ -339,7 +340,7 @@ module _ (u : TypedUnit) where
   components_more i j (composition.Record fs) (Records ds) le x = (all_lists_more i j fs le x.0, x.1)
 
   structure_more : (i j : ℕ) (s : StructuredType) → i ≤ j → HoldsStructuredType i s → HoldsStructuredType j s
-  structure_more i j s le x = record { structure = x.structure; has_structure = x.has_structure; components = components_more i j s.composition x.structure le x.components; type_value = x.type_value; has_value = x.has_value; value_made = x.value_made }
+  structure_more i j s le x = record { structure = x.structure; has_structure = x.has_structure; denoter = x.denoter; components = components_more i j s.composition x.structure le x.components; type_value = x.type_value; has_value = x.has_value; value_made = x.value_made }
 
   pub structures_more : (i j : ℕ) (all : List StructuredType) → i ≤ j → All (HoldsStructuredType i) all → All (HoldsStructuredType j) all
   structures_more i j [] le x = All-nil (HoldsStructuredType j)

@@ -7,6 +7,7 @@ pub mod Meant
 pub mod Constants
 pub mod Types
 pub mod Structures
+pub mod Ordinals
 pub mod Arrays
 pub mod Records
 pub mod Sets

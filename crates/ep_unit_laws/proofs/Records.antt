@@ -23,7 +23,7 @@ use Rattle.ep_check_stmt.proofs.judged.Fits.{Fits, fits_then, fits_weaker}
 use Rattle.ep_check_unit.specs.Blocks.{Block}
 use Rattle.ep_check_unit.specs.Declarations.{Field, Fielded, ListJudged, Listed, Section, Written, field_of, field_part, fields_named, has_field, own_fields, plain_list, record_field, record_over, record_written, section_written, sections_written, settled_part}
 use Rattle.ep_check_unit.proofs.Denoters.{AreKept}
-use Rattle.ep_unit_laws.proofs.Denoting.{AreDenoted, DenotesStructured, bare_more, denotes_record, kind_bare, kind_valued, record_there}
+use Rattle.ep_unit_laws.proofs.Denoting.{AreDenoted, DenotesStructured, bare_more, denotes_record, kind_bare, kind_valid, kind_valued, record_there}
 use Rattle.ep_unit_laws.proofs.Agreeing.{denoter_holds}
 use Rattle.ep_unit_laws.proofs.Holds.{HasTypeHere, Holds, HoldsStructuredType, ListsKind, all_lists_more, has_type_more, holds_more, lists_kind_more, lists_kind_small, type_values}
 use Rattle.ep_unit_laws.proofs.Leading.{Extends, Grows, extends_before, grows_refl, grows_trans, prefix_length}
@@ -280,10 +280,15 @@ module _ (u : TypedUnit) where
           subst (λ d. DenotesStructured u.types Number d Number Value) (sym is_record)
           (denotes_record u.types Number Number next.entry Components stood.1.types stood.1.denoted next.at (next.definition ∙ is_record) within)
 
+      -- so has its number
+      number_denotes : DenotesStructured u.types (suc Number) (tree.Named Number []) Number Value
+      number_denotes = next_denotes u Number (denoter_of Over.denoter) (kind.Structured Number) Value next over_denotes
+
       type_held : HoldsStructuredType u (suc Number) Made
       type_held = record {
         structure = Records Components;
         has_structure = components_there;
+        denoter = kind_valid u.types (suc Number) (tree.Named Number []) (kind.Structured Number) Value (omega (arith, within)) number_denotes;
         components = (all_lists_more u Number (suc Number) l.listing.fields (omega arith) stood.1.lists, stood.1.fields (omega (arith, within)));
         type_value = Value;
         has_value = over_denotes.of_number;
@@ -294,7 +299,7 @@ module _ (u : TypedUnit) where
       over_wrote = record {
         block = structure_held u (suc Number) Made l.block type_held (holds_more u Number (suc Number) l.block (omega arith) stood.0);
         denotes = (Value, over_denotes);
-        of = next_denotes u Number (denoter_of Over.denoter) (kind.Structured Number) Value next over_denotes;
+        of = number_denotes;
         lists = tt;
       }
 

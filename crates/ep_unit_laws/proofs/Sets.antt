@@ -1,5 +1,5 @@
 -- Set types that are written in a block: the unit that has the block's lists has them as valid types.
-use Rattle.std.proofs.Common.{◌≡◌, ℕ, ℤ, zero, suc, ◌<◌, Bool, true, false, ◌&&◌, List, [], ◌∷◌, ◌++◌, length, Option, Some, None, option_map, slice_get, refl, sym, ap, ◌∙◌, subst, arith}
+use Rattle.std.proofs.Common.{◌≡◌, ℕ, ℤ, zero, suc, ◌<◌, Bool, true, false, ◌&&◌, List, [], ◌∷◌, length, Option, Some, None, option_map, slice_get, refl, sym, ap, ◌∙◌, subst, arith}
 use Rattle.std.proofs.lemmas.Option.{slice_get_within}
 use Rattle.std.specs.Prelude.{if◌then◌else◌}
 use Rattle.ep_typed.specs.Denoters.{definition_of, found_of, required_type, start_by, type_within}
@@ -25,21 +25,15 @@ use Rattle.ep_check_expr.specs.Judgements.{Accepts, Breaks, when_accepted}
 use Rattle.ep_check_stmt.proofs.judged.Fits.{Fits, fits_is, fits_then}
 use Rattle.ep_check_unit.specs.Blocks.{Block}
 use Rattle.ep_check_unit.specs.Declarations.{Part, Written, are_members, index_host, ordinal_value, set_on, set_over, set_written, settled_part, unless_wide, value_of}
-use Rattle.ep_unit_laws.proofs.Arrays.{index_ordinal}
 use Rattle.ep_unit_laws.proofs.Denoting.{Denotes, DenotesSet, denotes_bounds, denotes_set}
 use Rattle.ep_unit_laws.proofs.Holds.{HasTypeHere, Holds, ListsKind, holds_more, lists_kind_more, named_tree}
 use Rattle.ep_unit_laws.proofs.Leading.{Extends}
 use Rattle.ep_unit_laws.proofs.Open.{IsOpen}
+use Rattle.ep_unit_laws.proofs.Ordinals.{front_there, index_ordinal}
 use Rattle.ep_unit_laws.proofs.Structures.{IsKnown, part_settles}
 use Rattle.ep_unit_laws.proofs.Types.{IsNext, Settles, Stood, Wrote, Writes, next_denotes}
 
 -- ---- the values of a type that may be members
-
--- what a list has, a longer one has
-pub front_there : {A : Type 0} (xs ys : List A) (n : ℕ) (x : A) → slice_get xs n ≡ Some x → slice_get (xs ++ ys) n ≡ Some x
-front_there [] ys n x e = cc
-front_there (y ∷ xs) ys zero x e = e
-front_there (y ∷ xs) ys (suc n) x e = front_there xs ys n x e
 
 module _ (types : List UnitType) where
   -- by the own denoter of the type
@@ -138,4 +132,4 @@ module _ (u : TypedUnit) where
       fits_then (Settles u b) (Writes u b) set_on (settled_part base line b) (part_settles u base known line b)
       (λ w stands. fits_then (λ h. index_host w.kind ≡ Accepts h) (Writes u b) (λ h. when_accepted (λ _. Accepts (set_over h w)) (unless_wide w)) (index_host w.kind) (fits_is (index_host w.kind))
       (λ h e. fits_then (λ done. unless_wide w ≡ Accepts done) (Writes u b) (λ _. Accepts (set_over h w)) (unless_wide w) (fits_is (unless_wide w))
-      (λ done f. over_writes b w h stands (index_ordinal u w.kind h e) (is_narrow (are_members (value_of w.block.types w.of)) done f))))
+      (λ done f. over_writes b w h stands (index_ordinal w.kind h e) (is_narrow (are_members (value_of w.block.types w.of)) done f))))

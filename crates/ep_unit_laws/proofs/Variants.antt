@@ -1,20 +1,19 @@
 -- Lists of fields with a variant part that are written in a block: the unit that has the block's lists has the components that they give, and the fields of its variants.
-use Rattle.std.proofs.Common.{◌≡◌, ℕ, pos, zero, suc, ◌+◌, ◌≤◌, Bool, true, false, List, [], ◌∷◌, ◌++◌, map, length, Option, Some, None, slice_get, refl, sym, ap, ◌∙◌, subst, arith, append-nil, append_assoc}
+use Rattle.std.proofs.Common.{◌≡◌, ℕ, ℤ, zero, suc, ◌+◌, ◌≤◌, Bool, true, false, List, [], ◌∷◌, ◌++◌, map, length, Option, Some, None, slice_get, refl, sym, ap, ◌∙◌, subst, arith, append-nil, append_assoc}
 use Rattle.std.proofs.lemmas.List.{length-append}
-use Rattle.std.proofs.lemmas.Option.{same_Some}
 use Rattle.std.proofs.lemmas.List.Elements.{All-append, All-cons, All-head, All-nil, All-push, All-tail}
 use Rattle.std.specs.Prelude.{All, ⊤, is_some, if◌then◌else◌}
 use Rattle.ep_outside.specs.Known.{IsPrefix}
 use Rattle.ep_tree.specs.declared.expression.Label.{Label}
 use Rattle.ep_tree.specs.declared.types.VariantSelector.{VariantSelector}
 use Rattle.ep_tree.specs.declared.types.VariantSelector.TheVariants as selector
-use Rattle.ep_typed.specs.Denoters.{definition_of, denoter_at, denoters_count, found_of, required_type, start_by, type_within}
+use Rattle.ep_typed.specs.Denoters.{denoter_at, denoters_count}
 use Rattle.ep_typed.specs.Hosts as typed
 use Rattle.ep_typed.specs.Hosts.{is_of_host}
 use Rattle.ep_typed.specs.Steps.{variant_number, variants_count}
 use Rattle.ep_typed.specs.Trees as tree
 use Rattle.ep_typed.specs.TypeValues as type
-use Rattle.ep_typed.specs.TypeValues.{ComponentTypes, TypeValue, bare_of, next_component, no_component, type_among}
+use Rattle.ep_typed.specs.TypeValues.{ComponentTypes, next_component, no_component, type_among}
 use Rattle.ep_typed.specs.Valid.{AreApart, Declarations, IsSelection, IsTypeOf, labels_joined}
 use Rattle.ep_typed.specs.Viewed as viewed
 use Rattle.ep_typed.specs.Viewed.{denoter_of, denoter_step, field_step, part_step, selector_step, variant_part_step, variant_step}
@@ -24,79 +23,33 @@ use Rattle.ep_typed.specs.declared.denoter.FieldPart.{FieldPart}
 use Rattle.ep_typed.specs.declared.denoter.Selector.TheVariants as written_selector
 use Rattle.ep_typed.specs.declared.denoter.Variant.{Variant, roll-Variant}
 use Rattle.ep_typed.specs.declared.denoter.VariantPart.{roll-VariantPart}
-use Rattle.ep_typed.proofs.Denoters.{of_initial}
-use Rattle.ep_typed.specs.declared.denoter.RequiredType.{RequiredType}
-use Rattle.ep_typed.specs.declared.denoter.RequiredType.TheVariants as simple
 use Rattle.ep_typed.specs.declared.tree.CaseRange.{CaseRange}
 use Rattle.ep_typed.specs.declared.tree.Selection.{Selection}
 use Rattle.ep_typed.specs.declared.unit.Unit.{Unit as TypedUnit}
-use Rattle.ep_typed.specs.declared.unit.UnitType.{UnitType}
 use Rattle.ep_scope.specs.declared.kind.Host.{Host}
 use Rattle.ep_scope.specs.declared.kind.Kind.TheVariants as kind
-use Rattle.ep_scope.specs.declared.parameter.TypeName.{TypeName}
-use Rattle.ep_scope.specs.declared.parameter.TypeName.TheVariants as type_name
 use Rattle.ep_scope.specs.declared.rule.TheConstants as rule
 use Rattle.ep_scope.specs.declared.structure.FieldType.{FieldType}
 use Rattle.ep_check_expr.specs.Agreement.{IsFieldOf, IsFieldValue, Selects}
 use Rattle.ep_check_expr.specs.Hosts.{typed_host}
-use Rattle.ep_check_expr.specs.Judgements.{Judged, Accepts, Breaks, when_accepted}
+use Rattle.ep_check_expr.specs.Judgements.{Accepts, Breaks, when_accepted}
 use Rattle.ep_check_stmt.proofs.judged.Fits.{Any, Fits, fits_any, fits_then, fits_weaker}
 use Rattle.ep_check_unit.specs.Blocks.{Block}
-use Rattle.ep_check_unit.specs.Declarations.{Field, Fielded, Gathered, Labelled, ListJudged, Listed, PartJudged, Section, Tag, VariantJudged, Written, all_fields, completing_added, completing_written, field_part, fields_joined, index_host, inside, is_among_fields, labels_noted, list_ended, list_written, none_gathered, noted, ordinal_value, own_fields, record_field, scopes_of, sections_written, selection_of, tag_field, tag_named, tag_of, tag_written, type_named, unless_left_out, value_of, variant_added, variant_list, variant_listing, variant_part, variant_part_written, variant_written, variants_after, variants_joined, variants_written}
-use Rattle.ep_check_unit.specs.Labels.{completed, tag_values, variant_labelled}
+use Rattle.ep_check_unit.specs.Declarations.{Field, Fielded, Gathered, Labelled, ListJudged, Listed, PartJudged, Section, Tag, VariantJudged, Written, all_fields, completing_added, completing_written, field_part, fields_joined, index_values, inside, is_among_fields, labels_noted, list_ended, list_written, none_gathered, noted, own_fields, record_field, scopes_of, sections_written, selection_of, tag_field, tag_named, tag_of, tag_written, type_named, unless_left_out, value_of, variant_added, variant_list, variant_listing, variant_part, variant_part_written, variant_written, variants_after, variants_joined, variants_written}
+use Rattle.ep_check_unit.specs.Labels.{completed, variant_labelled}
 use Rattle.ep_check_unit.specs.declared.labels.Labels.{Labels}
 use Rattle.ep_check_unit.proofs.Denoters.{AreKept, AreVariantsKept, IsKeptIf}
 use Rattle.ep_check_unit.proofs.Forms.{map_push}
 use Rattle.ep_unit_laws.proofs.Agreeing.{denoter_holds}
-use Rattle.ep_unit_laws.proofs.Arrays.{index_ordinal}
 use Rattle.ep_unit_laws.proofs.Denoting.{AreDenoted, HasBare, bare_record, denotes_hosted, kind_more, kind_type, kind_valued}
 use Rattle.ep_unit_laws.proofs.Holds.{HasTypeHere, Holds, ListsKind, Lists as ListsHost, lists_kind_more, lists_kind_small, named_tree, type_values}
 use Rattle.ep_unit_laws.proofs.Leading.{Extends, Grows, bodies_refl, extends_before, grows_refl, grows_trans, head_in, length_push, prefix_length, prefix_refl, waits_some}
 use Rattle.ep_unit_laws.proofs.Open.{IsOpen}
+use Rattle.ep_unit_laws.proofs.Ordinals.{IsValued, index_valued, value_is}
 use Rattle.ep_unit_laws.proofs.Ranges.{AreLabels, IsRangeOf, OneMore, all_labelled, none_yet, ranges_hosted, variant_fits}
 use Rattle.ep_unit_laws.proofs.Records.{Fields, HaveFields, IsKnownList, ListHeld, Lists, all_denoted, all_rolled, denoter_behind, denoters_of, fields_later, list_more, none_written, own_held, own_listed, own_valued, plain_lists, sections_fit, type_behind, types_of}
 use Rattle.ep_unit_laws.proofs.Structures.{IsKnown}
-use Rattle.ep_unit_laws.proofs.Sets.{front_there}
 use Rattle.ep_unit_laws.proofs.Types.{Names, type_named-names}
-
--- ---- the values of a tag
-
-module _ (types : List UnitType) where
-  definition_is : (n : ℕ) (d : tree.Denoter) (v x : TypeValue) → type_within types n d ≡ Some v → ordinal_value d ≡ Some x → bare_of v ≡ x
-  definition_is zero d v x e f = cc
-  definition_is (suc n) (tree.Subrange of (tree.Fixed low) (tree.Fixed high)) v x e f = ap bare_of (same_Some v (type.Ordinal low high) (sym e)) ∙ same_Some (type.Ordinal low high) x f
-  definition_is (suc n) (tree.Enumeration []) v x e f = cc
-  definition_is (suc n) (tree.Enumeration (first ∷ others)) v x e f =
-      ap bare_of (same_Some v (type.Ordinal (pos 0) (pos (length others))) (sym e)) ∙ same_Some (type.Ordinal (pos 0) (pos (length others))) x f
-  definition_is (suc n) (tree.Required r) v x e f = cc
-  definition_is (suc n) (tree.Named index tuple) v x e f = cc
-  definition_is (suc n) (tree.Array index component) v x e f = cc
-  definition_is (suc n) (tree.Record ds) v x e f = cc
-  definition_is (suc n) (tree.Set base) v x e f = cc
-  definition_is (suc n) (tree.Initial of value) v x e f =
-      let p = of_initial (type_within types (suc n) of) (start_by value) v e in
-      ap bare_of p.4 ∙ definition_is (suc n) of p.0 x p.2 f
-
-  entry_is : (n number : ℕ) (v x : TypeValue) (o : Option UnitType) → ((t : UnitType) → o ≡ Some t → slice_get types number ≡ Some t) → found_of (type_within types n) (slice_get types number) ≡ Some v
-      → found_of ordinal_value o ≡ Some x → bare_of v ≡ x
-  entry_is n number v x None there e f = cc
-  entry_is n number v x (Some t) there e f = definition_is n (definition_of t) v x (sym (ap (found_of (type_within types n)) (there t refl)) ∙ e) f
-
-  required_is : (r : RequiredType) (v x : TypeValue) → Some (required_type r) ≡ Some v → Some (required_type r) ≡ Some x → bare_of v ≡ x
-  required_is simple.Integer v x e f = ap bare_of (same_Some v (required_type simple.Integer) (sym e)) ∙ same_Some (required_type simple.Integer) x f
-  required_is simple.Char v x e f = ap bare_of (same_Some v (required_type simple.Char) (sym e)) ∙ same_Some (required_type simple.Char) x f
-  required_is simple.Boolean v x e f = ap bare_of (same_Some v (required_type simple.Boolean) (sym e)) ∙ same_Some (required_type simple.Boolean) x f
-
-  -- the type value by the own denoter of a type is the bare form of that of its name
-  value_is : (n : ℕ) (few : List UnitType) (of : TypeName) (v x : TypeValue) → IsPrefix few types → type_within types (suc n) (named_tree of) ≡ Some v → value_of few of ≡ Some x → bare_of v ≡ x
-  value_is n few (type_name.Required r) v x p e f = required_is r v x e f
-  value_is n few (type_name.Entry number) v x p e f =
-      entry_is n number v x (slice_get few number) (λ t at. ap (λ l. slice_get l number) p.is ∙ front_there few p.rest number t at) e f
-
--- what follows from a chain of rules of which the first one accepts
-fits_chain : {A B C : Type 0} (P : C → Type 0) (f : B → Judged C) (g : A → Judged B) (j : Judged A) → ((a : A) → j ≡ Accepts a → Fits P (when_accepted f (g a))) → Fits P (when_accepted f (when_accepted g j))
-fits_chain P f g (Accepts a) h = h a refl
-fits_chain P f g (Breaks rules) h = tt
 
 -- ---- denoters of variants
 
@@ -269,32 +222,23 @@ module _ (u : TypedUnit) where
   abbrev IsTagOf : Block → Tag → Type 0
   IsTagOf c t = (i : ℕ) → IsPrefix c.types u.types → Holds u i c → TagHeld i t
 
-  -- its values are those of a type that has this host
-  tag_made : (c : Block) (name : List ℕ) (w : Written) → Names u c w → (h : Host) → index_host w.kind ≡ Accepts h → (o : Option TypeValue) → value_of w.block.types w.of ≡ o
-      → Fits (IsTagOf c) (when_accepted (λ values. Accepts (tag_named name w values)) (tag_values h o))
-  tag_made c name w names h ordinal None e = tt
-  tag_made c name w names h ordinal (Some (type.Ordinal low high)) e = λ i prefix held.
+  -- its values are those of its type
+  tag_made : (c : Block) (name : List ℕ) (w : Written) → Names u c w → (h : Host) (low high : ℤ) → IsValued w.kind (value_of w.block.types w.of) h low high → IsTagOf c (tag_named name w (record { host = h; low = low; high = high }))
+  tag_made c name w names h low high valued i prefix held =
       let y = names.holds i held in
-      let is : w.kind ≡ kind.Ordinal h = index_ordinal u w.kind h ordinal in
-      let here : HasTypeHere u i (denoter_of w.denoter) w.of (kind.Ordinal h) = subst (HasTypeHere u i (denoter_of w.denoter) w.of) is y.0 in
+      let here : HasTypeHere u i (denoter_of w.denoter) w.of (kind.Ordinal h) = subst (HasTypeHere u i (denoter_of w.denoter) w.of) valued.ordinal y.0 in
+      let of = here.2.has_bare in
       record {
-        lists = subst (ListsKind u i) is y.1;
+        lists = subst (ListsKind u i) valued.ordinal y.1;
         here = here;
         bounds =
-            let of = here.2.has_bare in
             sym of.bare
-            ∙ value_is u.types (suc i) w.block.types w.of of.type_value (type.Ordinal low high) (subst (λ b. IsPrefix b.types u.types) (sym names.same) prefix) (of.has_type (suc (suc i)) (omega arith)) e;
+            ∙ value_is u.types (suc i) w.block.types w.of of.type_value (type.Ordinal low high) (subst (λ b. IsPrefix b.types u.types) (sym names.same) prefix) (of.has_type (suc (suc i)) (omega arith)) valued.has_value;
       }
-  tag_made c name w names h ordinal (Some type.Text) e = tt
-  tag_made c name w names h ordinal (Some (type.Array low high of)) e = tt
-  tag_made c name w names h ordinal (Some (type.Record ts)) e = tt
-  tag_made c name w names h ordinal (Some (type.Set low high)) e = tt
-  tag_made c name w names h ordinal (Some (type.Initial of start)) e = tt
 
   tag_fits : (c : Block) (name : List ℕ) (w : Written) → Names u c w → Fits (IsTagOf c) (tag_of name w)
   tag_fits c name w names =
-      fits_chain (IsTagOf c) (λ values. Accepts (tag_named name w values)) (λ h. tag_values h (value_of w.block.types w.of)) (index_host w.kind)
-      (λ h e. tag_made c name w names h e (value_of w.block.types w.of) refl)
+      fits_then (λ v. IsValued w.kind (value_of w.block.types w.of) v.host v.low v.high) (IsTagOf c) (λ values. Accepts (tag_named name w values)) (index_values w) (index_valued w) (λ v valued. tag_made c name w names v.host v.low v.high valued)
 
   tag_written-fits : (s : VariantSelector) (c : Block) → Fits (IsTagOf c) (tag_written s c)
   tag_written-fits (selector.Tag at name of) c = fits_then (Names u c) (IsTagOf c) (tag_of name) (type_named of.first of.second c) (type_named-names u of.first of.second c) (λ w names. tag_fits c name w names)

@@ -1,7 +1,7 @@
 //! The first node of an expression or a component value that is not built.
 
 ghost use Rattle.std.specs.Prelude.{◌≡◌, map};
-ghost use Rattle.ep_built.specs.Built.{all_are_built, lines_in, addend_belonging, multiplier_belonging, selector_belonging, first_in, component_value_unbuilt, element_unbuilt, factor_unbuilt, argument_unbuilt, access_unbuilt, expression_unbuilt, label_unbuilt, simple_unbuilt, term_unbuilt, values_unbuilt};
+ghost use Rattle.ep_built.specs.Built.{all_are_built, lines_in, addend_belonging, multiplier_belonging, selector_belonging, first_in, component_value_unbuilt, constant_value_unbuilt, element_unbuilt, factor_unbuilt, argument_unbuilt, access_unbuilt, expression_unbuilt, label_unbuilt, simple_unbuilt, term_unbuilt, values_unbuilt};
 
 use crate::built::{at_node, forms};
 use ep_base::Line;
@@ -214,10 +214,15 @@ pub(super) fn component_value(v: &ComponentValue) -> Option<Line>
 {
     match v {
         ComponentValue::Expression(e) => expression(e.get()),
-        ComponentValue::Bracketed(line, inner) => {
-            at_node(forms::brackets_are_built(), *line, values(inner.get()))
-        }
+        ComponentValue::Bracketed(_, inner) => values(inner.get()),
     }
+}
+
+/// Of the value of a constant definition or of an initial state, which is no structured value as a whole.
+pub(super) fn constant_value(v: &ComponentValue) -> Option<Line>
+    ensures { result ≡ constant_value_unbuilt v.now }
+{
+    forms::structured_line(v).or(component_value(v))
 }
 
 #[cycle(lines)]
@@ -248,11 +253,16 @@ fn elements(all: &[Element]) -> Option<Line>
 fn element(e: &Element) -> Option<Line>
     ensures { result ≡ element_unbuilt e.now }
 {
+    let built = forms::element_is_built(e);
     match e {
-        Element::Labelled(_, all, value) => labels(all.items()).or(component_value(value)),
-        Element::Variant(_, _, chosen, None) => expression(chosen.get()),
-        Element::Variant(_, _, chosen, Some(inner)) => {
-            expression(chosen.get()).or(values(inner.get()))
+        Element::Labelled(line, all, value) => {
+            let inner = labels(all.items()).or(component_value(value));
+            at_node(built, *line, inner)
+        }
+        Element::Variant(line, _, chosen, None) => at_node(built, *line, expression(chosen.get())),
+        Element::Variant(line, _, chosen, Some(inner)) => {
+            let inner = expression(chosen.get()).or(values(inner.get()));
+            at_node(built, *line, inner)
         }
     }
 }

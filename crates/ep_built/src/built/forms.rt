@@ -3,8 +3,11 @@
 
 ghost use Rattle.std.specs.Prelude.{◌≡◌, map};
 ghost use Rattle.std.specs.List.{list_all};
+ghost use Rattle.std.specs.Option.{option_copied};
 ghost use Rattle.ep_tree.specs.Shapes.{bare};
-ghost use Rattle.ep_built.specs.Built.{built_component, built_program, built_import, built_type_name, built_heading, built_start, built_routine, built_type_definition, built_plain, built_formal_type, built_section, built_core, built_selector, built_variant_part, selector_form, is_component, behind_call, is_call, built_target, built_control, built_call, behind_arguments, built_statement, built_relation, built_adding, built_multiplying, is_character, built_factor, built_access, form_told, selector_belonging, brackets_are_built, is_bare_text};
+ghost use Rattle.ep_built.specs.Built.{built_component, built_program, built_import, built_type_name, built_heading, built_start, built_routine, built_type_definition, built_plain, built_formal_type, built_section, built_core, built_selector, built_variant_part, selector_form, is_component, behind_call, is_call, built_target, built_control, built_call, behind_arguments, built_statement, built_relation, built_adding, built_multiplying, is_character, built_factor, built_access, form_told, selector_belonging, built_element, structured_line, is_bare_text};
+ghost use Rattle.ep_tree.specs.declared.expression.ComponentValue.{out-ComponentValue};
+ghost use Rattle.ep_tree.specs.declared.expression.Element.{out-Element};
 ghost use Rattle.ep_tree.specs.declared.expression.Factor.{out-Factor};
 ghost use Rattle.ep_tree.specs.declared.types.Core.{out-Core};
 ghost use Rattle.ep_tree.specs.declared.types.Plain.{out-Plain};
@@ -13,12 +16,12 @@ ghost use Rattle.ep_tree.specs.declared.statement.Statement.{out-Statement};
 ghost use Rattle.ep_tree.specs.declared.routine.Routine.{out-Routine};
 
 use crate::built::names;
-use ep_base::Name;
+use ep_base::{Line, Name};
 use ep_tree::{
-    Access, AddingOperator, Component, Core, Expression, Factor, FormalSection, FormalType, Import,
-    MultiplyingOperator, Plain, Program, QualifiedName, RelationalOperator, Routine,
-    RoutineHeading, RoutineStart, Selector, Statement, TypeDefinition, VariantPart,
-    VariantSelector,
+    Access, AddingOperator, Component, ComponentValue, Core, Element, Expression, Factor,
+    FormalSection, FormalType, Import, MultiplyingOperator, Plain, Program, QualifiedName,
+    RelationalOperator, Routine, RoutineHeading, RoutineStart, Selector, Statement, TypeDefinition,
+    VariantPart, VariantSelector,
 };
 
 /// A component is a program.
@@ -252,6 +255,7 @@ pub(super) fn factor_is_built(f: &Factor) -> bool
         Factor::Parenthesized(_, _) => true,
         Factor::Not(_, _) => true,
         Factor::Set(_, _) => true,
+        Factor::Structured(_, name, _) => type_name_is_built(name),
         _ => false,
     }
 }
@@ -264,27 +268,50 @@ pub(super) fn access_is_built(name: &Name, selectors: &[Selector]) -> bool
     are_components(behind_call(selectors)) && !names::is_later(name)
 }
 
-/// Of a structured value without the name of its type.
-pub(super) fn brackets_are_built() -> bool
-    ensures { result ≡ brackets_are_built }
+/// An element of a structured value gives components values, and chooses no variant.
+pub(super) fn element_is_built(e: &Element) -> bool
+    ensures { result ≡ built_element (out-Element e.now) }
 {
-    false
+    match e {
+        Element::Labelled(_, _, _) => true,
+        Element::Variant(_, _, _, _) => false,
+    }
+}
+
+/// The line of a structured value that a whole component value is, with the name of its type or without.
+pub(super) fn structured_line(v: &ComponentValue) -> Option<Line>
+    ensures { result ≡ structured_line (out-ComponentValue v.now) }
+{
+    match v {
+        ComponentValue::Expression(e) => match bare(e.get())? {
+            Factor::Structured(line, _, _) => Some(*line),
+            _ => None,
+        },
+        ComponentValue::Bracketed(line, _) => Some(*line),
+    }
+}
+
+/// The factor of an expression that is nothing more.
+fn bare(e: &Expression) -> Option<&Factor>
+    ensures { option_copied result ≡ bare e.now }
+{
+    let simple = &e.left;
+    let term = &simple.first;
+    if e.right.is_some() || simple.sign.is_some() {
+        return None;
+    }
+    if !simple.more.items().is_empty() || !term.more.items().is_empty() {
+        return None;
+    }
+    Some(term.first.get())
 }
 
 /// Whether an expression is a character string and nothing more, which may be of any length where it is written.
 pub(super) fn is_bare_text(e: &Expression) -> bool
     ensures { result ≡ is_bare_text (bare e.now) }
 {
-    let simple = &e.left;
-    let term = &simple.first;
-    if e.right.is_some() || simple.sign.is_some() {
-        return false;
-    }
-    if !simple.more.items().is_empty() || !term.more.items().is_empty() {
-        return false;
-    }
-    match term.first.get() {
-        Factor::Text(_, _) => true,
+    match bare(e) {
+        Some(Factor::Text(_, _)) => true,
         _ => false,
     }
 }

@@ -17,12 +17,12 @@ use Rattle.ep_scope.specs.declared.thing.Declared.{Declared}
 use Rattle.ep_check_expr.specs.declared.access.Access as accessing
 use Rattle.ep_check_expr.specs.declared.access.Access.TheVariants as access
 use Rattle.ep_check_expr.specs.Arguments.{given_to, own_place, place_read, tagged_read, unless_protected}
-use Rattle.ep_check_expr.specs.Expressions.{judged_value, name_judged}
+use Rattle.ep_check_expr.specs.Expressions.{name_judged}
 use Rattle.ep_check_expr.specs.Judgements.{Accepts, both, when_accepted}
 use Rattle.ep_check_expr.specs.Operators.{map_both}
 use Rattle.ep_check_expr.specs.Shapes.{field_first}
 use Rattle.ep_check_expr.proofs.Passing.{IfForm}
-use Rattle.ep_check_stmt.specs.Statements.{At, Context, FunctionResult, Locals, Receiver, TagOf, Target, assigned, assignment, declared_target, field_target_of, function_target, has_result, place_named, tag_target, target_judged, target_of_selectors, variable_target}
+use Rattle.ep_check_stmt.specs.Statements.{At, Context, FunctionResult, Locals, Receiver, TagOf, Target, assigned, assignment, declared_target, field_target_of, function_target, has_result, place_named, tag_target, target_judged, value_judged, target_of_selectors, variable_target}
 use Rattle.ep_check_stmt.specs.Tags as tags
 use Rattle.ep_check_stmt.specs.declared.tags.Reached.{Reached}
 use Rattle.ep_check_stmt.proofs.judged.Fits.{Any, Fits, fits_any, fits_both, fits_then}
@@ -130,8 +130,8 @@ placed_assigns locals line b (Some (At place)) (Some x) h = (sym h, refl)
 placed_assigns locals line b (Some (TagOf whole tag)) (Some x) h = (sym h, refl)
 
 -- an assignment is one to a tag exactly where that is said of its access
-pub assignment_assigns : (c : Context) (line : ℕ) (a : Access) (v : ComponentValue) → Fits (IfForm (AssignsTag (tags.is_tag c.scopes a))) (both (assigned c.locals line) (target_judged c a) (judged_value c.scopes v))
+pub assignment_assigns : (c : Context) (line : ℕ) (a : Access) (v : ComponentValue) → Fits (IfForm (AssignsTag (tags.is_tag c.scopes a))) (both (assigned c.locals line) (target_judged c a) (value_judged c a v))
 assignment_assigns c line a v =
     let b : Bool = tags.is_tag c.scopes a in
-    fits_both (Targets b) Any (IfForm (AssignsTag b)) (assigned c.locals line) (target_judged c a) (judged_value c.scopes v) (access_targets c a) (fits_any (judged_value c.scopes v))
+    fits_both (Targets b) Any (IfForm (AssignsTag b)) (assigned c.locals line) (target_judged c a) (value_judged c a v) (access_targets c a) (fits_any (value_judged c a v))
     (λ t x p q. fits_then Any (IfForm (AssignsTag b)) (λ form. Accepts (map_both (assignment c.locals line) t.receiver form)) (given_to (λ form. form) t.kind x.kind x.form) (fits_any (given_to (λ form. form) t.kind x.kind x.form)) (λ form r. placed_assigns c.locals line b t.receiver form p))

@@ -17,12 +17,11 @@ use Rattle.ep_typed.specs.Trees.{Arms, Control, Entire, Expr, MemberControl, Oth
 use Rattle.ep_typed.specs.declared.tree.CaseRange.{CaseRange}
 use Rattle.ep_scope.specs.Scopes.{Region}
 use Rattle.ep_scope.specs.declared.kind.Host.{Host}
-use Rattle.ep_check_expr.specs.Expressions.{judged_value}
 use Rattle.ep_check_expr.specs.Judgements.{Judged, Accepts, Breaks, both}
 use Rattle.ep_check_expr.proofs.Passing.{IfForm}
 use Rattle.ep_check_stmt.specs.Auxiliaries.{arm_has, compound_has, has_for, has_for_in, in_arm, in_compound, in_otherwise, in_statement, is_bounded, is_over_members, otherwise_has, statement_has}
 use Rattle.ep_check_stmt.specs.Cases.{CaseSelector, own_ranges}
-use Rattle.ep_check_stmt.specs.Statements.{ArmJudged, Context, Counted, Judgement, Passes, Waits, Fails, Under, after, arm_judged, arm_row, arms_in_order, at_arm, at_compound, at_item, at_otherwise, at_statement, call_arguments, case_judged, compound_judged, compound_under, condition_judged, control_judged, expr_item, falls_by, for_in_judged, for_judged, formed, if_judged, in_order, otherwise_judged, statement_judged, stmt_item, stmt_threat, target_judged, unless_threatening, assigned, Opened, WithHead, behind, inside, none_opened, records_opened, with_form, with_judged}
+use Rattle.ep_check_stmt.specs.Statements.{ArmJudged, Context, Counted, Judgement, Passes, Waits, Fails, Under, after, arm_judged, arm_row, arms_in_order, at_arm, at_compound, at_item, at_otherwise, at_statement, call_arguments, case_judged, compound_judged, compound_under, condition_judged, control_judged, expr_item, falls_by, for_in_judged, for_judged, formed, if_judged, in_order, otherwise_judged, statement_judged, stmt_item, stmt_threat, target_judged, value_judged, unless_threatening, assigned, Opened, WithHead, behind, inside, none_opened, records_opened, with_form, with_judged}
 use Rattle.ep_check_stmt.specs.Tags as tags
 use Rattle.ep_check_stmt.specs.Threats.{any_true}
 use Rattle.ep_check_stmt.specs.declared.auxiliaries.ForForm.{ForForm}
@@ -209,9 +208,9 @@ module _ (asked : ForForm) where
         weaker None p = tt
         weaker (Some s) p = λ alike. none_told (λ b. Has asked b s) (simple_has asked s p)
 
-    assigned_row : (line : ℕ) (a : Access) (v : ComponentValue) → Row c scopes (told asked false (tags.is_tag scopes a)) (stmt_item c controls line (both (assigned c.locals line) (target_judged c a) (judged_value c.scopes v)))
+    assigned_row : (line : ℕ) (a : Access) (v : ComponentValue) → Row c scopes (told asked false (tags.is_tag scopes a)) (stmt_item c controls line (both (assigned c.locals line) (target_judged c a) (value_judged c a v)))
     assigned_row line a v =
-        let j : Judged (Option Stmt) = both (assigned c.locals line) (target_judged c a) (judged_value c.scopes v) in
+        let j : Judged (Option Stmt) = both (assigned c.locals line) (target_judged c a) (value_judged c a v) in
         item_fits HasTag line (unless_threatening (stmt_threat c.routines) controls j)
         (unthreatening_fits HasTag (stmt_threat c.routines) controls j (fits_weaker (IfForm (AssignsTag (tags.is_tag c.scopes a))) (IfForm HasTag) j weaker (assignment_assigns c line a v)))
       where

@@ -22,6 +22,7 @@ use Rattle.ep_tree.specs.declared.expression.Values.{Values}
 use Rattle.ep_typed.specs.Trees.{Callee}
 use Rattle.ep_scope.specs.Fields.{field_number}
 use Rattle.ep_scope.specs.Scopes.{Region, Meant, Declares, Requires, FieldOf, Nothing, depth_in, meant, meant_in, structure_in}
+use Rattle.ep_tree.specs.declared.expression.Selector.TheVariants as selector
 use Rattle.ep_scope.specs.Scopes as meaning
 use Rattle.ep_scope.specs.declared.kind.Kind.{Kind}
 use Rattle.ep_scope.specs.declared.kind.Kind.TheVariants as kind
@@ -56,6 +57,7 @@ use Rattle.ep_check_expr.proofs.Designated.{field-given}
 use Rattle.ep_check_expr.proofs.Folds.{name_judged-is}
 use Rattle.ep_check_expr.proofs.Indexed.{index-given}
 use Rattle.ep_check_expr.proofs.Keeping.{if-satisfies}
+use Rattle.ep_check_expr.proofs.Nodes.{indexes-judged}
 use Rattle.ep_check_expr.proofs.Plain.{applied_one-plain, applied_two-plain, deep-plain}
 use Rattle.ep_check_stmt.specs.Tags as tags
 use Rattle.ep_check_stmt.specs.declared.tags.Reached.{Reached}
@@ -263,7 +265,7 @@ module _ (scopes : List Region) where
 
   rolled_told : (l : Layer) → selected scopes (roll-Selector l) ≡ told l
   rolled_told (Selector-F.Field line name) = simp fold-roll-Selector
-  rolled_told (Selector-F.Index line indexes) = simp fold-roll-Selector
+  rolled_told (Selector-F.Index line indexes) = ap (selected scopes) (selector.rolls-Index line indexes) ∙ indexes-judged scopes line indexes
   rolled_told (Selector-F.Dereference line) = simp fold-roll-Selector
   rolled_told (Selector-F.Arguments line arguments) = simp fold-roll-Selector
 

@@ -37,7 +37,7 @@ use Rattle.ep_check_expr.proofs.Meant.{IsMeant, meant-declared}
 use Rattle.ep_check_expr.proofs.Passing.{IfForm, given-fits, set-fits, structured-fits}
 use Rattle.ep_check_expr.proofs.Places.{structured-place}
 use Rattle.ep_check_stmt.specs.Laws.{IsResultAt, ResultsAreThere, AuxiliariesAreThere}
-use Rattle.ep_check_stmt.specs.Statements.{Context, FunctionResult, Target, assigned, declared_target, function_target, has_result, place_named, target_judged, target_of_selectors, variable_target, At, Locals, Receiver, TagOf, assignment, field_target_of, tag_target}
+use Rattle.ep_check_stmt.specs.Statements.{Context, FunctionResult, Target, assigned, declared_target, function_target, has_result, place_named, asked_of, target_judged, value_judged, target_of_selectors, variable_target, At, Locals, Receiver, TagOf, assignment, field_target_of, tag_target}
 use Rattle.ep_check_stmt.proofs.judged.Fits.{Any, Fits, fits_any, fits_both, fits_then}
 
 -- an assignment is valid where the auxiliary variables are there, if it has the first one
@@ -62,11 +62,11 @@ module _ (declared : Declarations) (values : ValuesAreSound) (variables : Variab
   abbrev IsSoundForm : Typed → Type 0
   IsSoundForm t = IsFormOf declared agrees.0 structures t.kind t.form
 
-  value_fits : (v : ComponentValue) → Fits IsSoundForm (judged_value scopes v)
-  value_fits v = go (judged_value scopes v) refl
+  value_fits : (v : ComponentValue) (asked : Option ℕ) → Fits IsSoundForm (judged_value scopes v asked)
+  value_fits v asked = go (judged_value scopes v asked) refl
     where
-      go : (j : Judged Typed) → judged_value scopes v ≡ j → Fits IsSoundForm j
-      go (Accepts t) is = values scopes v t is declared agrees.0 agrees.1
+      go : (j : Judged Typed) → judged_value scopes v asked ≡ j → Fits IsSoundForm j
+      go (Accepts t) is = values scopes v asked t is declared agrees.0 agrees.1
       go (Breaks rules) is = tt
 
   -- ---- what is assigned to
@@ -120,6 +120,7 @@ module _ (declared : Declarations) (values : ValuesAreSound) (variables : Variab
   read_fits (kind.Ordinal h) (Some (tree.Function callee given)) f = tt
   read_fits (kind.Ordinal h) (Some (tree.IndexedValue array index)) f = tt
   read_fits (kind.Ordinal h) (Some (tree.FieldValue whole number)) f = tt
+  read_fits (kind.Ordinal h) (Some (tree.Structured number es)) f = tt
   read_fits (kind.Ordinal h) (Some (tree.SetConstant members)) f = tt
   read_fits (kind.Ordinal h) (Some (tree.SetOf members)) f = tt
   read_fits (kind.Ordinal h) (Some (tree.OnSets operation x y)) f = tt
@@ -129,6 +130,7 @@ module _ (declared : Declarations) (values : ValuesAreSound) (variables : Variab
   read_fits (kind.Structured n) (Some (tree.Function callee given)) f = tt
   read_fits (kind.Structured n) (Some (tree.IndexedValue array index)) f = tt
   read_fits (kind.Structured n) (Some (tree.FieldValue whole number)) f = tt
+  read_fits (kind.Structured n) (Some (tree.Structured number es)) f = tt
   read_fits (kind.Structured n) (Some (tree.Constant z)) f = tt
   read_fits (kind.Structured n) (Some (tree.Text bytes)) f = tt
   read_fits (kind.Structured n) (Some (tree.One operation x)) f = tt
@@ -150,6 +152,7 @@ module _ (declared : Declarations) (values : ValuesAreSound) (variables : Variab
   read_fits (kind.Set h) (Some (tree.Function callee given)) f = tt
   read_fits (kind.Set h) (Some (tree.IndexedValue array index)) f = tt
   read_fits (kind.Set h) (Some (tree.FieldValue whole number)) f = tt
+  read_fits (kind.Set h) (Some (tree.Structured number es)) f = tt
   read_fits (kind.Set h) (Some (tree.SetConstant members)) f = tt
   read_fits (kind.Set h) (Some (tree.SetOf members)) f = tt
   read_fits (kind.Set h) (Some (tree.OnSets operation x y)) f = tt
@@ -317,7 +320,7 @@ module _ (declared : Declarations) (values : ValuesAreSound) (variables : Variab
     assign_fits kind.Text from line r form p f = unplaced_fits line r (given_to (λ x. x) kind.Text from form) (to_text from form)
     assign_fits kind.File from line r form p f = unplaced_fits line r (given_to (λ x. x) kind.File from form) (to_file_fits from form)
 
-  pub assignment_fits : (c : Context) → c.scopes ≡ scopes → Results c → (line : ℕ) (a : syntax.Access) (v : ComponentValue) → Fits (IfForm (IsAssigned declared c.locals)) (both (assigned c.locals line) (target_judged c a) (judged_value c.scopes v))
+  pub assignment_fits : (c : Context) → c.scopes ≡ scopes → Results c → (line : ℕ) (a : syntax.Access) (v : ComponentValue) → Fits (IfForm (IsAssigned declared c.locals)) (both (assigned c.locals line) (target_judged c a) (value_judged c a v))
   assignment_fits c is there line a v =
-      fits_both IsTarget IsSoundForm (IfForm (IsAssigned declared c.locals)) (assigned c.locals line) (target_judged c a) (judged_value c.scopes v) (target_fits c is there a (out-Access a).selectors)
-      (subst (λ s. Fits IsSoundForm (judged_value s v)) (sym is) (value_fits v)) (λ t x p f. assign_fits c.locals t.kind x.kind line t.receiver x.form p f)
+      fits_both IsTarget IsSoundForm (IfForm (IsAssigned declared c.locals)) (assigned c.locals line) (target_judged c a) (value_judged c a v) (target_fits c is there a (out-Access a).selectors)
+      (subst (λ s. Fits IsSoundForm (judged_value s v (asked_of (target_judged c a)))) (sym is) (value_fits v (asked_of (target_judged c a)))) (λ t x p f. assign_fits c.locals t.kind x.kind line t.receiver x.form p f)

@@ -2,6 +2,7 @@
 use Rattle.std.proofs.Common.{◌≡◌, ℕ, suc, ◌+◌, List, [], ◌∷◌, ◌++◌, length, Option, Some, None, refl, sym, ap, ◌∙◌, subst, arith}
 use Rattle.std.specs.Prelude.{All, ⊤}
 use Rattle.std.proofs.lemmas.List.{length_push}
+use Rattle.std.proofs.lemmas.List.Elements.{All-nil}
 use Rattle.ep_tree.specs.declared.expression.Access as syntax
 use Rattle.ep_typed.specs.Denoters.{bare_type_of}
 use Rattle.ep_typed.specs.Trees as tree
@@ -20,7 +21,7 @@ use Rattle.ep_scope.specs.declared.structure.Composition.{Composition}
 use Rattle.ep_scope.specs.declared.structure.Composition.TheVariants as composition
 use Rattle.ep_scope.specs.declared.structure.FieldType.{FieldType}
 use Rattle.ep_scope.specs.declared.structure.StructuredType.{StructuredType}
-use Rattle.ep_check_expr.specs.Agreement.{HasKind, HasStructure, HoldsStructure, IsFormOf, IsOpen, IsStructuredAt, TypeValues}
+use Rattle.ep_check_expr.specs.Agreement.{HasKind, HasStructure, HoldsStructure, IsFormOf, IsListed, IsOpen, IsStructuredAt, TypeValues}
 use Rattle.ep_check_expr.specs.Arguments.{place_read}
 use Rattle.ep_check_expr.specs.Expressions.{name_judged}
 use Rattle.ep_check_expr.specs.Judgements.{Judged, Accepts, Breaks, Typed, when_accepted}
@@ -97,8 +98,8 @@ module _ (declared : Declarations) (types : TypeValues) (structures : List Struc
 
     -- where one more record is open
     agrees_within : (r : OpenRecord) (scopes : List Region) → AgreedIn declared types structures depth scopes → IsOpen declared types structures depth r → AgreedIn declared types structures depth (within r scopes)
-    agrees_within r [] h fields = (h.0, h.1, (tt, tt, tt, (fields, tt)))
-    agrees_within r (g ∷ gs) h fields = (h.0, h.1, (h.2.0, h.2.1, h.2.2, (fields, h.2.3)))
+    agrees_within r [] h fields = (h.0, h.1, (tt, tt, tt, (fields, tt), All-nil (IsListed declared types)))
+    agrees_within r (g ∷ gs) h fields = (h.0, h.1, (h.2.0, h.2.1, h.2.2, (fields, h.2.3), h.2.4))
 
     module _ (variables : VariablesAreSound) (c : Context) where
       -- they have the next numbers
@@ -133,6 +134,7 @@ module _ (declared : Declarations) (types : TypeValues) (structures : List Struc
         read_place n (Some (tree.Function callee given)) f = tt
         read_place n (Some (tree.IndexedValue array index)) f = tt
         read_place n (Some (tree.FieldValue whole number)) f = tt
+        read_place n (Some (tree.Structured number es)) f = tt
         read_place n (Some (tree.Constant z)) f = tt
         read_place n (Some (tree.Text bytes)) f = tt
         read_place n (Some (tree.One operation x)) f = tt

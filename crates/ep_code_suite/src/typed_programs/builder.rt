@@ -1,7 +1,10 @@
 //! Typed trees, built by steps.
 
 use ep_base::{Boxed, Bytes, Line, List, Name, NameRefusal};
-use ep_typed::{Binary, Callee, Print, TypedExpr, TypedPlace, TypedStmt, Unary, WriteItem};
+use ep_typed::{
+    Binary, Callee, CaseRange, Element, Elements, Print, TypedExpr, TypedPlace, TypedStmt, Unary,
+    WriteItem,
+};
 use std::alloc::{AllocError, Global};
 
 /// A step that builds a tree of what the steps before it left, the last first.
@@ -25,6 +28,16 @@ pub(crate) enum Step {
     Indexed,
     /// The component of this number of a record that a function gives.
     Field(u32),
+    /// What the component of a structured value at an index is given.
+    AtIndex,
+    /// What the component of a structured value is given to which these steps lead.
+    AtField(&'static [u32]),
+    /// That the component to which the second steps lead is given what that has to which the first lead.
+    SameField(&'static [u32], &'static [u32]),
+    /// What all components of a structured value with the indexes of these ranges are given.
+    AtRanges(&'static [(i64, i64)]),
+    /// A structured value of the type of this number, of all that its components are given.
+    Structured(u32),
     /// A value that is written.
     Plain(Print),
     /// A value that is written, and its width.
@@ -74,6 +87,7 @@ pub(crate) struct Builder {
     alloc: Global,
     pub(crate) expressions: List<Boxed<TypedExpr>>,
     items: List<WriteItem>,
+    elements: Elements,
     pub(crate) statements: List<TypedStmt>,
 }
 
@@ -84,6 +98,7 @@ impl Builder {
             alloc,
             expressions: List::new(alloc),
             items: List::new(alloc),
+            elements: List::new(alloc),
             statements: List::new(alloc),
         };
         for step in steps {
@@ -109,6 +124,11 @@ impl Builder {
             Step::Function(number) => self.function(number),
             Step::Indexed => self.indexed(),
             Step::Field(number) => self.field(number),
+            Step::AtIndex => self.at_index(),
+            Step::AtField(steps) => self.at_field(steps),
+            Step::SameField(from, to) => self.same_field(from, to),
+            Step::AtRanges(ranges) => self.at_ranges(ranges),
+            Step::Structured(number) => self.structured(number),
             Step::Plain(print) => self.plain(print),
             Step::Wide(print) => self.wide(print),
             Step::Empty => self.put(TypedStmt::Empty),
@@ -211,6 +231,41 @@ impl Builder {
     fn field(&mut self, number: u32) -> Result<(), Unbuilt> {
         let whole = self.expression()?;
         self.push(TypedExpr::FieldValue(whole, number))
+    }
+
+    fn at_index(&mut self) -> Result<(), Unbuilt> {
+        let value = self.expression()?;
+        let index = self.expression()?;
+        Ok(self.elements.push(Element::AtIndex(index, value))?)
+    }
+
+    fn at_field(&mut self, steps: &[u32]) -> Result<(), Unbuilt> {
+        let steps = List::from_slice(self.alloc, steps)?;
+        let value = self.expression()?;
+        Ok(self.elements.push(Element::AtField(steps, value))?)
+    }
+
+    fn same_field(&mut self, from: &[u32], to: &[u32]) -> Result<(), Unbuilt> {
+        let from = List::from_slice(self.alloc, from)?;
+        let to = List::from_slice(self.alloc, to)?;
+        Ok(self.elements.push(Element::SameField(from, to))?)
+    }
+
+    fn at_ranges(&mut self, all: &[(i64, i64)]) -> Result<(), Unbuilt> {
+        let mut ranges = List::new(self.alloc);
+        for (low, high) in all {
+            ranges.push(CaseRange {
+                low: *low,
+                high: *high,
+            })?;
+        }
+        let value = self.expression()?;
+        Ok(self.elements.push(Element::AtRanges(ranges, value))?)
+    }
+
+    fn structured(&mut self, number: u32) -> Result<(), Unbuilt> {
+        let elements = std::mem::replace(&mut self.elements, List::new(self.alloc));
+        self.push(TypedExpr::Structured(number, elements))
     }
 
     fn plain(&mut self, print: Print) -> Result<(), Unbuilt> {

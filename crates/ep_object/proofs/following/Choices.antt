@@ -89,6 +89,22 @@ fragment_fetched {A = A} {declared = declared} {G = G} {Here = Here} {n = n} {fr
         subst (λ y. Follows (λ k. IsNotLeft from.memory.frames k.frames) G n (state_at from s.trace) s (found (meaning.Error number unit line) y) (λ a. Lands declared G Here to (P a)) d (λ a. d1)) (sym is)
         (follows_credit {d = 1 + d1} {e = λ b. d1} le (λ b. omega arith) (follows_waits (not_left-here from.memory.frames) x.does (follows_give a (omega arith) (landed x))))
 
+-- the same from one state, with what is made of what was read
+pub follows_fetched : {A B : Type 0} {declared : Declarations} {G : Image} {Here : Facts} {n : ℕ} {to : ℕ} {P : B → After} {d d1 : ℕ} {number line : ℕ} {unit : List ℕ} (from : Point) (h : meaning.State → Option A) (f : A → B) (s : meaning.State)
+    → Reads declared G Here (state_at from s.trace) number unit line to (λ a. P (f a)) s (h s)
+    → 1 + d1 ≤ d
+    → Follows (λ k. IsNotLeft from.memory.frames k.frames) G n (state_at from s.trace) s (bind (fetch (meaning.Error number unit line) h) (λ a. give (f a))) (λ b. Lands declared G Here to (P b)) d (λ b. d1)
+follows_fetched {A = A} {B = B} {declared = declared} {G = G} {Here = Here} {n = n} {to = to} {P = P} {d = d} {d1 = d1} {number = number} {line = line} {unit = unit} from h f s reads le =
+    record { by = λ m l. let z = go (h s) reads in z.by m l }
+  where
+    go : (o : Option A) → Reads declared G Here (state_at from s.trace) number unit line to (λ a. P (f a)) s o
+        → Follows (λ k. IsNotLeft from.memory.frames k.frames) G n (state_at from s.trace) s (bind (found (meaning.Error number unit line) o) (λ a. give (f a))) (λ b. Lands declared G Here to (P b)) d (λ b. d1)
+    go o (Misses is x) =
+        subst (λ y. Follows (λ k. IsNotLeft from.memory.frames k.frames) G n (state_at from s.trace) s (bind (found (meaning.Error number unit line) y) (λ a. give (f a))) (λ b. Lands declared G Here to (P b)) d (λ b. d1)) (sym is) (follows_stop (not_left-here from.memory.frames) x.fails (omega (arith, le)))
+    go o (Finds a is x) =
+        subst (λ y. Follows (λ k. IsNotLeft from.memory.frames k.frames) G n (state_at from s.trace) s (bind (found (meaning.Error number unit line) y) (λ a. give (f a))) (λ b. Lands declared G Here to (P b)) d (λ b. d1)) (sym is)
+        (follows_credit {d = 1 + d1} {e = λ b. d1} le (λ b. omega arith) (follows_waits (not_left-here from.memory.frames) x.does (follows_give (f a) (omega arith) (landed x))))
+
 -- ---- a variable that is read
 
 -- the machine has the result that the computation reads, and spends its weight and so many ticks besides, or both end with the error after those
@@ -132,6 +148,18 @@ fragment_known {B = B} {declared = declared} {G = G} {Here = Here} {n = n} {from
     stops s x enough = follows_stop (not_left-here from.memory.frames) x.fails enough
 fragment_known (Some a) f fails le next = record { by = λ s matches here. record { by = λ m l. let z = next a refl in let w = z.by s matches here in w.by m l } }
 
+-- ---- a test of the state
+
+-- one of two computations, by a test of the state
+pub follows_tested : {A : Type 0} {Within : State → Type 0} {G : Image} {n : ℕ} {k : State} {s : meaning.State} {x y : Computation A} {P : A → meaning.State → State → Type 0} {d : ℕ} {e : A → ℕ} (b : meaning.State → Bool)
+    → (b s ≡ true → Follows Within G n k s x P d e) → (b s ≡ false → Follows Within G n k s y P d e)
+    → Follows Within G n k s (λ m t. (if b t then x else y) m t) P d e
+follows_tested {Within = Within} {G = G} {n = n} {k = k} {s = s} {x = x} {y = y} {P = P} {d = d} {e = e} b holds fails = record { by = λ m l. go m l (b s) refl }
+  where
+    go : (m : ℕ) → m ≤ n → (t : Bool) → b s ≡ t → Met Within G k m P d e ((if b s then x else y) m s)
+    go m l true q = let z = holds q in subst (λ t. Met Within G k m P d e ((if t then x else y) m s)) (sym q) (z.by m l)
+    go m l false q = let z = fails q in subst (λ t. Met Within G k m P d e ((if t then x else y) m s)) (sym q) (z.by m l)
+
 -- ---- what is used has to live
 
 -- where an allocation has ended that is used, the instruction ends with the error, and else the computation is followed
@@ -140,22 +168,8 @@ pub fragment_using : {A : Type 0} {declared : Declarations} {G : Image} {Here : 
     → suc weight ≤ d
     → ((s : meaning.State) → Matches declared G from.injection s from.memory → Here from.injection s from.memory → has_ended a s ≡ false → Follows (λ k. IsNotLeft from.memory.frames k.frames) G n (state_at from s.trace) s c (λ x. Lands declared G Here to (P x)) d e)
     → Fragment declared G Here n from (using (meaning.Error number unit line) a c) to P d e
-fragment_using {A = A} {declared = declared} {G = G} {Here = Here} {n = n} {from = from} {to = to} {c = c} {P = P} {d = d} {e = e} {weight = weight} {number = number} {line = line} {unit = unit} a ends le lives =
-    record { by = λ s matches here. record { by = λ m l. go s matches here m l (has_ended a s) refl } }
-  where
-    ended : (s : meaning.State) → FailsWith G (state_at from s.trace) weight number unit line s
-        → Follows (λ k. IsNotLeft from.memory.frames k.frames) G n (state_at from s.trace) s (stop {A = A} (meaning.Error number unit line)) (λ x. Lands declared G Here to (P x)) d e
-    ended s x = follows_stop (not_left-here from.memory.frames) x.fails le
-
-    go : (s : meaning.State) → Matches declared G from.injection s from.memory
-        → Here from.injection s from.memory → (m : ℕ) → m ≤ n → (b : Bool) → has_ended a s ≡ b
-        → Met (λ k. IsNotLeft from.memory.frames k.frames) G (state_at from s.trace) m (λ x. Lands declared G Here to (P x)) d e ((if has_ended a s then stop (meaning.Error number unit line) else c) m s)
-    go s matches here m l true q =
-        let z = ended s (ends s matches q) in
-        subst (λ y. Met (λ k. IsNotLeft from.memory.frames k.frames) G (state_at from s.trace) m (λ x. Lands declared G Here to (P x)) d e ((if y then stop (meaning.Error number unit line) else c) m s)) (sym q) (z.by m l)
-    go s matches here m l false q =
-        let z = lives s matches here q in
-        subst (λ y. Met (λ k. IsNotLeft from.memory.frames k.frames) G (state_at from s.trace) m (λ x. Lands declared G Here to (P x)) d e ((if y then stop (meaning.Error number unit line) else c) m s)) (sym q) (z.by m l)
+fragment_using {from = from} a ends le lives =
+    record { by = λ s matches here. follows_tested (has_ended a) (λ q. let x = ends s matches q in follows_stop (not_left-here from.memory.frames) x.fails le) (lives s matches here) }
 
 -- ---- an answer
 
@@ -203,31 +217,40 @@ follows_checked {declared = declared} {G = G} {Here = Here} {n = n} {to = to} {P
         let z = fails (refuses q) in
         subst (λ y. Met (λ k. IsNotLeft from.memory.frames k.frames) G (state_at from s.trace) m (λ a. Lands declared G Here to (P a)) d e ((if y then spend 1 (change f) else stop (meaning.Error number unit line)) m s)) (sym q) (z.by m l)
 
--- the same where the instruction has a weight, which is paid by the credit
-pub follows_checked-weighed : {declared : Declarations} {G : Image} {Here : Facts} {n : ℕ} {to : ℕ} {P : Unit {0} → After} {d weight : ℕ} {e : Unit {0} → ℕ} {number line : ℕ} {unit : List ℕ} (from : Point) (b : meaning.State → Bool) (f : meaning.State → meaning.State) (s : meaning.State)
+-- The same where the instruction has a weight, and the form spends more steps, no more than that. What is left of it is paid by
+-- the credit.
+pub follows_checked-spent : {declared : Declarations} {G : Image} {Here : Facts} {n : ℕ} {to : ℕ} {P : Unit {0} → After} {d weight : ℕ} {e : Unit {0} → ℕ} {number line : ℕ} {unit : List ℕ} (from : Point) (b : meaning.State → Bool) (f : meaning.State → meaning.State) (s : meaning.State) (more : ℕ) → more ≤ weight
     → (b s ≡ true → Does declared G Here (state_at from s.trace) weight to (P tt) (f s))
     → (b s ≡ false → FailsWith G (state_at from s.trace) weight number unit line s)
     → 1 + weight ≤ d → e tt + weight ≤ d + 63
-    → Follows (λ k. IsNotLeft from.memory.frames k.frames) G (suc n) (state_at from s.trace) s (λ m s. (if b s then spend 1 (change f) else stop (meaning.Error number unit line)) m s) (λ a. Lands declared G Here to (P a)) d e
-follows_checked-weighed {declared = declared} {G = G} {Here = Here} {n = n} {to = to} {P = P} {d = d} {weight = weight} {e = e} {number = number} {line = line} {unit = unit} from b f s passes refuses le le2 =
+    → Follows (λ k. IsNotLeft from.memory.frames k.frames) G (suc n) (state_at from s.trace) s (λ m s. (if b s then spend (suc more) (change f) else stop (meaning.Error number unit line)) m s) (λ a. Lands declared G Here to (P a)) d e
+follows_checked-spent {declared = declared} {G = G} {Here = Here} {n = n} {to = to} {P = P} {d = d} {weight = weight} {e = e} {number = number} {line = line} {unit = unit} from b f s more few passes refuses le le2 =
     record { by = λ m l. go m l (b s) refl }
   where
     holds : Does declared G Here (state_at from s.trace) weight to (P tt) (f s)
-        → Follows (λ k. IsNotLeft from.memory.frames k.frames) G (suc n) (state_at from s.trace) s (spend 1 (change f)) (λ a. Lands declared G Here to (P a)) d e
-    holds does = follows_paid {v = weight} {w = 0} {d1 = d + 63 - weight} (not_left-here from.memory.frames) refl does.does (omega arith) (omega arith) (omega (arith, le)) (follows_changed {n = n} f {P = λ a. Lands declared G Here to (P a)} {d = d + 63 - weight} {e = e} (omega (arith, le2)) (landed does))
+        → Follows (λ k. IsNotLeft from.memory.frames k.frames) G (suc n) (state_at from s.trace) s (spend (suc more) (change f)) (λ a. Lands declared G Here to (P a)) d e
+    holds does = follows_paid {v = weight} {w = more} {d1 = d + 63 - weight} (not_left-here from.memory.frames) refl does.does (omega (arith, few)) (omega (arith, few, le)) (omega (arith, le)) (follows_changed {n = n} f {P = λ a. Lands declared G Here to (P a)} {d = d + 63 - weight} {e = e} (omega (arith, le2)) (landed does))
 
     fails : FailsWith G (state_at from s.trace) weight number unit line s
         → Follows (λ k. IsNotLeft from.memory.frames k.frames) G (suc n) (state_at from s.trace) s (stop {A = Unit {0}} (meaning.Error number unit line)) (λ a. Lands declared G Here to (P a)) d e
     fails x = follows_stop (not_left-here from.memory.frames) x.fails (omega (arith, le))
 
     go : (m : ℕ) → m ≤ suc n → (x : Bool) → b s ≡ x
-        → Met (λ k. IsNotLeft from.memory.frames k.frames) G (state_at from s.trace) m (λ a. Lands declared G Here to (P a)) d e ((if b s then spend 1 (change f) else stop (meaning.Error number unit line)) m s)
+        → Met (λ k. IsNotLeft from.memory.frames k.frames) G (state_at from s.trace) m (λ a. Lands declared G Here to (P a)) d e ((if b s then spend (suc more) (change f) else stop (meaning.Error number unit line)) m s)
     go m l true q =
         let z = holds (passes q) in
-        subst (λ y. Met (λ k. IsNotLeft from.memory.frames k.frames) G (state_at from s.trace) m (λ a. Lands declared G Here to (P a)) d e ((if y then spend 1 (change f) else stop (meaning.Error number unit line)) m s)) (sym q) (z.by m l)
+        subst (λ y. Met (λ k. IsNotLeft from.memory.frames k.frames) G (state_at from s.trace) m (λ a. Lands declared G Here to (P a)) d e ((if y then spend (suc more) (change f) else stop (meaning.Error number unit line)) m s)) (sym q) (z.by m l)
     go m l false q =
         let z = fails (refuses q) in
-        subst (λ y. Met (λ k. IsNotLeft from.memory.frames k.frames) G (state_at from s.trace) m (λ a. Lands declared G Here to (P a)) d e ((if y then spend 1 (change f) else stop (meaning.Error number unit line)) m s)) (sym q) (z.by m l)
+        subst (λ y. Met (λ k. IsNotLeft from.memory.frames k.frames) G (state_at from s.trace) m (λ a. Lands declared G Here to (P a)) d e ((if y then spend (suc more) (change f) else stop (meaning.Error number unit line)) m s)) (sym q) (z.by m l)
+
+-- the same with one step
+pub follows_checked-weighed : {declared : Declarations} {G : Image} {Here : Facts} {n : ℕ} {to : ℕ} {P : Unit {0} → After} {d weight : ℕ} {e : Unit {0} → ℕ} {number line : ℕ} {unit : List ℕ} (from : Point) (b : meaning.State → Bool) (f : meaning.State → meaning.State) (s : meaning.State)
+    → (b s ≡ true → Does declared G Here (state_at from s.trace) weight to (P tt) (f s))
+    → (b s ≡ false → FailsWith G (state_at from s.trace) weight number unit line s)
+    → 1 + weight ≤ d → e tt + weight ≤ d + 63
+    → Follows (λ k. IsNotLeft from.memory.frames k.frames) G (suc n) (state_at from s.trace) s (λ m s. (if b s then spend 1 (change f) else stop (meaning.Error number unit line)) m s) (λ a. Lands declared G Here to (P a)) d e
+follows_checked-weighed from b f s passes refuses le le2 = follows_checked-spent from b f s 0 (omega arith) passes refuses le le2
 
 -- ---- one of two ways
 

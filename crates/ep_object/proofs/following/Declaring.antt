@@ -71,4 +71,6 @@ module _ (levels : List Level) (declared : Declarations) where
         types = λ unit index t typed.
             let k = kept.types unit index t typed in
             record { routine = k.routine; placed = k.placed; promise = λ place line calls injection begun memory below home. fragment_inside (k.promise place line calls injection begun memory below home) };
+        swaps = kept.swaps;
+        fills = kept.fills;
       }

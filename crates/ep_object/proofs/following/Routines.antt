@@ -48,7 +48,7 @@ use Rattle.ep_typed.specs.declared.unit.UnitType.{UnitType}
 -- ---- frames
 
 -- while a call runs that the routine made, the routine is not left
-not_left-called : (before f : Frames) (c : Frame) → IsNotLeft (record before { calls = c ∷ before.calls }) f → IsNotLeft before f
+pub not_left-called : (before f : Frames) (c : Frame) → IsNotLeft (record before { calls = c ∷ before.calls }) f → IsNotLeft before f
 not_left-called before f c h = go h.own h.is h.runs
   where
     go : (own : List Frame) → f.calls ≡ h.over ++ own → StillRuns (record before { calls = c ∷ before.calls }) (record f { calls = own }) → IsNotLeft before f
@@ -69,10 +69,10 @@ not_left-called before f c h = go h.own h.is h.runs
 -- ---- the instruction that leaves the routine
 
 -- memory once the innermost call is left, in which these segments were made
-abbrev left_memory : List ℕ → List Frame → Memory → Memory
+abbrev pub left_memory : List ℕ → List Frame → Memory → Memory
 left_memory made below memory = record (without made memory) { frames = record memory.frames { calls = below } }
 
-leaves : (G : Image) (ret : ℕ) (i : Instr) (st : List Operand) (memory : Memory) (trace : Trace) (frame : Frame) (below : List Frame)
+pub leaves : (G : Image) (ret : ℕ) (i : Instr) (st : List Operand) (memory : Memory) (trace : Trace) (frame : Frame) (below : List Frame)
     → slice_get G.instructions ret ≡ Some i → op_of i.op ≡ Some table.Return → i.a ≡ pos 0 → i.b ≡ 0
     → memory.frames.calls ≡ frame ∷ below
     → outcome G (at ret st memory trace) ≡ record { weight = 0; to = Running 0 (at frame.back st (left_memory frame.made below memory) trace) }
@@ -101,7 +101,7 @@ abbrev set_aside : ℕ → Resources → Resources
 set_aside words r = watched (record r { reserved = r.reserved + words })
 
 -- more calls than every run has room for
-lost_calls : (depth : ℕ) (r : Resources) → 9000 < depth → IsTrue (nested depth r).lost
+pub lost_calls : (depth : ℕ) (r : Resources) → 9000 < depth → IsTrue (nested depth r).lost
 lost_calls depth r deep = let full : nat_le depth 9000 ≡ false = grind (arith, nat_tests) in go r.lost full
   where
     go : (lost : Bool) → nat_le depth 9000 ≡ false → IsTrue (lost || not (nat_le depth 9000))

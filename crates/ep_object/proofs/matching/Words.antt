@@ -304,7 +304,7 @@ has_along injection t path value words p leads h = has_from injection path t val
 -- ---- words with other ones for a part
 
 -- the value that is put for a number is found there, and for another number what was there
-with-same : (of : ℕ → Value) (k : ℕ) (value : Value) → values_with of k value k ≡ value
+pub with-same : (of : ℕ → Value) (k : ℕ) (value : Value) → values_with of k value k ≡ value
 with-same of zero value = refl
 with-same of (suc k) value = with-same (λ j. of (suc j)) k value
 

@@ -9,7 +9,7 @@ use Rattle.ep_object.specs.Operands.{Operand, Word}
 use Rattle.ep_object.specs.Operands as operand
 use Rattle.ep_object.specs.Places.{component_of}
 use Rattle.ep_object.specs.Runs.{outcome, after, unit_in}
-use Rattle.ep_object.specs.State.{State}
+use Rattle.ep_object.specs.State.{Running, State}
 use Rattle.ep_object.specs.Table.{on_operands}
 use Rattle.ep_object.specs.declared.code.Image.{Image}
 use Rattle.ep_object.specs.declared.state.Place.{Place}
@@ -68,7 +68,7 @@ module _ (declared : Declarations) (G : Image) (place line : ℕ) (below : List 
   component_place k = record { segment = p.segment; offset = p.offset + k * size_of of; type_number = array.component }
 
   -- it is that of the component of the variable
-  component_spot : (k : ℕ) → k < count_of low high → IsSpot injection memory.types (component v k) (component_place k)
+  pub component_spot : (k : ℕ) → k < count_of low high → IsSpot injection memory.types (component v k) (component_place k)
   component_spot k less =
       let its_type : spot.type_value ≡ type.Array low high of = like_one memory.types p.type_number spot.type_value (type.Array low high of) spot.described described in
       let leads : part_along (Some (all_of spot.root)) v.path ≡ Some (record { offset = p.offset; type_value = type.Array low high of }) = subst (λ t. part_along (Some (all_of spot.root)) v.path ≡ Some (record { offset = p.offset; type_value = t })) its_type spot.leads in
@@ -84,61 +84,67 @@ module _ (declared : Declarations) (G : Image) (place line : ℕ) (below : List 
       }
 
   -- of a variable that lives
-  pub index_reads : {untouched : Slots} {Here : Facts} (s : meaning.State) → Matches declared G injection s memory
-      → Here injection s memory → has_ended v.allocation s ≡ false
-      → Reads declared G Here (before s.trace) run_error.INDEX (unit_in G memory.frames) line (place + 1) (λ k. Inside untouched injection memory (PlaceOnTop of below (component v k))) s (component_number (type_at v s) z)
-  index_reads {untouched = untouched} {Here = Here} s matches known living = go (component_at low high z) refl
-    where
-      x : Stands injection s memory v p
-      x = place_stands matches spot living
+  module _ (s : meaning.State) (matches : Matches declared G injection s memory) (living : has_ended v.allocation s ≡ false) where
+    x : Stands injection s memory v p
+    x = place_stands matches spot living
 
-      r : Represents injection memory.segments memory.types p.segment x.allocation
-      r = x.represents
+    r : Represents injection memory.segments memory.types p.segment x.allocation
+    r = x.represents
 
-      its_type : x.type_value ≡ type.Array low high of
-      its_type = like_one memory.types p.type_number x.type_value (type.Array low high of) x.described described
+    its_type : x.type_value ≡ type.Array low high of
+    its_type = like_one memory.types p.type_number x.type_value (type.Array low high of) x.described described
 
-      leads : part_along (Some (all_of (bare_of (x.allocation).type_value))) v.path ≡ Some (record { offset = p.offset; type_value = type.Array low high of })
-      leads = subst (λ t. part_along (Some (all_of (bare_of (x.allocation).type_value))) v.path ≡ Some (record { offset = p.offset; type_value = t })) its_type x.leads
+    leads : part_along (Some (all_of (bare_of (x.allocation).type_value))) v.path ≡ Some (record { offset = p.offset; type_value = type.Array low high of })
+    leads = subst (λ t. part_along (Some (all_of (bare_of (x.allocation).type_value))) v.path ≡ Some (record { offset = p.offset; type_value = t })) its_type x.leads
 
-      number_is : component_number (type_at v s) z ≡ component_at low high z
-      number_is =
-          sym (bare_number (type_at v s) z) ∙ ap (λ o. component_number o z) (type_of_variable (type.Array low high of) v p.offset s x.allocation x.is leads)
+    pub number_is : component_number (type_at v s) z ≡ component_at low high z
+    number_is =
+        sym (bare_number (type_at v s) z) ∙ ap (λ o. component_number o z) (type_of_variable (type.Array low high of) v p.offset s x.allocation x.is leads)
 
-      e : TypeEntry
-      e = let d = like_there memory.types array.component of array.like in d.0
+    abbrev e : TypeEntry
+    e = let d = like_there memory.types array.component of array.like in d.0
 
-      there : slice_get memory.types array.component ≡ Some e
-      there = let d = like_there memory.types array.component of array.like in d.1
+    there : slice_get memory.types array.component ≡ Some e
+    there = let d = like_there memory.types array.component of array.like in d.1
 
-      size : e.size ≡ size_of of
-      size = let d = like_there memory.types array.component of array.like in d.2
+    size : e.size ≡ size_of of
+    size = let d = like_there memory.types array.component of array.like in d.2
 
-      -- what it leads to, by the number of the component
-      outcome_by : (o : Option ℕ) → component_at low high z ≡ o
-          → outcome G (before s.trace) ≡ in_one (after G (instr op.INDEX (pos 0) 0 line) (before s.trace) (on_operands (before s.trace) (component_of (record { type_number = r.type_number; words = r.words }) p array.component (size_of of) o below)))
-      outcome_by o is =
-          index_outcome s.trace e r.type_number r.words there r.stands
-          ∙ ap (λ n. in_one (after G (instr op.INDEX (pos 0) 0 line) (before s.trace) (on_operands (before s.trace) (component_of (record { type_number = r.type_number; words = r.words }) p array.component n (component_at low high z) below)))) size
-          ∙ ap (λ y. in_one (after G (instr op.INDEX (pos 0) 0 line) (before s.trace) (on_operands (before s.trace) (component_of (record { type_number = r.type_number; words = r.words }) p array.component (size_of of) y below)))) is
+    -- what it leads to, by the number of the component
+    outcome_by : (o : Option ℕ) → component_at low high z ≡ o
+        → outcome G (before s.trace) ≡ in_one (after G (instr op.INDEX (pos 0) 0 line) (before s.trace) (on_operands (before s.trace) (component_of (record { type_number = r.type_number; words = r.words }) p array.component (size_of of) o below)))
+    outcome_by o is =
+        index_outcome s.trace e r.type_number r.words there r.stands
+        ∙ ap (λ n. in_one (after G (instr op.INDEX (pos 0) 0 line) (before s.trace) (on_operands (before s.trace) (component_of (record { type_number = r.type_number; words = r.words }) p array.component n (component_at low high z) below)))) size
+        ∙ ap (λ y. in_one (after G (instr op.INDEX (pos 0) 0 line) (before s.trace) (on_operands (before s.trace) (component_of (record { type_number = r.type_number; words = r.words }) p array.component (size_of of) y below)))) is
 
-      within : (k : ℕ) → k < count_of low high → leb (p.offset + k * size_of of + size_of of) (length r.words) ≡ true
-      within k less =
-          let whole = part_within v.path (bare_of (x.allocation).type_value) 0 (record { offset = p.offset; type_value = type.Array low high of }) leads in
-          let fits : p.offset + k * size_of of + size_of of ≤ length r.words = omega (arith, whole.1, ends_before k (count_of low high) (size_of of) less, r.sized, bare_size (x.allocation).type_value) in
-          grind (arith, nat_tests)
+    within : (k : ℕ) → k < count_of low high → leb (p.offset + k * size_of of + size_of of) (length r.words) ≡ true
+    within k less =
+        let whole = part_within v.path (bare_of (x.allocation).type_value) 0 (record { offset = p.offset; type_value = type.Array low high of }) leads in
+        let fits : p.offset + k * size_of of + size_of of ≤ length r.words = omega (arith, whole.1, ends_before k (count_of low high) (size_of of) less, r.sized, bare_size (x.allocation).type_value) in
+        grind (arith, nat_tests)
 
-      go : (o : Option ℕ) → component_at low high z ≡ o
-          → Reads declared G Here (before s.trace) run_error.INDEX (unit_in G memory.frames) line (place + 1) (λ k. Inside untouched injection memory (PlaceOnTop of below (component v k))) s (component_number (type_at v s) z)
-      go None is = Misses (number_is ∙ is) (record { fails = outcome_by None is })
-      go (Some k) is =
-          let less : k < count_of low high = is_within_count (count_of low high) (gap low z) k is in
-          Finds k (number_is ∙ is) (record {
-            injection = injection;
-            memory = memory;
-            operands = operand.Place (component_place k) ∷ below;
-            does = outcome_by (Some k) is ∙ ap (λ b. in_one (after G (instr op.INDEX (pos 0) 0 line) (before s.trace) (on_operands (before s.trace) (provided b (Continues (operand.Place (component_place k) ∷ below)))))) (within k less);
-            matches = matches;
-            here = known;
-            post = inside_here (record { place = component_place k; is = refl; spot = component_spot k less; described = array.like });
-          })
+    -- The place of the component with the index is on top.
+    pub index_leads : (k : ℕ) → component_at low high z ≡ Some k → outcome G (before s.trace) ≡ in_one (Running 0 (at (place + 1) (operand.Place (component_place k) ∷ below) memory s.trace))
+    index_leads k is =
+        outcome_by (Some k) is
+        ∙ ap (λ b. in_one (after G (instr op.INDEX (pos 0) 0 line) (before s.trace) (on_operands (before s.trace) (provided b (Continues (operand.Place (component_place k) ∷ below)))))) (within k (is_within_count (count_of low high) (gap low z) k is))
+
+    pub index_reads : {untouched : Slots} {Here : Facts} → Here injection s memory
+        → Reads declared G Here (before s.trace) run_error.INDEX (unit_in G memory.frames) line (place + 1) (λ k. Inside untouched injection memory (PlaceOnTop of below (component v k))) s (component_number (type_at v s) z)
+    index_reads {untouched = untouched} {Here = Here} known = go (component_at low high z) refl
+      where
+        go : (o : Option ℕ) → component_at low high z ≡ o
+            → Reads declared G Here (before s.trace) run_error.INDEX (unit_in G memory.frames) line (place + 1) (λ k. Inside untouched injection memory (PlaceOnTop of below (component v k))) s (component_number (type_at v s) z)
+        go None is = Misses (number_is ∙ is) (record { fails = outcome_by None is })
+        go (Some k) is =
+            let less : k < count_of low high = is_within_count (count_of low high) (gap low z) k is in
+            Finds k (number_is ∙ is) (record {
+              injection = injection;
+              memory = memory;
+              operands = operand.Place (component_place k) ∷ below;
+              does = index_leads k is;
+              matches = matches;
+              here = known;
+              post = inside_here (record { place = component_place k; is = refl; spot = component_spot k less; described = array.like });
+            })

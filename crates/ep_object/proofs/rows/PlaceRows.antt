@@ -2,11 +2,12 @@
 use Rattle.std.proofs.Common.{◌≡◌, ℕ, ℤ, pos, negsuc, ◌+◌, ◌≤◌, ◌<◌, true, false, List, ◌∷◌, length, option_map, Option, Some, None, slice_get, refl, sym, ap, ◌∙◌, subst, arith}
 use Rattle.std.proofs.lemmas.Option.{same_Some}
 use Rattle.std.specs.Prelude.{int_lt, is_some}
-use Rattle.ep_object.specs.Follows.{Facts, OnTop, PlaceOnTop, Inside}
+use Rattle.ep_object.specs.Follows.{IsStructure, Facts, OnTop, PlaceOnTop, Inside}
 use Rattle.ep_object.specs.Matching.{Memory, at, Injection, MatchesSlot, MatchesFrame, IsBare, IsLike, IsSpot, HasAt, OrdinalAt, SetAt, part_along, all_of, Represents, HasType, Matches, Slots}
 use Rattle.ep_object.specs.Operands.{Operand, Word, Text}
 use Rattle.ep_object.specs.Operands as operand
 use Rattle.ep_object.specs.Places.{loaded, set_loaded}
+use Rattle.ep_object.specs.Promises.{IsValueOf}
 use Rattle.ep_object.specs.Sets.{set_size}
 use Rattle.ep_object.specs.Runs.{outcome, after, unit_in}
 use Rattle.ep_object.specs.State.{Running, bare_number, undefined, output_place}
@@ -28,7 +29,7 @@ use Rattle.ep_typed.specs.Events.{Trace}
 use Rattle.ep_object.proofs.matching.SetValues.{members_loaded, undefined_loaded}
 use Rattle.ep_typed.specs.Printing.{Number, Structure, Members, Result}
 use Rattle.ep_typed.specs.Steps.{Component, has_ended, type_at, value_along, value_at, value_in, Value, Undefined, Allocation, allocation_at, set_of, word_of}
-use Rattle.ep_typed.specs.Results.{result_of}
+use Rattle.ep_typed.specs.Results.{result_of, weight_of}
 use Rattle.ep_typed.specs.Steps as meaning
 use Rattle.ep_typed.specs.Valid as kind
 use Rattle.ep_typed.specs.Valid.{Declarations, IsStructured, IsTypeOf, IsTypeOfKind, Kind}
@@ -204,14 +205,15 @@ module _ (declared : Declarations) (G : Image) (place line : ℕ) (below : List 
             post = inside_here (record { number = w; is_number = refl; of_host = within_host host low high w of_host at_place.1; is = refl });
           })
 
-  -- of one of an array or record type, which lives: all of it is there
-  pub structure_found : {untouched : Slots} {Here : Facts} (t : TypeValue) (v : Component) (p : Place) → IsStructured t
+  -- Of one of an array or record type, which lives: all of it is there, and memory stays as it is.
+  pub structure_loads : (t : TypeValue) (v : Component) (p : Place) → IsStructured t
       → slice_get G.instructions place ≡ Some (instr op.LOAD (pos 0) 0 line)
       → (injection : Injection) (memory : Memory) → IsSpot injection memory.types v p
       → IsLike memory.types p.type_number t → (s : meaning.State)
-      → Matches declared G injection s memory → Here injection s memory → has_ended v.allocation s ≡ false
-      → (value : Value) × (result_of v s ≡ Some (Structure t value)) × Does declared G Here (at place (operand.Place p ∷ below) memory s.trace) (size_of t) (place + 1) (Inside untouched injection memory (OnTop (kind.Structured t) below (Structure t value))) s
-  structure_found t v p structured has injection memory spot described s matches known living =
+      → Matches declared G injection s memory → has_ended v.allocation s ≡ false
+      → (value : Value) × (result_of v s ≡ Some (Structure t value)) × (o : Operand) × IsStructure t (Structure t value) injection memory o
+      × (outcome G (at place (operand.Place p ∷ below) memory s.trace) ≡ record { weight = size_of t; to = Running 0 (at (place + 1) (o ∷ below) memory s.trace) })
+  structure_loads t v p structured has injection memory spot described s matches living =
       let x : Stands injection s memory v p = place_stands matches spot living in
       let a : Allocation = x.allocation in
       let r : Represents injection memory.segments memory.types p.segment a = x.represents in
@@ -222,28 +224,40 @@ module _ (declared : Declarations) (G : Image) (place line : ℕ) (below : List 
       let o = structure_outcome memory s.trace p t r.type_number r.words structured has described r.stands fits in (
         value_along a.value v.path,
         structure_result t v p s a structured x.is leads,
+        operand.Value o.0 (taken r.words p.offset (size_of t) fits),
+        record {
+          value = value_along a.value v.path;
+          is_structure = refl;
+          type_number = o.0;
+          words = taken r.words p.offset (size_of t) fits;
+          is = refl;
+          bare = own_bare t (type_at v s) (type_of_variable t v p.offset s a x.is leads);
+          described = o.1;
+          sized = taken_length r.words p.offset (size_of t) fits;
+          holds = taken_holds r.words p.offset (size_of t) fits injection t (value_along a.value v.path) refl holds;
+        },
+        o.2,
+      )
+
+  -- the same with what is known of memory
+  pub structure_found : {untouched : Slots} {Here : Facts} (t : TypeValue) (v : Component) (p : Place) → IsStructured t
+      → slice_get G.instructions place ≡ Some (instr op.LOAD (pos 0) 0 line)
+      → (injection : Injection) (memory : Memory) → IsSpot injection memory.types v p
+      → IsLike memory.types p.type_number t → (s : meaning.State)
+      → Matches declared G injection s memory → Here injection s memory → has_ended v.allocation s ≡ false
+      → (value : Value) × (result_of v s ≡ Some (Structure t value)) × Does declared G Here (at place (operand.Place p ∷ below) memory s.trace) (size_of t) (place + 1) (Inside untouched injection memory (OnTop (kind.Structured t) below (Structure t value))) s
+  structure_found t v p structured has injection memory spot described s matches known living =
+      let x = structure_loads t v p structured has injection memory spot described s matches living in (
+        x.0,
+        x.1,
         record {
           injection = injection;
           memory = memory;
-          operands = operand.Value o.0 (taken r.words p.offset (size_of t) fits) ∷ below;
-          does = o.2;
+          operands = x.2 ∷ below;
+          does = x.4;
           matches = matches;
           here = known;
-          post = inside_here (record {
-            operand = operand.Value o.0 (taken r.words p.offset (size_of t) fits);
-            holds = record {
-              value = value_along a.value v.path;
-              is_structure = refl;
-              type_number = o.0;
-              words = taken r.words p.offset (size_of t) fits;
-              is = refl;
-              bare = own_bare t (type_at v s) (type_of_variable t v p.offset s a x.is leads);
-              described = o.1;
-              sized = taken_length r.words p.offset (size_of t) fits;
-              holds = taken_holds r.words p.offset (size_of t) fits injection t (value_along a.value v.path) refl holds;
-            };
-            is = refl;
-          });
+          post = inside_here (record { operand = x.2; holds = x.3; is = refl });
         },
       )
 
@@ -397,3 +411,72 @@ module _ (declared : Declarations) (G : Image) (place line : ℕ) (below : List 
           let at_place = word.is in
           let found : int_lt undefined w ≡ true = word_defined low high w word.low_fits at_place.1 in
           (w, same_Some r (Number w) (sym some), load_outcome memory s.trace p low high type_number words w has described stands at_place.0 ∙ rw found refl)
+
+  -- Of one that is defined: its members, and memory stays as it is.
+  set_leads : (low high : ℤ) (v : Component) (p : Place)
+      → slice_get G.instructions place ≡ Some (instr op.LOAD (pos 0) 0 line)
+      → (injection : Injection) (memory : Memory) → IsSpot injection memory.types v p
+      → IsLike memory.types p.type_number (type.Set low high) → (s : meaning.State)
+      → Matches declared G injection s memory → has_ended v.allocation s ≡ false → (ns : List ℕ) → result_of v s ≡ Some (Members ns)
+      → outcome G (at place (operand.Place p ∷ below) memory s.trace) ≡ record { weight = 0; to = Running 0 (at (place + 1) (operand.Set ns ∷ below) memory s.trace) }
+  set_leads low high v p has injection memory spot described s matches living ns result =
+      let x : Stands injection s memory v p = place_stands matches spot living in
+      let a : Allocation = x.allocation in
+      let r : Represents injection memory.segments memory.types p.segment a = x.represents in
+      let its_type : x.type_value ≡ type.Set low high = like_one memory.types p.type_number x.type_value (type.Set low high) x.described described in
+      let leads : part_along (Some (all_of (bare_of a.type_value))) v.path ≡ Some (record { offset = p.offset; type_value = type.Set low high }) = subst (λ u. part_along (Some (all_of (bare_of a.type_value))) v.path ≡ Some (record { offset = p.offset; type_value = u })) its_type x.leads in
+      let holds : HasAt injection (type.Set low high) (value_along a.value v.path) (slice_get r.words) p.offset = subst (λ u. HasAt injection u (value_along a.value v.path) (slice_get r.words) p.offset) its_type x.holds in
+      let fits : p.offset + set_size ≤ length r.words = (let within = part_fits (bare_of a.type_value) v.path (record { offset = p.offset; type_value = type.Set low high }) leads in omega (arith, within, r.sized, bare_size a.type_value)) in
+      go (value_along a.value v.path) (taken r.words p.offset set_size fits) (taken_length r.words p.offset set_size fits)
+      (set_outcome memory s.trace p low high r.type_number r.words has described r.stands fits)
+      (sym (set_result low high v p s a x.is leads) ∙ result) (taken_holds r.words p.offset set_size fits injection (type.Set low high) (value_along a.value v.path) refl holds)
+    where
+      go : (value : Value) (own : List ℤ) → length own ≡ set_size
+          → outcome G (at place (operand.Place p ∷ below) memory s.trace) ≡ in_one (after G (instr op.LOAD (pos 0) 0 line) (at place (operand.Place p ∷ below) memory s.trace) (on_operands (at place (operand.Place p ∷ below) memory s.trace) (set_loaded own below)))
+          → option_map Members (set_of value) ≡ Some (Members ns) → SetAt low high value (slice_get own) 0
+          → outcome G (at place (operand.Place p ∷ below) memory s.trace) ≡ record { weight = 0; to = Running 0 (at (place + 1) (operand.Set ns ∷ below) memory s.trace) }
+      go Undefined own many leads is held = cc
+      go (meaning.Word w) own many leads is held = absurd held
+      go (meaning.Components of) own many leads is held = absurd held
+      go (meaning.Members ms) own many leads is held =
+          let same : ms ≡ ns = cc in
+          leads ∙ rw (members_loaded low high ms own below many held) (ap (λ l. record { weight = 0; to = Running 0 (at (place + 1) (operand.Set l ∷ below) memory s.trace) }) same)
+
+  -- Of one that gives a result of a kind, which other operands have too: an operand of it, and memory stays as it is.
+  pub value_loads : (k : Kind) (t : TypeValue) (v : Component) (p : Place) → IsTypeOfKind k t
+      → slice_get G.instructions place ≡ Some (instr op.LOAD (pos 0) 0 line)
+      → (injection : Injection) (memory : Memory) → IsSpot injection memory.types v p
+      → IsLike memory.types p.type_number t → (s : meaning.State)
+      → Matches declared G injection s memory → has_ended v.allocation s ≡ false
+      → (r : Result) (earlier : Injection) (before : Memory) (other : Operand) → IsValueOf earlier before k r other → result_of v s ≡ Some r
+      → (o : Operand) × IsValueOf injection memory k r o × (outcome G (at place (operand.Place p ∷ below) memory s.trace) ≡ record { weight = weight_of r; to = Running 0 (at (place + 1) (o ∷ below) memory s.trace) })
+  value_loads (kind.Ordinal h) (type.Ordinal low high) v p of_kind has injection memory spot described s matches living r earlier before other (z, r_is, of_host, o_is) result =
+      let x = load_leads low high v p has injection memory spot described s matches living r result in
+      let same : x.0 ≡ z = (let both : Number x.0 ≡ Number z = sym x.1 ∙ r_is in cc) in (
+        Word z,
+        (z, r_is, of_host, refl),
+        x.2 ∙ (ap (λ w. record { weight = 0; to = Running 0 (at (place + 1) (Word w ∷ below) memory s.trace) }) same ∙ ap (λ n. record { weight = n; to = Running 0 (at (place + 1) (Word z ∷ below) memory s.trace) }) (sym (ap weight_of r_is))),
+      )
+  value_loads (kind.Ordinal h) type.Text v p of_kind has injection memory spot described s matches living r earlier before other is result = absurd of_kind
+  value_loads (kind.Ordinal h) (type.Array low high of) v p of_kind has injection memory spot described s matches living r earlier before other is result = absurd of_kind
+  value_loads (kind.Ordinal h) (type.Record ts) v p of_kind has injection memory spot described s matches living r earlier before other is result = absurd of_kind
+  value_loads (kind.Ordinal h) (type.Set low high) v p of_kind has injection memory spot described s matches living r earlier before other is result = absurd of_kind
+  value_loads (kind.Ordinal h) (type.Initial of start) v p of_kind has injection memory spot described s matches living r earlier before other is result = absurd of_kind
+  value_loads (kind.Set h) (type.Set low high) v p of_kind has injection memory spot described s matches living r earlier before other (ms, r_is, is_set, o_is) result = (
+    operand.Set ms,
+    (ms, r_is, is_set, refl),
+    set_leads low high v p has injection memory spot described s matches living ms (result ∙ ap (λ x. Some x) r_is) ∙ ap (λ n. record { weight = n; to = Running 0 (at (place + 1) (operand.Set ms ∷ below) memory s.trace) }) (sym (ap weight_of r_is)),
+  )
+  value_loads (kind.Set h) (type.Ordinal low high) v p of_kind has injection memory spot described s matches living r earlier before other is result = absurd of_kind
+  value_loads (kind.Set h) type.Text v p of_kind has injection memory spot described s matches living r earlier before other is result = absurd of_kind
+  value_loads (kind.Set h) (type.Array low high of) v p of_kind has injection memory spot described s matches living r earlier before other is result = absurd of_kind
+  value_loads (kind.Set h) (type.Record ts) v p of_kind has injection memory spot described s matches living r earlier before other is result = absurd of_kind
+  value_loads (kind.Set h) (type.Initial of start) v p of_kind has injection memory spot described s matches living r earlier before other is result = absurd of_kind
+  value_loads kind.Bytes t v p of_kind has injection memory spot described s matches living r earlier before other is result = absurd of_kind
+  value_loads (kind.Structured u) t v p (same, structured) has injection memory spot described s matches living r earlier before other is result =
+      let x = structure_loads u v p structured has injection memory spot (subst (IsLike memory.types p.type_number) (sym same) described) s matches living in
+      let r_is : Structure u x.0 ≡ r = same_Some (Structure u x.0) r (sym x.1 ∙ result) in (
+        x.2,
+        subst (λ y. IsStructure u y injection memory x.2) r_is x.3,
+        x.4 ∙ ap (λ y. record { weight = weight_of y; to = Running 0 (at (place + 1) (x.2 ∷ below) memory s.trace) }) r_is,
+      )

@@ -1,6 +1,7 @@
 use Rattle.std.proofs.Common.{◌≡◌, ◌+◌, ◌<◌, drop, [], ◌∷◌, ◌⊎◌, inl, inr, ◌∙◌, Some, None, ap, map, length, sym, arith, rules}
 use Rattle.std.proofs.lemmas.List.{length-map}
 use Rattle.ep_tree.specs.declared.expression.Access.{out-Access}
+use Rattle.ep_tree.specs.declared.expression.Label.{out-Label}
 use Rattle.ep_tree.specs.declared.expression.Simple.{out-Simple}
 use Rattle.ep_tree.specs.declared.expression.Term.{out-Term}
 use Rattle.ep_tree.specs.declared.expression.ComponentValue.TheViews.{the_lemmas}
@@ -12,16 +13,18 @@ use Rattle.ep_check_expr.proofs.Rows.{next-built, rest-built, chained-operand, c
 use Rattle.ep_check_expr.proofs.Selectors.{FieldNode, IndexNode, access-alone-fails, access-call-fails, access-field-fails, arguments-split, call-components, call-lines, component-node, field-acts, field-split, index-acts, index-fails, index-turned, indexing-fails, more-components, more-lines, next-component, node-lines, rest-components, rest-lines, selector-fails, selector-turned}
 use Rattle.ep_check_expr.proofs.expressions.+typed.Goals as goal
 use Rattle.ep_check_expr.proofs.expressions.+typed.Goals.{selected-in-Index+in_ok-variable-in-Index, selected-in-Field+in_ok-variable-in-Field}
-use Rattle.ep_check_expr.specs.Answers.{members_of, taken_of, typed_of}
+use Rattle.ep_check_expr.specs.Answers.{filled_of, index_of, labels_of, members_of, ranges_of, taken_of, typed_of}
 use Rattle.ep_check_expr.specs.Arguments.{argument_taken}
+use Rattle.ep_check_expr.proofs.Elements.{field_fails, field_given_is, high_fails, low_fails, more_labels, names_fail, one_label, ranges-fail, ranges-turned}
 use Rattle.ep_check_expr.proofs.Labels.{label-fails, label-turned}
 use Rattle.ep_check_expr.proofs.Gathering.{argument_fails, gathered, other_number, turned, value_fails}
 use Rattle.ep_check_expr.proofs.Reading.{argument-reads}
 use Rattle.ep_check_expr.proofs.Written.{all_written}
 use Rattle.ep_check_expr.specs.Constructors.{constructed, gathered as gathered_labels, no_members}
-use Rattle.ep_check_expr.specs.Expressions.{addend_judged, labelled, multiplier_judged, given, selected, selected_all}
-use Rattle.ep_check_expr.specs.Judgements.{Accepts}
+use Rattle.ep_check_expr.specs.Expressions.{addend_judged, judged, labelled, multiplier_judged, given, selected, selected_all}
+use Rattle.ep_check_expr.specs.Judgements.{Accepts, when_accepted}
 use Rattle.ep_check_expr.specs.Operators.{added, multiplied}
+use Rattle.ep_check_expr.specs.StructuredValues.{Many, One, index_judged, no_ranges, ranges_labelled, single_label}
 use Rattle.ep_check_expr.specs.Shapes.{arguments_first, field_first}
 
 pub addends-returns-in_err-right : goal.addends-returns-in_err-right
@@ -294,3 +297,71 @@ with_indexes-loop-expression-preserved t c =
           ∙ c.loop-expression.invariant.judged;
       built = rest-built expression_unbuilt c.args.all.now c.loop-expression.expression-index c.expression-item.result c.loop-expression-test.true c.expression-item.is c.loop-expression.invariant.built;
     }
+
+pub ranges-returns-in_err-ranges : goal.ranges-returns-in_err-ranges
+ranges-returns-in_err-ranges t c =
+    part-exit ranges_of ranges_of c.from_residual.result c.in_err-ranges.field-0.0 _ _ c.from_residual.ensures.1
+    (λ n h. rw (← c.loop-label.invariant.judged) (ranges-fail c.args.of (labelled c.args.scopes.now) c.args.labels.now c.loop-label.label-index c.label-item.result c.loop-label-test.true c.label-item.is n (ranges_of c.loop-label.ranges) h))
+    c.in_err-ranges.ensures
+
+pub ranges-loop-label-preserved : goal.ranges-loop-label-preserved
+ranges-loop-label-preserved t c =
+    record {
+      judged = ranges-turned c.args.of (labelled c.args.scopes.now) c.args.labels.now c.loop-label.label-index c.label-item.result c.loop-label-test.true c.label-item.is (ranges_of c.loop-label.ranges) (ranges_of c.in_ok-ranges.ranges) c.in_ok-ranges.ensures ∙ c.loop-label.invariant.judged;
+      built = rest-built label_unbuilt c.args.labels.now c.loop-label.label-index c.label-item.result c.loop-label-test.true c.label-item.is c.loop-label.invariant.built;
+    }
+
+pub with_range-returns-in_err-low : goal.with_range-returns-in_err-low
+with_range-returns-in_err-low t c =
+    part-exit index_of ranges_of c.from_residual.result c.in_err-low.field-0.0 _ _ c.from_residual.ensures.1
+    (λ n h. low_fails c.args.scopes.now c.args.of c.args.label.now n (ranges_of c.args.before) h)
+    (rw c.get.ensures at c.in_err-low.ensures)
+
+pub with_range-returns-in_err-high-in-Some : goal.with_range-returns-in_err-high-in-Some
+with_range-returns-in_err-high-in-Some t c =
+    let there : (out-Label c.args.label.now).high ≡ Some c.get-in-Some.result.now = cc in
+    part-exit index_of ranges_of c.from_residual-in_err-high-in-Some.result c.in_err-high-in-Some.field-0.0 _ _ c.from_residual-in_err-high-in-Some.ensures.1
+    (λ n h. high_fails c.args.scopes.now c.args.of c.args.label.now (index_of c.in_ok-low.low) c.get-in-Some.result.now (rw c.get.ensures at c.in_ok-low.ensures) there n (ranges_of c.args.before) h)
+    c.in_err-high-in-Some.ensures
+
+pub index_labels-returns-in_err-index-in-Some : goal.index_labels-returns-in_err-index-in-Some
+index_labels-returns-in_err-index-in-Some t c =
+    let single : single_label c.args.labels.now ≡ Some c.in-Some.low.now = cc in
+    part-exit index_of labels_of c.from_residual.result c.in_err-index-in-Some.field-0.0 _ _ c.from_residual.ensures.1
+    (λ n h. rw (one_label c.args.scopes.now c.args.of c.args.labels.now c.in-Some.low.now single) (when_accepted-part n (λ x. Accepts (One x)) (when_accepted (index_judged c.args.of) (judged c.args.scopes.now c.in-Some.low.now)) h))
+    c.in_err-index-in-Some.ensures
+
+pub index_labels-returns-in_ok-index-in-Some : goal.index_labels-returns-in_ok-index-in-Some
+index_labels-returns-in_ok-index-in-Some t c =
+    let single : single_label c.args.labels.now ≡ Some c.in-Some.low.now = cc in
+    one_label c.args.scopes.now c.args.of c.args.labels.now c.in-Some.low.now single ∙ ap (when_accepted (λ x. Accepts (One x))) c.in_ok-index-in-Some.ensures
+
+pub index_labels-returns-in_err-ranges-in-None : goal.index_labels-returns-in_err-ranges-in-None
+index_labels-returns-in_err-ranges-in-None t c =
+    let none : single_label c.args.labels.now ≡ None = cc in
+    part-exit ranges_of labels_of c.from_residual-in_err-ranges-in-None.result c.in_err-ranges-in-None.field-0.0 _ _ c.from_residual-in_err-ranges-in-None.ensures.1
+    (λ n h. rw (more_labels c.args.scopes.now c.args.of c.args.labels.now none) (when_accepted-part n (λ x. Accepts (Many x)) (ranges_labelled c.args.of (map (labelled c.args.scopes.now) c.args.labels.now) no_ranges) h))
+    c.in_err-ranges-in-None.ensures
+
+pub index_labels-returns-in_ok-ranges-in-None : goal.index_labels-returns-in_ok-ranges-in-None
+index_labels-returns-in_ok-ranges-in-None t c =
+    let none : single_label c.args.labels.now ≡ None = cc in
+    more_labels c.args.scopes.now c.args.of c.args.labels.now none ∙ ap (when_accepted (λ x. Accepts (Many x))) c.in_ok-ranges-in-None.ensures
+
+pub with_fields-returns-in_err-places-in-Labelled : goal.with_fields-returns-in_err-places-in-Labelled
+with_fields-returns-in_err-places-in-Labelled t c =
+    part-exit (λ places. places) filled_of c.from_residual.result c.in_err-places-in-Labelled.field-0.0 _ _ c.from_residual.ensures.1
+    (λ n h. names_fail c.args.scopes.now c.args.fields.now c.args.element.now _ _ _ c.in-Labelled.is (filled_of c.args.before) n h)
+    (rw c.items.ensures at c.in_err-places-in-Labelled.ensures)
+
+pub with_fields-returns-in_err-value-in-Labelled : goal.with_fields-returns-in_err-value-in-Labelled
+with_fields-returns-in_err-value-in-Labelled t c =
+    part-exit typed_of filled_of c.from_residual-in_err-value-in-Labelled.result c.in_err-value-in-Labelled.field-0.0 _ _ c.from_residual-in_err-value-in-Labelled.ensures.1
+    (λ n h. field_fails c.args.scopes.now c.args.fields.now c.args.element.now _ _ _ c.in-Labelled.is (filled_of c.args.before) c.in_ok-places-in-Labelled.places (rw c.items.ensures at c.in_ok-places-in-Labelled.ensures) n h)
+    (rw (c.asked_first-asked.ensures, c.items-in-Labelled.ensures) at c.in_err-value-in-Labelled.ensures.typed)
+
+pub with_fields-returns-in_ok-value-in-Labelled : goal.with_fields-returns-in_ok-value-in-Labelled
+with_fields-returns-in_ok-value-in-Labelled t c =
+    rw (field_given_is c.args.scopes.now c.args.fields.now c.args.element.now _ _ _ c.in-Labelled.is (filled_of c.args.before) c.in_ok-places-in-Labelled.places (rw c.items.ensures at c.in_ok-places-in-Labelled.ensures) (typed_of c.in_ok-value-in-Labelled.value)
+    (rw (c.asked_first-asked.ensures, c.items-in-Labelled.ensures) at c.in_ok-value-in-Labelled.ensures.typed))
+    (rw c.items-in-Labelled-2.ensures at c.with_fields.ensures)

@@ -1,15 +1,16 @@
 use Rattle.std.proofs.Common.{◌≡◌, true, None, drop, map}
 use Rattle.std.specs.List.{list_all}
-use Rattle.ep_built.specs.Built.{addend_belonging, expression_unbuilt, first_in, form_told, is_component, label_unbuilt, lines_in, multiplier_belonging, selector_belonging, written_unbuilt}
+use Rattle.ep_built.specs.Built.{addend_belonging, element_unbuilt, expression_unbuilt, first_in, form_told, is_component, label_unbuilt, lines_in, multiplier_belonging, selector_belonging, written_unbuilt}
 use Rattle.ep_check_expr.proofs.expressions.+typed.Given as goal
-use Rattle.ep_check_expr.specs.Answers.{members_of, taken_of, typed_of}
+use Rattle.ep_check_expr.specs.Answers.{arranged_of, filled_of, members_of, ranges_of, taken_of, typed_of}
 use Rattle.ep_check_expr.specs.Arguments.{arguments_judged}
 use Rattle.ep_check_expr.proofs.Gathering.{gathered}
 use Rattle.ep_check_expr.specs.Constructors.{gathered as gathered_labels, no_members}
-use Rattle.ep_check_expr.specs.Expressions.{labelled, addend_judged, chained, given, selected_all, judged, multiplier_judged, selected}
+use Rattle.ep_check_expr.specs.Expressions.{element_written, labelled, addend_judged, chained, given, selected_all, judged, multiplier_judged, selected}
 use Rattle.ep_check_expr.specs.Indexing.{indexed_all}
 use Rattle.ep_check_expr.specs.Judgements.{Accepts}
 use Rattle.ep_check_expr.specs.Operators.{added, multiplied}
+use Rattle.ep_check_expr.specs.StructuredValues.{array_elements, no_ranges, nothing_filled, ranges_labelled, record_elements}
 
 abbrev pub invariant-addends-loop-addend : goal.invariant-addends-loop-addend
 invariant-addends-loop-addend l =
@@ -52,4 +53,25 @@ invariant-with_indexes-loop-expression l =
     record {
       judged : indexed_all l.scopes (Accepts (typed_of l.variable)) (map (judged l.scopes) (drop l.expression-index l.all)) ≡ indexed_all l.scopes (Accepts (typed_of l.fn.first)) (map (judged l.scopes) l.all);
       built : first_in (map expression_unbuilt (drop l.expression-index l.all)) ≡ None;
+    }
+
+abbrev pub invariant-with_elements-loop-element : goal.invariant-with_elements-loop-element
+invariant-with_elements-loop-element l =
+    record {
+      judged : array_elements l.of (map (element_written l.scopes) (drop l.element-index l.elements)) (arranged_of l.arranged) ≡ array_elements l.of (map (element_written l.scopes) l.elements) (arranged_of l.fn.before);
+      built : first_in (map element_unbuilt (drop l.element-index l.elements)) ≡ None;
+    }
+
+abbrev pub invariant-ranges-loop-label : goal.invariant-ranges-loop-label
+invariant-ranges-loop-label l =
+    record {
+      judged : ranges_labelled l.of (map (labelled l.scopes) (drop l.label-index l.labels)) (ranges_of l.ranges) ≡ ranges_labelled l.of (map (labelled l.scopes) l.labels) no_ranges;
+      built : first_in (map label_unbuilt (drop l.label-index l.labels)) ≡ None;
+    }
+
+abbrev pub invariant-record_elements-loop-element : goal.invariant-record_elements-loop-element
+invariant-record_elements-loop-element l =
+    record {
+      judged : record_elements l.fields (map (element_written l.scopes) (drop l.element-index l.elements)) (filled_of l.filled) ≡ record_elements l.fields (map (element_written l.scopes) l.elements) nothing_filled;
+      built : first_in (map element_unbuilt (drop l.element-index l.elements)) ≡ None;
     }

@@ -1,9 +1,9 @@
 use Rattle.std.proofs.Common.{◌≡◌, drop, map}
-use Rattle.ep_typed.specs.Trees.{actuals, designators}
-use Rattle.ep_typed.specs.Viewed.{actual_of, designator_of}
+use Rattle.ep_typed.specs.Trees.{actuals, designators, elements}
+use Rattle.ep_typed.specs.Viewed.{actual_of, designator_of, element_of}
 use Rattle.ep_check_stmt.specs.Answers.{entire_of}
 use Rattle.ep_check_stmt.specs.RoutineForms.{formals_at, routine_form}
-use Rattle.ep_check_stmt.specs.Threats.{actuals_threaten, members_threaten}
+use Rattle.ep_check_stmt.specs.Threats.{actuals_threaten, elements_threaten, members_threaten}
 use Rattle.ep_check_stmt.proofs.threats.+threats_in_expressions.Given as goal
 
 abbrev pub invariant-actuals_threaten-loop-place : goal.invariant-actuals_threaten-loop-place
@@ -11,3 +11,6 @@ invariant-actuals_threaten-loop-place l = actuals_threaten (formals_at (map rout
 
 abbrev pub invariant-members_threaten-loop-designator : goal.invariant-members_threaten-loop-designator
 invariant-members_threaten-loop-designator l = members_threaten (formals_at (map routine_form l.routines)) (entire_of l.variable) (designators (map designator_of (drop l.designator-index l.all))) ≡ members_threaten (formals_at (map routine_form l.routines)) (entire_of l.variable) (designators (map designator_of l.all))
+
+abbrev pub invariant-elements_threaten-loop-e : goal.invariant-elements_threaten-loop-e
+invariant-elements_threaten-loop-e l = elements_threaten (formals_at (map routine_form l.routines)) (entire_of l.variable) (elements (map element_of (drop l.e-index l.all))) ≡ elements_threaten (formals_at (map routine_form l.routines)) (entire_of l.variable) (elements (map element_of l.all))

@@ -1,11 +1,12 @@
 use Rattle.std.proofs.Common.{◌+◌, map, w64, arith}
 use Rattle.std.proofs.lemmas.Int.{to_z_pos, to_z-of_z}
-use Rattle.ep_typed.specs.Trees.{actuals}
-use Rattle.ep_typed.specs.Viewed.{actual_of, callee_of, designator_of, expr_of}
+use Rattle.ep_typed.specs.Trees.{actuals, elements}
+use Rattle.ep_typed.specs.Viewed.{actual_of, callee_of, designator_of, element_of, expr_of}
 use Rattle.ep_gen_expr.proofs.ActualForms.{appends_call, actuals_more}
 use Rattle.ep_gen_code.proofs.Growing.{on_ok}
 use Rattle.ep_gen_expr.proofs.Forms.{appends_short, appends_step}
 use Rattle.ep_gen_expr.proofs.SetForms.{set_more}
+use Rattle.ep_gen_expr.proofs.StructuredForms.{appends_at_field, appends_at_index, appends_at_ranges, appends_structured, elements_more}
 use Rattle.ep_gen_expr.proofs.expressions.+expression.Goals as goal
 
 pub short_code-returns : goal.short_code-returns
@@ -29,3 +30,22 @@ actuals_code-loop-actual-preserved t c = actuals_more actual_of c.args.given.now
 
 pub constructor_code-loop-designator-preserved : goal.constructor_code-loop-designator-preserved
 constructor_code-loop-designator-preserved t c = set_more designator_of c.args.members.now c.loop-designator.designator-index c.designator-item.result c.loop-designator-test.true c.designator-item.is c.loop-designator.invariant c.in_ok-designator_code.ensures
+
+pub elements_code-loop-element-preserved : goal.elements_code-loop-element-preserved
+elements_code-loop-element-preserved t c = elements_more element_of c.args.elements.now c.loop-element.element-index c.element-item.result c.loop-element-test.true c.element-item.is c.loop-element.invariant c.in_ok-element_code.ensures
+
+pub structured_code-returns : goal.structured_code-returns
+structured_code-returns t c =
+    on_ok c.end_structured.result (appends_structured c.args.number (elements (map element_of c.args.elements.now)) c.in_ok-begin_structured.ensures c.in_ok-elements_code.ensures) c.end_structured.ensures
+
+pub at_index_code-returns : goal.at_index_code-returns
+at_index_code-returns t c =
+    on_ok c.emit-3.result (appends_at_index (expr_of c.args.index.now) (expr_of c.args.value.now) c.in_ok-emit.ensures c.in_ok-expression_code.ensures c.in_ok-emit-2.ensures c.in_ok-expression_code-2.ensures) c.emit-3.ensures
+
+pub at_field_code-returns : goal.at_field_code-returns
+at_field_code-returns t c =
+    on_ok c.emit.result (appends_at_field c.args.steps.now (expr_of c.args.value.now) c.in_ok-reach_field.ensures c.in_ok-expression_code.ensures) c.emit.ensures
+
+pub at_ranges_code-returns : goal.at_ranges_code-returns
+at_ranges_code-returns t c =
+    on_ok c.fill_ranges.result (appends_at_ranges c.args.ranges.now (expr_of c.args.value.now) c.in_ok-reach_first.ensures c.in_ok-expression_code.ensures c.in_ok-emit.ensures) c.fill_ranges.ensures

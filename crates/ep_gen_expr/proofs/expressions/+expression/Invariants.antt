@@ -1,11 +1,12 @@
 use Rattle.std.proofs.Common.{◌+◌, ◌*◌, max, map, take}
-use Rattle.ep_typed.specs.Trees.{actuals, designators, SetOf}
-use Rattle.ep_typed.specs.Viewed.{actual_of, designator_of}
+use Rattle.ep_typed.specs.Trees.{actuals, designators, elements, SetOf}
+use Rattle.ep_typed.specs.Viewed.{actual_of, designator_of, element_of}
 use Rattle.ep_typed.specs.declared.tree.Actual.{size-Actual}
+use Rattle.ep_typed.specs.declared.tree.Element.{size-Element}
 use Rattle.ep_typed.specs.declared.tree.MemberDesignator.{size-MemberDesignator}
 use Rattle.ep_typed.specs.declared.tree.TypedExpr.{size-TypedExpr}
 use Rattle.ep_typed.specs.declared.tree.TypedPlace.{size-TypedPlace}
-use Rattle.ep_gen_expr.specs.Growth.{AppendsActuals, AppendsExpr}
+use Rattle.ep_gen_expr.specs.Growth.{AppendsActuals, AppendsElements, AppendsExpr}
 use Rattle.ep_gen_expr.proofs.expressions.+expression.Given as goal
 
 abbrev pub decreases-place_code : goal.decreases-place_code
@@ -76,3 +77,24 @@ decreases-single_code l = 4 * size-TypedExpr l.value.now + 1
 
 abbrev pub decreases-range_code : goal.decreases-range_code
 decreases-range_code l = 4 * max (size-TypedExpr l.first.now) (size-TypedExpr l.last.now) + 1
+
+abbrev pub decreases-structured_code : goal.decreases-structured_code
+decreases-structured_code l = 4 * goal.size-structured_code l + 2
+
+abbrev pub decreases-elements_code : goal.decreases-elements_code
+decreases-elements_code l = 4 * goal.size-elements_code l + 1
+
+abbrev pub decreases-element_code : goal.decreases-element_code
+decreases-element_code l = 4 * size-Element l.element.now
+
+abbrev pub decreases-at_index_code : goal.decreases-at_index_code
+decreases-at_index_code l = 4 * max (size-TypedExpr l.index.now) (size-TypedExpr l.value.now) + 1
+
+abbrev pub decreases-at_field_code : goal.decreases-at_field_code
+decreases-at_field_code l = 4 * size-TypedExpr l.value.now + 1
+
+abbrev pub decreases-at_ranges_code : goal.decreases-at_ranges_code
+decreases-at_ranges_code l = 4 * size-TypedExpr l.value.now + 1
+
+abbrev pub invariant-elements_code-loop-element : goal.invariant-elements_code-loop-element
+invariant-elements_code-loop-element l = AppendsElements l.fn.code l.code (elements (map element_of (take l.element-index l.elements)))

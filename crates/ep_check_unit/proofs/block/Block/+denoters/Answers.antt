@@ -17,7 +17,7 @@ index_types-loop-plain-preserved t c = record {
   built = rest_built plain_unbuilt c.args.plains.now c.loop-plain.plain-index c.plain-item.result c.loop-plain-test.true c.plain-item.is c.loop-plain.invariant.built;
   same =
       next_index c.args.line c.args.plains.now c.loop-plain.plain-index c.plain-item.result c.loop-plain-test.true c.plain-item.is
-      c.loop-plain.all c.push.new.self c.in_ok-index.index c.in_ok-host.host (block_of c.loop-plain.self) (block_of c.settled_plain.new.self) _ c.in_ok-push.ensures.ok c.in_ok-index.ensures c.in_ok-host.ensures c.loop-plain.invariant.same;
+      c.loop-plain.all c.push.new.self c.in_ok-index.index c.in_ok-values.values (block_of c.loop-plain.self) (block_of c.settled_plain.new.self) _ c.in_ok-push.ensures.ok c.in_ok-index.ensures c.in_ok-values.ensures c.loop-plain.invariant.same;
 }
 
 pub settled_core-returns : goal.settled_core-returns

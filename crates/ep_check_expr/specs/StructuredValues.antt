@@ -1,0 +1,459 @@
+-- The rules of structured values (ISO 10206, 6.8.7): each component is given a value of its type, a field exactly once, and so is each component of an array where all indexes are constant.
+use Rattle.std.specs.Prelude.{ℕ, ℤ, ◌==◌, suc, pos, ◌+ℤ◌, max, int_le, nat_eq, Bool, true, false, ◌&&◌, ◌||◌, not, List, [], ◌∷◌, ◌++◌, map, slice_get, Option, Some, None, if◌then◌else◌}
+use Rattle.std.specs.List.{list_all, list_any}
+use Rattle.std.specs.Option.{option_map}
+use Rattle.ep_tree.specs.Shapes.{as_identifier, when_none}
+use Rattle.ep_tree.specs.declared.expression.Expression.{Expression}
+use Rattle.ep_tree.specs.declared.expression.Label.{Label as LabelTree, out-Label}
+use Rattle.ep_typed.specs.Operations.{is_apart, is_in}
+use Rattle.ep_typed.specs.Trees.{AtField, AtIndex, AtRanges, Element, Expr, SameField, Structured, elements}
+use Rattle.ep_typed.specs.declared.tree.CaseRange.{CaseRange}
+use Rattle.ep_scope.specs.Fields.{field_number}
+use Rattle.ep_scope.specs.Kinds.{same_host}
+use Rattle.ep_scope.specs.Scopes.{Meant, Declares, FieldOf, Nothing, Region, Requires, meant, meant_in, structure_in}
+use Rattle.ep_scope.specs.Scopes as meaning
+use Rattle.ep_scope.specs.declared.kind.Kind.{Kind}
+use Rattle.ep_scope.specs.declared.kind.Kind.TheVariants as kind
+use Rattle.ep_scope.specs.declared.required.Required.{Required}
+use Rattle.ep_scope.specs.declared.required.Required.TheVariants as required
+use Rattle.ep_scope.specs.declared.rule.TheConstants as rule
+use Rattle.ep_scope.specs.declared.structure.ArrayType.{ArrayType}
+use Rattle.ep_scope.specs.declared.structure.Composition.{Composition}
+use Rattle.ep_scope.specs.declared.structure.Composition.TheVariants as composition
+use Rattle.ep_scope.specs.declared.structure.FieldType.{FieldType}
+use Rattle.ep_scope.specs.declared.structure.TagType.{TagType}
+use Rattle.ep_scope.specs.declared.structure.VariantStep.{VariantStep}
+use Rattle.ep_scope.specs.declared.thing.Declaration.{Declaration}
+use Rattle.ep_scope.specs.declared.thing.Declaration.TheVariants as declaration
+use Rattle.ep_check_expr.specs.declared.access.Access.TheVariants as access
+use Rattle.ep_check_expr.specs.Arguments.{given_to}
+use Rattle.ep_check_expr.specs.Constructors.{Label}
+use Rattle.ep_check_expr.specs.Folding.{folded, number_in}
+use Rattle.ep_check_expr.specs.Judgements.{Judged, Accepts, Breaks, Typed, when_accepted}
+use Rattle.ep_check_expr.specs.Names.{undeclared}
+use Rattle.ep_check_expr.specs.Operators.{are_compatible, map_both, within_depth}
+use Rattle.ep_check_expr.specs.declared.folding.Folded.{Folded}
+use Rattle.ep_check_expr.specs.declared.folding.Folded.TheVariants.{Known, Varies, Errs}
+
+-- ---- what is written
+
+-- A component value: what the rules say of it where a value of the structured type of this number is asked for, or of another type. Without the name of its type a structured value is one of the type that is asked for.
+abbrev pub Valued : Type 0
+Valued = Option ℕ → Judged Typed
+
+-- labels with their value, or a choice of a variant
+pub data Written : Type 0 where
+  Labelled : (labels : List Label) (value : Valued) → Written
+  Chosen : Written
+
+-- what stands in the brackets of a structured value
+pub record Components : Type 0 where
+  pub elements : List Written
+  pub otherwise : Option Valued
+
+-- the structured type that a component of this kind asks for
+abbrev pub asked_by : Kind → Option ℕ
+asked_by (kind.Ordinal h) = None
+asked_by (kind.Structured n) = Some n
+asked_by (kind.Set h) = None
+asked_by kind.EmptySet = None
+asked_by kind.Text = None
+asked_by kind.File = None
+
+-- it does not fit its type, or leaves out or doubles a component
+abbrev pub unfit : {A : Type 0} → Judged A
+unfit = Breaks (rule.STRUCTURED_VALUE ∷ [])
+
+-- a value for a component of this kind (ISO 10206, 6.4.6)
+abbrev pub component_given : Kind → Typed → Judged (Option Expr)
+component_given k v = given_to (λ x. x) k v.kind v.form
+
+-- elements behind others
+abbrev pub with_elements : Option (List Element) → Option (List Element) → Option (List Element)
+with_elements before more = map_both (λ xs ys. xs ++ ys) before more
+
+-- ---- indexes of arrays (ISO 10206, 6.8.7.2)
+
+-- an index: its form, how deep it is, and its ordinal number where it is constant
+pub record Index : Type 0 where
+  pub form : Option Expr
+  pub depth : ℕ
+  pub constant : Option ℤ
+
+-- what is known of a constant; one that would be an error is none
+abbrev pub constant_folded : Folded → Judged (Option ℤ)
+constant_folded (Known x) = Accepts (Some (number_in x))
+constant_folded Varies = Accepts None
+constant_folded Errs = Breaks (rule.CONSTANT ∷ [])
+
+abbrev pub constant_in : Option Expr → Judged (Option ℤ)
+constant_in None = Accepts None
+constant_in (Some x) = constant_folded (folded x)
+
+-- a constant index is one of the array
+abbrev pub within_bounds : ArrayType → Option ℤ → Bool
+within_bounds a None = true
+within_bounds a (Some z) = int_le a.low z && int_le z a.high
+
+abbrev pub bounded_index : ArrayType → Typed → Option ℤ → Judged Index
+bounded_index a x constant = if within_bounds a constant then Accepts (record { form = x.form; depth = x.depth; constant = constant }) else unfit
+
+-- an index has the host of the index type
+abbrev pub index_judged : ArrayType → Typed → Judged Index
+index_judged a x = if are_compatible (kind.Ordinal a.index) x.kind then when_accepted (bounded_index a x) (constant_in x.form) else unfit
+
+-- the index of labels that are one index alone
+abbrev pub single_label : List LabelTree → Option Expression
+single_label (l ∷ []) = when_none (out-Label l).high (Some (out-Label l).low)
+single_label ls = None
+
+-- ---- ranges of indexes
+
+-- the ranges of the labels of an element, where all are constant, and how deep the deepest index is
+pub record Ranges : Type 0 where
+  pub ranges : Option (List CaseRange)
+  pub depth : ℕ
+
+abbrev pub no_ranges : Ranges
+no_ranges = record { ranges = Some []; depth = 0 }
+
+-- the indexes from one to another; none, where the first is above the last
+abbrev pub ranging : ℤ → ℤ → List CaseRange
+ranging low high = if int_le low high then record { low = low; high = high } ∷ [] else []
+
+-- ranges behind others, where all are constant
+abbrev pub joined_ranges : Option (List CaseRange) → Option (List CaseRange) → Option (List CaseRange)
+joined_ranges before more = map_both (λ xs ys. xs ++ ys) before more
+
+abbrev pub with_span : Option (List CaseRange) → Option ℤ → Option ℤ → Option (List CaseRange)
+with_span before low high = joined_ranges before (map_both ranging low high)
+
+abbrev pub with_range : Ranges → Index → Index → Ranges
+with_range r x y = record { ranges = with_span r.ranges x.constant y.constant; depth = max r.depth (max x.depth y.depth) }
+
+module _ (a : ArrayType) where
+  -- a label after others: an index, or those from one to another
+  abbrev pub second_index : Ranges → Index → Option (Judged Typed) → Judged Ranges
+  second_index r x None = Accepts (with_range r x x)
+  second_index r x (Some high) = when_accepted (λ y. Accepts (with_range r x y)) (when_accepted (index_judged a) high)
+
+  abbrev pub range_labelled : Label → Ranges → Judged Ranges
+  range_labelled l r = when_accepted (λ x. second_index r x l.high) (when_accepted (index_judged a) l.low)
+
+  abbrev pub ranges_labelled : List Label → Ranges → Judged Ranges
+  ranges_labelled [] r = Accepts r
+  ranges_labelled (l ∷ ls) r = when_accepted (ranges_labelled ls) (range_labelled l r)
+
+-- ---- arrays
+
+-- What is gathered of the elements of an array: what components are given, where all of it is built, how deep the deepest part is, and which indexes are given, where all are constant.
+pub record Arranged : Type 0 where
+  pub elements : Option (List Element)
+  pub depth : ℕ
+  pub indexes : Option (List CaseRange)
+
+-- the component at an index and its value
+abbrev pub index_form : Option Expr → Option Expr → Option (List Element)
+index_form x v = map_both (λ i y. AtIndex i y ∷ []) x v
+
+-- with the component at an index, which is given a value
+abbrev pub with_index : Arranged → Index → ℕ → Option Expr → Arranged
+with_index r x depth value =
+    record {
+      elements = with_elements r.elements (index_form x.form value);
+      depth = max r.depth (max x.depth depth);
+      indexes = with_span r.indexes x.constant x.constant;
+    }
+
+-- the components in ranges, of which there is one, and their value
+abbrev pub ranges_given : List CaseRange → Expr → Option (List Element)
+ranges_given [] v = None
+ranges_given (r ∷ rs) v = Some (AtRanges (r ∷ rs) v ∷ [])
+
+abbrev pub ranges_form : Option (List CaseRange) → Option Expr → Option (List Element)
+ranges_form (Some rs) (Some v) = ranges_given rs v
+ranges_form _ _ = None
+
+-- with the components in ranges, which are given a value; ranges that are not constant have no code yet
+abbrev pub with_ranges : Arranged → Ranges → ℕ → Option Expr → Arranged
+with_ranges r x depth value =
+    record {
+      elements = with_elements r.elements (ranges_form x.ranges value);
+      depth = max r.depth (max x.depth depth);
+      indexes = joined_ranges r.indexes x.ranges;
+    }
+
+-- the labels of an element: an index, or ranges of them
+pub data IndexLabels : Type 0 where
+  One : (index : Index) → IndexLabels
+  Many : (ranges : Ranges) → IndexLabels
+
+abbrev pub with_labels : Arranged → IndexLabels → ℕ → Option Expr → Arranged
+with_labels r (One x) depth value = with_index r x depth value
+with_labels r (Many x) depth value = with_ranges r x depth value
+
+-- before any element: nothing, or what `otherwise` gives all components
+abbrev pub nothing_arranged : Arranged
+nothing_arranged = record { elements = Some []; depth = 0; indexes = Some [] }
+
+abbrev pub all_arranged : ArrayType → ℕ → Option Expr → Arranged
+all_arranged a depth value = record { elements = with_elements (Some []) (ranges_form (Some (record { low = a.low; high = a.high } ∷ [])) value); depth = depth; indexes = Some [] }
+
+-- no index is in two ranges
+abbrev pub are_apart : List CaseRange → Bool
+are_apart [] = true
+are_apart (r ∷ rs) = list_all (is_apart r) rs && are_apart rs
+
+-- whether the index is in one of them
+abbrev pub has_index : List CaseRange → ℤ → Bool
+has_index ranges z = list_any (λ r. is_in r z) ranges
+
+-- whether the index behind a range is, where the array has it
+abbrev pub goes_on : ArrayType → List CaseRange → CaseRange → Bool
+goes_on a ranges r = int_le a.high r.high || has_index ranges (r.high +ℤ pos 1)
+
+-- Each index of the array is in one of the ranges: the least one is, and so is the index behind each range that does not end with the greatest one.
+abbrev pub leave_none_out : ArrayType → List CaseRange → Bool
+leave_none_out a ranges = has_index ranges a.low && list_all (goes_on a ranges) ranges
+
+-- where all indexes are constant, each component is given once, or by `otherwise`
+abbrev pub is_arranged : ArrayType → Bool → Option (List CaseRange) → Bool
+is_arranged a completed None = true
+is_arranged a completed (Some ranges) = are_apart ranges && (completed || leave_none_out a ranges)
+
+-- a value of the structured type of this number
+abbrev pub structured : ℕ → Option (List Element) → ℕ → Judged Typed
+structured n es depth = within_depth (option_map (λ xs. Structured n (elements xs)) es) (kind.Structured n) (suc depth)
+
+abbrev pub arranged : ℕ → ArrayType → Bool → Arranged → Judged Typed
+arranged n a completed r = if is_arranged a completed r.indexes then structured n r.elements r.depth else unfit
+
+module _ (a : ArrayType) where
+  -- what is made of a value that components are given
+  abbrev pub given_by : {B : Type 0} → (ℕ → Option Expr → B) → Typed → Judged B
+  given_by make v = when_accepted (λ x. Accepts (make v.depth x)) (component_given a.kind v)
+
+  abbrev pub given_then : {B : Type 0} → (ℕ → Option Expr → B) → Valued → Judged B
+  given_then make value = when_accepted (given_by make) (value (asked_by a.kind))
+
+  -- the labels of an element: one index alone, or ranges
+  abbrev pub many_labels : List Label → Judged IndexLabels
+  many_labels ls = when_accepted (λ x. Accepts (Many x)) (ranges_labelled a ls no_ranges)
+
+  abbrev pub alone_labels : Label → Option (Judged Typed) → Judged IndexLabels
+  alone_labels l None = when_accepted (λ x. Accepts (One x)) (when_accepted (index_judged a) l.low)
+  alone_labels l (Some high) = many_labels (l ∷ [])
+
+  abbrev pub labels_judged : List Label → Judged IndexLabels
+  labels_judged (l ∷ []) = alone_labels l l.high
+  labels_judged ls = many_labels ls
+
+  -- the components at the labels, which are given a value
+  abbrev pub labelled_element : List Label → Valued → Arranged → Judged Arranged
+  labelled_element ls value r = when_accepted (λ x. given_then (with_labels r x) value) (labels_judged ls)
+
+  -- an element after others; an array has no variants
+  abbrev pub array_element : Written → Arranged → Judged Arranged
+  array_element (Labelled ls value) r = labelled_element ls value r
+  array_element Chosen r = unfit
+
+  abbrev pub array_elements : List Written → Arranged → Judged Arranged
+  array_elements [] r = Accepts r
+  array_elements (e ∷ es) r = when_accepted (array_elements es) (array_element e r)
+
+  -- what is given before the elements
+  abbrev pub array_begun : Option Valued → Judged Arranged
+  array_begun None = Accepts nothing_arranged
+  array_begun (Some value) = given_then (all_arranged a) value
+
+-- whether `otherwise` is there
+abbrev pub completes : Option Valued → Bool
+completes None = false
+completes (Some value) = true
+
+abbrev pub array_judged : ℕ → ArrayType → Components → Judged Typed
+array_judged n a c = when_accepted (arranged n a (completes c.otherwise)) (when_accepted (array_elements a c.elements) (array_begun a c.otherwise))
+
+-- ---- records (ISO 10206, 6.8.7.3)
+
+-- the name that a label is alone, if it is one
+abbrev pub label_name : LabelTree → Option (List ℕ)
+label_name l = when_none (out-Label l).high (as_identifier (out-Label l).low)
+
+-- What is gathered of the elements of a record: what components are given, where all of it is built, how deep the deepest value is, and the places of the fields that are given, among all fields.
+pub record Filled : Type 0 where
+  pub elements : Option (List Element)
+  pub depth : ℕ
+  pub fields : List ℕ
+
+abbrev pub nothing_filled : Filled
+nothing_filled = record { elements = Some []; depth = 0; fields = [] }
+
+-- whether it is in no variant
+abbrev pub is_fixed : List VariantStep → Bool
+is_fixed [] = true
+is_fixed (s ∷ path) = false
+
+abbrev pub is_tag : Option TagType → Bool
+is_tag None = false
+is_tag (Some tag) = true
+
+-- a field of the record itself, and no tag
+abbrev pub is_plain : FieldType → Bool
+is_plain f = is_fixed f.path && not (is_tag f.tag)
+
+-- the structured type that a field asks for
+abbrev pub asked_if : Option FieldType → Option ℕ
+asked_if None = None
+asked_if (Some f) = asked_by f.kind
+
+-- with a field more, which is not given before
+abbrev pub with_field : Filled → ℕ → ℕ → Option (List Element) → Judged Filled
+with_field r place depth given =
+    if list_any (nat_eq place) r.fields
+    then unfit
+    else Accepts (record { elements = with_elements r.elements given; depth = max r.depth depth; fields = r.fields ++ place ∷ [] })
+
+-- a field that is given a value
+abbrev pub first_form : ℕ → Expr → List Element
+first_form number x = AtField (number ∷ []) x ∷ []
+
+-- a further field that is given what that one has
+abbrev pub same_form : ℕ → ℕ → List Element
+same_form from number = SameField (from ∷ []) (number ∷ []) ∷ []
+
+abbrev pub first_given : ℕ → Typed → Filled → FieldType → Judged Filled
+first_given place v r f = when_accepted (λ x. with_field r place v.depth (option_map (first_form f.number) x)) (component_given f.kind v)
+
+-- something of a kind, of which nothing else is known
+abbrev pub of_kind : Kind → Typed
+of_kind k = record { form = None; kind = k; depth = 0; access = access.Value }
+
+-- whether a value of the one kind is one of the other: of one host, of one structured type, or a set over one host
+abbrev pub is_same_kind : Kind → Kind → Bool
+is_same_kind (kind.Ordinal h) (kind.Ordinal g) = same_host h g
+is_same_kind (kind.Structured m) (kind.Structured n) = m == n
+is_same_kind (kind.Set h) (kind.Set g) = same_host h g
+is_same_kind _ _ = false
+
+-- what a further field is given: what the first one has, where that is of its kind; `[]` for sets over different hosts has no code yet
+abbrev pub same_if : FieldType → FieldType → Option (List Element)
+same_if first f = if is_same_kind first.kind f.kind then Some (same_form first.number f.number) else None
+
+abbrev pub same_given : FieldType → Kind → ℕ → Filled → Option FieldType → Judged Filled
+same_given first k place r None = unfit
+same_given first k place r (Some f) = when_accepted (λ x. with_field r place 0 (same_if first f)) (component_given f.kind (of_kind k))
+
+module _ (fs : List FieldType) where
+  abbrev pub plain_place : ℕ → Option FieldType → Judged ℕ
+  plain_place place None = unfit
+  plain_place place (Some f) = if is_plain f then Accepts place else unfit
+
+  abbrev pub place_if : Option ℕ → Judged ℕ
+  place_if None = unfit
+  place_if (Some place) = plain_place place (slice_get fs place)
+
+  -- a label is the name of a field, of which this is the place among the fields
+  abbrev pub label_place : Option (List ℕ) → Judged ℕ
+  label_place None = unfit
+  label_place (Some name) = place_if (field_number fs name)
+
+  abbrev pub label_places : List (Option (List ℕ)) → List ℕ → Judged (List ℕ)
+  label_places [] found = Accepts found
+  label_places (name ∷ names) found = when_accepted (λ place. label_places names (found ++ place ∷ [])) (label_place name)
+
+  -- the fields behind the first one of an element
+  abbrev pub same_filled : FieldType → Kind → List ℕ → Filled → Judged Filled
+  same_filled first k [] r = Accepts r
+  same_filled first k (place ∷ places) r = when_accepted (same_filled first k places) (same_given first k place r (slice_get fs place))
+
+  abbrev pub filled_from : ℕ → List ℕ → Filled → Typed → Option FieldType → Judged Filled
+  filled_from place places r v None = unfit
+  filled_from place places r v (Some f) = when_accepted (same_filled f v.kind places) (first_given place v r f)
+
+  -- the fields of an element, by their places
+  abbrev pub fields_filled : List ℕ → Filled → Typed → Judged Filled
+  fields_filled [] r v = unfit
+  fields_filled (place ∷ places) r v = filled_from place places r v (slice_get fs place)
+
+  -- the type of its value is that of the first one
+  abbrev pub asked_first : List ℕ → Option ℕ
+  asked_first [] = None
+  asked_first (place ∷ places) = asked_if (slice_get fs place)
+
+  abbrev pub fields_element : Valued → Filled → List ℕ → Judged Filled
+  fields_element value r places = when_accepted (fields_filled places r) (value (asked_first places))
+
+  -- the fields of these names
+  abbrev pub named_element : List (Option (List ℕ)) → Valued → Filled → Judged Filled
+  named_element names value r = when_accepted (fields_element value r) (label_places names [])
+
+  -- an element after others; the choice of a variant is not built
+  abbrev pub record_element : Written → Filled → Judged Filled
+  record_element (Labelled ls value) r = named_element (map (λ l. l.name) ls) value r
+  record_element Chosen r = unfit
+
+  abbrev pub record_elements : List Written → Filled → Judged Filled
+  record_elements [] r = Accepts r
+  record_elements (e ∷ es) r = when_accepted (record_elements es) (record_element e r)
+
+-- each field of the record itself is given, from a place on; a tag never is by its name
+abbrev pub are_given : List ℕ → ℕ → List FieldType → Bool
+are_given given place [] = true
+are_given given place (f ∷ fs) = (not (is_fixed f.path) || list_any (nat_eq place) given) && are_given given (suc place) fs
+
+abbrev pub filled : ℕ → List FieldType → Filled → Judged Typed
+filled n fs r = if are_given r.fields 0 fs then structured n r.elements r.depth else unfit
+
+-- a record has no `otherwise` (own)
+abbrev pub record_judged : ℕ → List FieldType → Components → Judged Typed
+record_judged n fs c = if completes c.otherwise then unfit else when_accepted (filled n fs) (record_elements fs c.elements nothing_filled)
+
+-- ---- of both
+
+abbrev pub composed : ℕ → Option Composition → Components → Judged Typed
+composed n None c = unfit
+composed n (Some (composition.Array a)) c = array_judged n a c
+composed n (Some (composition.Record fs)) c = record_judged n fs c
+
+module _ (scopes : List Region) where
+  -- a structured value of the type of this number
+  abbrev pub structure_judged : Components → ℕ → Judged Typed
+  structure_judged c n = composed n (structure_in scopes n) c
+
+  -- without the name of its type: one of the type that is asked for, if that is structured
+  abbrev pub bracketed : Components → Option ℕ → Judged Typed
+  bracketed c None = unfit
+  bracketed c (Some n) = structure_judged c n
+
+-- ---- the type of a structured value
+
+abbrev pub kind_number : Kind → Judged ℕ
+kind_number (kind.Ordinal h) = unfit
+kind_number (kind.Structured n) = Accepts n
+kind_number (kind.Set h) = unfit
+kind_number kind.EmptySet = unfit
+kind_number kind.Text = unfit
+kind_number kind.File = unfit
+
+abbrev pub declared_number : Declaration → Judged ℕ
+declared_number (declaration.«Type» of k nodes) = kind_number k
+declared_number _ = Breaks (rule.OTHER_THING ∷ [])
+
+abbrev pub required_number : Required → Judged ℕ
+required_number (required.«Type» t) = unfit
+required_number _ = Breaks (rule.OTHER_THING ∷ [])
+
+-- what the name means is a structured type (ISO 10206, 6.8.7.1)
+abbrev pub meant_number : List ℕ → Meant → Judged ℕ
+meant_number unknown (Declares d) = declared_number d.what
+meant_number unknown (meaning.Standard file) = Breaks (rule.OTHER_THING ∷ [])
+meant_number unknown (Requires r) = required_number r
+meant_number unknown (FieldOf f) = Breaks (rule.OTHER_THING ∷ [])
+meant_number unknown Nothing = Breaks unknown
+
+module _ (scopes : List Region) where
+  -- the number of the structured type of this name
+  abbrev pub named_number : List ℕ → Option (List ℕ) → Judged ℕ
+  named_number name None = meant_number (undeclared name) (meant scopes name)
+  named_number interface (Some name) = meant_number (rule.UNDECLARED ∷ []) (meant_in scopes interface name)

@@ -1,0 +1,427 @@
+//! The rules of structured values of arrays, on parts that are accepted (ISO 10206, 6.8.7.2).
+
+ghost use Rattle.std.specs.Prelude.{◌≡◌, ◌++◌, ◌∷◌, [], IfOk, map};
+ghost use Rattle.std.specs.Option.{option_map};
+ghost use Rattle.std.specs.List.{list_all};
+ghost use Rattle.ep_typed.specs.Operations.{is_apart};
+ghost use Rattle.ep_typed.specs.Viewed.{element_of, expr_of};
+ghost use Rattle.ep_check_expr.specs.Answers.{AnswersJudged, AnswersTyped, arranged_of, index_of, labels_of, ranges_of, typed_of};
+ghost use Rattle.ep_check_expr.specs.StructuredValues as spec;
+ghost use Rattle.ep_check_expr.specs.StructuredValues.{arranged, component_given, with_index, with_range, with_ranges};
+
+use crate::arguments::given_value;
+use crate::folding::{Folded, folded_form, number_in};
+use crate::forms::{Refusal, Typed};
+use crate::operators::are_compatible;
+use crate::structured::{added, structured};
+use ep_base::{Boxed, List, NoMemory};
+use ep_scope::{ArrayType, Kind, rule};
+use ep_typed::{CaseRange, CaseRanges, Element, Elements, TypedExpr};
+use std::alloc::Global;
+
+/// An index of an array: its form, where it is built, how deep it is, and its ordinal number where it is constant.
+pub(crate) struct Index {
+    /// The form.
+    pub(crate) form: Option<Boxed<TypedExpr>>,
+    /// The depth.
+    pub(crate) depth: u32,
+    /// The ordinal number.
+    pub(crate) constant: Option<i64>,
+}
+
+impl Drop for Index {
+    fn drop(self) {
+        let Index {
+            form: _,
+            depth: _,
+            constant: _,
+        } = self;
+    }
+}
+
+impl Index {
+    /// The form alone.
+    fn into_form(self) -> Option<Boxed<TypedExpr>>
+        ensures { result ≡ self.form }
+    {
+        let Index {
+            form,
+            depth: _,
+            constant: _,
+        } = self;
+        form
+    }
+}
+
+/// The ordinal number of an index, where it is constant; one that would be an error is none.
+fn constant_in(alloc: Global, form: &Option<Boxed<TypedExpr>>) -> Result<Option<i64>, Refusal>
+    ensures { AnswersJudged (λ z. z) result (spec.constant_in (option_map expr_of form.now)) }
+{
+    let Some(form) = form else {
+        return Ok(None);
+    };
+    match folded_form(alloc, form.get())? {
+        Folded::Known(value) => Ok(Some(number_in(&value))),
+        Folded::Varies => Ok(None),
+        Folded::Errs => Err(Refusal::Rule(rule::CONSTANT)),
+    }
+}
+
+/// Whether a constant index is one of the array.
+fn is_within_bounds(of: ArrayType, constant: Option<i64>) -> bool
+    ensures { result ≡ spec.within_bounds of constant }
+{
+    match constant {
+        None => true,
+        Some(value) => of.low <= value && value <= of.high,
+    }
+}
+
+/// An index, which has the host of the index type.
+pub(crate) fn taken_index(alloc: Global, of: ArrayType, value: Typed) -> Result<Index, Refusal>
+    ensures { AnswersJudged index_of result (spec.index_judged of (typed_of value)) }
+{
+    if !are_compatible(Kind::Ordinal(of.index), value.kind) {
+        return Err(Refusal::Rule(rule::STRUCTURED_VALUE));
+    }
+    let constant = constant_in(alloc, &value.form)?;
+    if !is_within_bounds(of, constant) {
+        return Err(Refusal::Rule(rule::STRUCTURED_VALUE));
+    }
+    let depth = value.depth;
+    Ok(Index {
+        form: value.into_form(),
+        depth,
+        constant,
+    })
+}
+
+/// The ranges of the labels of an element, where all are constant, and how deep the deepest index is.
+pub(crate) struct Ranges {
+    /// The ranges.
+    pub(crate) ranges: Option<CaseRanges>,
+    /// The depth.
+    pub(crate) depth: u32,
+}
+
+impl Drop for Ranges {
+    fn drop(self) {
+        let Ranges {
+            ranges: _,
+            depth: _,
+        } = self;
+    }
+}
+
+/// Ranges with the indexes from one to another, where all are constant; there are none where the first is above the last.
+fn with_span(
+    ranges: Option<CaseRanges>,
+    low: Option<i64>,
+    high: Option<i64>,
+) -> Result<Option<CaseRanges>, NoMemory>
+    ensures { IfOk result (λ now. now ≡ spec.with_span ranges low high) }
+{
+    let Some(mut ranges) = ranges else {
+        return Ok(None);
+    };
+    let (Some(low), Some(high)) = (low, high) else {
+        return Ok(None);
+    };
+    if low <= high {
+        ranges.push(CaseRange { low, high })?;
+    }
+    Ok(Some(ranges))
+}
+
+impl Ranges {
+    /// None.
+    pub(crate) fn nothing(alloc: Global) -> Ranges
+        ensures { ranges_of result ≡ spec.no_ranges }
+    {
+        Ranges {
+            ranges: Some(List::new(alloc)),
+            depth: 0,
+        }
+    }
+
+    /// The ranges alone.
+    fn into_ranges(self) -> Option<CaseRanges>
+        ensures { result ≡ self.ranges }
+    {
+        let Ranges { ranges, depth: _ } = self;
+        ranges
+    }
+
+    /// With the indexes from one to another.
+    pub(crate) fn with(self, first: &Index, last: &Index) -> Result<Ranges, NoMemory>
+        ensures { IfOk result (λ now. ranges_of now ≡ with_range (ranges_of self) (index_of first.now) (index_of last.now)) }
+    {
+        let depth = self.depth.max(first.depth.max(last.depth));
+        let ranges = with_span(self.into_ranges(), first.constant, last.constant)?;
+        Ok(Ranges { ranges, depth })
+    }
+}
+
+/// The labels of an element: an index, or ranges of them.
+pub(crate) enum IndexLabels {
+    /// One index alone.
+    One(Index),
+    /// Ranges.
+    Many(Ranges),
+}
+
+impl Drop for IndexLabels {
+    fn drop(self) {
+        match self {
+            IndexLabels::One(_) => {}
+            IndexLabels::Many(_) => {}
+        }
+    }
+}
+
+impl IndexLabels {
+    /// What is gathered of elements, with the components at these labels, which are given a value.
+    pub(crate) fn given(
+        self,
+        of: ArrayType,
+        before: Arranged,
+        value: Typed,
+    ) -> Result<Arranged, Refusal>
+        ensures { AnswersJudged arranged_of result
+            (spec.given_by of (spec.with_labels (arranged_of before) (labels_of self)) (typed_of value)) }
+    {
+        match self {
+            IndexLabels::One(index) => before.with_index(of, index, value),
+            IndexLabels::Many(ranges) => before.with_ranges(of, ranges, value),
+        }
+    }
+}
+
+/// What is gathered of the elements of an array: what components are given, where all of it is built, how deep the deepest
+/// part is, and which indexes are given, where all are constant.
+pub(crate) struct Arranged {
+    /// What components are given.
+    pub(crate) elements: Option<Elements>,
+    /// The depth.
+    pub(crate) depth: u32,
+    /// The indexes.
+    pub(crate) indexes: Option<CaseRanges>,
+}
+
+impl Drop for Arranged {
+    fn drop(self) {
+        let Arranged {
+            elements: _,
+            depth: _,
+            indexes: _,
+        } = self;
+    }
+}
+
+/// Ranges behind others.
+#[tactic(auto, using(crate::proofs::Rows::pushed_left))]
+fn joined(ranges: CaseRanges, more: &[CaseRange]) -> Result<CaseRanges, NoMemory>
+    ensures { IfOk result (λ now. now ≡ ranges ++ more.now) }
+{
+    let mut ranges = ranges;
+    for range in more {
+        ranges.push(*range)?;
+    }
+    Ok(ranges)
+}
+
+/// Ranges behind others, where all are constant.
+fn joined_if(
+    ranges: Option<CaseRanges>,
+    more: &Option<CaseRanges>,
+) -> Result<Option<CaseRanges>, NoMemory>
+    ensures { IfOk result (λ now. now ≡ spec.joined_ranges ranges more.now) }
+{
+    let (Some(ranges), Some(more)) = (ranges, more) else {
+        return Ok(None);
+    };
+    Ok(Some(joined(ranges, more.items())?))
+}
+
+/// The components in ranges, of which there is one, and their value, where both are built.
+fn ranges_form(ranges: Option<CaseRanges>, value: Option<Boxed<TypedExpr>>) -> Option<Element>
+    ensures { option_map (λ e. e ∷ []) (option_map element_of result) ≡ spec.ranges_form ranges (option_map expr_of value) }
+{
+    let (Some(ranges), Some(value)) = (ranges, value) else {
+        return None;
+    };
+    if ranges.items().is_empty() {
+        return None;
+    }
+    Some(Element::AtRanges(ranges, value))
+}
+
+/// The component at an index and its value, where both are built.
+fn index_form(index: Option<Boxed<TypedExpr>>, value: Option<Boxed<TypedExpr>>) -> Option<Element>
+    ensures { option_map (λ e. e ∷ []) (option_map element_of result)
+        ≡ spec.index_form (option_map expr_of index) (option_map expr_of value) }
+{
+    let (Some(index), Some(value)) = (index, value) else {
+        return None;
+    };
+    Some(Element::AtIndex(index, value))
+}
+
+impl Arranged {
+    /// Nothing.
+    pub(crate) fn nothing(alloc: Global) -> Arranged
+        ensures { arranged_of result ≡ spec.nothing_arranged }
+    {
+        Arranged {
+            elements: Some(List::new(alloc)),
+            depth: 0,
+            indexes: Some(List::new(alloc)),
+        }
+    }
+
+    /// All components are given this value.
+    pub(crate) fn all(alloc: Global, of: ArrayType, value: Typed) -> Result<Arranged, Refusal>
+        ensures { AnswersJudged arranged_of result (spec.given_by of (spec.all_arranged of) (typed_of value)) }
+    {
+        let depth = value.depth;
+        let value = given_value(of.kind, value)?;
+        let mut ranges = List::new(alloc);
+        ranges.push(CaseRange {
+            low: of.low,
+            high: of.high,
+        })?;
+        let element = ranges_form(Some(ranges), value);
+        Ok(Arranged {
+            elements: added(Some(List::new(alloc)), element)?,
+            depth,
+            indexes: Some(List::new(alloc)),
+        })
+    }
+
+    /// The three parts.
+    fn into_parts(self) -> (Option<Elements>, Option<CaseRanges>)
+        ensures { result ≡ (self.elements, self.indexes) }
+    {
+        let Arranged {
+            elements,
+            depth: _,
+            indexes,
+        } = self;
+        (elements, indexes)
+    }
+
+    /// With the component at an index, which is given a value.
+    fn with_index(self, of: ArrayType, index: Index, value: Typed) -> Result<Arranged, Refusal>
+        ensures { AnswersJudged arranged_of result
+            (spec.given_by of (with_index (arranged_of self) (index_of index)) (typed_of value)) }
+    {
+        let depth = self.depth.max(index.depth.max(value.depth));
+        let value = given_value(of.kind, value)?;
+        let (elements, indexes) = self.into_parts();
+        let indexes = with_span(indexes, index.constant, index.constant)?;
+        let elements = added(elements, index_form(index.into_form(), value))?;
+        Ok(Arranged {
+            elements,
+            depth,
+            indexes,
+        })
+    }
+
+    /// With the components in ranges, which are given a value.
+    fn with_ranges(self, of: ArrayType, ranges: Ranges, value: Typed) -> Result<Arranged, Refusal>
+        ensures { AnswersJudged arranged_of result
+            (spec.given_by of (with_ranges (arranged_of self) (ranges_of ranges)) (typed_of value)) }
+    {
+        let depth = self.depth.max(ranges.depth.max(value.depth));
+        let value = given_value(of.kind, value)?;
+        let (elements, indexes) = self.into_parts();
+        let indexes = joined_if(indexes, &ranges.ranges)?;
+        let elements = added(elements, ranges_form(ranges.into_ranges(), value))?;
+        Ok(Arranged {
+            elements,
+            depth,
+            indexes,
+        })
+    }
+
+    /// The value of the array type of this number, whose other components are given a value where that is completed.
+    pub(crate) fn finished(
+        self,
+        alloc: Global,
+        number: u32,
+        of: ArrayType,
+        completed: bool,
+    ) -> Result<Typed, Refusal>
+        ensures { AnswersTyped result (arranged number of completed (arranged_of self)) }
+    {
+        if !is_arranged(of, completed, &self.indexes) {
+            return Err(Refusal::Rule(rule::STRUCTURED_VALUE));
+        }
+        let depth = self.depth;
+        let (elements, _) = self.into_parts();
+        structured(alloc, number, elements, depth)
+    }
+}
+
+/// Whether no index is in a range and in one of others.
+fn is_apart_from(range: CaseRange, others: &[CaseRange]) -> bool
+    ensures { result ≡ list_all (is_apart range) others.now }
+{
+    others
+        .iter()
+        .all(|other| range.high < other.low || other.high < range.low)
+}
+
+/// Whether no index is in two ranges.
+fn are_apart(ranges: &[CaseRange]) -> bool
+    ensures { result ≡ spec.are_apart ranges.now }
+{
+    for (place, range) in ranges.iter().enumerate() {
+        if !is_apart_from(*range, &ranges[place + 1..]) {
+            return false;
+        }
+    }
+    true
+}
+
+/// Whether an index is in one of the ranges.
+fn has_index(ranges: &[CaseRange], index: i64) -> bool
+    ensures { result ≡ spec.has_index ranges.now index }
+{
+    ranges
+        .iter()
+        .any(|range| range.low <= index && index <= range.high)
+}
+
+/// Whether the index behind a range is in one of the ranges, where the array has it.
+fn goes_on(of: ArrayType, ranges: &[CaseRange], range: CaseRange) -> bool
+    ensures { result ≡ spec.goes_on of ranges.now range }
+{
+    of.high <= range.high || has_index(ranges, range.high + 1)
+}
+
+/// Whether that holds of all these.
+fn all_go_on(of: ArrayType, ranges: &[CaseRange], all: &[CaseRange]) -> bool
+    ensures { result ≡ list_all (spec.goes_on of ranges.now) all.now }
+{
+    all.iter().all(|range| goes_on(of, ranges, *range))
+}
+
+/// Whether each index of the array is in one of the ranges.
+fn leave_none_out(of: ArrayType, ranges: &[CaseRange]) -> bool
+    ensures { result ≡ spec.leave_none_out of ranges.now }
+{
+    has_index(ranges, of.low) && all_go_on(of, ranges, ranges)
+}
+
+/// Whether each component is given once, where all indexes are constant.
+fn is_arranged(of: ArrayType, completed: bool, indexes: &Option<CaseRanges>) -> bool
+    ensures { result ≡ spec.is_arranged of completed indexes.now }
+{
+    match indexes {
+        None => true,
+        Some(ranges) => {
+            are_apart(ranges.items()) && (completed || leave_none_out(of, ranges.items()))
+        }
+    }
+}

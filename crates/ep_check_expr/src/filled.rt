@@ -1,0 +1,332 @@
+//! The rules of structured values of records, on parts that are accepted (ISO 10206, 6.8.7.3).
+
+ghost use Rattle.std.specs.Prelude.{◌≡◌, ◌∷◌, [], IfOk, map, nat_eq, slice_get, Some, None};
+ghost use Rattle.std.specs.List.{list_any};
+ghost use Rattle.std.specs.Option.{option_map};
+ghost use Rattle.ep_tree.specs.Shapes.{as_identifier};
+ghost use Rattle.ep_tree.specs.declared.expression.Label.{out-Label};
+ghost use Rattle.ep_typed.specs.Viewed.{element_of, expr_of};
+ghost use Rattle.ep_check_expr.specs.Answers.{AnswersJudged, AnswersTyped, filled_of, typed_of};
+ghost use Rattle.ep_check_expr.specs.Expressions.{labelled};
+ghost use Rattle.ep_check_expr.specs.StructuredValues as spec;
+ghost use Rattle.ep_check_expr.specs.StructuredValues.{filled, fields_filled, label_place, label_places, same_filled};
+
+use crate::access::Access;
+use crate::arguments::given_value;
+use crate::forms::{Refusal, Typed};
+use crate::shapes::label_name;
+use crate::structured::{added, asked_by, structured};
+use ep_base::{Boxed, List, NoMemory};
+use ep_scope::{FieldType, Kind, View, field_number, rule, same_host};
+use ep_tree::Label;
+use ep_typed::{ComponentSteps, Element, Elements, TypedExpr};
+use std::alloc::Global;
+
+/// What is gathered of the elements of a record: what components are given, where all of it is built, how deep the deepest
+/// value is, and the places of the fields that are given, among all fields.
+pub(crate) struct Filled {
+    /// What components are given.
+    pub(crate) elements: Option<Elements>,
+    /// The depth.
+    pub(crate) depth: u32,
+    /// The places of fields.
+    pub(crate) fields: List<usize>,
+}
+
+impl Drop for Filled {
+    fn drop(self) {
+        let Filled {
+            elements: _,
+            depth: _,
+            fields: _,
+        } = self;
+    }
+}
+
+/// Whether a field is one of the record itself, and no tag.
+fn is_plain(field: &FieldType) -> bool
+    ensures { result ≡ spec.is_plain field.now }
+{
+    field.path.items().is_empty() && field.tag.is_none()
+}
+
+/// The place of the field that a label names, which is one of the record itself.
+fn label_place(fields: &[FieldType], label: &Label) -> Result<usize, Refusal>
+    ensures { AnswersJudged (λ place. place) result (label_place fields.now (spec.label_name label.now)) }
+{
+    let Some(name) = label_name(label) else {
+        return Err(Refusal::Rule(rule::STRUCTURED_VALUE));
+    };
+    let Some(place) = field_number(fields, name) else {
+        return Err(Refusal::Rule(rule::STRUCTURED_VALUE));
+    };
+    match fields.get(place) {
+        Some(field) if is_plain(field) => Ok(place),
+        _ => Err(Refusal::Rule(rule::STRUCTURED_VALUE)),
+    }
+}
+
+/// The places of the fields that labels name.
+pub(crate) fn label_places(
+    alloc: Global,
+    fields: &[FieldType],
+    labels: &[Label],
+) -> Result<List<usize>, Refusal>
+    ensures { AnswersJudged (λ places. places) result (label_places fields.now (map spec.label_name labels.now) []) }
+{
+    let mut places = List::new(alloc);
+    for label in labels {
+        let place = label_place(fields, label)?;
+        places.push(place)?;
+    }
+    Ok(places)
+}
+
+/// The structured type that the value of the first of these fields is to have, where it has one.
+pub(crate) fn asked_first(fields: &[FieldType], places: &[usize]) -> Option<u32>
+    ensures { result ≡ spec.asked_first fields.now places.now }
+{
+    match places.first() {
+        None => None,
+        Some(place) => match fields.get(*place) {
+            None => None,
+            Some(field) => asked_by(field.kind),
+        },
+    }
+}
+
+/// The steps to a component of a record.
+fn step(alloc: Global, number: u32) -> Result<ComponentSteps, NoMemory>
+    ensures { IfOk result (λ steps. steps ≡ number ∷ []) }
+{
+    let mut steps = List::new(alloc);
+    steps.push(number)?;
+    Ok(steps)
+}
+
+/// A component that is given a value, where it is built.
+fn first_form(
+    alloc: Global,
+    number: u32,
+    value: Option<Boxed<TypedExpr>>,
+) -> Result<Option<Element>, NoMemory>
+    ensures { IfOk result (λ e. option_map (λ x. x ∷ []) (option_map element_of e)
+        ≡ option_map (spec.first_form number) (option_map expr_of value)) }
+{
+    let Some(value) = value else {
+        return Ok(None);
+    };
+    let steps = step(alloc, number)?;
+    Ok(Some(Element::AtField(steps, value)))
+}
+
+/// Whether a value of the one kind is one of the other.
+fn is_same_kind(one: Kind, other: Kind) -> bool
+    ensures { result ≡ spec.is_same_kind one other }
+{
+    match (one, other) {
+        (Kind::Ordinal(left), Kind::Ordinal(right)) => same_host(left, right),
+        (Kind::Structured(left), Kind::Structured(right)) => left == right,
+        (Kind::Set(left), Kind::Set(right)) => same_host(left, right),
+        _ => false,
+    }
+}
+
+/// A field that is given what another one has, where that is of its kind.
+fn same_if(alloc: Global, first: &FieldType, field: &FieldType) -> Result<Option<Element>, NoMemory>
+    ensures { IfOk result (λ e. option_map (λ x. x ∷ []) (option_map element_of e) ≡ spec.same_if first.now field.now) }
+{
+    if !is_same_kind(first.kind, field.kind) {
+        return Ok(None);
+    }
+    let from = step(alloc, first.number)?;
+    let to = step(alloc, field.number)?;
+    Ok(Some(Element::SameField(from, to)))
+}
+
+/// Whether a place is one of these.
+fn is_among(place: usize, places: &[usize]) -> bool
+    ensures { result ≡ list_any (nat_eq place) places.now }
+{
+    places.iter().any(|given| place == *given)
+}
+
+impl Filled {
+    /// Nothing.
+    pub(crate) fn nothing(alloc: Global) -> Filled
+        ensures { filled_of result ≡ spec.nothing_filled }
+    {
+        Filled {
+            elements: Some(List::new(alloc)),
+            depth: 0,
+            fields: List::new(alloc),
+        }
+    }
+
+    /// The lists alone.
+    fn into_parts(self) -> (Option<Elements>, List<usize>)
+        ensures { result ≡ (self.elements, self.fields) }
+    {
+        let Filled {
+            elements,
+            depth: _,
+            fields,
+        } = self;
+        (elements, fields)
+    }
+
+    /// With a field more, which is not given before.
+    fn with_field(
+        self,
+        place: usize,
+        depth: u32,
+        element: Option<Element>,
+    ) -> Result<Filled, Refusal>
+        ensures { AnswersJudged filled_of result
+            (spec.with_field (filled_of self) place depth (option_map (λ e. e ∷ []) (option_map element_of element))) }
+    {
+        if is_among(place, self.fields.items()) {
+            return Err(Refusal::Rule(rule::STRUCTURED_VALUE));
+        }
+        let depth = self.depth.max(depth);
+        let (elements, mut fields) = self.into_parts();
+        fields.push(place)?;
+        let elements = added(elements, element)?;
+        Ok(Filled {
+            elements,
+            depth,
+            fields,
+        })
+    }
+
+    /// With the field at this place, which is given a value.
+    fn with_first(
+        self,
+        alloc: Global,
+        place: usize,
+        field: &FieldType,
+        value: Typed,
+    ) -> Result<Filled, Refusal>
+        ensures { AnswersJudged filled_of result (spec.first_given place (typed_of value) (filled_of self) field.now) }
+    {
+        let depth = value.depth;
+        let value = given_value(field.kind, value)?;
+        let element = first_form(alloc, field.number, value)?;
+        self.with_field(place, depth, element)
+    }
+
+    /// With the field at this place, which is given what the first one has, a value of this kind.
+    fn with_same(
+        self,
+        alloc: Global,
+        first: &FieldType,
+        kind: Kind,
+        place: usize,
+        field: &FieldType,
+    ) -> Result<Filled, Refusal>
+        ensures { AnswersJudged filled_of result
+            (spec.same_given first.now kind place (filled_of self) (Some field.now)) }
+    {
+        given_value(field.kind, of_kind(kind))?;
+        let element = same_if(alloc, first, field)?;
+        self.with_field(place, 0, element)
+    }
+
+    /// With the field at this place, if there is one, alike.
+    fn with_place(
+        self,
+        alloc: Global,
+        first: &FieldType,
+        kind: Kind,
+        fields: &[FieldType],
+        place: usize,
+    ) -> Result<Filled, Refusal>
+        ensures { AnswersJudged filled_of result
+            (spec.same_given first.now kind place (filled_of self) (slice_get fields.now place)) }
+    {
+        match fields.get(place) {
+            Some(field) => self.with_same(alloc, first, kind, place, field),
+            None => Err(Refusal::Rule(rule::STRUCTURED_VALUE)),
+        }
+    }
+
+    /// With the fields at these places, alike.
+    fn with_all_same(
+        self,
+        alloc: Global,
+        first: &FieldType,
+        kind: Kind,
+        fields: &[FieldType],
+        places: &[usize],
+    ) -> Result<Filled, Refusal>
+        ensures { AnswersJudged filled_of result (same_filled fields.now first.now kind places.now (filled_of self)) }
+    {
+        let mut filled = self;
+        for place in places {
+            filled = filled.with_place(alloc, first, kind, fields, *place)?;
+        }
+        Ok(filled)
+    }
+
+    /// With the fields at these places, which are given a value.
+    pub(crate) fn with_fields(
+        self,
+        alloc: Global,
+        fields: &[FieldType],
+        places: &[usize],
+        value: Typed,
+    ) -> Result<Filled, Refusal>
+        ensures { AnswersJudged filled_of result (fields_filled fields.now places.now (filled_of self) (typed_of value)) }
+    {
+        let Some((place, others)) = places.split_first() else {
+            return Err(Refusal::Rule(rule::STRUCTURED_VALUE));
+        };
+        let Some(field) = fields.get(*place) else {
+            return Err(Refusal::Rule(rule::STRUCTURED_VALUE));
+        };
+        let kind = value.kind;
+        let filled = self.with_first(alloc, *place, field, value)?;
+        filled.with_all_same(alloc, field, kind, fields, others)
+    }
+
+    /// The value of the record type of this number, which has these fields.
+    pub(crate) fn finished(
+        self,
+        alloc: Global,
+        number: u32,
+        fields: &[FieldType],
+    ) -> Result<Typed, Refusal>
+        ensures { AnswersTyped result (filled number fields.now (filled_of self)) }
+    {
+        if !are_given(self.fields.items(), fields) {
+            return Err(Refusal::Rule(rule::STRUCTURED_VALUE));
+        }
+        let depth = self.depth;
+        let (elements, _) = self.into_parts();
+        structured(alloc, number, elements, depth)
+    }
+}
+
+/// Something of this kind that is not built.
+fn of_kind(kind: Kind) -> Typed
+    ensures { typed_of result ≡ spec.of_kind kind }
+{
+    Typed {
+        form: None,
+        kind,
+        depth: 0,
+        access: Access::Value,
+    }
+}
+
+/// Whether each field of the record itself is given; a tag never is by its name.
+fn are_given(given: &[usize], fields: &[FieldType]) -> bool
+    ensures { result ≡ spec.are_given given.now 0 fields.now }
+{
+    for (place, field) in fields.iter().enumerate() {
+        if field.path.items().is_empty() && !is_among(place, given) {
+            return false;
+        }
+    }
+    true
+}

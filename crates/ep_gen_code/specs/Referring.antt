@@ -1,0 +1,25 @@
+-- The references that the code of a unit begins with.
+use Rattle.std.specs.Prelude.{◌≡◌, ℕ, ◌+◌, ◌<◌, List, length, Some, slice_get}
+use Rattle.ep_gen_code.specs.Instructions.{reference}
+use Rattle.ep_gen_code.specs.declared.references.TheConstants as routine
+use Rattle.ep_object.specs.Promises.{fill_routine, swap_routine, type_routine}
+use Rattle.ep_object.specs.declared.code.Reference.{Reference}
+use Rattle.ep_typed.specs.Valid.{Declarations}
+use Rattle.ep_typed.specs.declared.unit.UnitType.{UnitType}
+
+-- the reference to the routine that elaborates the type with this number
+abbrev pub type_reference : ℕ → ℕ
+type_reference number = routine.TYPES + number
+
+-- each type of a unit has that reference, to the routine that elaborates it
+abbrev pub AreReferred : Declarations → List ℕ → List UnitType → List Reference → Type 0
+AreReferred declared unit types references =
+    (index : ℕ) → index < length types → slice_get references (type_reference index) ≡ Some (reference unit (type_routine (length (declared.routines unit)) index))
+
+-- there is a reference to the unit's routine that leaves two operands in the other order
+abbrev pub IsSwapReferred : Declarations → List ℕ → List Reference → Type 0
+IsSwapReferred declared unit references = slice_get references routine.SWAP ≡ Some (reference unit (swap_routine (length (declared.routines unit))))
+
+-- and one to the routine that gives the value of a component of an array to others
+abbrev pub IsFillReferred : Declarations → List ℕ → List Reference → Type 0
+IsFillReferred declared unit references = slice_get references routine.FILL ≡ Some (reference unit (fill_routine (length (declared.routines unit))))

@@ -1,0 +1,46 @@
+//! The references that the code of a unit begins with.
+
+ghost use Rattle.std.specs.Prelude.{◌≡◌, IfOk, length, pos};
+ghost use Rattle.ep_gen_code.specs.Growth.{IsTable, in_row};
+ghost use Rattle.ep_gen_code.specs.Referring.{type_reference};
+ghost use Rattle.ep_object.specs.Promises.{swap_routine};
+
+use crate::jumps::{field_number, place_number};
+use ep_base::{List, NoMemory};
+use ep_object::{Reference, References};
+use ep_typed::Unit;
+use std::alloc::Global;
+
+/// The reference to the routine that leaves two operands in the other order.
+pub const SWAP: u32 = 0;
+
+/// The reference to the routine that gives the value of a component of an array to others.
+pub const FILL: u32 = 1;
+
+/// The first of the references to the routines that elaborate types.
+const TYPES: u32 = 2;
+
+/// The reference to the routine that elaborates the type with this number.
+pub fn type_reference(number: u32) -> i64
+    ensures { result ≡ pos (type_reference number) }
+{
+    (TYPES as u64 + number as u64) as i64
+}
+
+/// The first references of a unit, to routines that stand in this order behind those of the unit, its start and its stop: the
+/// one that leaves two operands in the other order, the one that gives the value of a component of an array to others, and those
+/// that elaborate the unit's types.
+pub fn first_references(alloc: Global, unit: &Unit) -> Result<References, NoMemory>
+    ensures row { IfOk result (λ references. references ≡ in_row unit.now.name (swap_routine (length unit.now.routines)) (type_reference (length unit.now.types))) }
+    ensures small { IfOk result (λ references. IsTable references) }
+{
+    let first = field_number(unit.routines.items().len())? as u64 + 2;
+    let count = TYPES as u64 + field_number(unit.types.items().len())? as u64;
+    let mut references = List::new(alloc);
+    for index in 0..count {
+        let number = place_number(first + index)?;
+        let unit = unit.name.copy(alloc)?;
+        references.push(Reference { unit, number })?;
+    }
+    Ok(references)
+}

@@ -1,0 +1,140 @@
+-- The routines that structured values call stand in the image.
+use Rattle.std.proofs.Common.{◌≡◌, ℕ, pos, suc, ◌+◌, ◌≤◌, ◌<◌, Bool, true, false, if◌then◌else◌, List, [], ◌∷◌, ◌++◌, length, length-append, map, Some, slice_get, bytes_eq, refl, sym, ap, ◌∙◌, subst, arith}
+use Rattle.std.proofs.lemmas.Option.{slice_get_within}
+use Rattle.ep_gen_code.specs.declared.code.TheConstants as code_line
+use Rattle.ep_gen_code.specs.declared.references.TheConstants as routine
+use Rattle.ep_gen_code.specs.Instructions.{instr}
+use Rattle.ep_gen_unit.specs.UnitCode.{IsProgramCode, StandsIn, fill_code, plain_at, swap_code}
+use Rattle.ep_gen_unit.proofs.Declared.{same_name}
+use Rattle.ep_gen_unit.proofs.Parts.{code_stands-parts}
+use Rattle.ep_gen_unit.proofs.Referred.{own_count, swap_referred}
+use Rattle.ep_gen_unit.proofs.TypeRoutines.{behind_list, call_placed}
+use Rattle.ep_gen_unit.proofs.Units.{moved_own, of_object, routine_there}
+use Rattle.ep_object.specs.Placing.{CodeStands, Placement, Stands, moved, placed, placed_routine}
+use Rattle.ep_object.specs.Promises.{FillStands, IsFill, IsSwap, StandFrom, SwapStands, fill_routine, filling_code, swap_routine}
+use Rattle.ep_object.specs.Routines.{routine_of}
+use Rattle.ep_object.specs.declared.code.CodeRoutine.{CodeRoutine}
+use Rattle.ep_object.specs.declared.code.Image.{Image}
+use Rattle.ep_object.specs.declared.code.Instr.{Instr}
+use Rattle.ep_object.specs.declared.code.Object.{Object}
+use Rattle.ep_object.specs.declared.code.Reference.{Reference}
+use Rattle.ep_object.specs.declared.op.TheConstants as op
+use Rattle.ep_typed.specs.Valid.{own}
+use Rattle.ep_typed.specs.declared.unit.Unit.{Unit as TypedUnit}
+
+-- code of an object stands in the image as it is placed
+stand_from : (G : Image) (ps : List Placement) (p : Placement) (references : List Reference) (at : ℕ) (is : List Instr) → CodeStands G ps p references at is → StandFrom G (p.instructions.before + at) (map (placed ps p references) is)
+stand_from G ps p references at [] h = tt
+stand_from G ps p references at (i ∷ is) h =
+    (h.0, subst (λ m. StandFrom G m (map (placed ps p references) is)) {x = p.instructions.before + (at + 1)} {y = p.instructions.before + at + 1} (omega arith) (stand_from G ps p references (at + 1) is h.1))
+
+module _ (u : TypedUnit) (o : Object) (is : IsProgramCode u o) (G : Image) (ps : List Placement) (p : Placement) (stands : Stands G ps p o) where
+  -- a routine behind those of the unit, its start and its stop
+  behind_stop : (k : ℕ) (x : CodeRoutine) → slice_get (is.swapping ∷ is.filling ∷ is.elaborating) k ≡ Some x → slice_get o.routines (swap_routine (length u.routines) + k) ≡ Some x
+  behind_stop k x there =
+      let blocks = is.blocks in
+      let behind : slice_get o.routines (length is.entries + suc (suc k)) ≡ slice_get (is.swapping ∷ is.filling ∷ is.elaborating) k = ap (λ l. slice_get l (length is.entries + suc (suc k))) is.routines ∙ behind_list is.entries (plain_at 0 ∷ plain_at _ ∷ is.swapping ∷ is.filling ∷ is.elaborating) (suc (suc k)) in
+      subst (λ n. slice_get o.routines n ≡ Some x) {x = length is.entries + suc (suc k)} {y = length u.routines + 2 + k} (omega (arith, blocks.count)) (behind ∙ there)
+
+  -- a routine of the object with this number and this code, in the image
+  record Placed (number : ℕ) (x : CodeRoutine) (code : List Instr) : Type 0 where
+    there : routine_of G (moved p.routines number) ≡ Some (placed_routine p x)
+    numbered : moved p.routines number < length G.routines
+    code_stands : CodeStands G ps p o.references x.entry code
+    entry : moved p.instructions x.entry ≡ p.instructions.before + x.entry
+    room_for : x.entry + length code ≤ p.instructions.own
+
+  placed_at : (number : ℕ) (x : CodeRoutine) (code : List Instr) → slice_get o.routines number ≡ Some x → StandsIn o.instructions x.entry code → 0 < length code → Placed number x code
+  placed_at number x code in_object s some =
+      let object = of_object u o is G ps p stands in
+      let whole : CodeStands G ps p o.references 0 (s.before ++ (code ++ s.after)) = subst (λ k. CodeStands G ps p o.references 0 k) s.is stands.code in
+      let first = code_stands-parts G ps p o.references 0 s.before (code ++ s.after) whole in
+      let second = code_stands-parts G ps p o.references (0 + length s.before) code s.after first.1 in
+      let among : moved p.routines number ≡ p.routines.before + number = moved_own p.routines number (omega (arith, object.routines, slice_get_within o.routines number x in_object)) in
+      let room : x.entry + length code ≤ p.instructions.own = omega (arith, object.instructions, ap length s.is, length-append s.before (code ++ s.after), length-append code s.after, s.from) in
+      record {
+        there = routine_there u o is G ps p stands number x in_object;
+        numbered = omega (arith, among, slice_get_within G.routines (p.routines.before + number) (placed_routine p x) (stands.routines number x in_object));
+        code_stands = subst (λ k. CodeStands G ps p o.references k code) {x = 0 + length s.before} {y = x.entry} (omega (arith, s.from)) second.0;
+        entry = moved_own p.instructions x.entry (omega (arith, room, some));
+        room_for = room;
+      }
+
+  -- ---- the one that leaves two operands in the other order
+
+  abbrev swap_number : ℕ
+  swap_number = swap_routine (length u.routines)
+
+  swapping : Placed swap_number is.swapping swap_code
+  swapping =
+      let swap = is.swaps in
+      placed_at swap_number is.swapping swap_code (subst (λ n. slice_get o.routines n ≡ Some is.swapping) {x = swap_number + 0} {y = swap_number} (omega arith) (behind_stop 0 is.swapping refl)) swap.stands (omega arith)
+
+  swaps : IsSwap G (moved p.routines swap_number)
+  swaps =
+      let code = swapping.code_stands in
+      let at : p.instructions.before + (is.swapping).entry ≡ moved p.instructions (is.swapping).entry = sym swapping.entry in
+      record {
+        its = placed_routine p is.swapping;
+        there = swapping.there;
+        numbered = swapping.numbered;
+        takes = ap (λ (c : CodeRoutine). c.arguments) (is.swaps).plain;
+        line = code_line.NO_LINE;
+        first = subst (λ k. slice_get G.instructions k ≡ Some (instr op.ARG (pos 1) 0 code_line.NO_LINE)) at code.0;
+        second = subst (λ k. slice_get G.instructions k ≡ Some (instr op.ARG (pos 0) 0 code_line.NO_LINE)) {x = p.instructions.before + ((is.swapping).entry + 1)} {y = moved p.instructions (is.swapping).entry + 1} (omega (arith, at)) code.1.0;
+        returns = subst (λ k. slice_get G.instructions k ≡ Some (instr op.RETURN (pos 0) 0 code_line.NO_LINE)) {x = p.instructions.before + ((is.swapping).entry + 1 + 1)} {y = moved p.instructions (is.swapping).entry + 1 + 1} (omega (arith, at)) code.1.1.0;
+      }
+
+  -- ---- the one that gives the value of a component of an array to others
+
+  abbrev fill_number : ℕ
+  fill_number = fill_routine (length u.routines)
+
+  abbrev fill_entry : ℕ
+  fill_entry = (is.filling).entry
+
+  filling : Placed fill_number is.filling (fill_code fill_entry)
+  filling =
+      let fill = is.fills in
+      placed_at fill_number is.filling (fill_code fill_entry) (subst (λ n. slice_get o.routines n ≡ Some is.filling) {x = swap_number + 1} {y = fill_number} (omega arith) (behind_stop 1 is.filling refl)) fill.stands (omega arith)
+
+  -- the reference to the other one
+  swap_named : slice_get o.references routine.SWAP ≡ Some (record { unit = u.name; number = swap_number })
+  swap_named = swap_referred (own u) u o is (own_count u) ∙ ap (λ n. Some (record { unit = u.name; number = swap_routine n })) (own_count u)
+
+  -- its jumps lead to places of its own
+  goal_is : (k : ℕ) → k < 21 → moved p.instructions (fill_entry + k) ≡ moved p.instructions fill_entry + k
+  goal_is k less = moved_own p.instructions (fill_entry + k) (omega (arith, filling.room_for, less)) ∙ omega (arith, filling.entry)
+
+  placed_code : map (placed ps p o.references) (fill_code fill_entry) ≡ filling_code (moved p.instructions fill_entry) (moved p.routines swap_number) code_line.NO_LINE
+  placed_code = rw (swap_named, call_placed u o is G ps p stands swap_number (instr op.CALL (pos routine.SWAP) 0 code_line.NO_LINE), goal_is 19 (omega arith), goal_is 3 (omega arith)) refl
+
+  fills : IsFill G (moved p.routines fill_number)
+  fills =
+      record {
+        its = placed_routine p is.filling;
+        there = filling.there;
+        numbered = filling.numbered;
+        takes = ap (λ (c : CodeRoutine). c.arguments) (is.fills).plain;
+        has_slot = ap (λ (c : CodeRoutine). c.slots) (is.fills).plain;
+        swap = moved p.routines swap_number;
+        swaps = swaps;
+        line = code_line.NO_LINE;
+        stands = subst (StandFrom G (moved p.instructions fill_entry)) placed_code (subst (λ m. StandFrom G m (map (placed ps p o.references) (fill_code fill_entry))) (sym filling.entry) (stand_from G ps p o.references fill_entry (fill_code fill_entry) filling.code_stands));
+      }
+
+  -- ---- each unit that alone declares types has both
+
+  module _ (Holds : List ℕ → ℕ → Type 0) (holds : Holds u.name (length u.routines)) where
+    of_unit : (unit : List ℕ) → 0 < length ((own u).types unit) → Holds unit (length ((own u).routines unit))
+    of_unit unit some = go (bytes_eq u.name unit) refl some
+      where
+        go : (b : Bool) → bytes_eq u.name unit ≡ b → 0 < length (if b then u.types else []) → Holds unit (length ((own u).routines unit))
+        go true e less = subst (λ n. Holds n (length ((own u).routines n))) (same_name u.name unit e) (subst (Holds u.name) (sym (own_count u)) holds)
+        go false e less = absurd (omega (arith, less))
+
+  pub swap_there : (unit : List ℕ) → 0 < length ((own u).types unit) → SwapStands G ps unit (length ((own u).routines unit))
+  swap_there = of_unit (SwapStands G ps) (record { routine = moved p.routines swap_number; swaps = swaps; placed = call_placed u o is G ps p stands swap_number })
+
+  pub fill_there : (unit : List ℕ) → 0 < length ((own u).types unit) → FillStands G ps unit (length ((own u).routines unit))
+  fill_there = of_unit (FillStands G ps) (record { routine = moved p.routines fill_number; fills = fills; placed = call_placed u o is G ps p stands fill_number })
