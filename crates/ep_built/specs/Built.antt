@@ -13,7 +13,6 @@
 -- - the variant part of a record, for a discriminant as its selector, and for a tag whose type has a name that is not built
 -- - the statement, for an assignment to something else than a name that is built, alone or with indexes and fields, or with these behind one pair of parentheses, for a call of something else, and for a `for` whose control variable has a name that is not built
 -- - the structured value, for a name of its type that is not built, and where it is the whole value of a constant definition or of an initial state
--- - the element of a structured value, for the choice of a variant
 -- - the factor, for `nil`, and for a character string of another length than one that is not the whole value of an argument of a `write` or `writeln` statement
 -- - the access, for a name that is not built, and for other selectors than indexes and fields, alone or behind one pair of parentheses.
 --
@@ -273,11 +272,6 @@ built_factor _ = false
 abbrev pub built_access : List ℕ → List SelectorForm → Bool
 built_access name forms = are_components forms && not (is_later name)
 
--- an element of a structured value gives components values, and chooses no variant
-abbrev pub built_element : {A B C D E F G H I J K L M N : Type 0} → Element-F A B C D E F G H I J K L M N → Bool
-built_element (Element-F.Labelled line labels value) = true
-built_element (Element-F.Variant line tag selector values) = false
-
 -- the line of a structured value
 abbrev pub structure_line : {A B C D E F G H I J K L M N : Type 0} → Factor-F A B C D E F G H I J K L M N → Option ℕ
 structure_line (Factor-F.Structured line name values) = Some line
@@ -356,19 +350,10 @@ abbrev pub at_component_value : ComponentValue-F Found Found Found Selecting Pla
 at_component_value (ComponentValue-F.Expression e) = e
 at_component_value (ComponentValue-F.Bracketed line values) = values
 
--- the line of an element
-abbrev pub element_line : Element-F Found Found Found Selecting Placed Belonging Found Belonging Found Found Belonging Found Found Found → ℕ
-element_line (Element-F.Labelled line labels value) = line
-element_line (Element-F.Variant line tag selector values) = line
-
 -- the labels before their value, and a tag's value before those of its variant
-abbrev pub in_element : Element-F Found Found Found Selecting Placed Belonging Found Belonging Found Found Belonging Found Found Found → Found
-in_element (Element-F.Labelled line labels value) = option_or (first_in labels) value
-in_element (Element-F.Variant line tag selector values) = option_or selector (first_if values)
-
--- an element before what stands in it
 abbrev pub at_element : Element-F Found Found Found Selecting Placed Belonging Found Belonging Found Found Belonging Found Found Found → Found
-at_element e = at_node (built_element e) (element_line e) (in_element e)
+at_element (Element-F.Labelled line labels value) = option_or (first_in labels) value
+at_element (Element-F.Variant line tag selector values) = option_or selector (first_if values)
 
 -- the first line inside a factor
 abbrev pub in_factor : Factor-F Found Found Found Selecting Placed Belonging Found Belonging Found Found Belonging Found Found Found → Found

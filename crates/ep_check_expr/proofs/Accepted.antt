@@ -246,7 +246,8 @@ module _ (Q : Typed → Type 0) (scopes : List Region) (kept : IsKept Q scopes) 
 
   element-fits : (e : Element-F ValidValue ValidElement ValidFactor ValidSelector ValidAccess ValidAddend ValidArgument ValidComparison ValidExpression ValidLabel ValidMultiplier ValidSimple ValidTerm ValidValues) → IsElement (roll-Element (element_layer e))
   element-fits (Element-F.Labelled at labels value) = rw fold-roll-Element (labels-fit labels, value.1)
-  element-fits (Element-F.Variant at tag selector values) = rw fold-roll-Element tt
+  element-fits (Element-F.Variant at name tag None) = rw fold-roll-Element (tag.1, tt)
+  element-fits (Element-F.Variant at name tag (Some values)) = rw fold-roll-Element (tag.1, values.1.0)
 
   values_of-fits : (at : ℕ) (es : List ValidElement) (o : Option ValidValue) → AreValues (roll-Values (values_layer (record { line = at; elements = es; otherwise = o })))
   values_of-fits at es None = subst (AreComponents Q) (sym (values-rolled scopes (values_layer (record { line = at; elements = es; otherwise = None })))) (elements-fit es, tt)

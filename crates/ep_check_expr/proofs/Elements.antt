@@ -27,8 +27,8 @@ use Rattle.ep_scope.specs.declared.structure.ArrayType.{ArrayType}
 use Rattle.ep_check_expr.specs.Constructors.{Label}
 use Rattle.ep_check_expr.specs.Expressions.{Addition, Multiplication, Relation, Result, Selected, at_access, at_addend, at_argument, at_comparison, at_component_value, at_element, at_expression, at_factor, at_label, at_multiplier, at_selector, at_simple, at_term, at_values, judged, addend_judged, comparison_judged, components_written, element_written, given, judged_value, multiplier_judged, selected, expression_said, factor_said, labelled, name_said, simple_said, term_said}
 use Rattle.ep_check_expr.specs.Functions.{Given}
-use Rattle.ep_check_expr.specs.Judgements.{Accepts, Typed, breaks, when_accepted}
-use Rattle.ep_check_expr.specs.StructuredValues.{Arranged, Components, Filled, Index, IndexLabels, Labelled, One, Ranges, Valued, Written, alone_labels, array_element, asked_by, asked_first, fields_element, fields_filled, given_by, given_then, index_judged, label_name, label_places, labelled_element, labels_judged, many_labels, named_element, range_labelled, ranges_labelled, record_element, second_index, single_label, with_labels, with_range}
+use Rattle.ep_check_expr.specs.Judgements.{Judged, Accepts, Typed, breaks, when_accepted}
+use Rattle.ep_check_expr.specs.StructuredValues.{Arranged, Choice, Components, Filled, Index, IndexLabels, Labelled, One, Ranges, Valued, VariantNumbers, Written, alone_labels, array_element, asked_by, asked_first, choice, chosen_written, fields_element, fields_filled, given_by, given_then, index_judged, label_name, label_places, labelled_element, labels_judged, many_labels, named_element, range_labelled, ranges_labelled, record_element, second_index, single_label, values_chosen, with_labels, with_range}
 use Rattle.ep_check_expr.proofs.Breaking.{when_accepted-part}
 use Rattle.ep_check_expr.proofs.Rows.{left-cons}
 
@@ -164,23 +164,56 @@ module _ (scopes : List Region) where
       pub component_given_is : (v : Typed) → judged_value scopes value (asked_by a.kind) ≡ Accepts v → array_element a (element_written scopes e) r ≡ given_by a (with_labels r x) v
       component_given_is v known = array_then ∙ ap (when_accepted (given_by a (with_labels r x))) known
 
-  module _ (fs : List FieldType) (e : Element) (line : ℕ) (labels : List LabelTree) (value : ComponentValue) (is : e ≡ element.Labelled line labels value) (r : Filled) where
-    record_parts : record_element fs (element_written scopes e) r ≡ named_element fs (map label_name labels) (judged_value scopes value) r
-    record_parts = ap (λ w. record_element fs w r) (element_is e line labels value is) ∙ ap (λ names. named_element fs names (judged_value scopes value) r) (names_alone scopes labels)
+  module _ (fs : List FieldType) (within : VariantNumbers) (e : Element) (line : ℕ) (labels : List LabelTree) (value : ComponentValue) (is : e ≡ element.Labelled line labels value) (r : Filled) where
+    record_parts : record_element fs within (element_written scopes e) r ≡ named_element fs within (map label_name labels) (judged_value scopes value) r
+    record_parts = ap (λ w. record_element fs within w r) (element_is e line labels value is) ∙ ap (λ names. named_element fs within names (judged_value scopes value) r) (names_alone scopes labels)
 
-    pub names_fail : (n : ℕ) → breaks n (label_places fs (map label_name labels) []) ≡ true → breaks n (record_element fs (element_written scopes e) r) ≡ true
+    pub names_fail : (n : ℕ) → breaks n (label_places fs within (map label_name labels) []) ≡ true → breaks n (record_element fs within (element_written scopes e) r) ≡ true
     names_fail n h =
-        subst (λ J. breaks n J ≡ true) (sym record_parts) (when_accepted-part n (fields_element fs (judged_value scopes value) r) (label_places fs (map label_name labels) []) h)
+        subst (λ J. breaks n J ≡ true) (sym record_parts) (when_accepted-part n (fields_element fs (judged_value scopes value) r) (label_places fs within (map label_name labels) []) h)
 
-    module _ (places : List ℕ) (accepted : label_places fs (map label_name labels) [] ≡ Accepts places) where
-      record_then : record_element fs (element_written scopes e) r ≡ when_accepted (fields_filled fs places r) (judged_value scopes value (asked_first fs places))
+    module _ (places : List ℕ) (accepted : label_places fs within (map label_name labels) [] ≡ Accepts places) where
+      record_then : record_element fs within (element_written scopes e) r ≡ when_accepted (fields_filled fs places r) (judged_value scopes value (asked_first fs places))
       record_then = record_parts ∙ ap (when_accepted (fields_element fs (judged_value scopes value) r)) accepted
 
-      pub field_fails : (n : ℕ) → breaks n (judged_value scopes value (asked_first fs places)) ≡ true → breaks n (record_element fs (element_written scopes e) r) ≡ true
+      pub field_fails : (n : ℕ) → breaks n (judged_value scopes value (asked_first fs places)) ≡ true → breaks n (record_element fs within (element_written scopes e) r) ≡ true
       field_fails n h = subst (λ J. breaks n J ≡ true) (sym record_then) (when_accepted-part n (fields_filled fs places r) (judged_value scopes value (asked_first fs places)) h)
 
-      pub field_given_is : (v : Typed) → judged_value scopes value (asked_first fs places) ≡ Accepts v → record_element fs (element_written scopes e) r ≡ fields_filled fs places r v
+      pub field_given_is : (v : Typed) → judged_value scopes value (asked_first fs places) ≡ Accepts v → record_element fs within (element_written scopes e) r ≡ fields_filled fs places r v
       field_given_is v known = record_then ∙ ap (when_accepted (fields_filled fs places r)) known
+
+-- ---- the choice of a variant by its parts
+
+-- empty brackets are like those with no element
+chosen_element : (fs : List FieldType) (within : VariantNumbers) (name : Option (List ℕ)) (tag : Judged Typed) (values : Option Components) (r : Filled)
+    → record_element fs within (chosen_written name tag values) r ≡ when_accepted (λ c. values_chosen fs values c) (when_accepted (choice fs within name r) tag)
+chosen_element fs within name tag None r = refl
+chosen_element fs within name tag (Some values) r = refl
+
+module _ (scopes : List Region) where
+  chosen_is : (e : Element) (line : ℕ) (name : Option (List ℕ)) (tag : Expression) (values : Option Values) → e ≡ element.Variant line name tag values
+      → element_written scopes e ≡ chosen_written name (judged scopes tag) (option_map (components_written scopes) values)
+  chosen_is e line name tag None is = ap (element_written scopes) (is ∙ sym (element.rolls-Variant line name tag None)) ∙ simp fold-roll-Element
+  chosen_is e line name tag (Some values) is = ap (element_written scopes) (is ∙ sym (element.rolls-Variant line name tag (Some values))) ∙ simp fold-roll-Element
+
+  module _ (fs : List FieldType) (within : VariantNumbers) (e : Element) (line : ℕ) (name : Option (List ℕ)) (tag : Expression) (values : Option Values) (is : e ≡ element.Variant line name tag values) (r : Filled) where
+    chosen_parts : record_element fs within (element_written scopes e) r ≡ when_accepted (λ c. values_chosen fs (option_map (components_written scopes) values) c) (when_accepted (choice fs within name r) (judged scopes tag))
+    chosen_parts = ap (λ w. record_element fs within w r) (chosen_is e line name tag values is) ∙ chosen_element fs within name (judged scopes tag) (option_map (components_written scopes) values) r
+
+    pub tag_fails : (n : ℕ) → breaks n (judged scopes tag) ≡ true → breaks n (record_element fs within (element_written scopes e) r) ≡ true
+    tag_fails n h =
+        subst (λ J. breaks n J ≡ true) (sym chosen_parts)
+        (when_accepted-part n (λ c. values_chosen fs (option_map (components_written scopes) values) c) (when_accepted (choice fs within name r) (judged scopes tag)) (when_accepted-part n (choice fs within name r) (judged scopes tag) h))
+
+    module _ (v : Typed) (known : judged scopes tag ≡ Accepts v) where
+      chosen_then : record_element fs within (element_written scopes e) r ≡ when_accepted (λ c. values_chosen fs (option_map (components_written scopes) values) c) (choice fs within name r v)
+      chosen_then = chosen_parts ∙ ap (λ J. when_accepted (λ c. values_chosen fs (option_map (components_written scopes) values) c) (when_accepted (choice fs within name r) J)) known
+
+      pub choice_fails : (n : ℕ) → breaks n (choice fs within name r v) ≡ true → breaks n (record_element fs within (element_written scopes e) r) ≡ true
+      choice_fails n h = subst (λ J. breaks n J ≡ true) (sym chosen_then) (when_accepted-part n (λ c. values_chosen fs (option_map (components_written scopes) values) c) (choice fs within name r v) h)
+
+      pub chosen_given_is : (c : Choice) → choice fs within name r v ≡ Accepts c → record_element fs within (element_written scopes e) r ≡ values_chosen fs (option_map (components_written scopes) values) c
+      chosen_given_is c accepted = chosen_then ∙ ap (when_accepted (λ d. values_chosen fs (option_map (components_written scopes) values) d)) accepted
 
 -- ---- ranges that are read one after another
 

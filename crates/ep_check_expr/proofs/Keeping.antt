@@ -20,7 +20,7 @@ use Rattle.ep_check_expr.specs.Indexing.{indexed}
 use Rattle.ep_check_expr.specs.Judgements.{Judged, Accepts, Breaks, Typed, both, when_accepted}
 use Rattle.ep_check_expr.specs.Names.{call_declared, leaf, parenthesized, value_named}
 use Rattle.ep_check_expr.specs.Operators.{signed, negated, added, multiplied, compared}
-use Rattle.ep_check_expr.specs.StructuredValues.{Chosen, Components, Labelled, Valued, Written, structure_judged}
+use Rattle.ep_check_expr.specs.StructuredValues.{Chosen, Components, Labelled, Valued, Written, WrittenRow, next_written, no_written, row_of, structure_judged}
 
 -- what is accepted has the property
 abbrev pub Satisfies : {A : Type 0} → (A → Type 0) → Judged A → Type 0
@@ -78,14 +78,18 @@ AreLabels Q (l ∷ ls) = (Satisfies Q l.low × IsHigh Q l.high) × AreLabels Q l
 abbrev pub IsValued : (Typed → Type 0) → Valued → Type 0
 IsValued Q value = (asked : Option ℕ) → Satisfies Q (value asked)
 
--- what is written for components has it
-abbrev pub IsWritten : (Typed → Type 0) → Written → Type 0
-IsWritten Q (Labelled ls value) = AreLabels Q ls × IsValued Q value
-IsWritten Q Chosen = ⊤
+abbrev mutual
+  -- what is written for components has it: labels and values, or the value of a tag and all that is given in the variant
+  pub IsWritten : (Typed → Type 0) → Written → Type 0
+  IsWritten Q (Labelled ls value) = AreLabels Q ls × IsValued Q value
+  IsWritten Q (Chosen name tag completed row) = Satisfies Q tag × IsRow Q row
+
+  pub IsRow : (Typed → Type 0) → WrittenRow → Type 0
+  IsRow Q no_written = ⊤
+  IsRow Q (next_written w row) = IsWritten Q w × IsRow Q row
 
 abbrev pub AreWritten : (Typed → Type 0) → List Written → Type 0
-AreWritten Q [] = ⊤
-AreWritten Q (w ∷ ws) = IsWritten Q w × AreWritten Q ws
+AreWritten Q ws = IsRow Q (row_of ws)
 
 abbrev pub IsValuedIf : (Typed → Type 0) → Option Valued → Type 0
 IsValuedIf Q None = ⊤

@@ -5,6 +5,7 @@ pub mod Breaking
 pub mod Calls
 pub mod Constructed
 pub mod Labels
+pub mod Leading
 pub mod Listed
 pub mod SetExamples
 pub mod SetForms

@@ -1,8 +1,7 @@
 -- A structured value of valid parts has a valid form.
-use Rattle.std.proofs.Common.{◌≡◌, ◌∙◌, ℕ, zero, suc, max, not, nat_le, nat_eq, Bool, true, false, IsTrue, ℤ, pos, negsuc, int_le, arith, List, [], ◌∷◌, ◌++◌, map, slice_get, Option, Some, None, refl, sym, subst}
-use Rattle.std.proofs.lemmas.List.Elements.{All-append, All-cons, All-head, All-nil, All-tail}
+use Rattle.std.proofs.Common.{◌≡◌, ℕ, suc, max, nat_le, nat_eq, Bool, true, false, IsTrue, ℤ, pos, negsuc, int_le, arith, List, [], ◌∷◌, ◌++◌, map, slice_get, Option, Some, None, refl, sym, subst}
+use Rattle.std.proofs.lemmas.List.Elements.{All-append, All-cons, All-nil}
 use Rattle.std.proofs.lemmas.Bool.Decides.{nat_tests}
-use Rattle.std.proofs.lemmas.Option.{same_Some}
 use Rattle.std.specs.Prelude.{All, ⊤, if◌then◌else◌}
 use Rattle.std.specs.List.{list_any}
 use Rattle.std.specs.Option.{option_map}
@@ -13,7 +12,6 @@ use Rattle.ep_typed.specs.TypeValues as type
 use Rattle.ep_typed.specs.Valid.{AreElements, Declarations, IsElement, IsRangeWithin, IsExpr, IsSetOf, IsStructured, IsTypeOf, IsTypeOfKind, LeadToKind}
 use Rattle.ep_typed.specs.Valid as valid
 use Rattle.ep_typed.specs.declared.tree.CaseRange.{CaseRange}
-use Rattle.ep_scope.specs.Fields.{field_number}
 use Rattle.ep_scope.specs.Scopes.{Region, depth_in, structure_in}
 use Rattle.ep_scope.specs.declared.kind.Kind.{Kind}
 use Rattle.ep_scope.specs.declared.kind.Kind.TheVariants as kind
@@ -24,18 +22,19 @@ use Rattle.ep_scope.specs.declared.structure.Composition.TheVariants as composit
 use Rattle.ep_scope.specs.declared.structure.FieldType.{FieldType}
 use Rattle.ep_scope.specs.declared.structure.StructuredType.{StructuredType}
 use Rattle.ep_scope.specs.declared.structure.TagType.{TagType}
-use Rattle.ep_scope.specs.declared.structure.VariantStep.{VariantStep}
-use Rattle.ep_check_expr.specs.Agreement.{AgreesBy, AreFieldValues, IsFieldValue, IsFormOf, IsListed, IsPartValue, IsValueOfKind, TypeValues, structures_of}
+use Rattle.ep_check_expr.specs.Agreement.{AgreesBy, IsFormOf, IsListed, IsValueOfKind, TypeValues, structures_of}
 use Rattle.ep_check_expr.specs.Constructors.{Label}
 use Rattle.ep_check_expr.specs.Hosts.{typed_host}
 use Rattle.ep_check_expr.specs.Judgements.{Judged, Accepts, Breaks, Typed, when_accepted}
 use Rattle.ep_check_expr.specs.Operators.{are_compatible}
 use Rattle.ep_check_expr.specs.declared.access.Access.TheVariants as access
 use Rattle.ep_check_expr.specs.declared.forms.TheConstants as limit
-use Rattle.ep_check_expr.specs.StructuredValues.{IndexLabels, Many, One, alone_labels, labels_judged, many_labels, with_labels, Arranged, Chosen, Components, Filled, Index, Labelled, Ranges, Valued, Written, all_arranged, are_given, array_begun, array_element, array_elements, array_judged, arranged, asked_by, asked_first, bounded_index, completes, component_given, composed, constant_in, fields_element, fields_filled, filled, filled_from, first_form, first_given, given_by, given_then, index_form, index_judged, is_arranged, is_fixed, is_plain, is_same_kind, is_tag, joined_ranges, label_places, label_place, labelled_element, no_ranges, nothing_filled, of_kind, plain_place, place_if, ranges_form, range_labelled, ranges_labelled, ranging, second_index, with_range, with_span, record_element, record_elements, same_filled, same_form, same_given, same_if, structure_judged, structured, unfit, with_elements, with_field, with_index, with_ranges, within_bounds}
+use Rattle.ep_check_expr.specs.StructuredValues.{Arranged, Choice, Chosen, Components, Filled, Index, IndexLabels, Labelled, Many, One, Ranges, Valued, VariantNumbers, Written, WrittenRow, all_arranged, all_given, alone_labels, are_given, arranged, array_begun, array_element, array_elements, array_judged, asked_by, asked_first, bounded_index, choice, choice_at, choice_by, chosen_filled, chosen_within, completes, component_given, composed, constant_in, field_steps, fields_element, fields_filled, filled, filled_from, first_form, first_given, given_by, given_then, index_form, index_judged, is_arranged, is_same_kind, is_named, is_tag_value, joined_ranges, label_places, labelled_element, labels_judged, many_labels, named_element, next_written, no_ranges, no_written, nothing_filled, of_kind, part_filled, range_labelled, ranges_form, ranges_labelled, ranging, record_element, record_elements, record_judged, row_filled, row_of, same_filled, same_form, same_given, same_if, second_index, structure_judged, structured, tag_constant, tag_filled, tag_given, tag_place, tag_valued, unfit, values_filled, with_elements, with_field, with_index, with_labels, with_range, with_ranges, with_span, within_bounds}
 use Rattle.ep_check_expr.proofs.Labels.{labels-weaker}
 use Rattle.ep_check_expr.proofs.Rows.{and_first, and_second}
-use Rattle.ep_check_expr.proofs.Keeping.{AreComponents, AreLabels, AreWritten, IsHigh, IsValued, IsValuedIf, IsWritten, Satisfies, any-satisfies, if-satisfies, then-satisfies, weaker-satisfies}
+use Rattle.ep_check_expr.proofs.Keeping.{AreComponents, AreLabels, AreWritten, IsHigh, IsRow, IsValued, IsValuedIf, IsWritten, Satisfies, any-satisfies, if-satisfies, then-satisfies, weaker-satisfies}
+use Rattle.ep_check_expr.proofs.FieldPlaces.{all_there}
+use Rattle.ep_check_expr.proofs.Leading.{Leads, listed-lead}
 use Rattle.ep_check_expr.proofs.Listed.{all-held, listed-made, listed-value, structure_in-listed}
 use Rattle.ep_check_expr.proofs.Passing.{IfForm, given-fits, one-value, set-fits, structured-fits}
 use Rattle.ep_check_expr.proofs.SameHost.{host_same}
@@ -61,17 +60,15 @@ module _ (P : Typed → Type 0) (n : ℕ) (every : (form : Option Expr) (depth :
       let parts = when_accepted (array_elements a c.elements) (array_begun a c.otherwise) in
       then-satisfies (λ r. ⊤) P (arranged n a (completes c.otherwise)) parts (any-satisfies parts) (λ r t. unless-unfit P (is_arranged a (completes c.otherwise) r.indexes) _ (λ e. made-any r.elements r.depth))
 
-  filled-any : (fs : List FieldType) (J : Judged Filled) → Satisfies P (when_accepted (filled n fs) J)
-  filled-any fs J = then-satisfies (λ r. ⊤) P (filled n fs) J (any-satisfies J) (λ r t. unless-unfit P (are_given r.fields 0 fs) _ (λ e. made-any r.elements r.depth))
-
-  record-any : (fs : List FieldType) (b : Bool) (J : Judged Filled) → Satisfies P (if b then unfit else when_accepted (filled n fs) J)
-  record-any fs true J = tt
-  record-any fs false J = filled-any fs J
+  record-any : (fs : List FieldType) (c : Components) → Satisfies P (record_judged n fs c)
+  record-any fs c =
+      let parts = values_filled fs [] c nothing_filled in
+      then-satisfies (λ r. ⊤) P (filled n) parts (any-satisfies parts) (λ r t. made-any r.elements r.depth)
 
   composed-any : (o : Option Composition) (c : Components) → Satisfies P (composed n o c)
   composed-any None c = tt
   composed-any (Some (composition.Array a)) c = array-any a c
-  composed-any (Some (composition.Record fs)) c = record-any fs (completes c.otherwise) (record_elements fs c.elements nothing_filled)
+  composed-any (Some (composition.Record fs)) c = record-any fs c
 
   pub structure-any : (scopes : List Region) (c : Components) → Satisfies P (structure_judged scopes c n)
   structure-any scopes c = composed-any (structure_in scopes n) c
@@ -229,7 +226,7 @@ module _ (declared : Declarations) (types : TypeValues) (structures : List Struc
 
     element-fits : (w : Written) (r : Arranged) → IsWritten Form w → IsArranged r → Satisfies IsArranged (array_element a w r)
     element-fits (Labelled ls value) r h p = labelled_element-fits ls value r h.0 h.1 p
-    element-fits Chosen r h p = tt
+    element-fits (Chosen name tag completed row) r h p = tt
 
     elements-fit : (ws : List Written) (r : Arranged) → AreWritten Form ws → IsArranged r → Satisfies IsArranged (array_elements a ws r)
     elements-fit [] r h p = p
@@ -247,54 +244,14 @@ module _ (declared : Declarations) (types : TypeValues) (structures : List Struc
 
   -- ---- records
 
-  -- what all fields have, the one at a place has
-  all_at : (P : FieldType → Type 0) (fs : List FieldType) (place : ℕ) (f : FieldType) → All P fs → slice_get fs place ≡ Some f → P f
-  all_at P [] place f all e = cc
-  all_at P (g ∷ fs) zero f all e = subst P (same_Some g f e) (All-head P g fs all)
-  all_at P (g ∷ fs) (suc place) f all e = all_at P fs place f (All-tail P g fs all) e
-
-  module _ (fs : List FieldType) (ts : ComponentTypes) (values : AreFieldValues types fs ts) where
-    -- a component of the record has the type value of the field
+  module _ (fs : List FieldType) (ts : ComponentTypes) (lead : All (λ f. Leads types ts f.kind (field_steps f)) fs) where
+    -- the steps to the field lead to a component
     abbrev IsComponent : FieldType → Type 0
-    IsComponent f = (t : TypeValue) × (type_among ts f.number ≡ Some t) × IsValueOfKind types f.kind t
+    IsComponent f = Leads types ts f.kind (field_steps f)
 
-    untagged : (tag : Option TagType) (number : ℕ) (k : Kind) → not (is_tag tag) ≡ true → IsPartValue types tag number k ts → IsPartValue types None number k ts
-    untagged None number k e v = v
-    untagged (Some tag) number k e v = cc
-
-    fixed : (path : List VariantStep) (f : FieldType) → is_fixed path ≡ true → IsFieldValue types path f ts → IsPartValue types f.tag f.number f.kind ts
-    fixed [] f e v = v
-    fixed (s ∷ path) f e v = cc
-
-    plain-component : (f : FieldType) → is_plain f ≡ true → IsFieldValue types f.path f ts → IsComponent f
-    plain-component f e v = untagged f.tag f.number f.kind (and_second (is_fixed f.path) (not (is_tag f.tag)) e) (fixed f.path f (and_first (is_fixed f.path) (not (is_tag f.tag)) e) v)
-
-    -- the field at the place is a component
-    abbrev IsAt : ℕ → Type 0
-    IsAt place = (f : FieldType) → slice_get fs place ≡ Some f → IsComponent f
-
-    abbrev AreAt : List ℕ → Type 0
-    AreAt places = All IsAt places
-
-    plain_place-fits : (place : ℕ) (o : Option FieldType) → slice_get fs place ≡ o → Satisfies IsAt (plain_place fs place o)
-    plain_place-fits place None e = tt
-    plain_place-fits place (Some f) e =
-        unless-unfit IsAt (is_plain f) (Accepts place)
-        (λ plain g at. plain-component g (subst (λ x. is_plain x ≡ true) (same_Some f g (sym e ∙ at)) plain) (all_at (λ x. IsFieldValue types x.path x ts) fs place g values at))
-
-    place_if-fits : (o : Option ℕ) → Satisfies IsAt (place_if fs o)
-    place_if-fits None = tt
-    place_if-fits (Some place) = plain_place-fits place (slice_get fs place) refl
-
-    label_place-fits : (name : Option (List ℕ)) → Satisfies IsAt (label_place fs name)
-    label_place-fits None = tt
-    label_place-fits (Some name) = place_if-fits (field_number fs name)
-
-    label_places-fit : (names : List (Option (List ℕ))) (found : List ℕ) → AreAt found → Satisfies AreAt (label_places fs names found)
-    label_places-fit [] found h = h
-    label_places-fit (name ∷ names) found h =
-        then-satisfies IsAt AreAt (λ place. label_places fs names (found ++ place ∷ [])) (label_place fs name) (label_place-fits name)
-        (λ place p. label_places-fit names (found ++ place ∷ []) (All-append IsAt found (place ∷ []) h (All-cons IsAt place [] p (All-nil IsAt))))
+    -- the field at a place
+    component-at : (place : ℕ) (f : FieldType) → slice_get fs place ≡ Some f → IsComponent f
+    component-at place f e = all_there IsComponent fs place f lead e
 
     abbrev IsFilled : Filled → Type 0
     IsFilled r = AreBuilt declared (type.Record ts) r.elements
@@ -306,14 +263,14 @@ module _ (declared : Declarations) (types : TypeValues) (structures : List Struc
         go true = tt
         go false = built_append declared (type.Record ts) r.elements more p q
 
-    first-element : (f : FieldType) (c : IsComponent f) (x : Option Expr) → IfForm (IsGiven c.0) x → AreBuilt declared (type.Record ts) (option_map (first_form f.number) x)
+    first-element : (f : FieldType) (c : IsComponent f) (x : Option Expr) → IfForm (IsGiven c.0) x → AreBuilt declared (type.Record ts) (option_map (first_form (field_steps f)) x)
     first-element f c None g = tt
     first-element f c (Some x) g = ((g.0, (c.0, c.1, g.1), g.2), tt)
 
     first-fits : (place : ℕ) (v : Typed) (r : Filled) (f : FieldType) → IsComponent f → Form v → IsFilled r → Satisfies IsFilled (first_given place v r f)
     first-fits place v r f c g p =
-        then-satisfies (IfForm (IsGiven c.0)) IsFilled (λ x. with_field r place v.depth (option_map (first_form f.number) x)) (component_given f.kind v) (given-component f.kind c.0 c.2 v g)
-        (λ x h. with_field-fits r place v.depth (option_map (first_form f.number) x) p (first-element f c x h))
+        then-satisfies (IfForm (IsGiven c.0)) IsFilled (λ x. with_field r place v.depth (option_map (first_form (field_steps f)) x)) (component_given f.kind v) (given-component f.kind c.0 c.2 v g)
+        (λ x h. with_field-fits r place v.depth (option_map (first_form (field_steps f)) x) p (first-element f c x h))
 
     -- components of one kind
     same_component : (k l : Kind) (t u : TypeValue) → is_same_kind k l ≡ true → IsValueOfKind types k t → IsValueOfKind types l u → (j : valid.Kind) × IsTypeOfKind j t × IsTypeOfKind j u
@@ -342,41 +299,87 @@ module _ (declared : Declarations) (types : TypeValues) (structures : List Struc
     same-element : (first f : FieldType) → IsComponent first → IsComponent f → AreBuilt declared (type.Record ts) (same_if first f)
     same-element first f c d = go (is_same_kind first.kind f.kind) refl
       where
-        go : (b : Bool) → is_same_kind first.kind f.kind ≡ b → AreBuilt declared (type.Record ts) (if b then Some (same_form first.number f.number) else None)
+        go : (b : Bool) → is_same_kind first.kind f.kind ≡ b → AreBuilt declared (type.Record ts) (if b then Some (same_form (field_steps first) (field_steps f)) else None)
         go true e = let s = same_component first.kind f.kind c.0 d.0 e c.2 d.2 in ((s.0, (c.0, c.1, s.1), (d.0, d.1, s.2)), tt)
         go false e = tt
 
-    same-fits : (first : FieldType) (k : Kind) (place : ℕ) (r : Filled) (o : Option FieldType) → slice_get fs place ≡ o → IsComponent first → IsAt place → IsFilled r → Satisfies IsFilled (same_given first k place r o)
-    same-fits first k place r None e c at p = tt
-    same-fits first k place r (Some f) e c at p =
+    same-fits : (first : FieldType) (k : Kind) (place : ℕ) (r : Filled) (o : Option FieldType) → slice_get fs place ≡ o → IsComponent first → IsFilled r → Satisfies IsFilled (same_given first k place r o)
+    same-fits first k place r None e c p = tt
+    same-fits first k place r (Some f) e c p =
         then-satisfies (λ x. ⊤) IsFilled (λ x. with_field r place 0 (same_if first f)) (component_given f.kind (of_kind k)) (any-satisfies (component_given f.kind (of_kind k)))
-        (λ x t. with_field-fits r place 0 (same_if first f) p (same-element first f c (at f e)))
+        (λ x t. with_field-fits r place 0 (same_if first f) p (same-element first f c (component-at place f e)))
 
-    same_filled-fits : (first : FieldType) (k : Kind) (places : List ℕ) (r : Filled) → IsComponent first → AreAt places → IsFilled r → Satisfies IsFilled (same_filled fs first k places r)
-    same_filled-fits first k [] r c h p = p
-    same_filled-fits first k (place ∷ places) r c h p =
-        then-satisfies IsFilled IsFilled (same_filled fs first k places) (same_given first k place r (slice_get fs place)) (same-fits first k place r (slice_get fs place) refl c (All-head IsAt place places h) p)
-        (λ s q. same_filled-fits first k places s c (All-tail IsAt place places h) q)
+    same_filled-fits : (first : FieldType) (k : Kind) (places : List ℕ) (r : Filled) → IsComponent first → IsFilled r → Satisfies IsFilled (same_filled fs first k places r)
+    same_filled-fits first k [] r c p = p
+    same_filled-fits first k (place ∷ places) r c p =
+        then-satisfies IsFilled IsFilled (same_filled fs first k places) (same_given first k place r (slice_get fs place)) (same-fits first k place r (slice_get fs place) refl c p)
+        (λ s q. same_filled-fits first k places s c q)
 
-    from-fits : (place : ℕ) (places : List ℕ) (r : Filled) (v : Typed) (o : Option FieldType) → slice_get fs place ≡ o → AreAt (place ∷ places) → Form v → IsFilled r → Satisfies IsFilled (filled_from fs place places r v o)
-    from-fits place places r v None e h g p = tt
-    from-fits place places r v (Some f) e h g p =
-        let c = All-head IsAt place places h f e in
-        then-satisfies IsFilled IsFilled (same_filled fs f v.kind places) (first_given place v r f) (first-fits place v r f c g p) (λ s q. same_filled-fits f v.kind places s c (All-tail IsAt place places h) q)
+    from-fits : (place : ℕ) (places : List ℕ) (r : Filled) (v : Typed) (o : Option FieldType) → slice_get fs place ≡ o → Form v → IsFilled r → Satisfies IsFilled (filled_from fs place places r v o)
+    from-fits place places r v None e g p = tt
+    from-fits place places r v (Some f) e g p =
+        let c = component-at place f e in
+        then-satisfies IsFilled IsFilled (same_filled fs f v.kind places) (first_given place v r f) (first-fits place v r f c g p) (λ s q. same_filled-fits f v.kind places s c q)
 
-    fields-fit : (places : List ℕ) (r : Filled) (v : Typed) → AreAt places → Form v → IsFilled r → Satisfies IsFilled (fields_filled fs places r v)
-    fields-fit [] r v h g p = tt
-    fields-fit (place ∷ places) r v h g p = from-fits place places r v (slice_get fs place) refl h g p
+    fields-fit : (places : List ℕ) (r : Filled) (v : Typed) → Form v → IsFilled r → Satisfies IsFilled (fields_filled fs places r v)
+    fields-fit [] r v g p = tt
+    fields-fit (place ∷ places) r v g p = from-fits place places r v (slice_get fs place) refl g p
 
-    record_element-fits : (w : Written) (r : Filled) → IsWritten Form w → IsFilled r → Satisfies IsFilled (record_element fs w r)
-    record_element-fits (Labelled ls value) r h p =
-        then-satisfies AreAt IsFilled (fields_element fs value r) (label_places fs (map (λ l. l.name) ls) []) (label_places-fit (map (λ l. l.name) ls) [] (All-nil IsAt))
-        (λ places q. then-satisfies Form IsFilled (fields_filled fs places r) (value (asked_first fs places)) (h.1 (asked_first fs places)) (λ v g. fields-fit places r v q g p))
-    record_element-fits Chosen r h p = tt
+    named-fits : (within : VariantNumbers) (names : List (Option (List ℕ))) (value : Valued) (r : Filled) → IsValued Form value → IsFilled r → Satisfies IsFilled (named_element fs within names value r)
+    named-fits within names value r h p =
+        then-satisfies (λ places. ⊤) IsFilled (fields_element fs value r) (label_places fs within names []) (any-satisfies (label_places fs within names []))
+        (λ places t. then-satisfies Form IsFilled (fields_filled fs places r) (value (asked_first fs places)) (h (asked_first fs places)) (λ v g. fields-fit places r v g p))
 
-    pub record_elements-fit : (ws : List Written) (r : Filled) → AreWritten Form ws → IsFilled r → Satisfies IsFilled (record_elements fs ws r)
-    record_elements-fit [] r h p = p
-    record_elements-fit (w ∷ ws) r h p = then-satisfies IsFilled IsFilled (record_elements fs ws) (record_element fs w r) (record_element-fits w r h.0 p) (λ s q. record_elements-fit ws s h.1 q)
+    -- ---- choices of variants
+
+    abbrev IsChoice : Choice → Type 0
+    IsChoice c = IsFilled c.filled
+
+    tag_filled-fits : (within : VariantNumbers) (place : ℕ) (f : FieldType) (tag : TagType) (depth : ℕ) (r : Filled) (c : IsComponent f) (x : Option Expr) (z : Option ℤ) → IfForm (IsGiven c.0) x → IsFilled r
+        → Satisfies IsChoice (tag_filled within place f tag depth r x z)
+    tag_filled-fits within place f tag depth r c x z g p =
+        unless-unfit IsChoice (is_tag_value tag z) _
+        (λ e. then-satisfies IsFilled IsChoice (λ s. Accepts (record { filled = s; chosen = chosen_within within tag z })) (with_field r place depth (option_map (first_form (field_steps f)) x))
+        (with_field-fits r place depth (option_map (first_form (field_steps f)) x) p (first-element f c x g)) (λ s q. q))
+
+    tag_given-fits : (within : VariantNumbers) (place : ℕ) (f : FieldType) (v : Typed) (r : Filled) (tag : Option TagType) → IsComponent f → Form v → IsFilled r → Satisfies IsChoice (tag_given within place f v r tag)
+    tag_given-fits within place f v r None c g p = tt
+    tag_given-fits within place f v r (Some tag) c g p =
+        then-satisfies (IfForm (IsGiven c.0)) IsChoice (tag_valued within place f tag v.depth r) (component_given f.kind v) (given-component f.kind c.0 c.2 v g)
+        (λ x h. then-satisfies (λ z. ⊤) IsChoice (tag_filled within place f tag v.depth r x) (tag_constant x) (any-satisfies (tag_constant x)) (λ z t. tag_filled-fits within place f tag v.depth r c x z h p))
+
+    choice_by-fits : (within : VariantNumbers) (name : Option (List ℕ)) (place : ℕ) (r : Filled) (v : Typed) (o : Option FieldType) → slice_get fs place ≡ o → Form v → IsFilled r → Satisfies IsChoice (choice_by within name place r v o)
+    choice_by-fits within name place r v None e g p = tt
+    choice_by-fits within name place r v (Some f) e g p =
+        unless-unfit IsChoice (is_named name f) (tag_given within place f v r f.tag) (λ n. tag_given-fits within place f v r f.tag (component-at place f e) g p)
+
+    choice_at-fits : (within : VariantNumbers) (name : Option (List ℕ)) (r : Filled) (v : Typed) (o : Option ℕ) → Form v → IsFilled r → Satisfies IsChoice (choice_at fs within name r v o)
+    choice_at-fits within name r v None g p = tt
+    choice_at-fits within name r v (Some place) g p = choice_by-fits within name place r v (slice_get fs place) refl g p
+
+    part-fits : (within : VariantNumbers) (completed : Bool) (J : Judged Filled) → Satisfies IsFilled J → Satisfies IsFilled (part_filled fs within completed J)
+    part-fits within true J h = tt
+    part-fits within false J h =
+        then-satisfies IsFilled IsFilled (all_given fs within) J h (λ s q. unless-unfit IsFilled (are_given within s.fields 0 fs) (Accepts s) (λ e. q))
+
+    chosen-fits : (fill : VariantNumbers → Filled → Judged Filled) → ((within : VariantNumbers) (s : Filled) → IsFilled s → Satisfies IsFilled (fill within s)) → (r : Filled) (o : Option VariantNumbers) → IsFilled r → Satisfies IsFilled (chosen_filled fill r o)
+    chosen-fits fill h r None p = p
+    chosen-fits fill h r (Some within) p = h within r p
+
+    mutual
+      record_element-fits : (within : VariantNumbers) (w : Written) (r : Filled) → IsWritten Form w → IsFilled r → Satisfies IsFilled (record_element fs within w r)
+      record_element-fits within (Labelled ls value) r h p = named-fits within (map (λ l. l.name) ls) value r h.1 p
+      record_element-fits within (Chosen name tag completed row) r h p =
+          then-satisfies IsChoice IsFilled (λ c. chosen_filled (λ inner s. part_filled fs inner completed (row_filled fs inner row s)) c.filled c.chosen) (when_accepted (choice fs within name r) tag)
+          (then-satisfies Form IsChoice (choice fs within name r) tag h.0 (λ v g. choice_at-fits within name r v (tag_place fs within) g p))
+          (λ c q. chosen-fits (λ inner s. part_filled fs inner completed (row_filled fs inner row s)) (λ inner s q. part-fits inner completed (row_filled fs inner row s) (row-fits inner row s h.1 q)) c.filled c.chosen q)
+
+      row-fits : (within : VariantNumbers) (row : WrittenRow) (r : Filled) → IsRow Form row → IsFilled r → Satisfies IsFilled (row_filled fs within row r)
+      row-fits within no_written r h p = p
+      row-fits within (next_written w row) r h p = then-satisfies IsFilled IsFilled (row_filled fs within row) (record_element fs within w r) (record_element-fits within w r h.0 p) (λ s q. row-fits within row s h.1 q)
+
+    pub values-fit : (c : Components) → AreWritten Form c.elements → Satisfies IsFilled (values_filled fs [] c nothing_filled)
+    values-fit c h = part-fits [] (completes c.otherwise) (record_elements fs [] c.elements nothing_filled) (row-fits [] (row_of c.elements) nothing_filled h tt)
 
 -- ---- of both
 
@@ -410,20 +413,17 @@ module _ (declared : Declarations) (types : TypeValues) (scopes : List Region) (
       (λ r p. unless-unfit FormOf (is_arranged a (completes c.otherwise) r.indexes) (structured n r.elements r.depth)
       (λ e. structured-holds n (composition.Array a) is r.elements r.depth (subst (λ t. AreBuilt declared t r.elements) (sym made.1) p)))
 
-  record-fits : (n : ℕ) (fs : List FieldType) (c : Components) (b : Bool) → structure_in scopes n ≡ Some (composition.Record fs) → AreComponents FormOf c
-      → Satisfies FormOf (if b then unfit else when_accepted (filled n fs) (record_elements fs c.elements nothing_filled))
-  record-fits n fs c true is h = tt
-  record-fits n fs c false is h =
-      let made = listed-made declared types (made_so n (composition.Record fs)) (listed n (composition.Record fs) is) in
-      then-satisfies (λ r. AreBuilt declared (type.Record made.0) r.elements) FormOf (filled n fs) (record_elements fs c.elements nothing_filled)
-      (record_elements-fit declared types (structures_of scopes) fs made.0 made.2 c.elements nothing_filled h.0 tt)
-      (λ r p. unless-unfit FormOf (are_given r.fields 0 fs) (structured n r.elements r.depth)
-      (λ e. structured-holds n (composition.Record fs) is r.elements r.depth (subst (λ t. AreBuilt declared t r.elements) (sym made.1) p)))
+  record-fits : (n : ℕ) (fs : List FieldType) (c : Components) → structure_in scopes n ≡ Some (composition.Record fs) → AreComponents FormOf c → Satisfies FormOf (record_judged n fs c)
+  record-fits n fs c is h =
+      let made = listed-lead declared types n fs (listed n (composition.Record fs) is) in
+      then-satisfies (λ r. AreBuilt declared (type.Record made.0) r.elements) FormOf (filled n) (values_filled fs [] c nothing_filled)
+      (values-fit declared types (structures_of scopes) fs made.0 made.2 c h.0)
+      (λ r p. structured-holds n (composition.Record fs) is r.elements r.depth (subst (λ t. AreBuilt declared t r.elements) (sym made.1) p))
 
   composed-fits : (n : ℕ) (o : Option Composition) (c : Components) → structure_in scopes n ≡ o → AreComponents FormOf c → Satisfies FormOf (composed n o c)
   composed-fits n None c is h = tt
   composed-fits n (Some (composition.Array a)) c is h = array-fits n a c is h
-  composed-fits n (Some (composition.Record fs)) c is h = record-fits n fs c (completes c.otherwise) is h
+  composed-fits n (Some (composition.Record fs)) c is h = record-fits n fs c is h
 
   pub structure-fits : (c : Components) → AreComponents FormOf c → (n : ℕ) → Satisfies FormOf (structure_judged scopes c n)
   structure-fits c h n = composed-fits n (structure_in scopes n) c refl h
@@ -434,14 +434,18 @@ module _ (P Q : Typed → Type 0) (f : (t : Typed) → P t → Q t) where
   valued-weaker : (value : Valued) → IsValued P value → IsValued Q value
   valued-weaker value h asked = weaker-satisfies P Q (value asked) f (h asked)
 
-  written-weaker : (ws : List Written) → AreWritten P ws → AreWritten Q ws
-  written-weaker [] h = tt
-  written-weaker (Labelled ls value ∷ ws) h = ((labels-weaker P Q f ls h.0.0, valued-weaker value h.0.1), written-weaker ws h.1)
-  written-weaker (Chosen ∷ ws) h = (tt, written-weaker ws h.1)
+  mutual
+    written-weaker : (w : Written) → IsWritten P w → IsWritten Q w
+    written-weaker (Labelled ls value) h = (labels-weaker P Q f ls h.0, valued-weaker value h.1)
+    written-weaker (Chosen name tag completed row) h = (weaker-satisfies P Q tag f h.0, row-weaker row h.1)
+
+    row-weaker : (row : WrittenRow) → IsRow P row → IsRow Q row
+    row-weaker no_written h = tt
+    row-weaker (next_written w row) h = (written-weaker w h.0, row-weaker row h.1)
 
   otherwise-weaker : (o : Option Valued) → IsValuedIf P o → IsValuedIf Q o
   otherwise-weaker None h = tt
   otherwise-weaker (Some value) h = valued-weaker value h
 
   pub components-weaker : (c : Components) → AreComponents P c → AreComponents Q c
-  components-weaker c h = (written-weaker c.elements h.0, otherwise-weaker c.otherwise h.1)
+  components-weaker c h = (row-weaker (row_of c.elements) h.0, otherwise-weaker c.otherwise h.1)

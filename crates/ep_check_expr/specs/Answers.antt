@@ -16,6 +16,7 @@ use Rattle.ep_check_expr.specs.declared.arranged.Index.{Index}
 use Rattle.ep_check_expr.specs.declared.arranged.IndexLabels.{IndexLabels}
 use Rattle.ep_check_expr.specs.declared.arranged.IndexLabels.TheVariants as labels
 use Rattle.ep_check_expr.specs.declared.arranged.Ranges.{Ranges}
+use Rattle.ep_check_expr.specs.declared.chosen.Choice.{Choice}
 use Rattle.ep_check_expr.specs.declared.filled.Filled.{Filled}
 use Rattle.ep_check_expr.specs.declared.arguments.Taken.{Taken}
 use Rattle.ep_check_expr.specs.declared.constructors.Members.{Members}
@@ -51,6 +52,9 @@ arranged_of r = record { elements = option_map (map element_of) r.elements; dept
 
 abbrev pub filled_of : Filled → structured.Filled
 filled_of r = record { elements = option_map (map element_of) r.elements; depth = r.depth; fields = r.fields }
+
+abbrev pub choice_of : Choice → structured.Choice
+choice_of c = record { filled = filled_of c.filled; chosen = c.chosen }
 
 -- the form exactly where it is accepted, or a rule that fails
 abbrev pub AnswersJudged : {T A : Type 0} → (T → A) → Result T Refusal → Judged A → Type 0

@@ -34,7 +34,7 @@ use Rattle.ep_check_expr.specs.Hosts.{typed_host}
 use Rattle.ep_check_expr.specs.Indexing.{indexed_all}
 use Rattle.ep_check_expr.specs.Judgements.{Judged, Accepts, Typed, unbuilt, when_accepted, both}
 use Rattle.ep_check_expr.specs.Names.{leaf, parenthesized, value_named, call_named, qualified_value}
-use Rattle.ep_check_expr.specs.StructuredValues.{Chosen, Components, Labelled, Valued, Written, bracketed, named_number, structure_judged}
+use Rattle.ep_check_expr.specs.StructuredValues.{Components, Labelled, Valued, Written, bracketed, chosen_written, named_number, structure_judged}
 use Rattle.ep_check_expr.specs.Operators.{signed, negated, added, multiplied, compared}
 
 -- an operand with the operator before it
@@ -113,7 +113,7 @@ module _ (scopes : List Region) where
 
   abbrev pub at_element : Element-F Valued Written Result Selected Result Addition Given Relation Result Label Multiplication Result Result Components → Written
   at_element (Element-F.Labelled line labels value) = Labelled labels value
-  at_element (Element-F.Variant line tag selector values) = Chosen
+  at_element (Element-F.Variant line name tag values) = chosen_written name tag.judged values
 
   abbrev pub at_factor : Factor-F Valued Written Result Selected Result Addition Given Relation Result Label Multiplication Result Result Components → Said
   at_factor (Factor-F.Access access) = access

@@ -1,13 +1,16 @@
 -- The rules of structured values (ISO 10206, 6.8.7): each component is given a value of its type, a field exactly once, and so is each component of an array where all indexes are constant.
-use Rattle.std.specs.Prelude.{ℕ, ℤ, ◌==◌, suc, pos, ◌+ℤ◌, max, int_le, nat_eq, Bool, true, false, ◌&&◌, ◌||◌, not, List, [], ◌∷◌, ◌++◌, map, slice_get, Option, Some, None, if◌then◌else◌}
+use Rattle.std.specs.Prelude.{ℕ, ℤ, ◌==◌, suc, pos, ◌+ℤ◌, max, int_le, nat_eq, Bool, true, false, ◌&&◌, ◌||◌, not, List, [], ◌∷◌, ◌++◌, length, map, position, slice_get, Option, Some, None, if◌then◌else◌}
 use Rattle.std.specs.List.{list_all, list_any}
 use Rattle.std.specs.Option.{option_map}
+use Rattle.std.specs.Str.{bytes_eq}
 use Rattle.ep_tree.specs.Shapes.{as_identifier, when_none}
 use Rattle.ep_tree.specs.declared.expression.Expression.{Expression}
 use Rattle.ep_tree.specs.declared.expression.Label.{Label as LabelTree, out-Label}
 use Rattle.ep_typed.specs.Operations.{is_apart, is_in}
+use Rattle.ep_typed.specs.Steps.{variant_number}
 use Rattle.ep_typed.specs.Trees.{AtField, AtIndex, AtRanges, Element, Expr, SameField, Structured, elements}
 use Rattle.ep_typed.specs.declared.tree.CaseRange.{CaseRange}
+use Rattle.ep_typed.specs.declared.tree.Selection.{Selection}
 use Rattle.ep_scope.specs.Fields.{field_number}
 use Rattle.ep_scope.specs.Kinds.{same_host}
 use Rattle.ep_scope.specs.Scopes.{Meant, Declares, FieldOf, Nothing, Region, Requires, meant, meant_in, structure_in}
@@ -41,15 +44,35 @@ use Rattle.ep_check_expr.specs.declared.folding.Folded.TheVariants.{Known, Varie
 abbrev pub Valued : Type 0
 Valued = Option ℕ → Judged Typed
 
--- labels with their value, or a choice of a variant
-pub data Written : Type 0 where
-  Labelled : (labels : List Label) (value : Valued) → Written
-  Chosen : Written
+mutual
+  -- labels with their value; or a choice of a variant, by the name before the tag's value, if there is one, that value, whether `otherwise` stands in the brackets, and the elements in them
+  pub data Written : Type 0 where
+    Labelled : (labels : List Label) (value : Valued) → Written
+    Chosen : (name : Option (List ℕ)) (tag : Judged Typed) (completed : Bool) (elements : WrittenRow) → Written
+
+  -- elements in order
+  pub data WrittenRow : Type 0 where
+    no_written : WrittenRow
+    next_written : (first : Written) (rest : WrittenRow) → WrittenRow
+
+abbrev pub row_of : List Written → WrittenRow
+row_of [] = no_written
+row_of (w ∷ ws) = next_written w (row_of ws)
 
 -- what stands in the brackets of a structured value
 pub record Components : Type 0 where
   pub elements : List Written
   pub otherwise : Option Valued
+
+-- whether `otherwise` is there
+abbrev pub completes : Option Valued → Bool
+completes None = false
+completes (Some value) = true
+
+-- a choice of a variant with what stands in its brackets, where they are not empty
+abbrev pub chosen_written : Option (List ℕ) → Judged Typed → Option Components → Written
+chosen_written name tag None = Chosen name tag false no_written
+chosen_written name tag (Some c) = Chosen name tag (completes c.otherwise) (row_of c.elements)
 
 -- the structured type that a component of this kind asks for
 abbrev pub asked_by : Kind → Option ℕ
@@ -255,7 +278,7 @@ module _ (a : ArrayType) where
   -- an element after others; an array has no variants
   abbrev pub array_element : Written → Arranged → Judged Arranged
   array_element (Labelled ls value) r = labelled_element ls value r
-  array_element Chosen r = unfit
+  array_element (Chosen name tag completed row) r = unfit
 
   abbrev pub array_elements : List Written → Arranged → Judged Arranged
   array_elements [] r = Accepts r
@@ -265,11 +288,6 @@ module _ (a : ArrayType) where
   abbrev pub array_begun : Option Valued → Judged Arranged
   array_begun None = Accepts nothing_arranged
   array_begun (Some value) = given_then (all_arranged a) value
-
--- whether `otherwise` is there
-abbrev pub completes : Option Valued → Bool
-completes None = false
-completes (Some value) = true
 
 abbrev pub array_judged : ℕ → ArrayType → Components → Judged Typed
 array_judged n a c = when_accepted (arranged n a (completes c.otherwise)) (when_accepted (array_elements a c.elements) (array_begun a c.otherwise))
@@ -289,18 +307,36 @@ pub record Filled : Type 0 where
 abbrev pub nothing_filled : Filled
 nothing_filled = record { elements = Some []; depth = 0; fields = [] }
 
--- whether it is in no variant
-abbrev pub is_fixed : List VariantStep → Bool
-is_fixed [] = true
-is_fixed (s ∷ path) = false
+-- Where a value is given: in the record itself, or in the variant to which these numbers lead, of a variant of the record and then of variants in each other.
+abbrev pub VariantNumbers : Type 0
+VariantNumbers = List ℕ
+
+-- whether these steps lead there
+abbrev pub is_at : VariantNumbers → List VariantStep → Bool
+is_at [] [] = true
+is_at (k ∷ within) (s ∷ path) = (k == s.variant) && is_at within path
+is_at _ _ = false
 
 abbrev pub is_tag : Option TagType → Bool
 is_tag None = false
 is_tag (Some tag) = true
 
--- a field of the record itself, and no tag
-abbrev pub is_plain : FieldType → Bool
-is_plain f = is_fixed f.path && not (is_tag f.tag)
+-- a field that is there, and no tag
+abbrev pub is_plain : VariantNumbers → FieldType → Bool
+is_plain within f = is_at within f.path && not (is_tag f.tag)
+
+-- the tag that is there
+abbrev pub is_tag_at : VariantNumbers → FieldType → Bool
+is_tag_at within f = is_at within f.path && is_tag f.tag
+
+-- the steps from the record, or from the innermost variant, to a component; a tag is the one component of a record that has its number
+abbrev pub part_steps : Option TagType → ℕ → List ℕ
+part_steps None number = number ∷ []
+part_steps (Some tag) number = number ∷ 0 ∷ []
+
+-- the steps from the record to a field
+abbrev pub field_steps : FieldType → List ℕ
+field_steps f = map (λ s. variant_number s.selection s.variant) f.path ++ part_steps f.tag f.number
 
 -- the structured type that a field asks for
 abbrev pub asked_if : Option FieldType → Option ℕ
@@ -315,15 +351,15 @@ with_field r place depth given =
     else Accepts (record { elements = with_elements r.elements given; depth = max r.depth depth; fields = r.fields ++ place ∷ [] })
 
 -- a field that is given a value
-abbrev pub first_form : ℕ → Expr → List Element
-first_form number x = AtField (number ∷ []) x ∷ []
+abbrev pub first_form : List ℕ → Expr → List Element
+first_form steps x = AtField steps x ∷ []
 
 -- a further field that is given what that one has
-abbrev pub same_form : ℕ → ℕ → List Element
-same_form from number = SameField (from ∷ []) (number ∷ []) ∷ []
+abbrev pub same_form : List ℕ → List ℕ → List Element
+same_form from steps = SameField from steps ∷ []
 
 abbrev pub first_given : ℕ → Typed → Filled → FieldType → Judged Filled
-first_given place v r f = when_accepted (λ x. with_field r place v.depth (option_map (first_form f.number) x)) (component_given f.kind v)
+first_given place v r f = when_accepted (λ x. with_field r place v.depth (option_map (first_form (field_steps f)) x)) (component_given f.kind v)
 
 -- something of a kind, of which nothing else is known
 abbrev pub of_kind : Kind → Typed
@@ -338,29 +374,123 @@ is_same_kind _ _ = false
 
 -- what a further field is given: what the first one has, where that is of its kind; `[]` for sets over different hosts has no code yet
 abbrev pub same_if : FieldType → FieldType → Option (List Element)
-same_if first f = if is_same_kind first.kind f.kind then Some (same_form first.number f.number) else None
+same_if first f = if is_same_kind first.kind f.kind then Some (same_form (field_steps first) (field_steps f)) else None
 
 abbrev pub same_given : FieldType → Kind → ℕ → Filled → Option FieldType → Judged Filled
 same_given first k place r None = unfit
 same_given first k place r (Some f) = when_accepted (λ x. with_field r place 0 (same_if first f)) (component_given f.kind (of_kind k))
 
+-- ---- choices of variants (ISO 10206, 6.8.7.3)
+
+-- the first variant that has a value among its labels
+abbrev pub labelled_variant : List (List CaseRange) → ℤ → Option ℕ
+labelled_variant labels z = position (λ ranges. has_index ranges z) labels
+
+-- the variant that a value of a tag selects: that one, or else the one that completes them
+abbrev pub variant_if : Selection → Option ℕ → ℕ
+variant_if s None = length s.labels
+variant_if s (Some k) = k
+
+abbrev pub selected_variant : Selection → ℤ → ℕ
+selected_variant s z = variant_if s (labelled_variant s.labels z)
+
+-- what is gathered with a tag, and the variant that its value selects, where that is built
+pub record Choice : Type 0 where
+  pub filled : Filled
+  pub chosen : Option VariantNumbers
+
+-- the value of a tag is constant
+abbrev pub tag_folded : Folded → Judged (Option ℤ)
+tag_folded (Known x) = Accepts (Some (number_in x))
+tag_folded Varies = Breaks (rule.CONSTANT ∷ [])
+tag_folded Errs = Breaks (rule.CONSTANT ∷ [])
+
+abbrev pub tag_constant : Option Expr → Judged (Option ℤ)
+tag_constant None = Accepts None
+tag_constant (Some x) = tag_folded (folded x)
+
+-- and one of its type
+abbrev pub is_tag_value : TagType → Option ℤ → Bool
+is_tag_value tag None = true
+is_tag_value tag (Some z) = int_le tag.low z && int_le z tag.high
+
+-- the variant of the record, or of the variant, that it selects
+abbrev pub chosen_within : VariantNumbers → TagType → Option ℤ → Option VariantNumbers
+chosen_within within tag z = option_map (λ n. within ++ selected_variant tag.selection n ∷ []) z
+
+-- the tag is given the value, and not before
+abbrev pub tag_filled : VariantNumbers → ℕ → FieldType → TagType → ℕ → Filled → Option Expr → Option ℤ → Judged Choice
+tag_filled within place f tag depth r x z =
+    if is_tag_value tag z
+    then when_accepted (λ s. Accepts (record { filled = s; chosen = chosen_within within tag z })) (with_field r place depth (option_map (first_form (field_steps f)) x))
+    else unfit
+
+abbrev pub tag_valued : VariantNumbers → ℕ → FieldType → TagType → ℕ → Filled → Option Expr → Judged Choice
+tag_valued within place f tag depth r x = when_accepted (tag_filled within place f tag depth r x) (tag_constant x)
+
+abbrev pub tag_given : VariantNumbers → ℕ → FieldType → Typed → Filled → Option TagType → Judged Choice
+tag_given within place f v r None = unfit
+tag_given within place f v r (Some tag) = when_accepted (tag_valued within place f tag v.depth r) (component_given f.kind v)
+
+-- a name before the value is that of the tag
+abbrev pub is_named : Option (List ℕ) → FieldType → Bool
+is_named None f = true
+is_named (Some name) f = bytes_eq f.name name
+
+abbrev pub choice_by : VariantNumbers → Option (List ℕ) → ℕ → Filled → Typed → Option FieldType → Judged Choice
+choice_by within name place r v None = unfit
+choice_by within name place r v (Some f) = if is_named name f then tag_given within place f v r f.tag else unfit
+
 module _ (fs : List FieldType) where
-  abbrev pub plain_place : ℕ → Option FieldType → Judged ℕ
-  plain_place place None = unfit
-  plain_place place (Some f) = if is_plain f then Accepts place else unfit
+  -- the place of the tag that is there, if there is one
+  abbrev pub tag_place : VariantNumbers → Option ℕ
+  tag_place within = position (is_tag_at within) fs
 
-  abbrev pub place_if : Option ℕ → Judged ℕ
-  place_if None = unfit
-  place_if (Some place) = plain_place place (slice_get fs place)
+  -- where there is no tag there are no variants
+  abbrev pub choice_at : VariantNumbers → Option (List ℕ) → Filled → Typed → Option ℕ → Judged Choice
+  choice_at within name r v None = unfit
+  choice_at within name r v (Some place) = choice_by within name place r v (slice_get fs place)
 
-  -- a label is the name of a field, of which this is the place among the fields
-  abbrev pub label_place : Option (List ℕ) → Judged ℕ
-  label_place None = unfit
-  label_place (Some name) = place_if (field_number fs name)
+  -- the choice of a variant of the record, or of the variant, by the value of the tag
+  abbrev pub choice : VariantNumbers → Option (List ℕ) → Filled → Typed → Judged Choice
+  choice within name r v = choice_at within name r v (tag_place within)
 
-  abbrev pub label_places : List (Option (List ℕ)) → List ℕ → Judged (List ℕ)
-  label_places [] found = Accepts found
-  label_places (name ∷ names) found = when_accepted (λ place. label_places names (found ++ place ∷ [])) (label_place name)
+-- each field that is there is given, from a place on, the tag among them; no tag is given by its name
+abbrev pub are_given : VariantNumbers → List ℕ → ℕ → List FieldType → Bool
+are_given within given place [] = true
+are_given within given place (f ∷ fs) = (not (is_at within f.path) || list_any (nat_eq place) given) && are_given within given (suc place) fs
+
+abbrev pub all_given : List FieldType → VariantNumbers → Filled → Judged Filled
+all_given fs within r = if are_given within r.fields 0 fs then Accepts r else unfit
+
+-- all that stands in brackets for a record or a variant, which has no `otherwise` (own)
+abbrev pub part_filled : List FieldType → VariantNumbers → Bool → Judged Filled → Judged Filled
+part_filled fs within completed r = if completed then unfit else when_accepted (all_given fs within) r
+
+-- what is gathered where a variant is chosen; nothing is asked of its fields where it is not known
+abbrev pub chosen_filled : (VariantNumbers → Filled → Judged Filled) → Filled → Option VariantNumbers → Judged Filled
+chosen_filled fill r None = Accepts r
+chosen_filled fill r (Some within) = fill within r
+
+-- ---- records
+
+module _ (fs : List FieldType) where
+  abbrev pub plain_place : VariantNumbers → ℕ → Option FieldType → Judged ℕ
+  plain_place within place None = unfit
+  plain_place within place (Some f) = if is_plain within f then Accepts place else unfit
+
+  abbrev pub place_if : VariantNumbers → Option ℕ → Judged ℕ
+  place_if within None = unfit
+  place_if within (Some place) = plain_place within place (slice_get fs place)
+
+  -- a label is the name of a field that is there, of which this is the place among the fields
+  abbrev pub label_place : VariantNumbers → Option (List ℕ) → Judged ℕ
+  label_place within None = unfit
+  label_place within (Some name) = place_if within (field_number fs name)
+
+  abbrev pub label_places : VariantNumbers → List (Option (List ℕ)) → List ℕ → Judged (List ℕ)
+  label_places within [] found = Accepts found
+  label_places within (name ∷ names) found = when_accepted (λ place. label_places within names (found ++ place ∷ [])) (label_place within name)
 
   -- the fields behind the first one of an element
   abbrev pub same_filled : FieldType → Kind → List ℕ → Filled → Judged Filled
@@ -385,29 +515,37 @@ module _ (fs : List FieldType) where
   fields_element value r places = when_accepted (fields_filled places r) (value (asked_first places))
 
   -- the fields of these names
-  abbrev pub named_element : List (Option (List ℕ)) → Valued → Filled → Judged Filled
-  named_element names value r = when_accepted (fields_element value r) (label_places names [])
+  abbrev pub named_element : VariantNumbers → List (Option (List ℕ)) → Valued → Filled → Judged Filled
+  named_element within names value r = when_accepted (fields_element value r) (label_places within names [])
 
-  -- an element after others; the choice of a variant is not built
-  abbrev pub record_element : Written → Filled → Judged Filled
-  record_element (Labelled ls value) r = named_element (map (λ l. l.name) ls) value r
-  record_element Chosen r = unfit
+  abbrev mutual
+    -- an element after others, in the record or in a variant
+    pub record_element : VariantNumbers → Written → Filled → Judged Filled
+    record_element within (Labelled ls value) r = named_element within (map (λ l. l.name) ls) value r
+    record_element within (Chosen name tag completed row) r =
+        when_accepted (λ c. chosen_filled (λ inner s. part_filled fs inner completed (row_filled inner row s)) c.filled c.chosen) (when_accepted (choice fs within name r) tag)
 
-  abbrev pub record_elements : List Written → Filled → Judged Filled
-  record_elements [] r = Accepts r
-  record_elements (e ∷ es) r = when_accepted (record_elements es) (record_element e r)
+    pub row_filled : VariantNumbers → WrittenRow → Filled → Judged Filled
+    row_filled within no_written r = Accepts r
+    row_filled within (next_written w row) r = when_accepted (row_filled within row) (record_element within w r)
 
--- each field of the record itself is given, from a place on; a tag never is by its name
-abbrev pub are_given : List ℕ → ℕ → List FieldType → Bool
-are_given given place [] = true
-are_given given place (f ∷ fs) = (not (is_fixed f.path) || list_any (nat_eq place) given) && are_given given (suc place) fs
+  abbrev pub record_elements : VariantNumbers → List Written → Filled → Judged Filled
+  record_elements within ws r = row_filled within (row_of ws) r
 
-abbrev pub filled : ℕ → List FieldType → Filled → Judged Typed
-filled n fs r = if are_given r.fields 0 fs then structured n r.elements r.depth else unfit
+-- what stands in the brackets of a record or of a variant
+abbrev pub values_filled : List FieldType → VariantNumbers → Components → Filled → Judged Filled
+values_filled fs within c r = part_filled fs within (completes c.otherwise) (record_elements fs within c.elements r)
 
--- a record has no `otherwise` (own)
+-- in those of a variant that is chosen, which may be empty
+abbrev pub values_chosen : List FieldType → Option Components → Choice → Judged Filled
+values_chosen fs None c = chosen_filled (all_given fs) c.filled c.chosen
+values_chosen fs (Some values) c = chosen_filled (λ inner s. values_filled fs inner values s) c.filled c.chosen
+
+abbrev pub filled : ℕ → Filled → Judged Typed
+filled n r = structured n r.elements r.depth
+
 abbrev pub record_judged : ℕ → List FieldType → Components → Judged Typed
-record_judged n fs c = if completes c.otherwise then unfit else when_accepted (filled n fs) (record_elements fs c.elements nothing_filled)
+record_judged n fs c = when_accepted (filled n) (values_filled fs [] c nothing_filled)
 
 -- ---- of both
 

@@ -3,10 +3,10 @@
 ghost use Rattle.std.specs.Prelude.{◌≡◌, true, None, IfOk, map};
 ghost use Rattle.std.specs.List.{list_all};
 ghost use Rattle.std.specs.Option.{option_map};
-ghost use Rattle.ep_built.specs.Built.{component_value_unbuilt, expression_unbuilt, simple_unbuilt, term_unbuilt, factor_unbuilt, access_unbuilt, argument_unbuilt, addend_belonging, multiplier_belonging, form_told, is_component, label_unbuilt, selector_belonging, values_unbuilt, element_unbuilt, written_unbuilt, written_value_unbuilt, lines_in, first_in};
+ghost use Rattle.ep_built.specs.Built.{component_value_unbuilt, expression_unbuilt, simple_unbuilt, term_unbuilt, factor_unbuilt, access_unbuilt, argument_unbuilt, addend_belonging, multiplier_belonging, form_told, is_component, label_unbuilt, selector_belonging, values_unbuilt, element_unbuilt, written_unbuilt, written_value_unbuilt, lines_in, first_if, first_in};
 ghost use Rattle.ep_typed.specs.Viewed.{expr_of};
 ghost use Rattle.ep_scope.specs.Scopes.{depth_in, meant};
-ghost use Rattle.ep_check_expr.specs.Answers.{arranged_of, filled_of, index_of, labels_of, members_of, ranges_of, taken_of, typed_of, AnswersJudged, AnswersTyped, AnswersGiven};
+ghost use Rattle.ep_check_expr.specs.Answers.{arranged_of, choice_of, filled_of, index_of, labels_of, members_of, ranges_of, taken_of, typed_of, AnswersJudged, AnswersTyped, AnswersGiven};
 ghost use Rattle.ep_check_expr.specs.Arguments.{IsReading, arguments_judged};
 ghost use Rattle.ep_check_expr.specs.Constructors.{set_judged, with_label};
 ghost use Rattle.ep_check_expr.specs.Expressions.{chained, components_written, element_written, labelled, judged, judged_value, addend_judged, multiplier_judged, simple_judged, term_judged, factor_judged, name_judged, selected, selected_all, given, string_judged};
@@ -15,10 +15,11 @@ ghost use Rattle.ep_check_expr.specs.Indexing.{indexed_all};
 ghost use Rattle.ep_check_expr.specs.Judgements.{Accepts, when_accepted};
 ghost use Rattle.ep_check_expr.specs.Names.{call_declared, call_named};
 ghost use Rattle.ep_check_expr.specs.Operators.{added, multiplied};
-ghost use Rattle.ep_check_expr.specs.StructuredValues.{array_begun, array_element, array_elements, array_judged, index_judged, labels_judged, no_ranges, nothing_filled, range_labelled, ranges_labelled, record_element, record_elements, record_judged, structure_judged};
+ghost use Rattle.ep_check_expr.specs.StructuredValues.{array_begun, array_element, array_elements, array_judged, index_judged, labels_judged, no_ranges, range_labelled, ranges_labelled, record_element, record_elements, record_judged, structure_judged, values_chosen, values_filled};
 
 use crate::arguments::Taken;
 use crate::arranged::{Arranged, Index, IndexLabels, Ranges, taken_index};
+use crate::chosen::Choice;
 use crate::constructors::Members;
 use crate::fields::designated;
 use crate::filled::{Filled, asked_first, label_places};
@@ -29,7 +30,7 @@ use crate::names::{named, qualified, undeclared};
 use crate::operators::{added, compared, multiplied, negated, signed};
 use crate::shapes::{arguments_first, bare, field_first, single_label};
 use crate::structured::{asked_by, named_number};
-use ep_base::Name;
+use ep_base::{Boxed, Name};
 use ep_scope::{
     ArrayType, Composition, Declaration, Declared, FieldType, FormalParameter, Function, Host,
     Meaning, Required, View, depth_in, meaning_of, rule, structure_of,
@@ -282,7 +283,7 @@ fn with_range(
     }
 }
 
-/// `values`, of a record, which has no `otherwise`
+/// `values`, of a record
 #[cycle(typed)]
 fn record(
     alloc: Global,
@@ -294,53 +295,108 @@ fn record(
     requires built { values_unbuilt values.now ≡ None }
     ensures { AnswersTyped result (record_judged number fields.now (components_written scopes.now values.now)) }
 {
+    let all = values_filled(alloc, fields, &[], values, Filled::nothing(alloc), scopes)?;
+    all.finished(alloc, number)
+}
+
+/// `values`, of a record or of a variant in it, which has no `otherwise`
+#[cycle(typed)]
+fn values_filled(
+    alloc: Global,
+    fields: &[FieldType],
+    within: &[usize],
+    values: &Values,
+    before: Filled,
+    scopes: &View<'_>,
+) -> Result<Filled, Refusal>
+    requires built { values_unbuilt values.now ≡ None }
+    ensures { AnswersJudged filled_of result
+        (values_filled fields.now within.now (components_written scopes.now values.now) (filled_of before)) }
+{
     if values.otherwise.is_some() {
         return Err(Refusal::Rule(rule::STRUCTURED_VALUE));
     }
-    let all = record_elements(alloc, fields, values.elements.items(), scopes)?;
-    all.finished(alloc, number, fields)
+    let all = record_elements(
+        alloc,
+        fields,
+        within,
+        values.elements.items(),
+        before,
+        scopes,
+    )?;
+    all.with_all(fields, within)
 }
 
-/// `element { ";" element }`, of a record
+/// `element { ";" element }`, of a record or of a variant in it, after those before it
 #[cycle(typed)]
 fn record_elements(
     alloc: Global,
     fields: &[FieldType],
+    within: &[usize],
     elements: &[Element],
+    before: Filled,
     scopes: &View<'_>,
 ) -> Result<Filled, Refusal>
     requires built { first_in (map element_unbuilt elements.now) ≡ None }
     ensures { AnswersJudged filled_of result
-        (record_elements fields.now (map (element_written scopes.now) elements.now) nothing_filled) }
+        (record_elements fields.now within.now (map (element_written scopes.now) elements.now) (filled_of before)) }
 {
-    let mut filled = Filled::nothing(alloc);
+    let mut filled = before;
     for element in elements {
-        filled = with_fields(alloc, fields, element, filled, scopes)?;
+        filled = with_fields(alloc, fields, within, element, filled, scopes)?;
     }
     Ok(filled)
 }
 
-/// `element`, of a record, after those before it
+/// `element`, of a record or of a variant in it, after those before it
 #[cycle(typed)]
 fn with_fields(
     alloc: Global,
     fields: &[FieldType],
+    within: &[usize],
     element: &Element,
     before: Filled,
     scopes: &View<'_>,
 ) -> Result<Filled, Refusal>
     requires built { element_unbuilt element.now ≡ None }
     ensures { AnswersJudged filled_of result
-        (record_element fields.now (element_written scopes.now element.now) (filled_of before)) }
+        (record_element fields.now within.now (element_written scopes.now element.now) (filled_of before)) }
 {
     match element {
         Element::Labelled(_, labels, value) => {
-            let places = label_places(alloc, fields, labels.items())?;
+            let places = label_places(alloc, fields, within, labels.items())?;
             let asked = asked_first(fields, places.items());
             let value = typed_value(alloc, value, asked, scopes)?;
             before.with_fields(alloc, fields, places.items(), value)
         }
-        Element::Variant(_, _, _, _) => Err(Refusal::Rule(rule::STRUCTURED_VALUE)),
+        Element::Variant(_, name, tag, values) => {
+            let tag = typed_expression(alloc, tag.get(), scopes)?;
+            let choice = before.choosing(alloc, fields, within, name, tag)?;
+            values_chosen(alloc, fields, choice, values, scopes)
+        }
+    }
+}
+
+/// `[ values ]`, of a variant that is chosen
+#[cycle(typed)]
+fn values_chosen(
+    alloc: Global,
+    fields: &[FieldType],
+    choice: Choice,
+    values: &Option<Boxed<Values>>,
+    scopes: &View<'_>,
+) -> Result<Filled, Refusal>
+    requires built { first_if (option_map values_unbuilt values.now) ≡ None }
+    ensures { AnswersJudged filled_of result
+        (values_chosen fields.now (option_map (components_written scopes.now) values.now) (choice_of choice)) }
+{
+    let (filled, within) = choice.into_parts();
+    let Some(within) = within else {
+        return Ok(filled);
+    };
+    match values {
+        None => filled.with_all(fields, within.items()),
+        Some(values) => values_filled(alloc, fields, within.items(), values.get(), filled, scopes),
     }
 }
 

@@ -1,10 +1,12 @@
-//! The rules of structured values of records, on parts that are accepted (ISO 10206, 6.8.7.3).
+//! The rules of structured values of records, on parts that are accepted (ISO 10206, 6.8.7.3). Where a value is given is told
+//! by the numbers of variants that lead there, which are none for the record itself.
 
 ghost use Rattle.std.specs.Prelude.{◌≡◌, ◌∷◌, [], IfOk, map, nat_eq, slice_get, Some, None};
 ghost use Rattle.std.specs.List.{list_any};
 ghost use Rattle.std.specs.Option.{option_map};
 ghost use Rattle.ep_tree.specs.Shapes.{as_identifier};
 ghost use Rattle.ep_tree.specs.declared.expression.Label.{out-Label};
+ghost use Rattle.ep_typed.specs.Steps as typed;
 ghost use Rattle.ep_typed.specs.Viewed.{element_of, expr_of};
 ghost use Rattle.ep_check_expr.specs.Answers.{AnswersJudged, AnswersTyped, filled_of, typed_of};
 ghost use Rattle.ep_check_expr.specs.Expressions.{labelled};
@@ -17,10 +19,10 @@ use crate::forms::{Refusal, Typed};
 use crate::shapes::label_name;
 use crate::structured::{added, asked_by, structured};
 use ep_base::{Boxed, List, NoMemory};
-use ep_scope::{FieldType, Kind, View, field_number, rule, same_host};
+use ep_scope::{FieldType, Kind, VariantStep, field_number, rule, same_host};
 use ep_tree::Label;
 use ep_typed::{ComponentSteps, Element, Elements, TypedExpr};
-use std::alloc::Global;
+use std::alloc::{AllocError, Global};
 
 /// What is gathered of the elements of a record: what components are given, where all of it is built, how deep the deepest
 /// value is, and the places of the fields that are given, among all fields.
@@ -43,16 +45,29 @@ impl Drop for Filled {
     }
 }
 
-/// Whether a field is one of the record itself, and no tag.
-fn is_plain(field: &FieldType) -> bool
-    ensures { result ≡ spec.is_plain field.now }
+/// Whether the steps lead to the variant of these numbers.
+pub(crate) fn is_at(within: &[usize], path: &[VariantStep]) -> bool
+    ensures { result ≡ spec.is_at within.now path.now }
 {
-    field.path.items().is_empty() && field.tag.is_none()
+    match within.split_first() {
+        None => path.is_empty(),
+        Some((number, inner)) => match path.split_first() {
+            None => false,
+            Some((step, more)) => *number == step.variant as usize && is_at(inner, more),
+        },
+    }
 }
 
-/// The place of the field that a label names, which is one of the record itself.
-fn label_place(fields: &[FieldType], label: &Label) -> Result<usize, Refusal>
-    ensures { AnswersJudged (λ place. place) result (label_place fields.now (spec.label_name label.now)) }
+/// Whether a field is there, and no tag.
+fn is_plain(within: &[usize], field: &FieldType) -> bool
+    ensures { result ≡ spec.is_plain within.now field.now }
+{
+    is_at(within, field.path.items()) && field.tag.is_none()
+}
+
+/// The place of the field that a label names, which is there.
+fn label_place(fields: &[FieldType], within: &[usize], label: &Label) -> Result<usize, Refusal>
+    ensures { AnswersJudged (λ place. place) result (label_place fields.now within.now (spec.label_name label.now)) }
 {
     let Some(name) = label_name(label) else {
         return Err(Refusal::Rule(rule::STRUCTURED_VALUE));
@@ -61,7 +76,7 @@ fn label_place(fields: &[FieldType], label: &Label) -> Result<usize, Refusal>
         return Err(Refusal::Rule(rule::STRUCTURED_VALUE));
     };
     match fields.get(place) {
-        Some(field) if is_plain(field) => Ok(place),
+        Some(field) if is_plain(within, field) => Ok(place),
         _ => Err(Refusal::Rule(rule::STRUCTURED_VALUE)),
     }
 }
@@ -70,13 +85,15 @@ fn label_place(fields: &[FieldType], label: &Label) -> Result<usize, Refusal>
 pub(crate) fn label_places(
     alloc: Global,
     fields: &[FieldType],
+    within: &[usize],
     labels: &[Label],
 ) -> Result<List<usize>, Refusal>
-    ensures { AnswersJudged (λ places. places) result (label_places fields.now (map spec.label_name labels.now) []) }
+    ensures { AnswersJudged (λ places. places) result
+        (label_places fields.now within.now (map spec.label_name labels.now) []) }
 {
     let mut places = List::new(alloc);
     for label in labels {
-        let place = label_place(fields, label)?;
+        let place = label_place(fields, within, label)?;
         places.push(place)?;
     }
     Ok(places)
@@ -95,28 +112,57 @@ pub(crate) fn asked_first(fields: &[FieldType], places: &[usize]) -> Option<u32>
     }
 }
 
-/// The steps to a component of a record.
-fn step(alloc: Global, number: u32) -> Result<ComponentSteps, NoMemory>
-    ensures { IfOk result (λ steps. steps ≡ number ∷ []) }
+/// The number of the component that is the variant to which a step leads, if 32 bits hold it.
+fn variant_number(step: &VariantStep) -> Result<u32, NoMemory>
+    ensures { IfOk result (λ number. number ≡ typed.variant_number step.now.selection step.now.variant) }
+{
+    let tag = step.selection.get().tag;
+    match tag
+        .checked_add(step.variant)
+        .and_then(|number| number.checked_add(1))
+    {
+        Some(number) => Ok(number),
+        None => Err(AllocError),
+    }
+}
+
+/// The steps through variants.
+fn variant_steps(alloc: Global, path: &[VariantStep]) -> Result<ComponentSteps, NoMemory>
+    ensures { IfOk result (λ steps.
+        steps ≡ map (λ s. typed.variant_number s.selection s.variant) path.now) }
 {
     let mut steps = List::new(alloc);
-    steps.push(number)?;
+    for step in path {
+        steps.push(variant_number(step)?)?;
+    }
     Ok(steps)
 }
 
-/// A component that is given a value, where it is built.
-fn first_form(
+/// The steps from a record to a field.
+fn field_steps(alloc: Global, field: &FieldType) -> Result<ComponentSteps, NoMemory>
+    ensures { IfOk result (λ steps. steps ≡ spec.field_steps field.now) }
+{
+    let mut steps = variant_steps(alloc, field.path.items())?;
+    steps.push(field.number)?;
+    if field.tag.is_some() {
+        steps.push(0)?;
+    }
+    Ok(steps)
+}
+
+/// A field that is given a value, where it is built.
+pub(crate) fn field_form(
     alloc: Global,
-    number: u32,
+    field: &FieldType,
     value: Option<Boxed<TypedExpr>>,
 ) -> Result<Option<Element>, NoMemory>
     ensures { IfOk result (λ e. option_map (λ x. x ∷ []) (option_map element_of e)
-        ≡ option_map (spec.first_form number) (option_map expr_of value)) }
+        ≡ option_map (spec.first_form (spec.field_steps field.now)) (option_map expr_of value)) }
 {
     let Some(value) = value else {
         return Ok(None);
     };
-    let steps = step(alloc, number)?;
+    let steps = field_steps(alloc, field)?;
     Ok(Some(Element::AtField(steps, value)))
 }
 
@@ -139,8 +185,8 @@ fn same_if(alloc: Global, first: &FieldType, field: &FieldType) -> Result<Option
     if !is_same_kind(first.kind, field.kind) {
         return Ok(None);
     }
-    let from = step(alloc, first.number)?;
-    let to = step(alloc, field.number)?;
+    let from = field_steps(alloc, first)?;
+    let to = field_steps(alloc, field)?;
     Ok(Some(Element::SameField(from, to)))
 }
 
@@ -176,7 +222,7 @@ impl Filled {
     }
 
     /// With a field more, which is not given before.
-    fn with_field(
+    pub(crate) fn with_field(
         self,
         place: usize,
         depth: u32,
@@ -211,7 +257,7 @@ impl Filled {
     {
         let depth = value.depth;
         let value = given_value(field.kind, value)?;
-        let element = first_form(alloc, field.number, value)?;
+        let element = field_form(alloc, field, value)?;
         self.with_field(place, depth, element)
     }
 
@@ -289,18 +335,20 @@ impl Filled {
         filled.with_all_same(alloc, field, kind, fields, others)
     }
 
-    /// The value of the record type of this number, which has these fields.
-    pub(crate) fn finished(
-        self,
-        alloc: Global,
-        number: u32,
-        fields: &[FieldType],
-    ) -> Result<Typed, Refusal>
-        ensures { AnswersTyped result (filled number fields.now (filled_of self)) }
+    /// The same, where each field that is there is given.
+    pub(crate) fn with_all(self, fields: &[FieldType], within: &[usize]) -> Result<Filled, Refusal>
+        ensures { AnswersJudged filled_of result (spec.all_given fields.now within.now (filled_of self)) }
     {
-        if !are_given(self.fields.items(), fields) {
+        if !are_given(within, self.fields.items(), fields) {
             return Err(Refusal::Rule(rule::STRUCTURED_VALUE));
         }
+        Ok(self)
+    }
+
+    /// The value of the record type of this number.
+    pub(crate) fn finished(self, alloc: Global, number: u32) -> Result<Typed, Refusal>
+        ensures { AnswersTyped result (filled number (filled_of self)) }
+    {
         let depth = self.depth;
         let (elements, _) = self.into_parts();
         structured(alloc, number, elements, depth)
@@ -319,12 +367,12 @@ fn of_kind(kind: Kind) -> Typed
     }
 }
 
-/// Whether each field of the record itself is given; a tag never is by its name.
-fn are_given(given: &[usize], fields: &[FieldType]) -> bool
-    ensures { result ≡ spec.are_given given.now 0 fields.now }
+/// Whether each field that is there is given, the tag among them.
+fn are_given(within: &[usize], given: &[usize], fields: &[FieldType]) -> bool
+    ensures { result ≡ spec.are_given within.now given.now 0 fields.now }
 {
     for (place, field) in fields.iter().enumerate() {
-        if field.path.items().is_empty() && !is_among(place, given) {
+        if is_at(within, field.path.items()) && !is_among(place, given) {
             return false;
         }
     }

@@ -12,6 +12,7 @@ mod access;
 mod answers;
 mod arguments;
 mod arranged;
+mod chosen;
 mod constants;
 mod constructors;
 mod expressions;

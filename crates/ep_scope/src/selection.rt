@@ -41,11 +41,18 @@ impl SharedSelection {
         Ok(SharedSelection { inner })
     }
 
+    /// The selection.
+    pub fn get(&self) -> &Selection
+        ensures { result.now ≡ self.now }
+    {
+        self.inner.as_ref()
+    }
+
     /// An equal one.
     pub fn copy(&self, alloc: Global) -> Result<Selection, NoMemory>
         ensures { IfOk result (λ copy. copy ≡ self.now) }
     {
-        let selection = self.inner.as_ref();
+        let selection = self.get();
         Ok(Selection {
             tag: selection.tag,
             labels: copied_labels(alloc, selection.labels.items())?,

@@ -253,16 +253,9 @@ fn elements(all: &[Element]) -> Option<Line>
 fn element(e: &Element) -> Option<Line>
     ensures { result ≡ element_unbuilt e.now }
 {
-    let built = forms::element_is_built(e);
     match e {
-        Element::Labelled(line, all, value) => {
-            let inner = labels(all.items()).or(component_value(value));
-            at_node(built, *line, inner)
-        }
-        Element::Variant(line, _, chosen, None) => at_node(built, *line, expression(chosen.get())),
-        Element::Variant(line, _, chosen, Some(inner)) => {
-            let inner = expression(chosen.get()).or(values(inner.get()));
-            at_node(built, *line, inner)
-        }
+        Element::Labelled(_, all, value) => labels(all.items()).or(component_value(value)),
+        Element::Variant(_, _, tag, None) => expression(tag.get()),
+        Element::Variant(_, _, tag, Some(inner)) => expression(tag.get()).or(values(inner.get())),
     }
 }

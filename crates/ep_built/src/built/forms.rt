@@ -5,9 +5,8 @@ ghost use Rattle.std.specs.Prelude.{◌≡◌, map};
 ghost use Rattle.std.specs.List.{list_all};
 ghost use Rattle.std.specs.Option.{option_copied};
 ghost use Rattle.ep_tree.specs.Shapes.{bare};
-ghost use Rattle.ep_built.specs.Built.{built_component, built_program, built_import, built_type_name, built_heading, built_start, built_routine, built_type_definition, built_plain, built_formal_type, built_section, built_core, built_selector, built_variant_part, selector_form, is_component, behind_call, is_call, built_target, built_control, built_call, behind_arguments, built_statement, built_relation, built_adding, built_multiplying, is_character, built_factor, built_access, form_told, selector_belonging, built_element, structured_line, is_bare_text};
+ghost use Rattle.ep_built.specs.Built.{built_component, built_program, built_import, built_type_name, built_heading, built_start, built_routine, built_type_definition, built_plain, built_formal_type, built_section, built_core, built_selector, built_variant_part, selector_form, is_component, behind_call, is_call, built_target, built_control, built_call, behind_arguments, built_statement, built_relation, built_adding, built_multiplying, is_character, built_factor, built_access, form_told, selector_belonging, structured_line, is_bare_text};
 ghost use Rattle.ep_tree.specs.declared.expression.ComponentValue.{out-ComponentValue};
-ghost use Rattle.ep_tree.specs.declared.expression.Element.{out-Element};
 ghost use Rattle.ep_tree.specs.declared.expression.Factor.{out-Factor};
 ghost use Rattle.ep_tree.specs.declared.types.Core.{out-Core};
 ghost use Rattle.ep_tree.specs.declared.types.Plain.{out-Plain};
@@ -18,10 +17,10 @@ ghost use Rattle.ep_tree.specs.declared.routine.Routine.{out-Routine};
 use crate::built::names;
 use ep_base::{Line, Name};
 use ep_tree::{
-    Access, AddingOperator, Component, ComponentValue, Core, Element, Expression, Factor,
-    FormalSection, FormalType, Import, MultiplyingOperator, Plain, Program, QualifiedName,
-    RelationalOperator, Routine, RoutineHeading, RoutineStart, Selector, Statement, TypeDefinition,
-    VariantPart, VariantSelector,
+    Access, AddingOperator, Component, ComponentValue, Core, Expression, Factor, FormalSection,
+    FormalType, Import, MultiplyingOperator, Plain, Program, QualifiedName, RelationalOperator,
+    Routine, RoutineHeading, RoutineStart, Selector, Statement, TypeDefinition, VariantPart,
+    VariantSelector,
 };
 
 /// A component is a program.
@@ -266,16 +265,6 @@ pub(super) fn access_is_built(name: &Name, selectors: &[Selector]) -> bool
     ensures { result ≡ built_access name.now (map form_told (map selector_belonging selectors.now)) }
 {
     are_components(behind_call(selectors)) && !names::is_later(name)
-}
-
-/// An element of a structured value gives components values, and chooses no variant.
-pub(super) fn element_is_built(e: &Element) -> bool
-    ensures { result ≡ built_element (out-Element e.now) }
-{
-    match e {
-        Element::Labelled(_, _, _) => true,
-        Element::Variant(_, _, _, _) => false,
-    }
 }
 
 /// The line of a structured value that a whole component value is, with the name of its type or without.

@@ -13,9 +13,9 @@ use Rattle.ep_check_expr.proofs.Rows.{next-built, rest-built, chained-operand, c
 use Rattle.ep_check_expr.proofs.Selectors.{FieldNode, IndexNode, access-alone-fails, access-call-fails, access-field-fails, arguments-split, call-components, call-lines, component-node, field-acts, field-split, index-acts, index-fails, index-turned, indexing-fails, more-components, more-lines, next-component, node-lines, rest-components, rest-lines, selector-fails, selector-turned}
 use Rattle.ep_check_expr.proofs.expressions.+typed.Goals as goal
 use Rattle.ep_check_expr.proofs.expressions.+typed.Goals.{selected-in-Index+in_ok-variable-in-Index, selected-in-Field+in_ok-variable-in-Field}
-use Rattle.ep_check_expr.specs.Answers.{filled_of, index_of, labels_of, members_of, ranges_of, taken_of, typed_of}
+use Rattle.ep_check_expr.specs.Answers.{choice_of, filled_of, index_of, labels_of, members_of, ranges_of, taken_of, typed_of}
 use Rattle.ep_check_expr.specs.Arguments.{argument_taken}
-use Rattle.ep_check_expr.proofs.Elements.{field_fails, field_given_is, high_fails, low_fails, more_labels, names_fail, one_label, ranges-fail, ranges-turned}
+use Rattle.ep_check_expr.proofs.Elements.{choice_fails, field_fails, field_given_is, high_fails, low_fails, more_labels, names_fail, one_label, ranges-fail, ranges-turned, tag_fails}
 use Rattle.ep_check_expr.proofs.Labels.{label-fails, label-turned}
 use Rattle.ep_check_expr.proofs.Gathering.{argument_fails, gathered, other_number, turned, value_fails}
 use Rattle.ep_check_expr.proofs.Reading.{argument-reads}
@@ -351,17 +351,29 @@ index_labels-returns-in_ok-ranges-in-None t c =
 pub with_fields-returns-in_err-places-in-Labelled : goal.with_fields-returns-in_err-places-in-Labelled
 with_fields-returns-in_err-places-in-Labelled t c =
     part-exit (λ places. places) filled_of c.from_residual.result c.in_err-places-in-Labelled.field-0.0 _ _ c.from_residual.ensures.1
-    (λ n h. names_fail c.args.scopes.now c.args.fields.now c.args.element.now _ _ _ c.in-Labelled.is (filled_of c.args.before) n h)
+    (λ n h. names_fail c.args.scopes.now c.args.fields.now c.args.within.now c.args.element.now _ _ _ c.in-Labelled.is (filled_of c.args.before) n h)
     (rw c.items.ensures at c.in_err-places-in-Labelled.ensures)
 
 pub with_fields-returns-in_err-value-in-Labelled : goal.with_fields-returns-in_err-value-in-Labelled
 with_fields-returns-in_err-value-in-Labelled t c =
     part-exit typed_of filled_of c.from_residual-in_err-value-in-Labelled.result c.in_err-value-in-Labelled.field-0.0 _ _ c.from_residual-in_err-value-in-Labelled.ensures.1
-    (λ n h. field_fails c.args.scopes.now c.args.fields.now c.args.element.now _ _ _ c.in-Labelled.is (filled_of c.args.before) c.in_ok-places-in-Labelled.places (rw c.items.ensures at c.in_ok-places-in-Labelled.ensures) n h)
+    (λ n h. field_fails c.args.scopes.now c.args.fields.now c.args.within.now c.args.element.now _ _ _ c.in-Labelled.is (filled_of c.args.before) c.in_ok-places-in-Labelled.places (rw c.items.ensures at c.in_ok-places-in-Labelled.ensures) n h)
     (rw (c.asked_first-asked.ensures, c.items-in-Labelled.ensures) at c.in_err-value-in-Labelled.ensures.typed)
 
 pub with_fields-returns-in_ok-value-in-Labelled : goal.with_fields-returns-in_ok-value-in-Labelled
 with_fields-returns-in_ok-value-in-Labelled t c =
-    rw (field_given_is c.args.scopes.now c.args.fields.now c.args.element.now _ _ _ c.in-Labelled.is (filled_of c.args.before) c.in_ok-places-in-Labelled.places (rw c.items.ensures at c.in_ok-places-in-Labelled.ensures) (typed_of c.in_ok-value-in-Labelled.value)
+    rw (field_given_is c.args.scopes.now c.args.fields.now c.args.within.now c.args.element.now _ _ _ c.in-Labelled.is (filled_of c.args.before) c.in_ok-places-in-Labelled.places (rw c.items.ensures at c.in_ok-places-in-Labelled.ensures) (typed_of c.in_ok-value-in-Labelled.value)
     (rw (c.asked_first-asked.ensures, c.items-in-Labelled.ensures) at c.in_ok-value-in-Labelled.ensures.typed))
     (rw c.items-in-Labelled-2.ensures at c.with_fields.ensures)
+
+pub with_fields-returns-in_err-tag-in-Variant : goal.with_fields-returns-in_err-tag-in-Variant
+with_fields-returns-in_err-tag-in-Variant t c =
+    part-exit typed_of filled_of c.from_residual-in_err-tag-in-Variant.result c.in_err-tag-in-Variant.field-0.0 _ _ c.from_residual-in_err-tag-in-Variant.ensures.1
+    (λ n h. tag_fails c.args.scopes.now c.args.fields.now c.args.within.now c.args.element.now _ _ _ _ c.in-Variant.is (filled_of c.args.before) n h)
+    (rw c.get.ensures at c.in_err-tag-in-Variant.ensures.typed)
+
+pub with_fields-returns-in_err-choice-in-Variant : goal.with_fields-returns-in_err-choice-in-Variant
+with_fields-returns-in_err-choice-in-Variant t c =
+    part-exit choice_of filled_of c.from_residual-in_err-choice-in-Variant.result c.in_err-choice-in-Variant.field-0.0 _ _ c.from_residual-in_err-choice-in-Variant.ensures.1
+    (λ n h. choice_fails c.args.scopes.now c.args.fields.now c.args.within.now c.args.element.now _ _ _ _ c.in-Variant.is (filled_of c.args.before) (typed_of c.in_ok-tag-in-Variant.tag) (rw c.get.ensures at c.in_ok-tag-in-Variant.ensures.typed) n h)
+    c.in_err-choice-in-Variant.ensures

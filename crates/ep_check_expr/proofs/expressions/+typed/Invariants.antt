@@ -10,7 +10,7 @@ use Rattle.ep_check_expr.specs.Expressions.{element_written, labelled, addend_ju
 use Rattle.ep_check_expr.specs.Indexing.{indexed_all}
 use Rattle.ep_check_expr.specs.Judgements.{Accepts}
 use Rattle.ep_check_expr.specs.Operators.{added, multiplied}
-use Rattle.ep_check_expr.specs.StructuredValues.{array_elements, no_ranges, nothing_filled, ranges_labelled, record_elements}
+use Rattle.ep_check_expr.specs.StructuredValues.{array_elements, no_ranges, ranges_labelled, record_elements}
 
 abbrev pub invariant-addends-loop-addend : goal.invariant-addends-loop-addend
 invariant-addends-loop-addend l =
@@ -72,6 +72,6 @@ invariant-ranges-loop-label l =
 abbrev pub invariant-record_elements-loop-element : goal.invariant-record_elements-loop-element
 invariant-record_elements-loop-element l =
     record {
-      judged : record_elements l.fields (map (element_written l.scopes) (drop l.element-index l.elements)) (filled_of l.filled) ≡ record_elements l.fields (map (element_written l.scopes) l.elements) nothing_filled;
+      judged : record_elements l.fields l.within (map (element_written l.scopes) (drop l.element-index l.elements)) (filled_of l.filled) ≡ record_elements l.fields l.within (map (element_written l.scopes) l.elements) (filled_of l.fn.before);
       built : first_in (map element_unbuilt (drop l.element-index l.elements)) ≡ None;
     }
