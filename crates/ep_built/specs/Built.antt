@@ -12,7 +12,7 @@
 -- - the type itself, for `packed`, for what is no name, no subrange, no enumeration and no structure, for a name with a tuple, and for a name that is not built
 -- - the variant part of a record, for a discriminant as its selector, and for a tag whose type has a name that is not built
 -- - the statement, for an assignment to something else than a name that is built, alone or with indexes and fields, or with these behind one pair of parentheses, for a call of something else, and for a `for` whose control variable has a name that is not built
--- - the structured value, for a name of its type that is not built, and where it is the whole value of a constant definition or of an initial state
+-- - the structured value, for a name of its type that is not built, and where it is the whole value of a constant definition
 -- - the factor, for `nil`, and for a character string of another length than one that is not the whole value of an argument of a `write` or `writeln` statement
 -- - the access, for a name that is not built, and for other selectors than indexes and fields, alone or behind one pair of parentheses.
 --
@@ -492,7 +492,7 @@ values_unbuilt = fold-Values Found Found Found Selecting Placed Belonging Found 
 abbrev pub access_unbuilt : Access → Found
 access_unbuilt a = (placed_access a).1
 
--- the first line in the value of a constant definition or in an initial state, which is no structured value as a whole
+-- the first line in the value of a constant definition, which is no structured value as a whole
 abbrev pub constant_value_unbuilt : ComponentValue → Found
 constant_value_unbuilt v = option_or (structured_line (out-ComponentValue v)) (component_value_unbuilt v)
 
@@ -538,7 +538,7 @@ at_plain p = at_node (built_plain p) p.line p.core
 
 -- a type denoter before its initial state
 abbrev pub at_type_denoter : TypeDenoter-F Found Found Found Found Found Found Found Found → Found
-at_type_denoter t = option_or t.plain (first_if (option_map constant_value_unbuilt t.initial))
+at_type_denoter t = option_or t.plain (first_if (option_map component_value_unbuilt t.initial))
 
 -- the labels of a variant before its fields
 abbrev pub at_variant : Variant-F Found Found Found Found Found Found Found Found → Found

@@ -27,9 +27,10 @@ use Rattle.ep_scope.specs.declared.kind.Host as scope
 use Rattle.ep_scope.specs.declared.kind.Kind.TheVariants as kind
 use Rattle.ep_scope.specs.declared.kind.Kind.{Kind}
 use Rattle.ep_check_expr.specs.Agreement.{IsHost, IsConstantOf, IsFormOf, IsSetOver, TypeValues}
-use Rattle.ep_check_expr.specs.Constants.{constant_of, constant_folded, known, value_of}
+use Rattle.ep_check_expr.specs.Constants.{constant_of, constant_folded, known}
 use Rattle.ep_check_expr.specs.Hosts.{typed_host}
 use Rattle.ep_check_expr.specs.Judgements.{Judged, Accepts, Breaks}
+use Rattle.ep_check_expr.specs.StructuredConstants.{value_known}
 use Rattle.ep_check_expr.specs.declared.constants.ConstantForm.{ConstantForm}
 use Rattle.ep_check_expr.specs.Folding.{answered, as_known, folded, folded_member, folded_members, joined, members_in, number_in, one_folded, result_of, set_found, short_folded, two_folded}
 use Rattle.ep_check_expr.specs.declared.folding.Folded.{Folded}
@@ -301,7 +302,7 @@ text_or_known P k (Card x) f g = g
 
 module _ (declared : Declarations) (types : TypeValues) (structures : List StructuredType) where
   -- what is known is a constant of the kind where it is a value of that
-  known-judged : (k : Kind) (r : Folded) → ((y : KnownValue) → r ≡ Known y → IsConstantOf k (value_of y)) → IsJudgedConstant (constant_folded k r)
+  known-judged : (k : Kind) (r : Folded) → ((y : KnownValue) → r ≡ Known y → IsConstantOf k (value_known y)) → IsJudgedConstant (constant_folded k r)
   known-judged k (Known y) f = f y refl
   known-judged k Varies f = tt
   known-judged k Errs f = tt
@@ -310,24 +311,24 @@ module _ (declared : Declarations) (types : TypeValues) (structures : List Struc
   no_text : (k : valid.Kind) (x : Expr) (bytes : List ℕ) → (k ≡ valid.Bytes → ⊥) → IsExpr declared k x → x ≡ Text bytes → ⊥
   no_text k x bytes other v e = other (subst (IsExpr declared k) e v)
 
-  ordinal-constant : (h : scope.Host) (y : KnownValue) → IsHost h → OfKind (valid.Ordinal (typed_host h)) y → IsConstantOf (kind.Ordinal h) (value_of y)
+  ordinal-constant : (h : scope.Host) (y : KnownValue) → IsHost h → OfKind (valid.Ordinal (typed_host h)) y → IsConstantOf (kind.Ordinal h) (value_known y)
   ordinal-constant h (known_value.Number z) s p = (s, p)
   ordinal-constant h (known_value.Members ms) s p = absurd p
 
-  set-constant : (h : scope.Host) (y : KnownValue) → IsHost h → OfKind (valid.Set (typed_host h)) y → IsConstantOf (kind.Set h) (value_of y)
+  set-constant : (h : scope.Host) (y : KnownValue) → IsHost h → OfKind (valid.Set (typed_host h)) y → IsConstantOf (kind.Set h) (value_known y)
   set-constant h (known_value.Number z) s p = absurd p
   set-constant h (known_value.Members ms) s p = (s, p)
 
-  empty-constant : (y : KnownValue) → ((h : Host) → OfKind (valid.Set h) y) → IsConstantOf kind.EmptySet (value_of y)
+  empty-constant : (y : KnownValue) → ((h : Host) → OfKind (valid.Set h) y) → IsConstantOf kind.EmptySet (value_known y)
   empty-constant (known_value.Number z) p = absurd (p host.Boolean)
   empty-constant (known_value.Members ms) p = p
 
   -- no value is known of a structured kind, and none of a text that is not written
-  none_structured : (k : Kind) (t : TypeValue) (y : KnownValue) → OfKind (valid.Structured t) y → IsConstantOf k (value_of y)
+  none_structured : (k : Kind) (t : TypeValue) (y : KnownValue) → OfKind (valid.Structured t) y → IsConstantOf k (value_known y)
   none_structured k t (known_value.Number z) p = absurd p
   none_structured k t (known_value.Members ms) p = absurd p
 
-  none_text : (k : Kind) (y : KnownValue) → OfKind valid.Bytes y → IsConstantOf k (value_of y)
+  none_text : (k : Kind) (y : KnownValue) → OfKind valid.Bytes y → IsConstantOf k (value_known y)
   none_text k (known_value.Number z) p = absurd p
   none_text k (known_value.Members ms) p = absurd p
 

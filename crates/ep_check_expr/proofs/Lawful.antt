@@ -17,7 +17,7 @@ use Rattle.ep_scope.specs.declared.kind.Kind.{Kind}
 use Rattle.ep_scope.specs.declared.kind.Kind.TheVariants as kind
 use Rattle.ep_scope.specs.declared.rule.TheConstants as rule
 use Rattle.ep_check_expr.specs.Agreement.{AgreesBy, AreActuals, IsAccessOf, IsFormOf, IsHost, TypeValues, structures_of}
-use Rattle.ep_check_expr.specs.Constants.{IsSoundConstant, as_constant, as_bound, as_initial_state, as_label, constant_expression, constant_folded, constant_of, known, stand_in, unbuilt_constant, value_of, varies}
+use Rattle.ep_check_expr.specs.Constants.{IsSoundConstant, as_constant, as_bound, as_label, constant_expression, constant_folded, constant_of, known, stand_in, unbuilt_constant, varies}
 use Rattle.ep_check_expr.specs.Expressions.{given, judged, judged_value, name_judged, spelled}
 use Rattle.ep_check_expr.specs.Hosts.{typed_host}
 use Rattle.ep_check_expr.specs.Judgements.{Judged, Accepts, Breaks, Typed, unbuilt, when_accepted}
@@ -44,7 +44,9 @@ use Rattle.ep_check_expr.proofs.Known.{IsJudgedConstant, constant-fits, text_or_
 use Rattle.ep_check_expr.proofs.Meant.{called-fits, meant-declared, meant_in-declared, value_named-fits}
 use Rattle.ep_check_expr.proofs.Labels.{constructed-plain, labels-weaker}
 use Rattle.ep_check_expr.proofs.Constructed.{constructed-fits}
+use Rattle.ep_check_expr.proofs.StructuredConstants.{IsJudgedInitial, initial_state-fits}
 use Rattle.ep_check_expr.proofs.Structures.{components-weaker, structure-any, structure-fits}
+use Rattle.ep_check_expr.specs.StructuredConstants.{value_known}
 use Rattle.ep_check_expr.specs.StructuredValues.{structure_judged}
 use Rattle.ep_check_expr.proofs.Sound.{Fits, signed-fits, negated-fits, added-fits, multiplied-fits, compared-fits, applied_one-fits, applied_two-fits}
 
@@ -169,15 +171,6 @@ module _ (declared : Declarations) (types : TypeValues) (scopes : List Region) w
       label-fits false C q = q
   as_label-fits (Breaks rules) p = tt
 
-  -- and an initial state
-  as_initial_state-fits : (J : Judged Typed) → HasForm declared types scopes J → IsJudgedConstant (when_accepted as_initial_state J)
-  as_initial_state-fits (Accepts t) p = initial-fits (varies t) (as_constant t) (constant-fits declared types (structures_of scopes) t.kind t.form p)
-    where
-      initial-fits : (b : Bool) (C : Judged ConstantForm) → IsJudgedConstant C → IsJudgedConstant (if b then Breaks (rule.INITIAL_STATE ∷ rule.CONSTANT ∷ []) else C)
-      initial-fits true C q = tt
-      initial-fits false C q = q
-  as_initial_state-fits (Breaks rules) p = tt
-
 pub constants_are_sound : ConstantsAreSound
 constants_are_sound scopes v c accepted declared agrees =
     subst IsJudgedConstant accepted (as_constant-fits declared agrees.0 scopes (judged_value scopes v None) (value-fits declared agrees.0 scopes agrees.1 v None))
@@ -196,13 +189,13 @@ labels_are_sound scopes e c accepted declared agrees =
     subst IsJudgedConstant accepted (as_label-fits declared agrees.0 scopes (judged scopes e) (expression-fits declared agrees.0 scopes agrees.1 e))
 
 pub initial_states_are_sound : InitialStatesAreSound
-initial_states_are_sound scopes v c accepted declared agrees =
-    subst IsJudgedConstant accepted (as_initial_state-fits declared agrees.0 scopes (judged_value scopes v None) (value-fits declared agrees.0 scopes agrees.1 v None))
+initial_states_are_sound scopes asked v c accepted declared types agrees =
+    subst (IsJudgedInitial declared types) accepted (initial_state-fits declared types scopes agrees (judged_value scopes v asked) (value-fits declared types scopes agrees v asked))
 
 -- ---- hosts
 
 folded_kind : (k : Kind) (f : Folded) (c : ConstantForm) → constant_folded k f ≡ Accepts c → k ≡ c.kind
-folded_kind k (Known x) c e = let is : record { value = value_of x; kind = k; built = true } ≡ c = cc in ap (λ y. y.kind) is
+folded_kind k (Known x) c e = let is : record { value = value_known x; kind = k; built = true } ≡ c = cc in ap (λ y. y.kind) is
 folded_kind k Varies c e = cc
 folded_kind k Errs c e = cc
 

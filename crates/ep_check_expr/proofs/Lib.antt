@@ -36,3 +36,4 @@ pub mod Taking
 pub mod Written
 pub mod Keeping
 pub mod Lawful
+pub mod StructuredConstants

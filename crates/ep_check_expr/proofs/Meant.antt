@@ -131,20 +131,16 @@ module _ (declared : Declarations) (types : TypeValues) (structures : List Struc
       (unless_hidden-meant (look_up r.entries interface) (or_outside (look_up_in r interface name) (meant_in rs interface name))
       (or_outside-meant (look_up_in r interface name) (meant_in rs interface name) (look_up_if-thing (look_up r.qualified interface) name (look_up-things r.qualified interface h.1)) (meant_in-declared rs interface name h.2)))
 
-  constant-fits : (k : Kind) (v : Value) → IsConstantOf k v → IsFormOf declared types structures k (Some (value_form v))
+  constant-fits : (k : Kind) (v : Value) → IsConstantOf k v → IsFormOf declared types structures k (value_form v)
   constant-fits (kind.Ordinal h) (value.Word z) s = (s.0, (typed_host h, refl, s.1))
-  constant-fits (kind.Ordinal h) (value.Text bytes) s = absurd s
-  constant-fits (kind.Ordinal h) (value.Set ms) s = absurd s
+  constant-fits (kind.Ordinal h) _ s = absurd s
   constant-fits (kind.Structured n) v s = absurd s
-  constant-fits (kind.Set h) (value.Word z) s = absurd s
-  constant-fits (kind.Set h) (value.Text bytes) s = absurd s
   constant-fits (kind.Set h) (value.Set ms) s = (s.0, (typed_host h, refl, s.1.0, s.1.1))
-  constant-fits kind.EmptySet (value.Word z) s = absurd s
-  constant-fits kind.EmptySet (value.Text bytes) s = absurd s
+  constant-fits (kind.Set h) _ s = absurd s
   constant-fits kind.EmptySet (value.Set ms) s = λ h. (h, refl, (s h).0, (s h).1)
-  constant-fits kind.Text (value.Word z) s = absurd s
+  constant-fits kind.EmptySet _ s = absurd s
   constant-fits kind.Text (value.Text bytes) s = refl
-  constant-fits kind.Text (value.Set ms) s = absurd s
+  constant-fits kind.Text _ s = absurd s
   constant-fits kind.File v s = absurd s
 
   -- a variable that is declared is valid as a value

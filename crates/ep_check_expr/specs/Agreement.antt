@@ -8,9 +8,9 @@ use Rattle.ep_typed.specs.Sets.{IsSet, are_between}
 use Rattle.ep_typed.specs.Steps.{variant_number}
 use Rattle.ep_typed.specs.Trees as tree
 use Rattle.ep_typed.specs.Trees.{Denoter, Denoters, Named, Record, no_denoter, next_denoter, Callee, Place, Variable, Field, entire, Expr, Constant, Text, Read, One, Two, Short, Step, Function, IndexedValue, FieldValue, SetConstant, SetOf, OnSets, Card, Actual, actuals}
-use Rattle.ep_typed.specs.Valid.{Declarations, AreGiven, IsCallee, IsDenoter, IsFunction, IsOfKind, IsPlace, IsPlaceWhere, IsExpr, IsProcedure, IsSelection, IsSetOf, IsStructured, IsTagged, IsTypeOf, IsVariableOf}
+use Rattle.ep_typed.specs.Valid.{Declarations, AreGiven, IsCallee, IsDenoter, IsFunction, IsOfKind, IsPlace, IsPlaceWhere, IsExpr, IsProcedure, IsSelection, IsSetOf, IsStartFor, IsStructured, IsTagged, IsTypeOf, IsVariableOf}
 use Rattle.ep_typed.specs.Valid as valid
-use Rattle.ep_typed.specs.Viewed.{denoter_of}
+use Rattle.ep_typed.specs.Viewed.{constant_expr, denoter_of}
 use Rattle.ep_typed.specs.declared.interface.Formal.{Formal}
 use Rattle.ep_typed.specs.declared.interface.RoutineEntry.{RoutineEntry}
 use Rattle.ep_typed.specs.declared.interface.RoutineResult.{RoutineResult}
@@ -111,6 +111,11 @@ IsStructuredDenoter list d n = (s : Structure) × HasStructure list d s × HasSt
 -- each type by its number has one type value: that of the structured type of this number
 abbrev pub IsValueOf : TypeValues → ℕ → TypeValue → Type 0
 IsValueOf types n t = (types (type_name.Entry n) ≡ Some t) × IsStructured t
+
+-- the constant may be the initial state of a type of the kind
+abbrev pub IsInitialOf : Declarations → TypeValues → Kind → Value → Type 0
+IsInitialOf declared types (kind.Structured n) v = (t : TypeValue) × (types (type_name.Entry n) ≡ Some t) × IsStartFor declared.routine_types t (constant_expr v)
+IsInitialOf declared types k v = IsConstantOf k v
 
 -- the denoter is one of the kind; none is of a string type or of a file type so far
 abbrev pub HasKind : TypeValues → List UnitType → Denoter → Kind → Type 0

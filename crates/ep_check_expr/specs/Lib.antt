@@ -15,6 +15,7 @@ pub mod Names
 pub mod Operators
 pub mod Origins
 pub mod SetFolding
+pub mod StructuredConstants
 pub mod StructuredValues
 pub mod Shapes
 pub mod Public

@@ -1,5 +1,5 @@
 -- What names stand for as values and as functions (ISO 10206, 6.7.1 and 6.8.1).
-use Rattle.std.specs.Prelude.{ℕ, ◌+◌, pos, nat_eq, Bool, true, false, ◌||◌, List, [], ◌∷◌, ◌++◌, codes, Some, if◌then◌else◌}
+use Rattle.std.specs.Prelude.{ℕ, ◌+◌, pos, nat_eq, Bool, true, false, ◌||◌, List, [], ◌∷◌, ◌++◌, codes, Option, Some, None, if◌then◌else◌}
 use Rattle.std.specs.List.{list_any}
 use Rattle.std.specs.Str.{bytes_eq}
 use Rattle.ep_typed.specs.Operations.{maxint, last_char}
@@ -35,14 +35,15 @@ leaf form kind access = Accepts (record { form = Some form; kind = kind; depth =
 abbrev pub parenthesized : Typed → Typed
 parenthesized x = record { form = x.form; kind = x.kind; depth = x.depth; access = access.Value }
 
--- the value of a constant
-abbrev pub value_form : Value → Expr
-value_form (value.Word z) = Constant z
-value_form (value.Text bytes) = Text bytes
-value_form (value.Set members) = SetConstant members
+-- the value of a constant; that of an array or a record has no code yet
+abbrev pub value_form : Value → Option Expr
+value_form (value.Word z) = Some (Constant z)
+value_form (value.Text bytes) = Some (Text bytes)
+value_form (value.Set members) = Some (SetConstant members)
+value_form (value.Structured n es) = None
 
 abbrev pub constant_typed : Kind → Value → Judged Typed
-constant_typed k v = leaf (value_form v) k access.Constant
+constant_typed k v = Accepts (record { form = value_form v; kind = k; depth = 1; access = access.Constant })
 
 -- the value of a variable stands above its place
 abbrev pub reading : Expr → Kind → Access → Judged Typed

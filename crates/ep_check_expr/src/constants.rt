@@ -3,12 +3,13 @@
 ghost use Rattle.std.specs.Prelude.{◌≡◌, IfOk, None, false};
 ghost use Rattle.ep_built.specs.Built.{component_value_unbuilt, expression_unbuilt};
 ghost use Rattle.ep_check_expr.specs.Answers.{typed_of, AnswersJudged};
-ghost use Rattle.ep_check_expr.specs.Constants.{as_constant, constant_folded, constant_judged, constant_expression, bound_judged, initial_state_judged, is_varying, label_judged, known, unbuilt_constant, unbuilt_of, varies};
+ghost use Rattle.ep_check_expr.specs.Constants.{as_constant, constant_folded, constant_judged, constant_expression, bound_judged, as_initial_state as initial_state, initial_constancy, initial_state_judged, is_varying, label_judged, known, unbuilt_constant, unbuilt_of, varies};
 ghost use Rattle.ep_check_expr.specs.Judgements.{Accepts};
 
 use crate::expressions::{typed_expression, typed_value};
 use crate::folding::{Folded, KnownValue, folded_form};
 use crate::forms::{Refusal, Typed};
+use crate::structured_constants::{ConstantValue, NoConstant, constancy};
 use ep_base::{Bytes, NoMemory};
 use ep_scope::{Kind, View, rule};
 use ep_tree::{ComponentValue, Expression};
@@ -110,20 +111,48 @@ pub fn label_value(
     as_constant(alloc, &typed)
 }
 
-/// The value of an initial state, alike.
+/// The value of an initial state, alike, where a value of a structured type may be asked for.
 pub fn initial_state_value(
     alloc: Global,
     tree: &ComponentValue,
+    asked: Option<u32>,
     scopes: &View<'_>,
 ) -> Result<ConstantForm, Refusal>
     requires { component_value_unbuilt tree.now ≡ None }
-    ensures form { AnswersJudged (λ c. c) result (initial_state_judged scopes.now tree.now) }
+    ensures form { AnswersJudged (λ c. c) result (initial_state_judged scopes.now asked tree.now) }
 {
-    let typed = typed_value(alloc, tree, None, scopes)?;
-    if varies(alloc, &typed)? {
-        return Err(Refusal::Rule(rule::INITIAL_STATE));
+    let typed = typed_value(alloc, tree, asked, scopes)?;
+    as_initial_state(alloc, &typed, scopes)
+}
+
+/// What a value that is accepted is as an initial state.
+fn as_initial_state(alloc: Global, t: &Typed, scopes: &View<'_>) -> Result<ConstantForm, Refusal>
+    ensures { AnswersJudged (λ c. c) result (initial_state scopes.now (typed_of t.now)) }
+{
+    let Some(form) = &t.form else {
+        return Ok(unbuilt_of(alloc, t.kind));
+    };
+    match form.get() {
+        TypedExpr::Text(bytes) => {
+            let copy = Bytes::from_slice(alloc, bytes.items())?;
+            Ok(known(t.kind, Value::Text(copy)))
+        }
+        other => initial_constancy(t.kind, constancy(alloc, other, scopes)?),
     }
-    as_constant(alloc, &typed)
+}
+
+/// An initial state by what it is as a constant.
+fn initial_constancy(
+    kind: Kind,
+    constancy: Result<ConstantValue, NoConstant>,
+) -> Result<ConstantForm, Refusal>
+    ensures { AnswersJudged (λ c. c) result (initial_constancy kind constancy) }
+{
+    match constancy {
+        Ok(value) => Ok(known(kind, value.into_value())),
+        Err(NoConstant::Varies) => Err(Refusal::Rule(rule::INITIAL_STATE)),
+        Err(NoConstant::Errs) => Err(Refusal::Rule(rule::CONSTANT)),
+    }
 }
 
 /// Whether a variable is read.

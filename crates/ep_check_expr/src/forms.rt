@@ -176,7 +176,7 @@ impl Typed {
         Typed::leaf(alloc, TypedExpr::Text(copy), Kind::Text, Access::Value)
     }
 
-    /// The value of a constant.
+    /// The value of a constant; that of an array or a record has no code yet.
     pub(crate) fn value(alloc: Global, value: &Value, kind: Kind) -> Result<Typed, Refusal>
         ensures { AnswersTyped result (constant_typed kind value.now) }
     {
@@ -190,6 +190,12 @@ impl Typed {
                 let copy = Bytes::from_slice(alloc, members.items())?;
                 Typed::leaf(alloc, TypedExpr::SetConstant(copy), kind, Access::Constant)
             }
+            Value::Structured(_, _) => Ok(Typed {
+                form: None,
+                kind,
+                depth: 1,
+                access: Access::Constant,
+            }),
         }
     }
 

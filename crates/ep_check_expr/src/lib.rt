@@ -5,7 +5,7 @@
 //! `typed_arguments` what is given for the formal parameters of a procedure or function of a unit.
 //! specs/Expressions.antt says which typed form an expression has and which rules fail, by one clause for each
 //! production; specs/Operators.antt, specs/Functions.antt, specs/Arguments.antt, specs/Indexing.antt,
-//! specs/Constructors.antt, specs/StructuredValues.antt, specs/Names.antt and specs/Constants.antt have the rules, on parts that are accepted. By `laws_of_expressions` what they accept is valid.
+//! specs/Constructors.antt, specs/StructuredValues.antt, specs/StructuredConstants.antt, specs/Names.antt and specs/Constants.antt have the rules, on parts that are accepted. By `laws_of_expressions` what they accept is valid.
 #![tactic(auto)]
 
 mod access;
@@ -29,6 +29,7 @@ mod operators;
 mod sets;
 mod shapes;
 mod structured;
+mod structured_constants;
 
 pub use access::Access;
 pub use answers::{Broken, ExpressionRefusal, constant, expression};

@@ -42,6 +42,7 @@ use Rattle.ep_scope.specs.declared.thing.Thing.TheVariants as thing
 use Rattle.ep_check_expr.specs.Judgements.{Judged, Accepts, Breaks, when_accepted}
 use Rattle.ep_check_expr.specs.Constants.{constant_judged, bound_judged, initial_state_judged}
 use Rattle.ep_check_expr.specs.Names.{undeclared}
+use Rattle.ep_check_expr.specs.StructuredValues.{asked_by}
 use Rattle.ep_check_expr.specs.declared.constants.ConstantForm.{ConstantForm}
 use Rattle.ep_check_stmt.proofs.judged.Fits.{Any, Fits, fits_then, fits_both, fits_any}
 use Rattle.ep_check_stmt.specs.Statements.{Judgement, Passes, Waits, Fails}
@@ -228,7 +229,7 @@ module _ (n : List ℕ) where
   begun-kept : (p : DenoterPart) (v : ComponentValue) → IsKeptPart p → IsKeptPart (begun p (Some v))
   begun-kept p v h line b i =
       fits_then IsIn IsIn (begun_with line v) (settled_part p line b) (settled_part-kept p h line b i)
-      (λ w j. fits_then Any IsIn (fitting_state line w) (initial_state_judged (scopes_of w.block) v) (fits_any (initial_state_judged (scopes_of w.block) v)) (λ c k. fitting-kept line w c j))
+      (λ w j. fits_then Any IsIn (fitting_state line w) (initial_state_judged (scopes_of w.block) (asked_by w.kind) v) (fits_any (initial_state_judged (scopes_of w.block) (asked_by w.kind) v)) (λ c k. fitting-kept line w c j))
 
   parts_kept : KeptByDenoters IsKeptPart IsKeptList IsKeptVariants
   parts_kept = record {

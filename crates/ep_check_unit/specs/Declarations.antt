@@ -2,7 +2,7 @@
 --
 -- Items are taken in the order of the text. A constant definition and a variable declaration are items, on the line of their first token, and a type part is one, on the line of the word `type`. A name means what is declared before its use, or outside of the block: a later declaration of it plays no part (own).
 use Rattle.std.specs.List.{list_any}
-use Rattle.std.specs.Prelude.{ℕ, nat_eq, nat_le, ◌==◌, ◌+◌, ℤ, pos, suc, int_le, Bool, true, false, ◌&&◌, ◌||◌, List, [], ◌∷◌, ◌++◌, length, slice_get, map, Option, Some, None, is_some, if◌then◌else◌}
+use Rattle.std.specs.Prelude.{ℕ, nat_eq, nat_le, ◌==◌, ◌+◌, ℤ, pos, suc, int_le, Bool, true, false, ◌&&◌, ◌||◌, List, [], ◌∷◌, ◌++◌, length, slice_get, map, Option, Some, None, is_some, if◌then◌else◌, ⊤}
 use Rattle.std.specs.Option.{option_or}
 use Rattle.std.specs.Str.{bytes_eq}
 use Rattle.ep_tree.specs.declared.expression.ComponentValue.{ComponentValue}
@@ -68,6 +68,7 @@ use Rattle.ep_check_expr.specs.Judgements.{Judged, Accepts, Breaks, unbuilt, whe
 use Rattle.ep_check_expr.specs.Constants.{constant_judged, bound_judged, initial_state_judged}
 use Rattle.ep_check_expr.specs.declared.constants.ConstantForm.{ConstantForm}
 use Rattle.ep_check_expr.specs.Names.{undeclared}
+use Rattle.ep_check_expr.specs.StructuredValues.{asked_by}
 use Rattle.ep_check_unit.specs.Blocks.{Block, own_count}
 use Rattle.ep_check_unit.specs.Labels.{completed, no_labels, tag_values, variant_labelled}
 use Rattle.ep_check_unit.specs.declared.block.Enclosing.{Enclosing}
@@ -226,6 +227,14 @@ abbrev pub number_in : Value → ℤ
 number_in (value.Word z) = z
 number_in (value.Text bytes) = pos 0
 number_in (value.Set members) = pos 0
+number_in (value.Structured of es) = pos 0
+
+-- the value of no array and of no record
+abbrev pub IsPlain : Value → Type 0
+IsPlain (value.Word z) = ⊤
+IsPlain (value.Text bytes) = ⊤
+IsPlain (value.Set members) = ⊤
+IsPlain (value.Structured of es) = ⊥
 
 -- the denoter of a subrange of a host
 abbrev pub subrange_denoter : Host → ConstantForm → ConstantForm → Denoter
@@ -631,9 +640,10 @@ record_written fields line b = when_accepted (λ l. Accepts (record_over l)) (fi
 
 -- ---- initial states (ISO 10206, 6.6)
 
--- whether a constant of the one kind may be the initial state of a type of the other: a value of its host, or a set over it, of which the empty set is one over each host
+-- whether a constant of the one kind may be the initial state of a type of the other: a value of its host, a set over it, of which the empty set is one over each host, or an array or a record of that type
 abbrev pub may_begin : Kind → Kind → Bool
 may_begin (kind.Ordinal g) (kind.Ordinal h) = same_host h g
+may_begin (kind.Structured m) (kind.Structured n) = nat_eq m n
 may_begin (kind.Set g) (kind.Set h) = same_host h g
 may_begin kind.EmptySet (kind.Set h) = true
 may_begin _ _ = false
@@ -648,7 +658,7 @@ fitting_state line w c = if may_begin c.kind w.kind then Accepts (with_initial_s
 
 -- a type, by its name, with an initial state, in which the constants may stand that are declared with the type
 abbrev pub begun_with : ℕ → ComponentValue → Written → Judged Written
-begun_with line v w = when_accepted (fitting_state line w) (initial_state_judged (scopes_of w.block) v)
+begun_with line v w = when_accepted (fitting_state line w) (initial_state_judged (scopes_of w.block) (asked_by w.kind) v)
 
 abbrev pub initial_written : Part → ComponentValue → ℕ → Block → Judged Written
 initial_written p v line b = when_accepted (begun_with line v) (settled_part p line b)

@@ -49,7 +49,7 @@ impl Block {
     }
 
     /// `id "=" cvalue`
-    #[tactic(auto, using(crate::proofs::ConstantValues::value_built))]
+    #[tactic(auto, using(crate::proofs::ConstantValues::value_built, crate::proofs::ConstantValues::constant_plain))]
     fn define_constant(
         &mut self,
         alloc: Global,

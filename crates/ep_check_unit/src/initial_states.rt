@@ -1,7 +1,7 @@
 //! Initial states as an item writes them (ISO 10206, 6.6).
 
 ghost use Rattle.std.specs.Prelude.{◌≡◌, None};
-ghost use Rattle.ep_built.specs.Built.{constant_value_unbuilt};
+ghost use Rattle.ep_built.specs.Built.{component_value_unbuilt};
 ghost use Rattle.ep_check_stmt.specs.Answers.{AnswersForm};
 ghost use Rattle.ep_check_unit.specs.Answers.{named_in, written_in};
 ghost use Rattle.ep_check_unit.specs.Blocks.{block_of};
@@ -10,7 +10,7 @@ ghost use Rattle.ep_check_unit.specs.Declarations.{begun_with, may_begin};
 use crate::block::Block;
 use crate::types::{NamedType, Written, counted, type_denoter};
 use ep_base::{Boxed, Line};
-use ep_check_expr::{Refusal, initial_state_value};
+use ep_check_expr::{Refusal, asked_by, initial_state_value};
 use ep_scope::{Kind, rule, same_host};
 use ep_tree::ComponentValue;
 use ep_typed::Denoter;
@@ -22,6 +22,7 @@ fn may_begin(constant: Kind, of: Kind) -> bool
 {
     match (constant, of) {
         (Kind::Ordinal(given), Kind::Ordinal(host)) => same_host(host, given),
+        (Kind::Structured(given), Kind::Structured(number)) => given == number,
         (Kind::Set(given), Kind::Set(host)) => same_host(host, given),
         (Kind::EmptySet, Kind::Set(_)) => true,
         _ => false,
@@ -30,7 +31,6 @@ fn may_begin(constant: Kind, of: Kind) -> bool
 
 impl Block {
     /// A type, by its name, with an initial state, in an item on this line.
-    #[tactic(auto, using(crate::proofs::ConstantValues::value_built))]
     pub(crate) fn begun_with(
         &mut self,
         alloc: Global,
@@ -38,11 +38,12 @@ impl Block {
         of: NamedType,
         value: &ComponentValue,
     ) -> Result<Written, Refusal>
-        requires { constant_value_unbuilt value.now ≡ None }
+        requires { component_value_unbuilt value.now ≡ None }
         ensures { AnswersForm (written_in (block_of self.new)) result
             (begun_with line value.now (named_in (block_of self.old) of)) }
     {
-        let constant = initial_state_value(alloc, value, &self.scopes.in_view())?;
+        let asked = asked_by(of.kind);
+        let constant = initial_state_value(alloc, value, asked, &self.scopes.in_view())?;
         if !may_begin(constant.kind, of.kind) {
             return Err(Refusal::Rule(rule::INITIAL_STATE));
         }

@@ -207,7 +207,7 @@ fn number_in(value: &Value) -> i64
 {
     match value {
         Value::Word(word) => *word,
-        Value::Text(_) | Value::Set(_) => 0,
+        Value::Text(_) | Value::Set(_) | Value::Structured(..) => 0,
     }
 }
 

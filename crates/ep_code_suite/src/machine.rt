@@ -684,6 +684,19 @@ Push:0 Push:7 TInit Push:0 TRec:2 Make:0 Unit:-1:1 Slot:0 Field:0 Load Form Put 
 Push:0 Push:7 TInit Push:0 TRec:2 Make:0 Slot:0 Field:1 Load=|error 1 at 9|14\n\
 Push:2 Push:0 Push:7 TInit TArr Push:2 Push:0 TArr TRec:2 Make:0 Slot:0 Field:1 Slot:0 Field:0 Load Store \
 Unit:-1:1 Slot:0 Field:1 Push:1 Index Load Form Put Return=7|normal|38\n\
+Unit:-1:1 Push:2 Push:0 TArr Make:0 Slot:0 Push:1 Index Push:9 Store \
+Push:2 Push:0 TArr Slot:0 Load TInit New Deref Push:1 Index Load Form Put Return=9|normal|36\n\
+Unit:-1:1 Push:0 Push:2 TRec:2 Make:0 Slot:0 Field:0 Push:5 Store \
+Push:0 Push:2 TRec:2 Slot:0 Load TInit New Deref Field:0 Load Form Put Return=5|normal|38\n\
+Unit:-1:1 Push:2 Push:0 TArr Make:0 Push:2 Push:0 TArr Slot:0 Load TInit Form Put Return=6|normal|24\n\
+Push:2 Push:0 TArr Make:0 Push:2 Push:0 Push:7 TInit TArr Slot:0 Load TInit New Deref Push:1 Index Load=|error \
+1 at 17|28\n\
+Push:2 Push:0 TArr Make:0 Push:2 Push:0 TArr Slot:0 Load TInit Halt=|budget|13=17\n\
+Push:2 Push:0 TArr Make:0 Push:2 Push:0 TArr Slot:0 Load TInit Halt=|halt|19=19\n\
+Push:2 Push:0 TArr Make:0 Push:2 Push:2 TArr Slot:0 Load TInit=|error 6 at 10|16\n\
+Push:2 Push:0 TArr Make:0 Push:0 Slot:0 Load TInit=|broken at 7|12\n\
+Push:2 Push:0 TArr Make:0 Slot:0 Load TInit=|broken at 6|11\n\
+Push:2 Push:0 TArr Push:7 TInit=|broken at 4|5\n\
 Push:3 Push:1 TInit=|broken at 2|3\n\
 Push:0 SetNone TInit=|broken at 2|3\n\
 Push:0 TInit=|broken at 1|2";

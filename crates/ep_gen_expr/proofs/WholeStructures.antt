@@ -8,11 +8,11 @@ use Rattle.ep_gen_code.specs.Referring.{AreReferred, IsSwapReferred, type_refere
 use Rattle.ep_gen_code.specs.declared.references.TheConstants as routine
 use Rattle.ep_gen_code.proofs.Placed.{code_back}
 use Rattle.ep_gen_expr.specs.ExprCode.{begin_code, end_code}
-use Rattle.ep_gen_expr.proofs.Answering.{IsFollowed}
+use Rattle.ep_gen_expr.proofs.Answering.{Evaluates, IsFollowed}
 use Rattle.ep_gen_expr.proofs.Nameless.{begins_follows, end_ticks, taken_follows}
 use Rattle.ep_gen_expr.proofs.StructuredValues.{AreElementsFollowed}
 use Rattle.ep_object.specs.Follows.{Bare, Facts, Fragment, Inside, Lasts, OnTop, TypeOnTop, point}
-use Rattle.ep_object.specs.Matching.{AreAmong, Injection, IsLike, IsSpot, Memory, Slots, kept_slots}
+use Rattle.ep_object.specs.Matching.{AreAmong, Injection, IsLike, IsOf, IsSpot, Memory, Slots, kept_slots}
 use Rattle.ep_object.specs.Operands.{Operand, Word}
 use Rattle.ep_object.specs.Operands as operand
 use Rattle.ep_object.specs.Placing.{CodeStands, Placement}
@@ -29,11 +29,11 @@ use Rattle.ep_object.proofs.following.Promising.{type_follows}
 use Rattle.ep_object.proofs.matching.Growing.{describes-grown, is_spot-grown, unit_in-same}
 use Rattle.ep_object.proofs.rows.NamelessRows.{NamelessOnTop, deref_pushes}
 use Rattle.ep_object.proofs.rows.Rows.{outcome_at}
-use Rattle.ep_typed.proofs.Bares.{bare_size}
+use Rattle.ep_typed.proofs.Bares.{bare_size, bare_twice, value_bare}
 use Rattle.ep_typed.proofs.Steady.{steady_begins_nameless, steady_bind, steady_gives_all, steady_taken}
 use Rattle.ep_typed.proofs.Typed.{typed_value}
 use Rattle.ep_typed.specs.Calls.{Handler}
-use Rattle.ep_typed.specs.Meaning.{gives_all, taken}
+use Rattle.ep_typed.specs.Meaning.{eval, gives_all, taken}
 use Rattle.ep_typed.specs.Nameless.{begins_nameless}
 use Rattle.ep_typed.specs.Printing.{Result}
 use Rattle.ep_typed.specs.Results.{weight_of}
@@ -41,7 +41,7 @@ use Rattle.ep_typed.specs.Steady.{IsSteadyHandler, Steady}
 use Rattle.ep_typed.specs.Steps.{Computation, bind, size_of, whole}
 use Rattle.ep_typed.specs.Trees.{Elements, Named, Structured}
 use Rattle.ep_typed.specs.TypeValues.{TypeValue, bare_of}
-use Rattle.ep_typed.specs.Valid.{Declarations, IsStructured, IsTyped, named}
+use Rattle.ep_typed.specs.Valid.{Declarations, IsStructured, IsTyped, IsTypeValue, named}
 use Rattle.ep_typed.specs.Valid as kind
 use Rattle.ep_typed.specs.declared.unit.UnitType.{UnitType}
 
@@ -99,36 +99,44 @@ module _ (declared : Declarations) (G : Image) (untouched : Slots) (Here : Facts
     deref_stands : slice_get G.instructions (place + 1 + 1 + 1) ≡ Some (bare line op.DEREF)
     deref_stands = subst (λ i. slice_get G.instructions i ≡ Some (bare line op.DEREF)) {x = p.instructions.before + (at + 1 + 1 + 1)} {y = place + 1 + 1 + 1} (omega arith) stands.1.1.1.0
 
-    -- The components are given, and the value is taken, where the number of the variable is on top.
-    filled_follows : (injection : Injection) (memory : Memory) (below : List Operand) (d : ℕ) → least_credit ≤ d → unit_in G memory.frames ≡ unit
-        → (m : ℕ) (pushed : List Operand) → NamelessOnTop t below m injection memory pushed
-        → Fragment declared G Here n (point injection memory (place + 1 + 1) pushed) (filled es m) (middle + 1 + 1 + 1) (λ r. Inside untouched injection memory (OnTop (kind.Structured (bare_of t)) below r)) (d + 63 + 62 * size_of t) (λ r. d + 8 + weight_of r)
-    filled_follows injection memory below d enough home m pushed top =
+    -- The components are given, and the value is taken, where the number of a variable of the type, but for initial states, is on top.
+    -- Some of the steps for its words are left over.
+    filled_follows : (spare : ℕ) → spare ≤ 40 * size_of (bare_of t) → (a : TypeValue) → bare_of a ≡ bare_of t → (injection : Injection) (memory : Memory) (below : List Operand) (d : ℕ) → least_credit ≤ d → unit_in G memory.frames ≡ unit
+        → (m : ℕ) (pushed : List Operand) → NamelessOnTop a below m injection memory pushed
+        → Fragment declared G Here n (point injection memory (place + 1 + 1) pushed) (filled es m) (middle + 1 + 1 + 1) (λ r. Inside untouched injection memory (OnTop (kind.Structured (bare_of t)) below r)) (d + 63 + 62 * size_of a) (λ r. d + 8 + spare + weight_of r)
+    filled_follows spare left a same injection memory below d enough home m pushed top =
         let u : TypeValue = bare_of t in
-        let sizes : size_of u ≡ size_of t = bare_size t in
-        let credit : ℕ = d + 63 + 62 * size_of t in
+        let sizes : size_of u ≡ size_of a = ap size_of (sym same) ∙ bare_size a in
+        let credit : ℕ = d + 63 + 62 * size_of a in
         let number_on : Operand = Word (pos top.segment) in
         let q : PlaceOf = place_of_whole top.segment top.content in
-        let like : IsLike memory.types q.type_number u = (t, refl, top.described) in
-        let spot : IsSpot injection memory.types (whole m) q = record { is_in = top.is_in; root = u; is_of = top.is_of; type_value = u; leads = refl; described = like } in
-        subst (λ st. Fragment declared G Here n (point injection memory (place + 1 + 1) st) (filled es m) (middle + 1 + 1 + 1) (λ r. Inside untouched injection memory (OnTop (kind.Structured u) below r)) credit (λ r. d + 8 + weight_of r)) (sym top.is)
+        let like : IsLike memory.types q.type_number u = (a, same, top.described) in
+        let spot : IsSpot injection memory.types (whole m) q = record { is_in = top.is_in; root = u; is_of = subst (IsOf injection m) same top.is_of; type_value = u; leads = refl; described = like } in
+        subst (λ st. Fragment declared G Here n (point injection memory (place + 1 + 1) st) (filled es m) (middle + 1 + 1 + 1) (λ r. Inside untouched injection memory (OnTop (kind.Structured u) below r)) credit (λ r. d + 8 + spare + weight_of r)) (sym top.is)
         (fragment_waits {d1 = credit - 1} (λ s matches. outcome_at G (bare line op.DUP) (place + 1 + 1) (number_on ∷ below) memory s.trace dup_stands) (omega arith)
         (fragment_waits {d1 = credit - 2} (λ s matches. deref_pushes G (place + 1 + 1 + 1) line (number_on ∷ below) top.segment top.content deref_stands top.above memory s.trace top.lives) (omega arith)
         (fragment_from {place = p.instructions.before + (at + 4)} (omega arith)
         (inside_bind {First = Bare (operand.Place q ∷ number_on ∷ below)} {e = λ _. credit - 2} (λ _. steady_taken call steady_call g unit line m) (follows injection memory (number_on ∷ below) (whole m) q (credit - 2) (omega (arith, enough)) home spot like)
         (λ _ v3 m3 pushed3 grown3 routine3 is3.
-        subst (λ st. Fragment declared G Here n (point v3 m3 middle st) (taken call g unit line m) (middle + 1 + 1 + 1) (λ r. Inside untouched v3 m3 (OnTop (kind.Structured u) below r)) (credit - 2) (λ r. d + 8 + weight_of r)) (sym is3)
-        (fragment_credit {d = end_ticks u + (d + 8)} {e = λ r. d + 8 + weight_of r} (omega (arith, sizes)) (λ r. omega arith)
-        (taken_follows declared G untouched Here lasts line call g unit swap.routine swap.swaps middle m u structured tail.0 swaps disposes v3 m3 below q (unit_in-same G routine3 ∙ home) (is_spot-grown grown3 spot) (describes-grown q.type_number u grown3 like) top.numbered top.above n (d + 8))))))))
+        subst (λ st. Fragment declared G Here n (point v3 m3 middle st) (taken call g unit line m) (middle + 1 + 1 + 1) (λ r. Inside untouched v3 m3 (OnTop (kind.Structured u) below r)) (credit - 2) (λ r. d + 8 + spare + weight_of r)) (sym is3)
+        (fragment_credit {d = end_ticks u + (d + 8 + spare)} {e = λ r. d + 8 + spare + weight_of r} (omega (arith, sizes, left)) (λ r. omega arith)
+        (taken_follows declared G untouched Here lasts line call g unit swap.routine swap.swaps middle m u structured tail.0 swaps disposes v3 m3 below q (unit_in-same G routine3 ∙ home) (is_spot-grown grown3 spot) (describes-grown q.type_number u grown3 like) top.numbered top.above n (d + 8 + spare))))))))
 
-    -- All of it.
-    pub structured_follows : IsFollowed declared G untouched Here p call g unit n (kind.Structured (bare_of t)) (Structured number es) line at (begin_code line number ++ (xs ++ end_code line))
-    structured_follows injection memory below d enough home =
+    -- All of it, with so much credit besides.
+    pub structured_spares : (spare : ℕ) → spare ≤ 40 * size_of (bare_of t) → (injection : Injection) (memory : Memory) (below : List Operand) (d : ℕ) → least_credit ≤ d → unit_in G memory.frames ≡ unit
+        → Evaluates declared G untouched Here n injection memory place below (eval call g unit line (Structured number es)) (p.instructions.before + (at + length (begin_code line number ++ (xs ++ end_code line)))) (kind.Structured (bare_of t)) below d (d + 8 + spare)
+    structured_spares spare left injection memory below d enough home =
         fragment_to {to = middle + 1 + 1 + 1} (omega (arith, length-append xs (end_code line)))
         (inside_bind {First = TypeOnTop t below} {e = λ a. d} (λ a. steady_bind (steady_begins_nameless a) (steady_filled es))
         (fragment_credit {d = 0} {e = λ a. type_credit} (omega arith) (λ a. omega arith) (type_follows lasts among place injection memory below (λ s. keeps.promise place line calls injection s memory below home)))
         (λ a v1 m1 pushed1 grown1 routine1 top.
-        subst (λ st. Fragment declared G Here n (point v1 m1 (place + 1) st) (bind (begins_nameless a) (filled es)) (middle + 1 + 1 + 1) (λ r. Inside untouched v1 m1 (OnTop (kind.Structured (bare_of t)) below r)) d (λ r. d + 8 + weight_of r)) (sym top.is)
-        (subst (λ b. Fragment declared G Here n (point v1 m1 (place + 1) (Word (pos top.number) ∷ below)) (bind (begins_nameless b) (filled es)) (middle + 1 + 1 + 1) (λ r. Inside untouched v1 m1 (OnTop (kind.Structured (bare_of t)) below r)) d (λ r. d + 8 + weight_of r)) (sym top.type_is)
-        (inside_bind {First = NamelessOnTop t below} {e = λ m. d + 63 + 62 * size_of t} (steady_filled es) (begins_follows declared G untouched Here lasts line n (place + 1) t top.number new_stands v1 m1 below d (omega (arith, enough)) top.described (typed_value types (Named number []) t typed) top.starts)
-        (λ m v2 m2 pushed2 grown2 routine2 newest. filled_follows v2 m2 below d enough (unit_in-same G routine2 ∙ (unit_in-same G routine1 ∙ home)) m pushed2 newest)))))
+        let same : bare_of a ≡ bare_of t = sym (bare_twice a) ∙ ap bare_of top.type_is in
+        let valid : IsTypeValue a = value_bare a (subst IsTypeValue (sym top.type_is) (typed_value types (Named number []) t typed)) in
+        subst (λ st. Fragment declared G Here n (point v1 m1 (place + 1) st) (bind (begins_nameless a) (filled es)) (middle + 1 + 1 + 1) (λ r. Inside untouched v1 m1 (OnTop (kind.Structured (bare_of t)) below r)) d (λ r. d + 8 + spare + weight_of r)) (sym top.is)
+        (inside_bind {First = NamelessOnTop a below} {e = λ m. d + 63 + 62 * size_of a} (steady_filled es) (begins_follows declared G untouched Here lasts line n (place + 1) a top.number new_stands v1 m1 below d (omega (arith, enough)) top.described valid top.starts)
+        (λ m v2 m2 pushed2 grown2 routine2 newest. filled_follows spare left a same v2 m2 below d enough (unit_in-same G routine2 ∙ (unit_in-same G routine1 ∙ home)) m pushed2 newest))))
+
+    -- All of it.
+    pub structured_follows : IsFollowed declared G untouched Here p call g unit n (kind.Structured (bare_of t)) (Structured number es) line at (begin_code line number ++ (xs ++ end_code line))
+    structured_follows injection memory below d enough home =
+        fragment_credit {d = d} {e = λ r. d + 8 + 0 + weight_of r} (omega arith) (λ r. omega arith) (structured_spares 0 (omega arith) injection memory below d enough home)

@@ -20,4 +20,7 @@ pub use laws::{laws_of_code, laws_of_following};
 pub use operations::apply_binary;
 pub use ranges::{TEST_LENGTH, tests_code};
 pub use standard::standard_code;
+pub use structured::{
+    begin_structured, end_structured, fill_ranges, reach_field, reach_first, same_field,
+};
 pub use tables::{reference_number, text_number};

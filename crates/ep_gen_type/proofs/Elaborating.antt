@@ -3,7 +3,7 @@ use Rattle.std.proofs.Common.{◌≡◌, ℕ, ℤ, pos, suc, ◌+◌, ◌*◌, �
 use Rattle.std.specs.Prelude.{int_le, neg_ℤ}
 use Rattle.ep_gen_code.specs.Instructions.{bare, instr}
 use Rattle.ep_gen_code.specs.Credit.{least_credit}
-use Rattle.ep_gen_code.specs.Referring.{AreReferred, type_reference}
+use Rattle.ep_gen_code.specs.Referring.{AreReferred, IsFillReferred, IsSwapReferred, type_reference}
 use Rattle.ep_gen_code.proofs.Placed.{code_front, code_back}
 use Rattle.ep_gen_type.specs.TypeCode.{ordinal_code, how_many, start_code, each_code, type_code}
 use Rattle.ep_gen_type.proofs.InitialStates.{start_follows}
@@ -30,13 +30,15 @@ use Rattle.ep_typed.specs.Sets.{is_ordinal}
 use Rattle.std.proofs.lemmas.Bool.Decides.{nat_tests}
 use Rattle.std.proofs.lemmas.Option.{slice_get_within}
 use Rattle.ep_typed.proofs.Steady.{grows_refl, steady_bind, steady_give, steady_elaborate, steady_elaborate_each, steady_begins_where, steady_elaborated, steady_elaborated_where, steady_eval}
-use Rattle.ep_typed.specs.Denoters.{array_over, array_type, set_over, set_type, start_by}
+use Rattle.ep_typed.proofs.Bares.{bare_twice}
+use Rattle.ep_typed.specs.Denoters.{array_over, array_type, set_over, set_type}
+use Rattle.ep_typed.specs.Results.{start_from}
 use Rattle.ep_typed.specs.Meaning.{elaborated, elaborated_where, elaborate, elaborate_each}
 use Rattle.ep_typed.specs.Operations.{last_char, maxint}
 use Rattle.ep_typed.specs.Steps.{Computation, bind, give, with_type}
 use Rattle.ep_typed.specs.Valid.{AreTyped, Declarations, IsTyped, array, components, enumeration, initial, named, next_typed, none_typed, required, set, subrange}
-use Rattle.ep_typed.specs.Trees.{Denoter, Array, Denoters, Named, no_denoter, constant_expr}
-use Rattle.ep_typed.specs.TypeValues.{ComponentTypes, TypeValue, bare_of}
+use Rattle.ep_typed.specs.Trees.{Denoter, Array, Denoters, Named, no_denoter}
+use Rattle.ep_typed.specs.TypeValues.{ComponentTypes, TypeValue, bare_each, bare_of}
 use Rattle.ep_typed.specs.TypeValues as type
 use Rattle.ep_typed.specs.declared.unit.UnitType.{UnitType}
 use Rattle.ep_object.specs.declared.op.TheConstants as op
@@ -45,15 +47,19 @@ use Rattle.ep_object.specs.declared.op.TheConstants as op
 from_zero : (n : ℕ) → IsTrue (int_le (pos 0) (pos n))
 from_zero n = grind (arith, nat_tests)
 
--- the types of components are given, and the numbers of so many types that describe them are on top
+-- what is given is of a type, but for initial states, whose bare form is this
+over_given : (a i : TypeValue) → bare_of a ≡ i → (u : TypeValue) → bare_of i ≡ u → bare_of a ≡ u
+over_given a i is u over = sym (bare_twice a) ∙ (ap bare_of is ∙ over)
+
+-- the types of components are given, but for initial states, and the numbers of so many types that describe them are on top
 record TypesOnTop (count : ℕ) (ts : ComponentTypes) (below : List Operand) (given : ComponentTypes) (injection : Injection)
     (memory : Memory) (operands : List Operand) : Type 0 where
-  types_are : given ≡ ts
+  types_are : bare_each given ≡ ts
   numbers : List ℕ
   many : length numbers ≡ count
   is : operands ≡ stacked numbers below
-  described : AreDescribed memory.types numbers ts
-  starts : AreStartsOfEach ts
+  described : AreDescribed memory.types numbers given
+  starts : AreStartsOfEach given
 
 module _ (declared : Declarations) (G : Image) (untouched : Slots) (Here : Facts) (lasts : Lasts untouched Here) (ps : List Placement) (p : Placement) (references : List Reference) (call : Handler) (steady_call : IsSteadyHandler call) (n g : ℕ) (unit : List ℕ) (line : ℕ) where
   -- from a place of the object, the machine follows the elaboration through the code, and leaves the type on top
@@ -77,7 +83,7 @@ module _ (declared : Declarations) (G : Image) (untouched : Slots) (Here : Facts
   array_elaborates : (at : ℕ) (low high : ℤ) (of : TypeValue) (index component : ℕ) → (injection : Injection) (memory : Memory) (below : List Operand) (d : ℕ) → least_credit ≤ d
       → IsLike memory.types index (type.Ordinal low high) → Describes memory.types component of → AreStarts of
       → CodeStands G ps p references at (bare line op.T_ARR ∷ [])
-      → Fragment declared G Here n (point injection memory (p.instructions.before + at) (Word (pos component) ∷ Word (pos index) ∷ below)) (elaborated call g unit (type.Array low high of)) (p.instructions.before + at + 1) (λ a. Inside untouched injection memory (TypeOnTop (type.Array low high of) below a)) d (λ a. d)
+      → Fragment declared G Here n (point injection memory (p.instructions.before + at) (Word (pos component) ∷ Word (pos index) ∷ below)) (elaborated call g unit (type.Array low high of)) (p.instructions.before + at + 1) (λ a. Inside untouched injection memory (TypeOnTop (type.Array low high (bare_of of)) below a)) d (λ a. d)
   array_elaborates at low high of index component injection memory below d enough index_is component_is starts stands =
       fragment_less {n = suc n} (omega arith) (fragment_counted {weight = 0} 0 (with_type (type.Array low high of)) (λ s. s) (type.Array low high of) (λ s. refl) grows_refl (λ s matches here. arr_does declared G (p.instructions.before + at) line below low high of index component stands.0 lasts injection memory s index_is component_is starts matches here) (omega (arith, enough)) (omega (arith, enough)) (omega (arith, enough)) (omega (arith, enough)))
 
@@ -97,10 +103,10 @@ module _ (declared : Declarations) (G : Image) (untouched : Slots) (Here : Facts
       let numbers : List ℕ = top.numbers in
       let has : slice_get G.instructions (p.instructions.before + at) ≡ Some (instr op.T_REC (pos (length numbers)) 0 line) = stands.0 ∙ ap (λ m. Some (instr op.T_REC (pos m) 0 line)) (sym top.many) in
       subst (λ o. Fragment declared G Here n (point injection memory (p.instructions.before + at) o) (elaborated call g unit (type.Record given)) (p.instructions.before + at + 1) (λ a. Inside untouched injection memory (TypeOnTop (type.Record ts) below a)) (d + 4 * count) (λ a. d + 4)) (sym top.is)
-      (subst (λ us. Fragment declared G Here n (point injection memory (p.instructions.before + at) (stacked numbers below)) (elaborated call g unit (type.Record us)) (p.instructions.before + at + 1) (λ a. Inside untouched injection memory (TypeOnTop (type.Record ts) below a)) (d + 4 * count) (λ a. d + 4)) (sym top.types_are)
-      (fragment_less {n = suc n} (omega arith) (fragment_counted {weight = length numbers} 0 (with_type (type.Record ts)) (λ s. s) (type.Record ts) (λ s. refl) grows_refl (λ s matches here. rec_does declared G (p.instructions.before + at) line below numbers ts has lasts injection memory s top.described top.starts matches here) (omega (arith, enough, top.many)) (omega arith) (omega (arith, enough, top.many)) (omega (arith, enough, top.many)))))
+      (subst (λ us. Fragment declared G Here n (point injection memory (p.instructions.before + at) (stacked numbers below)) (elaborated call g unit (type.Record given)) (p.instructions.before + at + 1) (λ a. Inside untouched injection memory (TypeOnTop (type.Record us) below a)) (d + 4 * count) (λ a. d + 4)) top.types_are
+      (fragment_less {n = suc n} (omega arith) (fragment_counted {weight = length numbers} 0 (with_type (type.Record given)) (λ s. s) (type.Record given) (λ s. refl) grows_refl (λ s matches here. rec_does declared G (p.instructions.before + at) line below numbers given has lasts injection memory s top.described top.starts matches here) (omega (arith, enough, top.many)) (omega arith) (omega (arith, enough, top.many)) (omega (arith, enough, top.many)))))
 
-  module _ (types : List UnitType) (types_are : declared.types unit ≡ types) (among : AreAmong untouched (kept_slots declared G)) (kept : CallsAreKept declared G ps call n) (referred : AreReferred declared unit types references) where
+  module _ (types : List UnitType) (types_are : declared.types unit ≡ types) (among : AreAmong untouched (kept_slots declared G)) (kept : CallsAreKept declared G ps call n) (referred : AreReferred declared unit types references) (swap_referred : IsSwapReferred declared unit references) (fill_referred : IsFillReferred declared unit references) where
     -- a name, by a call of the routine that elaborates its type
     named_elaborates : (at index : ℕ) (t : TypeValue) → IsTyped types (Named index []) t → index < length types → IsElaborated at (instr op.CALL (pos (type_reference index)) 0 line ∷ []) t (call.named_type unit line index)
     named_elaborates at index t typed within stands injection memory below d enough home =
@@ -120,13 +126,13 @@ module _ (declared : Declarations) (G : Image) (untouched : Slots) (Here : Facts
         → Fragment declared G Here n (point longer after (p.instructions.before + (at + length (type_code line index))) pushed) (bind (elaborate call g unit line component) (λ u. elaborated_where call g unit (array_type (Some a) (Some u)))) (p.instructions.before + (at + length (type_code line (Array index component)))) (λ b. Inside untouched longer after (TypeOnTop (type.Array low high of) below b)) (d + 4) (λ b. d + 4)
     then_component at index component below d enough a longer after pushed i low high of over top follows stands ends =
         subst (λ o. Fragment declared G Here n (point longer after (p.instructions.before + (at + length (type_code line index))) o) (bind (elaborate call g unit line component) (λ u. elaborated_where call g unit (array_type (Some a) (Some u)))) (p.instructions.before + (at + length (type_code line (Array index component)))) (λ b. Inside untouched longer after (TypeOnTop (type.Array low high of) below b)) (d + 4) (λ b. d + 4)) (sym top.is)
-        (subst (λ t. Fragment declared G Here n (point longer after (p.instructions.before + (at + length (type_code line index))) (Word (pos top.number) ∷ below)) (bind (elaborate call g unit line component) (λ u. elaborated_where call g unit (array_over (Some t) (Some u)))) (p.instructions.before + (at + length (type_code line (Array index component)))) (λ b. Inside untouched longer after (TypeOnTop (type.Array low high of) below b)) (d + 4) (λ b. d + 4)) (sym (ap bare_of top.type_is ∙ over))
+        (subst (λ t. Fragment declared G Here n (point longer after (p.instructions.before + (at + length (type_code line index))) (Word (pos top.number) ∷ below)) (bind (elaborate call g unit line component) (λ u. elaborated_where call g unit (array_over (Some t) (Some u)))) (p.instructions.before + (at + length (type_code line (Array index component)))) (λ b. Inside untouched longer after (TypeOnTop (type.Array low high of) below b)) (d + 4) (λ b. d + 4)) (sym (over_given a i top.type_is (type.Ordinal low high) over))
         (inside_bind {e = λ u. d + 4 + 4} (λ u. steady_elaborated_where call steady_call g unit (array_over (Some (type.Ordinal low high)) (Some u))) follows
         (λ u last final above grown routine second.
         subst (λ o. Fragment declared G Here n (point last final (p.instructions.before + (at + length (type_code line index) + length (type_code line component))) o) (elaborated call g unit (type.Array low high u)) (p.instructions.before + (at + length (type_code line (Array index component)))) (λ b. Inside untouched last final (TypeOnTop (type.Array low high of) below b)) (d + 4 + 4) (λ b. d + 4)) (sym second.is)
-        (subst (λ t. Fragment declared G Here n (point last final (p.instructions.before + (at + length (type_code line index) + length (type_code line component))) (Word (pos second.number) ∷ Word (pos top.number) ∷ below)) (elaborated call g unit (type.Array low high t)) (p.instructions.before + (at + length (type_code line (Array index component)))) (λ b. Inside untouched last final (TypeOnTop (type.Array low high of) below b)) (d + 4 + 4) (λ b. d + 4)) (sym second.type_is)
+        (subst (λ t. Fragment declared G Here n (point last final (p.instructions.before + (at + length (type_code line index) + length (type_code line component))) (Word (pos second.number) ∷ Word (pos top.number) ∷ below)) (elaborated call g unit (type.Array low high u)) (p.instructions.before + (at + length (type_code line (Array index component)))) (λ b. Inside untouched last final (TypeOnTop (type.Array low high t) below b)) (d + 4 + 4) (λ b. d + 4)) second.type_is
         (fragment_to (ap (λ k. p.instructions.before + k) ends) (fragment_to (omega arith) (fragment_credit {d = d + 4 + 4} {e = λ b. d + 4 + 4} (omega arith) (λ b. omega arith)
-        (array_elaborates (at + length (type_code line index) + length (type_code line component)) low high of top.number second.number last final below (d + 4 + 4) (omega (arith, enough)) (i, over, described-longer after.types final.types top.number i grown.types top.described) second.described second.starts stands))))))))
+        (array_elaborates (at + length (type_code line index) + length (type_code line component)) low high u top.number second.number last final below (d + 4 + 4) (omega (arith, enough)) (a, over_given a i top.type_is (type.Ordinal low high) over, described-longer after.types final.types top.number a grown.types top.described) second.described second.starts stands))))))))
 
     -- the rest behind the first one of them
     then_rest : (at to : ℕ) (ds : Denoters) (below : List Operand) (d : ℕ) (a : TypeValue) (longer : Injection) (after : Memory) (pushed : List Operand) (t : TypeValue) (ts : ComponentTypes)
@@ -142,7 +148,7 @@ module _ (declared : Declarations) (G : Image) (untouched : Slots) (Here : Facts
           numbers = top.number ∷ rest.numbers;
           many = ap suc rest.many;
           is = rest.is;
-          described = (described-longer after.types final.types top.number t grown.types top.described, rest.described);
+          described = (described-longer after.types final.types top.number a grown.types top.described, rest.described);
           starts = (top.starts, rest.starts);
         }))))
 
@@ -195,16 +201,16 @@ module _ (declared : Declarations) (G : Image) (untouched : Slots) (Here : Facts
           (elaborates at base b typed (code_front G ps p references at xs (last ∷ []) stands) injection memory below d enough home)
           (λ a longer after pushed grown routine top.
           subst (λ o. Fragment declared G Here n (point longer after middle o) (elaborated_where call g unit (set_type (Some a))) end (λ c. Inside untouched longer after (TypeOnTop (type.Set low high) below c)) (d + 4) (λ c. d + 4)) (sym top.is)
-          (subst (λ u. Fragment declared G Here n (point longer after middle (Word (pos top.number) ∷ below)) (elaborated_where call g unit (set_over (Some u))) end (λ c. Inside untouched longer after (TypeOnTop (type.Set low high) below c)) (d + 4) (λ c. d + 4)) (sym (ap bare_of top.type_is ∙ over))
-          (fragment_to ends (set_elaborates (at + length xs) low high top.number from upto longer after below (d + 4) (omega (arith, enough)) (b, over, top.described) (code_back G ps p references at xs (last ∷ []) stands)))))
-      elaborates at d t (initial of value u start typed starts fits) = λ stands injection memory below d enough home.
+          (subst (λ u. Fragment declared G Here n (point longer after middle (Word (pos top.number) ∷ below)) (elaborated_where call g unit (set_over (Some u))) end (λ c. Inside untouched longer after (TypeOnTop (type.Set low high) below c)) (d + 4) (λ c. d + 4)) (sym (over_given a b top.type_is (type.Ordinal low high) over))
+          (fragment_to ends (set_elaborates (at + length xs) low high top.number from upto longer after below (d + 4) (omega (arith, enough)) (a, over_given a b top.type_is (type.Ordinal low high) over, top.described) (code_back G ps p references at xs (last ∷ []) stands)))))
+      elaborates at d t (initial of value u typed fits) = λ stands injection memory below d enough home.
           let xs : List Instr = type_code line of in
           let ys : List Instr = start_code line value ++ bare line op.T_INIT ∷ [] in
           let ends : p.instructions.before + (at + length xs + length ys) ≡ p.instructions.before + (at + length (xs ++ ys)) = omega (arith, length-append xs ys) in
-          inside_bind {e = λ a. d + 4} (λ a. steady_bind (steady_eval call steady_call g unit line (constant_expr value)) (λ r. steady_begins_where call steady_call g unit line a r (start_by value)))
+          inside_bind {e = λ a. d + 4} (λ a. steady_bind (steady_eval call steady_call g unit line value) (λ r. steady_begins_where call steady_call g unit line a r (start_from r)))
           (elaborates at of u typed (code_front G ps p references at xs ys stands) injection memory below d enough home)
           (λ a longer after pushed grown routine top.
-          fragment_to ends (start_follows declared G untouched Here lasts ps p references call steady_call n g unit line types (at + length xs) of value u start starts fits typed (code_back G ps p references at xs ys stands) longer after below pushed a (d + 4) (omega (arith, enough)) (unit_in-same G routine ∙ home) top))
+          fragment_to ends (start_follows declared G untouched Here lasts among ps p references call steady_call n kept g unit line types types_are referred swap_referred fill_referred (at + length xs) u value fits (code_back G ps p references at xs ys stands) longer after below pushed a (d + 4) (omega (arith, enough)) (unit_in-same G routine ∙ home) top))
 
       each_elaborates : (at : ℕ) (ds : Denoters) (ts : ComponentTypes) → AreTyped types ds ts → IsElaboratedEach at ds ts
       each_elaborates at ds ts none_typed = none_elaborate at

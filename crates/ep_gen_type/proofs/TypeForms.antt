@@ -9,7 +9,8 @@ use Rattle.ep_gen_code.specs.Growth.{Grows}
 use Rattle.ep_gen_code.specs.declared.code.Code.{Code}
 use Rattle.std.proofs.lemmas.List.{map_more, take_more}
 use Rattle.ep_gen_code.proofs.Growing.{grows_at, grows_none}
-use Rattle.ep_gen_type.specs.TypeCode.{each_code, how_many, ordinal_code, start_code, type_code}
+use Rattle.ep_gen_expr.specs.ExprCode.{begin_code, end_code, first_code, first_index, ranges_code, reach_code}
+use Rattle.ep_gen_type.specs.TypeCode.{each_code, how_many, ordinal_code, part_code, parts_code, start_code, type_code}
 use Rattle.std.specs.Prelude.{Bool, is_some}
 use Rattle.ep_typed.specs.Denoters.{found_of, host_within}
 use Rattle.ep_typed.specs.Trees as tree
@@ -19,8 +20,7 @@ use Rattle.ep_typed.specs.declared.denoter.FieldPart.{FieldPart, fold-FieldPart,
 use Rattle.ep_typed.specs.declared.denoter.VariantPart.{VariantPart, fold-VariantPart, out-VariantPart, roll-VariantPart, roll-out-VariantPart}
 use Rattle.ep_typed.specs.declared.denoter.Bound.{Bound}
 use Rattle.ep_typed.specs.declared.unit.UnitType.{UnitType}
-use Rattle.ep_typed.specs.declared.value.Value.{Value}
-use Rattle.ep_typed.specs.declared.value.Value.TheVariants as constant
+use Rattle.ep_typed.specs.declared.tree.CaseRange.{CaseRange}
 use Rattle.ep_object.specs.declared.op.TheConstants as op
 
 pub grows_ordinal : {a b c d : Code} (low high : ℤ) → Grows a b (push a.line low ∷ []) → Grows b c (push b.line high ∷ []) → Grows c d (bare c.line op.T_ORD ∷ []) → Grows a d (ordinal_code a.line low high)
@@ -60,7 +60,7 @@ module _ (a : Code) where
   by_base base p q = grows_at (λ line. bare line op.T_SET ∷ []) p q
 
   -- a type and its initial state, and then the type with it
-  pub by_start : {b c d : Code} (of : tree.Denoter) (value : Value) → Grows a b (type_code a.line of) → Grows b c (start_code b.line value) → Grows c d (bare c.line op.T_INIT ∷ []) → Grows a d (type_code a.line (tree.Initial of value))
+  pub by_start : {b c d : Code} (of : tree.Denoter) (value : tree.Expr) → Grows a b (type_code a.line of) → Grows b c (start_code b.line value) → Grows c d (bare c.line op.T_INIT ∷ []) → Grows a d (type_code a.line (tree.Initial of value))
   by_start of value p q r =
       grows_at (λ line. start_code line value ++ bare line op.T_INIT ∷ []) p (grows_at (λ line. bare line op.T_INIT ∷ []) q r)
 
@@ -149,7 +149,7 @@ by_host types (suc left) k tuple t b le none is h =
 
 -- ---- initial states that are sets
 
-starts_push : (line : ℕ) (ms : List ℕ) (m : ℕ) → start_code line (constant.Set (ms ++ m ∷ [])) ≡ start_code line (constant.Set ms) ++ push line (pos m) ∷ bare line op.SET_ADD ∷ []
+starts_push : (line : ℕ) (ms : List ℕ) (m : ℕ) → start_code line (tree.SetConstant (ms ++ m ∷ [])) ≡ start_code line (tree.SetConstant ms) ++ push line (pos m) ∷ bare line op.SET_ADD ∷ []
 starts_push line ms m = ap (λ l. bare line op.SET_NONE ∷ l) (members_push line ms m)
   where
     members_push : (line : ℕ) (ms : List ℕ) (m : ℕ) → members_code line (ms ++ m ∷ []) ≡ members_code line ms ++ push line (pos m) ∷ bare line op.SET_ADD ∷ []
@@ -157,8 +157,46 @@ starts_push line ms m = ap (λ l. bare line op.SET_NONE ∷ l) (members_push lin
     members_push line (k ∷ ms) m = ap (λ l. push line (pos k) ∷ bare line op.SET_ADD ∷ l) (members_push line ms m)
 
 -- one more member of a slice, for `set_start_code`
-pub start_more : {a b c d : Code} (xs : List ℕ) (k : ℕ) → k < length xs → Grows a b (start_code a.line (constant.Set (take k xs))) → Grows b c (push b.line (pos (get_or xs k 0)) ∷ []) → Grows c d (bare c.line op.SET_ADD ∷ [])
-    → Grows a d (start_code a.line (constant.Set (take (k + 1) xs)))
+pub start_more : {a b c d : Code} (xs : List ℕ) (k : ℕ) → k < length xs → Grows a b (start_code a.line (tree.SetConstant (take k xs))) → Grows b c (push b.line (pos (get_or xs k 0)) ∷ []) → Grows c d (bare c.line op.SET_ADD ∷ [])
+    → Grows a d (start_code a.line (tree.SetConstant (take (k + 1) xs)))
 start_more {a = a} {d = d} xs k h p q r =
-    subst (λ l. Grows a d (start_code a.line (constant.Set l))) (sym (take_more xs k 0 h))
+    subst (λ l. Grows a d (start_code a.line (tree.SetConstant l))) (sym (take_more xs k 0 h))
     (subst (λ l. Grows a d l) (sym (starts_push a.line (take k xs) (get_or xs k 0))) (grows_at (λ line. push line (pos (get_or xs k 0)) ∷ bare line op.SET_ADD ∷ []) p (grows_at (λ line. bare line op.SET_ADD ∷ []) q r)))
+
+-- ---- initial states that are arrays or records
+
+module _ (a : Code) where
+  -- the components in ranges, and the value that all of them are given
+  pub by_ranges : {b c d e : Code} (ranges : List CaseRange) (x : tree.Expr) → Grows a b (first_code a.line ranges) → Grows b c (start_code b.line x) → Grows c d (bare c.line op.STORE ∷ []) → Grows d e (ranges_code d.line (first_index ranges) ranges)
+      → Grows a e (part_code a.line (tree.AtRanges ranges x))
+  by_ranges ranges x first value store filled =
+      grows_at (λ line. start_code line x ++ bare line op.STORE ∷ ranges_code line (first_index ranges) ranges) first
+      (grows_at (λ line. bare line op.STORE ∷ ranges_code line (first_index ranges) ranges) value (grows_at (λ line. ranges_code line (first_index ranges) ranges) store filled))
+
+  -- the component of a record to which steps lead, and its value
+  pub by_field : {b c d : Code} (steps : List ℕ) (x : tree.Expr) → Grows a b (reach_code a.line steps) → Grows b c (start_code b.line x) → Grows c d (bare c.line op.STORE ∷ [])
+      → Grows a d (part_code a.line (tree.AtField steps x))
+  by_field steps x field value store =
+      grows_at (λ line. start_code line x ++ bare line op.STORE ∷ []) field (grows_at (λ line. bare line op.STORE ∷ []) value store)
+
+  -- the whole
+  pub by_structure : {b c d : Code} (of : ℕ) (es : tree.Elements) → Grows a b (begin_code a.line of) → Grows b c (parts_code b.line es) → Grows c d (end_code c.line)
+      → Grows a d (start_code a.line (tree.Structured of es))
+  by_structure of es begun given ended =
+      grows_at (λ line. parts_code line es ++ end_code line) begun (grows_at end_code given ended)
+
+  parts_push : (es : List tree.Element) (e : tree.Element) → parts_code a.line (tree.elements (es ++ e ∷ [])) ≡ parts_code a.line (tree.elements es) ++ part_code a.line e
+  parts_push [] e = append-nil (part_code a.line e)
+  parts_push (f ∷ es) e = ap (λ l. part_code a.line f ++ l) (parts_push es e) ∙ sym (append_assoc (part_code a.line f) (parts_code a.line (tree.elements es)) (part_code a.line e))
+
+  -- nothing yet
+  pub no_parts : Grows a a (parts_code a.line tree.no_element)
+  no_parts = grows_none a
+
+  -- one more of a slice
+  pub parts_more : {X : Type 0} {b c : Code} (view : X → tree.Element) (xs : List X) (k : ℕ) (y : X) → k < length xs → y ≡ get_or xs k y
+      → Grows a b (parts_code a.line (tree.elements (map view (take k xs)))) → Grows b c (part_code b.line (view y))
+      → Grows a c (parts_code a.line (tree.elements (map view (take (k + 1) xs))))
+  parts_more {c = c} view xs k y h e p q =
+      subst (λ l. Grows a c (parts_code a.line (tree.elements l))) (ap (λ z. map view (take k xs) ++ view z ∷ []) e ∙ sym (map_more view xs k y h))
+      (subst (λ l. Grows a c l) (sym (parts_push (map view (take k xs)) (view y))) (grows_at (λ line. part_code line (view y)) p q))

@@ -6,11 +6,10 @@ use Rattle.ep_gen_code.specs.Referring.{type_reference}
 use Rattle.ep_gen_code.specs.Instructions.{bare, instr, members_code, push}
 use Rattle.ep_object.specs.declared.code.Instr.{Instr}
 use Rattle.ep_typed.specs.Denoters.{enumeration_type, required_type, subrange_type}
-use Rattle.ep_typed.specs.Trees.{Denoter, Required, Named, Subrange, Enumeration, Array, Record, Set, Initial, Denoters, no_denoter, next_denoter}
+use Rattle.ep_gen_expr.specs.ExprCode.{begin_code, end_code, first_code, first_index, ranges_code, reach_code, same_code}
+use Rattle.ep_typed.specs.Trees.{Expr, Constant, SetConstant, Structured, Element, AtIndex, AtField, SameField, AtRanges, Elements, no_element, next_element, Denoter, Required, Named, Subrange, Enumeration, Array, Record, Set, Initial, Denoters, no_denoter, next_denoter}
 use Rattle.ep_typed.specs.TypeValues as type
 use Rattle.ep_typed.specs.TypeValues.{TypeValue}
-use Rattle.ep_typed.specs.declared.value.Value.{Value}
-use Rattle.ep_typed.specs.declared.value.Value.TheVariants as constant
 use Rattle.ep_object.specs.declared.op.TheConstants as op
 
 -- the bounds of an ordinal type, and the type
@@ -22,11 +21,25 @@ abbrev pub simple_code : ℕ → Option TypeValue → List Instr
 simple_code line (Some (type.Ordinal low high)) = ordinal_code line low high
 simple_code line _ = []
 
--- the code that leaves an initial state; a text is none so far
-abbrev pub start_code : ℕ → Value → List Instr
-start_code line (constant.Word z) = push line z ∷ []
-start_code line (constant.Text bytes) = []
-start_code line (constant.Set ms) = bare line op.SET_NONE ∷ members_code line ms
+abbrev mutual
+  -- The code that leaves an initial state; an array or a record is made as a structured value is. What is no constant is none.
+  pub start_code : ℕ → Expr → List Instr
+  start_code line (Constant z) = push line z ∷ []
+  start_code line (SetConstant ms) = bare line op.SET_NONE ∷ members_code line ms
+  start_code line (Structured of es) = begin_code line of ++ (parts_code line es ++ end_code line)
+  start_code line _ = []
+
+  -- the code of what a component is given
+  pub part_code : ℕ → Element → List Instr
+  part_code line (AtRanges ranges x) = first_code line ranges ++ (start_code line x ++ bare line op.STORE ∷ ranges_code line (first_index ranges) ranges)
+  part_code line (AtField steps x) = reach_code line steps ++ (start_code line x ++ bare line op.STORE ∷ [])
+  part_code line (SameField from to) = same_code line from to
+  part_code line (AtIndex x y) = []
+
+  -- in order
+  pub parts_code : ℕ → Elements → List Instr
+  parts_code line no_element = []
+  parts_code line (next_element e more) = part_code line e ++ parts_code line more
 
 -- how many denoters there are
 abbrev pub how_many : Denoters → ℕ

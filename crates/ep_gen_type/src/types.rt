@@ -2,18 +2,20 @@
 
 ghost use Rattle.std.specs.Prelude.{◌≡◌, [], ◌∷◌, IfOk, OnOk, suc, is_some, length, map, Some};
 ghost use Rattle.ep_typed.specs.Denoters as denoters;
-ghost use Rattle.ep_typed.specs.Trees.{denoters as in_order, Array, Initial, Named, Record, Set};
-ghost use Rattle.ep_typed.specs.Viewed.{bound_of, components_of, denoter_of, field_of, selector_of, variant_of, variants_of};
+ghost use Rattle.ep_typed.specs.Trees.{denoters as in_order, elements, Array, AtField, AtRanges, Initial, Named, Record, Set, SetConstant, Structured};
+ghost use Rattle.ep_typed.specs.Viewed.{bound_of, components_of, constant_expr, denoter_of, element_of, expr_of, field_of, selector_of, variant_of, variants_of};
 ghost use Rattle.ep_gen_code.specs.Growth.{Grows};
-ghost use Rattle.ep_gen_type.specs.TypeCode.{each_code, ordinal_code, simple_code, start_code as code_of_start, type_code};
-ghost use Rattle.ep_typed.specs.declared.value.Value.TheVariants as constant;
+ghost use Rattle.ep_gen_type.specs.TypeCode.{each_code, ordinal_code, part_code as code_of_part, parts_code, simple_code, start_code, type_code};
 
 use ep_base::{Name, NoMemory};
 use ep_gen_code::{Code, emit, field_number, place_number, type_reference};
+use ep_gen_expr::{
+    begin_structured, end_structured, fill_ranges, reach_field, reach_first, same_field,
+};
 use ep_object::op;
 use ep_typed::{
-    Bound, Denoter, FieldPart, RecordField, RequiredType, Selector, UnitType, Value, Variant,
-    VariantPart,
+    Bound, CaseRange, Denoter, Element, FieldPart, RecordField, RequiredType, Selector, TypedExpr,
+    UnitType, Value, Variant, VariantPart,
 };
 
 /// Appends the code that elaborates a denoter and leaves the type. What has no type value has no meaning and no code.
@@ -69,10 +71,10 @@ fn set_code(base: &Denoter, code: &mut Code) -> Result<(), NoMemory>
 #[cycle(denoters)]
 fn initial_code(of: &Denoter, value: &Value, code: &mut Code) -> Result<(), NoMemory>
     ensures { OnOk result (Grows code.old code.new
-        (type_code code.old.line (Initial (denoter_of of.now) value.now))) }
+        (type_code code.old.line (Initial (denoter_of of.now) (constant_expr value.now)))) }
 {
     elaborate(of, code)?;
-    start_code(value, code)?;
+    initial_state_code(value, code)?;
     emit(code, op::T_INIT, 0, 0)
 }
 
@@ -178,19 +180,96 @@ fn variant_code(variant: &Variant, code: &mut Code) -> Result<(), NoMemory>
 }
 
 /// Appends the code that leaves an initial state.
-fn start_code(value: &Value, code: &mut Code) -> Result<(), NoMemory>
-    ensures { OnOk result (Grows code.old code.new (code_of_start code.old.line value.now)) }
+fn initial_state_code(value: &Value, code: &mut Code) -> Result<(), NoMemory>
+    ensures { OnOk result (Grows code.old code.new (start_code code.old.line (constant_expr value.now))) }
 {
     match value {
         Value::Word(number) => emit(code, op::PUSH, *number, 0),
         Value::Text(_) => Ok(()),
         Value::Set(members) => set_start_code(members.items(), code),
+        Value::Structured(number, parts) => structured_start_code(*number, parts.items(), code),
     }
+}
+
+/// Appends the code that leaves a constant that a component of an initial state is given.
+#[cycle(starts)]
+fn constant_code(value: &TypedExpr, code: &mut Code) -> Result<(), NoMemory>
+    ensures { OnOk result (Grows code.old code.new (start_code code.old.line (expr_of value.now))) }
+{
+    match value {
+        TypedExpr::Constant(number) => emit(code, op::PUSH, *number, 0),
+        TypedExpr::SetConstant(members) => set_start_code(members.items(), code),
+        TypedExpr::Structured(number, parts) => structured_start_code(*number, parts.items(), code),
+        _ => Ok(()),
+    }
+}
+
+/// Appends the code that leaves an array or a record, by a variable without a name that is given the components.
+#[cycle(starts)]
+fn structured_start_code(number: u32, parts: &[Element], code: &mut Code) -> Result<(), NoMemory>
+    ensures { OnOk result (Grows code.old code.new
+        (start_code code.old.line (Structured number (elements (map element_of parts.now))))) }
+{
+    begin_structured(number, code)?;
+    start_parts_code(parts, code)?;
+    end_structured(code)
+}
+
+/// Appends the code of what components of it are given, in order.
+#[cycle(starts)]
+fn start_parts_code(parts: &[Element], code: &mut Code) -> Result<(), NoMemory>
+    ensures { OnOk result (Grows code.old code.new
+        (parts_code code.old.line (elements (map element_of parts.now)))) }
+{
+    for part in parts {
+        start_part_code(part, code)?;
+    }
+    Ok(())
+}
+
+/// Appends the code of what components in ranges, or the one of a field, are given.
+#[cycle(starts)]
+fn start_part_code(part: &Element, code: &mut Code) -> Result<(), NoMemory>
+    ensures { OnOk result (Grows code.old code.new (code_of_part code.old.line (element_of part.now))) }
+{
+    match part {
+        Element::AtRanges(ranges, value) => ranges_start_code(ranges.items(), value.get(), code),
+        Element::AtField(steps, value) => field_start_code(steps.items(), value.get(), code),
+        Element::SameField(from, to) => same_field(from.items(), to.items(), code),
+        Element::AtIndex(_, _) => Ok(()),
+    }
+}
+
+/// Appends the code of the components of an array in ranges, and of the value that all of them are given.
+#[cycle(starts)]
+fn ranges_start_code(
+    ranges: &[CaseRange],
+    value: &TypedExpr,
+    code: &mut Code,
+) -> Result<(), NoMemory>
+    ensures { OnOk result (Grows code.old code.new
+        (code_of_part code.old.line (AtRanges ranges.now (expr_of value.now)))) }
+{
+    reach_first(ranges, code)?;
+    constant_code(value, code)?;
+    emit(code, op::STORE, 0, 0)?;
+    fill_ranges(ranges, code)
+}
+
+/// Appends the code of the component of a record to which steps lead, and of its value.
+#[cycle(starts)]
+fn field_start_code(steps: &[u32], value: &TypedExpr, code: &mut Code) -> Result<(), NoMemory>
+    ensures { OnOk result (Grows code.old code.new
+        (code_of_part code.old.line (AtField steps.now (expr_of value.now)))) }
+{
+    reach_field(steps, code)?;
+    constant_code(value, code)?;
+    emit(code, op::STORE, 0, 0)
 }
 
 /// Appends the code that leaves a set: the empty set, to which each member is added.
 fn set_start_code(members: &[u8], code: &mut Code) -> Result<(), NoMemory>
-    ensures { OnOk result (Grows code.old code.new (code_of_start code.old.line (constant.Set members.now))) }
+    ensures { OnOk result (Grows code.old code.new (start_code code.old.line (SetConstant members.now))) }
 {
     emit(code, op::SET_NONE, 0, 0)?;
     for member in members {

@@ -5,7 +5,7 @@ use Rattle.ep_gen_code.specs.Credit.{least_credit}
 use Rattle.ep_gen_code.specs.Instructions.{instr}
 use Rattle.ep_gen_unit.specs.StmtCode.{make_code, make_all_code}
 use Rattle.ep_gen_type.specs.TypeCode.{type_code}
-use Rattle.ep_gen_code.specs.Referring.{AreReferred}
+use Rattle.ep_gen_code.specs.Referring.{AreReferred, IsFillReferred, IsSwapReferred}
 use Rattle.ep_gen_type.proofs.Elaborating.{elaborates}
 use Rattle.ep_object.specs.Promises.{CallsAreKept}
 use Rattle.ep_gen_unit.specs.UnitLaws.{AreDeclared}
@@ -29,7 +29,8 @@ use Rattle.ep_object.specs.declared.code.Instr.{Instr}
 use Rattle.ep_typed.specs.Steady.{IsSteadyHandler}
 use Rattle.ep_typed.specs.Calls.{Handler}
 use Rattle.ep_typed.proofs.Denoters.{types_are_instances}
-use Rattle.ep_typed.proofs.Typed.{typed_value}
+use Rattle.ep_typed.proofs.Bares.{value_bare}
+use Rattle.ep_typed.proofs.Typed.{typed_bare, typed_value}
 use Rattle.ep_typed.proofs.Steady.{grows_made, steady_allocate, steady_make_all}
 use Rattle.ep_typed.specs.Meaning.{make, make_all}
 use Rattle.ep_typed.specs.Steps.{Computation, counted, made, allocate, size_of}
@@ -59,7 +60,7 @@ MovesIn declared G untouched Here p n x at to c =
     → Fragment declared G Here n (point injection memory (p.instructions.before + at) below) c (p.instructions.before + to) (λ a. Inside untouched injection memory (Bare below a)) d (λ a. d)
 
 module _ (declared : Declarations) (G : Image) (untouched : Slots) (Here : Facts) (lasts : Lasts untouched Here) (ps : List Placement) (p : Placement) (references : List Reference) (call : Handler) (steady_call : IsSteadyHandler call) (n : ℕ) (x : ImageUnit) (free : VariablesAreFree declared G untouched x) (distinct : HasDistinctNames G) (types_valid : HaveValidTypes declared)
-    (among : AreAmong untouched (kept_slots declared G)) (kept : CallsAreKept declared G ps call n) (referred : AreReferred declared x.name (declared.types x.name) references) where
+    (among : AreAmong untouched (kept_slots declared G)) (kept : CallsAreKept declared G ps call n) (referred : AreReferred declared x.name (declared.types x.name) references) (swap_referred : IsSwapReferred declared x.name references) (fill_referred : IsFillReferred declared x.name references) where
   module _ (number line at : ℕ) (v : UnitVariable) (is_declared : declared.variables x.name number ≡ Some v) (within : number < x.slots) where
     -- `Make`, over the number of the type
     make_row_moves : (t : TypeValue) (type_number : ℕ) → IsTypeValue t → AreStarts t
@@ -80,17 +81,18 @@ module _ (declared : Declarations) (G : Image) (untouched : Slots) (Here : Facts
       let valid : IsDenoter types (denoter_of v.denoter) = types_valid x.name number v is_declared in
       let t : TypeValue = valid.type_value in
       let code : List Instr = type_code v.line (denoter_of v.denoter) in
-      let is_type : IsTypeValue t = typed_value types (denoter_of v.denoter) t valid.typed in
       let parts = code_stands-parts G ps p references at code (instr op.MAKE (pos number) 0 v.line ∷ []) stands in
       let ends : p.instructions.before + (at + length code) + 1 ≡ p.instructions.before + (at + length (code ++ instr op.MAKE (pos number) 0 v.line ∷ [])) = omega (arith, length-append code (instr op.MAKE (pos number) 0 v.line ∷ [])) in
-      let has_type : ((w : UnitVariable) → declared.variables x.name number ≡ Some w → HasType declared x.name w (bare_of t)) = λ w e. subst (λ (u : UnitVariable). HasType declared x.name u (bare_of t)) (same_Some v w (sym is_declared ∙ e)) (t, types_are_instances types (denoter_of v.denoter) t valid.has_type, refl) in
+      let own : bare_of t ≡ t = typed_bare types (denoter_of v.denoter) t valid.typed in
+      let has_type : (a : TypeValue) → bare_of a ≡ t → (w : UnitVariable) → declared.variables x.name number ≡ Some w → HasType declared x.name w (bare_of a) =
+      λ a is w e. subst (λ (u : UnitVariable). HasType declared x.name u (bare_of a)) (same_Some v w (sym is_declared ∙ e)) (t, types_are_instances types (denoter_of v.denoter) t valid.has_type, own ∙ sym is) in
       inside_bind {First = TypeOnTop t below} {e = λ a. d + 4} (λ a. steady_allocate x.name number a)
-      (elaborates declared G untouched Here lasts ps p references call steady_call n g x.name v.line types refl among kept referred at (denoter_of v.denoter) t valid.typed parts.0 injection memory below d enough named)
+      (elaborates declared G untouched Here lasts ps p references call steady_call n g x.name v.line types refl among kept referred swap_referred fill_referred at (denoter_of v.denoter) t valid.typed parts.0 injection memory below d enough named)
       (λ a longer after pushed grown routine top.
-      subst (λ u. Fragment declared G Here n (point longer after (p.instructions.before + (at + length code)) pushed) (allocate x.name number u) (p.instructions.before + (at + length (code ++ instr op.MAKE (pos number) 0 v.line ∷ []))) (λ b. Inside untouched longer after (Bare below b)) (d + 4) (λ b. d)) (sym top.type_is)
-      (subst (λ o. Fragment declared G Here n (point longer after (p.instructions.before + (at + length code)) o) (allocate x.name number t) (p.instructions.before + (at + length (code ++ instr op.MAKE (pos number) 0 v.line ∷ []))) (λ b. Inside untouched longer after (Bare below b)) (d + 4) (λ b. d)) (sym top.is)
+      let is_type : IsTypeValue a = value_bare a (subst IsTypeValue (sym top.type_is) (typed_value types (denoter_of v.denoter) t valid.typed)) in
+      subst (λ o. Fragment declared G Here n (point longer after (p.instructions.before + (at + length code)) o) (allocate x.name number a) (p.instructions.before + (at + length (code ++ instr op.MAKE (pos number) 0 v.line ∷ []))) (λ b. Inside untouched longer after (Bare below b)) (d + 4) (λ b. d)) (sym top.is)
       (fragment_to ends (fragment_credit {d = d + 4} {e = λ b. d} (omega arith) (λ b. omega arith)
-      (make_row_moves number v.line at v is_declared within t top.number is_type top.starts has_type (p.instructions.before + (at + length code)) parts.1.0 longer after below (d + 4) d (omega (arith, enough)) (omega arith) (λ e. omega arith) (same_frame G x memory.frames after.frames routine home) top.described)))))
+      (make_row_moves number v.line at v is_declared within a top.number is_type top.starts (has_type a top.type_is) (p.instructions.before + (at + length code)) parts.1.0 longer after below (d + 4) d (omega (arith, enough)) (omega arith) (λ e. omega arith) (same_frame G x memory.frames after.frames routine home) top.described))))
 
   -- and so are the variables from this number on
   all_moves : (g number at : ℕ) (vs : List UnitVariable) → AreDeclared declared x.name number vs

@@ -7,7 +7,7 @@ use Rattle.ep_gen_code.proofs.Placed.{instr_at}
 use Rattle.ep_gen_expr.proofs.PlaceTypes.{has_bare_type}
 use Rattle.ep_gen_unit.specs.StmtCode.{make_code, make_all_code, value_code, place_taken, take_code, take_all_code}
 use Rattle.ep_gen_type.specs.TypeCode.{type_code}
-use Rattle.ep_gen_code.specs.Referring.{AreReferred}
+use Rattle.ep_gen_code.specs.Referring.{AreReferred, IsFillReferred, IsSwapReferred}
 use Rattle.ep_gen_type.proofs.Elaborating.{elaborates}
 use Rattle.ep_gen_unit.proofs.Sized.{fragment_sized}
 use Rattle.ep_gen_unit.proofs.Parts.{code_stands-parts}
@@ -44,7 +44,8 @@ use Rattle.ep_typed.specs.declared.interface.Formal.{Formal}
 use Rattle.ep_typed.specs.declared.interface.FormalMode.{FormalMode}
 use Rattle.ep_typed.specs.declared.interface.FormalMode.TheVariants as mode
 use Rattle.ep_typed.proofs.Denoters.{types_are_instances}
-use Rattle.ep_typed.proofs.Typed.{typed_value}
+use Rattle.ep_typed.proofs.Bares.{value_bare}
+use Rattle.ep_typed.proofs.Typed.{typed_bare, typed_value}
 use Rattle.ep_typed.proofs.Steady.{grows_made_own, steady_bind, steady_allocate_own, steady_make_all_own, steady_initialized, steady_takes_all}
 use Rattle.ep_typed.specs.Meaning.{elaborate, make_own, make_all_own, initialized, takes_by, takes_all}
 use Rattle.ep_typed.specs.Steps.{Component, Computation, bind, spend, change, with_own_bound, counted, made_own, allocate_own, size_of}
@@ -81,7 +82,7 @@ still_later : {before memory : Memory} {below : List Operand} → StillRuns befo
 still_later runs longer after operands h = record { runs = still_runs-trans runs h.runs; operands_are = h.operands_are }
 
 module _ (declared : Declarations) (G : Image) (untouched : Slots) (first : Injection) (start : Memory) (lasts : Lasts untouched (InActivation declared untouched first start)) (ps : List Placement) (p : Placement) (references : List Reference) (call : Handler) (steady_call : IsSteadyHandler call) (n : ℕ) (unit : List ℕ) (own_valid : HaveValidOwnTypes declared)
-    (types_are : declared.types unit ≡ declared.routine_types) (among : AreAmong untouched (kept_slots declared G)) (kept : CallsAreKept declared G ps call n) (referred : AreReferred declared unit declared.routine_types references) where
+    (types_are : declared.types unit ≡ declared.routine_types) (among : AreAmong untouched (kept_slots declared G)) (kept : CallsAreKept declared G ps call n) (referred : AreReferred declared unit declared.routine_types references) (swap_referred : IsSwapReferred declared unit references) (fill_referred : IsFillReferred declared unit references) where
   module _ (number line at : ℕ) (v : UnitVariable) (is_declared : slice_get (variables_up declared 0) number ≡ Some v) where
     -- `Make`, over the number of the type
     make_row_moves : (t : TypeValue) (type_number : ℕ) → IsTypeValue t → AreStarts t
@@ -103,20 +104,22 @@ module _ (declared : Declarations) (G : Image) (untouched : Slots) (first : Inje
       let valid : IsDenoter types (denoter_of v.denoter) = own_valid 0 number v is_declared in
       let t : TypeValue = valid.type_value in
       let code : List Instr = type_code v.line (denoter_of v.denoter) in
-      let is_type : IsTypeValue t = typed_value types (denoter_of v.denoter) t valid.typed in
       let parts = code_stands-parts G ps p references at code (instr op.MAKE (pos number) 0 v.line ∷ []) stands in
       let ends : p.instructions.before + (at + length code) + 1 ≡ p.instructions.before + (at + length (code ++ instr op.MAKE (pos number) 0 v.line ∷ [])) = omega (arith, length-append code (instr op.MAKE (pos number) 0 v.line ∷ [])) in
-      let has_type : ((w : UnitVariable) → slice_get (variables_up declared 0) number ≡ Some w → HasOwnType declared w (bare_of t)) = λ w e. subst (λ (u : UnitVariable). HasOwnType declared u (bare_of t)) (same_Some v w (sym is_declared ∙ e)) (t, types_are_instances types (denoter_of v.denoter) t valid.has_type, refl) in
+      let own : bare_of t ≡ t = typed_bare types (denoter_of v.denoter) t valid.typed in
+      let has_type : (a : TypeValue) → bare_of a ≡ t → (w : UnitVariable) → slice_get (variables_up declared 0) number ≡ Some w → HasOwnType declared w (bare_of a) =
+      λ a is w e. subst (λ (u : UnitVariable). HasOwnType declared u (bare_of a)) (same_Some v w (sym is_declared ∙ e)) (t, types_are_instances types (denoter_of v.denoter) t valid.has_type, own ∙ sym is) in
       fragment_bind {P = λ a. Inside untouched injection memory (TypeOnTop t below a)} {e = λ a. d + 4} (λ a. steady_allocate_own number a)
-      (elaborates declared G untouched (InActivation declared untouched first start) lasts ps p references call steady_call n g unit v.line types types_are among kept referred at (denoter_of v.denoter) t valid.typed parts.0 injection memory below d enough home)
+      (elaborates declared G untouched (InActivation declared untouched first start) lasts ps p references call steady_call n g unit v.line types types_are among kept referred swap_referred fill_referred at (denoter_of v.denoter) t valid.typed parts.0 injection memory below d enough home)
       (λ a longer after pushed inside.
       let top = inside.operands_are in
+      let size : size_of a ≡ size_of t = sym (bare_size a) ∙ ap size_of top.type_is in
+      let is_type : IsTypeValue a = value_bare a (subst IsTypeValue (sym top.type_is) (typed_value types (denoter_of v.denoter) t valid.typed)) in
       let runs : StillRuns memory.frames after.frames = still_routine inside.routine in (
         runs,
-        subst (λ u. Fragment declared G (InActivation declared untouched first start) n (point longer after (p.instructions.before + (at + length code)) pushed) (allocate_own number u) (p.instructions.before + (at + length (code ++ instr op.MAKE (pos number) 0 v.line ∷ []))) (λ b. StillBare memory below) (d + 4) (λ b. d + 3 * size_of t)) (sym top.type_is)
-            (subst (λ o. Fragment declared G (InActivation declared untouched first start) n (point longer after (p.instructions.before + (at + length code)) o) (allocate_own number t) (p.instructions.before + (at + length (code ++ instr op.MAKE (pos number) 0 v.line ∷ []))) (λ b. StillBare memory below) (d + 4) (λ b. d + 3 * size_of t)) (sym top.is)
-            (fragment_to ends (fragment_weaken {d = d + 4} {e = λ b. d + 3 * size_of t} (omega arith) (λ b. omega arith) (λ b last final operands made. record { runs = still_runs-trans runs made.runs; operands_are = made.operands_are })
-            (make_row_moves number v.line at v is_declared t top.number is_type top.starts has_type (p.instructions.before + (at + length code)) parts.1.0 longer after below (d + 4) (d + 3 * size_of t) (omega arith) (omega arith) top.described)))),
+        subst (λ o. Fragment declared G (InActivation declared untouched first start) n (point longer after (p.instructions.before + (at + length code)) o) (allocate_own number a) (p.instructions.before + (at + length (code ++ instr op.MAKE (pos number) 0 v.line ∷ []))) (λ b. StillBare memory below) (d + 4) (λ b. d + 3 * size_of t)) (sym top.is)
+            (fragment_to ends (fragment_weaken {d = d + 4} {e = λ b. d + 3 * size_of a} (omega arith) (λ b. omega (arith, size)) (λ b last final operands made. record { runs = still_runs-trans runs made.runs; operands_are = made.operands_are })
+            (make_row_moves number v.line at v is_declared a top.number is_type top.starts (has_type a top.type_is) (p.instructions.before + (at + length code)) parts.1.0 longer after below (d + 4) (d + 3 * size_of a) (omega arith) (omega arith) top.described))),
       ))
 
   one_moves : (g number at : ℕ) (v : UnitVariable) → slice_get (variables_up declared 0) number ≡ Some v
@@ -170,8 +173,11 @@ module _ (declared : Declarations) (G : Image) (untouched : Slots) (first : Inje
     its : IsDenoter declared.routine_types (denoter_of f.denoter)
     its = own_valid 0 number (formal_variable line f) is_declared
 
-    has_its_type : (w : UnitVariable) → slice_get (variables_up declared 0) number ≡ Some w → HasOwnType declared w (bare_of its.type_value)
-    has_its_type w e = subst (λ (u : UnitVariable). HasOwnType declared u (bare_of its.type_value)) (same_Some (formal_variable line f) w (sym is_declared ∙ e)) (its.type_value, types_are_instances declared.routine_types (denoter_of f.denoter) its.type_value its.has_type, refl)
+    -- what is given of its type but for initial states
+    has_its_type : (a : TypeValue) → bare_of a ≡ its.type_value → (w : UnitVariable) → slice_get (variables_up declared 0) number ≡ Some w → HasOwnType declared w (bare_of a)
+    has_its_type a is w e =
+        subst (λ (u : UnitVariable). HasOwnType declared u (bare_of a)) (same_Some (formal_variable line f) w (sym is_declared ∙ e))
+        (its.type_value, types_are_instances declared.routine_types (denoter_of f.denoter) its.type_value its.has_type, typed_bare declared.routine_types (denoter_of f.denoter) its.type_value its.typed ∙ sym is)
 
     -- a value formal takes a value of its kind
     value_moves : (kind : Kind) (r : Result) (o : Operand) → IsOfKind kind declared.routine_types (denoter_of f.denoter)
@@ -182,9 +188,8 @@ module _ (declared : Declarations) (G : Image) (untouched : Slots) (first : Inje
     value_moves kind r o is_kind stands injection memory below d enough home there within value =
         let types = declared.routine_types in
         let t : TypeValue = its.type_value in
-        let of_kind : IsTypeOfKind kind (bare_of t) = typed_of_kind types (denoter_of f.denoter) t kind its.typed is_kind in
-        let valid : IsTypeValue t = typed_value types (denoter_of f.denoter) t its.typed in
-        let weighs : weight_of r ≤ size_of t = value_fits injection memory kind t r o of_kind value in
+        let own : bare_of t ≡ t = typed_bare types (denoter_of f.denoter) t its.typed in
+        let of_its_kind : IsTypeOfKind kind t = subst (IsTypeOfKind kind) own (typed_of_kind types (denoter_of f.denoter) t kind its.typed is_kind) in
         let code : List Instr = type_code line (denoter_of f.denoter) in
         let k : ℕ = at + length code in
         let rest : List Instr = instr op.MAKE (pos number) 0 line ∷ instr op.SLOT (pos number) 0 line ∷ instr op.ARG (pos number) 0 line ∷ bare line op.STORE ∷ [] in
@@ -193,25 +198,27 @@ module _ (declared : Declarations) (G : Image) (untouched : Slots) (first : Inje
         let parts = code_stands-parts G ps p references at code rest stands in
         fragment_to ends
         (fragment_bind {middle = p.instructions.before + k} {P = λ a. Inside untouched injection memory (TypeOnTop t below a)} {e = λ a. d + 4} (λ a. steady_bind (steady_allocate_own number a) (λ u. steady_initialized unit line a r))
-        (elaborates declared G untouched (InActivation declared untouched first start) lasts ps p references call steady_call n g unit line types types_are among kept referred at (denoter_of f.denoter) t its.typed parts.0 injection memory below d enough home)
+        (elaborates declared G untouched (InActivation declared untouched first start) lasts ps p references call steady_call n g unit line types types_are among kept referred swap_referred fill_referred at (denoter_of f.denoter) t its.typed parts.0 injection memory below d enough home)
         (λ a longer after pushed inside.
         let top = inside.operands_are in
         let runs : StillRuns memory.frames after.frames = still_routine inside.routine in
+        let of_kind : IsTypeOfKind kind (bare_of a) = subst (IsTypeOfKind kind) (sym top.type_is) of_its_kind in
+        let valid : IsTypeValue a = value_bare a (subst IsTypeValue (sym top.type_is) (typed_value types (denoter_of f.denoter) t its.typed)) in
+        let weighs : weight_of r ≤ size_of a = value_fits injection memory kind a r o of_kind value in
         let routine = inside.routine in
         let same : arguments_in after.frames.calls ≡ inside_args = same_arguments memory.frames.calls after.frames.calls routine.calls in (
           runs,
-          subst (λ t. Fragment declared G (InActivation declared untouched first start) n (point longer after (p.instructions.before + k) pushed) (bind (allocate_own number t) (λ _. initialized unit line t r)) (p.instructions.before + (k + 4)) (λ b. Taken untouched injection memory (without_argument number inside_args) below) (d + 4) (λ b. d)) (sym top.type_is)
-              (subst (λ o. Fragment declared G (InActivation declared untouched first start) n (point longer after (p.instructions.before + k) o) (bind (allocate_own number t) (λ _. initialized unit line t r)) (p.instructions.before + (k + 4)) (λ b. Taken untouched injection memory (without_argument number inside_args) below) (d + 4) (λ b. d)) (sym top.is)
-              (fragment_post (λ b. taken-later inside.grown runs) (fragment_bind {P = λ u. MadeOwn untouched number t longer after below} {e = λ u. d + 3 + 3 * size_of t} (λ u. steady_initialized unit line t r)
-              (make_row_moves number line at (formal_variable line f) is_declared t top.number valid top.starts has_its_type (p.instructions.before + k) parts.1.0 longer after below (d + 4) (d + 3 + 3 * size_of t) (omega arith) (omega arith) top.described)
+          (subst (λ o. Fragment declared G (InActivation declared untouched first start) n (point longer after (p.instructions.before + k) o) (bind (allocate_own number a) (λ _. initialized unit line a r)) (p.instructions.before + (k + 4)) (λ b. Taken untouched injection memory (without_argument number inside_args) below) (d + 4) (λ b. d)) (sym top.is)
+              (fragment_post (λ b. taken-later inside.grown runs) (fragment_bind {P = λ u. MadeOwn untouched number a longer after below} {e = λ u. d + 3 + 3 * size_of a} (λ u. steady_initialized unit line a r)
+              (make_row_moves number line at (formal_variable line f) is_declared a top.number valid top.starts (has_its_type a top.type_is) (p.instructions.before + k) parts.1.0 longer after below (d + 4) (d + 3 + 3 * size_of a) (omega arith) (omega arith) top.described)
               (λ u last final above made.
               let x = in_frame final number (Some made.place) made.slot in
               let args : (x.frame).arguments ≡ inside_args = sym (ap arguments_in x.frames) ∙ (made.left_are ∙ same) in (
                 made.runs,
-                subst (λ o. Fragment declared G (InActivation declared untouched first start) n (point last final (p.instructions.before + k + 1) o) (initialized unit line t r) (p.instructions.before + (k + 4)) (λ b. Taken untouched longer after (without_argument number inside_args) below) (d + 3 + 3 * size_of t) (λ b. d)) (sym made.operands_are)
-                    (fragment_post (λ b. taken-later made.grown made.runs) (subst (λ l. Fragment declared G (InActivation declared untouched first start) n (point last final (p.instructions.before + k + 1) below) (initialized unit line t r) (p.instructions.before + (k + 4)) (λ b. Taken untouched last final (without_argument number l) below) (d + 3 + 3 * size_of t) (λ b. d)) args
-                    (fragment_credit {d = d + 3 + 2 * weight_of r} {e = λ b. d + 3 + 2 * weight_of r - (3 + 2 * weight_of r)} (credit_fits t (weight_of r) d weighs) (λ b. credit_left t (weight_of r) d weighs) (fragment_from {place = p.instructions.before + (k + 1) + 1 - 1} (omega arith) (fragment_to {to = p.instructions.before + (k + 1) + 1 + 1 + 1} (omega arith)
-                    (value_taken declared G untouched first start lasts (p.instructions.before + (k + 1) + 1) line number unit below last final x.frame x.below x.frames (unit_in-still G made.runs ∙ (unit_in-still G runs ∙ home)) (omega (arith, within, ap length args)) n (d + 3 + 2 * weight_of r) kind t r o made.number made.place of_kind
+                subst (λ o. Fragment declared G (InActivation declared untouched first start) n (point last final (p.instructions.before + k + 1) o) (initialized unit line a r) (p.instructions.before + (k + 4)) (λ b. Taken untouched longer after (without_argument number inside_args) below) (d + 3 + 3 * size_of a) (λ b. d)) (sym made.operands_are)
+                    (fragment_post (λ b. taken-later made.grown made.runs) (subst (λ l. Fragment declared G (InActivation declared untouched first start) n (point last final (p.instructions.before + k + 1) below) (initialized unit line a r) (p.instructions.before + (k + 4)) (λ b. Taken untouched last final (without_argument number l) below) (d + 3 + 3 * size_of a) (λ b. d)) args
+                    (fragment_credit {d = d + 3 + 2 * weight_of r} {e = λ b. d + 3 + 2 * weight_of r - (3 + 2 * weight_of r)} (credit_fits a (weight_of r) d weighs) (λ b. credit_left a (weight_of r) d weighs) (fragment_from {place = p.instructions.before + (k + 1) + 1 - 1} (omega arith) (fragment_to {to = p.instructions.before + (k + 1) + 1 + 1 + 1} (omega arith)
+                    (value_taken declared G untouched first start lasts (p.instructions.before + (k + 1) + 1) line number unit below last final x.frame x.below x.frames (unit_in-still G made.runs ∙ (unit_in-still G runs ∙ home)) (omega (arith, within, ap length args)) n (d + 3 + 2 * weight_of r) kind a r o made.number made.place of_kind
                     (instr_at G {other = p.instructions.before + (k + 1)} (omega arith) parts.1.1.0) (omega arith) (instr_at G {other = p.instructions.before + (k + 1 + 1)} (omega arith) parts.1.1.1.0) (instr_at G {other = p.instructions.before + (k + 1 + 1 + 1)} (omega arith) parts.1.1.1.1.0)
                     (ap (λ l. argument_at l number) args ∙ there) (value-grown kind r o made.grown (value-grown kind r o inside.grown value)) made.slot made.spot made.stands made.described (omega arith))))))),
               ))))),

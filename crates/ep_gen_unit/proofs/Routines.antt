@@ -524,9 +524,9 @@ module _ (u : TypedUnit) (o : Object) (is : IsProgramCode u o) (valid : IsValid 
           → Fragment within G Here m (point longer after (p.instructions.before + at) below) (make_all_own call m u.name (length formals) (result_variable r.name line_of y ++ (r.variables ++ block_auxiliaries (stmt_of r.block)))) (p.instructions.before + (at + length (make_all_code (length formals) (result_variable r.name line_of y ++ (r.variables ++ block_auxiliaries (stmt_of r.block)))))) (λ a. StillBare after below) 63 (λ a. 63 + spare y valid_result)
       makes_all None valid_result at are_declared at_stands longer after below at_home =
           fragment_credit {d = 63} {e = λ a. 63} (omega arith) (λ a. omega arith)
-          (make_all_own_moves within G untouched injection begun lasts ps p o.references call steady_call m u.name scene.own_types_valid (own_types u) among_same kept_inside referred m (length formals) at (r.variables ++ block_auxiliaries (stmt_of r.block)) are_declared at_stands longer after below 63 (omega arith) at_home)
+          (make_all_own_moves within G untouched injection begun lasts ps p o.references call steady_call m u.name scene.own_types_valid (own_types u) among_same kept_inside referred (swap_referred within u o is (own_count u)) (fill_referred within u o is (own_count u)) m (length formals) at (r.variables ++ block_auxiliaries (stmt_of r.block)) are_declared at_stands longer after below 63 (omega arith) at_home)
       makes_all (Some y) valid_result at are_declared at_stands longer after below at_home =
-          make_sized_moves within G untouched injection begun lasts ps p o.references call steady_call m u.name scene.own_types_valid (own_types u) among_same kept_inside referred m (length formals) at (result_of_name y) (r.variables ++ block_auxiliaries (stmt_of r.block)) (valid_result.denoter).type_value (valid_result.denoter).has_type are_declared at_stands longer after below 63 (omega arith) at_home
+          make_sized_moves within G untouched injection begun lasts ps p o.references call steady_call m u.name scene.own_types_valid (own_types u) among_same kept_inside referred (swap_referred within u o is (own_count u)) (fill_referred within u o is (own_count u)) m (length formals) at (result_of_name y) (r.variables ++ block_auxiliaries (stmt_of r.block)) (valid_result.denoter).type_value (valid_result.denoter).has_type are_declared at_stands longer after below 63 (omega arith) at_home
 
       -- the making of the variables, and then the block
       makes : (longer : Injection) (after : Memory) (pushed : List Operand) → unit_in G after.frames ≡ u.name → pushed ≡ below
@@ -545,7 +545,7 @@ module _ (u : TypedUnit) (o : Object) (is : IsProgramCode u o) (valid : IsValid 
           let parts = code_stands-parts G ps p o.references x.entry.entry takes_code makes_code x.makes_stand in
           fragment_outside within.levels (own u) (fragment_from entry
           (fragment_bind {middle = p.instructions.before + (x.entry.entry + length takes_code)} {e = λ a. 63} (λ a. steady_bind (steady_make_all_own call steady_call m u.name (length formals) (made_variables r)) (λ b. steady_bind (steady_exec call steady_call m u.name (stmt_of r.block)) (λ c. steady_gives)))
-          (takes_all_moves within G untouched injection begun lasts ps p o.references call steady_call m u.name scene.own_types_valid (own_types u) among_same kept_inside referred m line_of 0 x.entry.entry formals passings.0 xs passings.1 formal_is parts.0 injection begun below 63 (omega arith) home awaited)
+          (takes_all_moves within G untouched injection begun lasts ps p o.references call steady_call m u.name scene.own_types_valid (own_types u) among_same kept_inside referred (swap_referred within u o is (own_count u)) (fill_referred within u o is (own_count u)) m line_of 0 x.entry.entry formals passings.0 xs passings.1 formal_is parts.0 injection begun below 63 (omega arith) home awaited)
           (λ a longer after pushed still. (still.runs, makes longer after pushed (unit_in-still G still.runs ∙ home) still.operands_are))))
 
     -- what a call of it does

@@ -210,7 +210,7 @@ module _ (declared : Declarations) (G : Image) (untouched : Slots) (Here : Facts
         Fragment declared G Here n (point injection memory (p.instructions.before + from) (operand.Place b ∷ below)) (clears_all call n unit line r k m) (p.instructions.before + to) (λ a. Inside untouched injection memory (Bare (operand.Place b ∷ below) a)) d (λ a. d)
 
     -- the variants with these labels become undefined, and then others
-    clears_follow : (labels : List (List CaseRange)) (k m at to : ℕ) → All (HasRange declared) labels → CodeStands G ps p references at (clears_code line k labels) → ((i : ℕ) → i < length labels → IsCleared ts (k + i))
+    clears_follow : (labels : List (List CaseRange)) (k m at to : ℕ) → All HasRange labels → CodeStands G ps p references at (clears_code line k labels) → ((i : ℕ) → i < length labels → IsCleared ts (k + i))
         → (injection : Injection) (memory : Memory) (below : List Operand) (d : ℕ) → 8 ≤ d → unit_in G memory.frames ≡ unit → IsSpot injection memory.types r b → IsLike memory.types b.type_number (type.Record ts)
         → ((longer : Injection) (after : Memory) → unit_in G after.frames ≡ unit → IsSpot longer after.types r b → IsLike after.types b.type_number (type.Record ts) → Clearing (at + length (clears_code line k labels)) to (k + length labels) m longer after below d)
         → Clearing at to k (length labels + m) injection memory below d
@@ -234,7 +234,7 @@ module _ (declared : Declarations) (G : Image) (untouched : Slots) (Here : Facts
         (subst (λ i. Clearing (at + length (clears_code line k ((x ∷ xs) ∷ more))) to i m last final below d) {x = k + length ((x ∷ xs) ∷ more)} {y = suc k + length more} (omega arith) (rest last final home2 spot2 described2)))))
 
     -- all of them
-    variants_follow : (at : ℕ) → All (HasRange declared) s.labels → CodeStands G ps p references at (variants_code line s) → ((i : ℕ) → i < variants_count s → IsCleared ts (variant_number s i))
+    variants_follow : (at : ℕ) → All HasRange s.labels → CodeStands G ps p references at (variants_code line s) → ((i : ℕ) → i < variants_count s → IsCleared ts (variant_number s i))
         → (injection : Injection) (memory : Memory) (below : List Operand) (d : ℕ) → 8 ≤ d → unit_in G memory.frames ≡ unit → IsSpot injection memory.types r b → IsLike memory.types b.type_number (type.Record ts)
         → Clearing at (at + length (variants_code line s)) (variant_number s 0) (variants_count s) injection memory below d
     variants_follow at each stands types injection memory below d enough home spot described =
@@ -428,7 +428,7 @@ module _ (declared : Declarations) (G : Image) (untouched : Slots) (Here : Facts
     -- ---- the variants where another one is selected
 
     change_moves : (line at : ℕ) (c : Tagging) (s : Selection) (ts : ComponentTypes) (r : Component) (b : PlaceOf) (before : Option ℕ) (is : List Instr) → IsPlace declared host.Integer (entire c.value) → IsChangeCode texts references line at c s is → CodeStands G ps p references at is → at + length is < p.instructions.own
-        → All (HasRange declared) s.labels → ((i : ℕ) → i < variants_count s → IsCleared ts (variant_number s i))
+        → All HasRange s.labels → ((i : ℕ) → i < variants_count s → IsCleared ts (variant_number s i))
         → (injection : Injection) (memory : Memory) (below : List Operand) (d : ℕ) → statement_credit ≤ d → unit_in G memory.frames ≡ unit → IsSpot injection memory.types r b → IsLike memory.types b.type_number (type.Record ts)
         → Fragment declared G Here n (point injection memory (p.instructions.before + at) (Word (number_for none_before before) ∷ operand.Place b ∷ below)) (changes_variant call n unit line c r s before) (p.instructions.before + (at + length is)) (λ a. Inside untouched injection memory (Bare (operand.Place b ∷ below) a)) d (λ a. d)
     change_moves line at c s ts r b before is value code stands_is inside each types injection memory below d enough home spot described =
@@ -581,7 +581,7 @@ module _ {declared : Declarations} {G : Image} {untouched : Slots} {Here : Facts
       known : IsTagRecord c s whole.type_value
       known = tag_record_is declared h c s whole.types whole.denoter whole.type_value whole.holds whole.typed
 
-      selection_of : IsTagged declared h c.low c.high s whole.types whole.denoter → All (HasRange declared) s.labels
+      selection_of : IsTagged declared h c.low c.high s whole.types whole.denoter → All HasRange s.labels
       selection_of (ds, is_record, (selection, host_is, type_is)) = selection.each
 
       tried_at : ℕ

@@ -6,7 +6,7 @@ use Rattle.ep_gen_expr.proofs.Following.{place_follows, expression_follows, call
 use Rattle.ep_gen_unit.specs.StmtCode.{make_all_code, return_code}
 use Rattle.ep_gen_unit.specs.UnitCode.{IsProgramCode, plain_at}
 use Rattle.ep_gen_unit.specs.UnitLaws.{AreDeclared, idle_stop}
-use Rattle.ep_gen_code.specs.Referring.{AreReferred}
+use Rattle.ep_gen_code.specs.Referring.{AreReferred, IsFillReferred, IsSwapReferred}
 use Rattle.ep_gen_unit.proofs.Referred.{fill_referred, own_count, swap_referred, types_referred}
 use Rattle.ep_gen_unit.proofs.Declared.{own_is, own_declared, own_types, own_valid, made_declared}
 use Rattle.ep_gen_unit.proofs.Makes.{VariablesAreFree, make_all_moves, same_frame}
@@ -187,6 +187,13 @@ module _ (u : TypedUnit) (o : Object) (is : IsProgramCode u o) (G : Image) (ps :
         subst (λ n. AreReferred declared n (declared.types n) o.references) (sym is.name) (subst (λ ts. AreReferred declared u.name ts o.references) (sym types) (types_referred declared u o is many))
 
     -- the same by the unit's name
+    -- and so are the routines that structured values call
+    unit_swap : IsSwapReferred declared (placed_object_unit p o).name o.references
+    unit_swap = subst (λ n. IsSwapReferred declared n o.references) (sym is.name) (swap_referred declared u o is many)
+
+    unit_fill : IsFillReferred declared (placed_object_unit p o).name o.references
+    unit_fill = subst (λ n. IsFillReferred declared n o.references) (sym is.name) (fill_referred declared u o is many)
+
     own_referred : AreReferred declared u.name declared.routine_types o.references
     own_referred = subst (λ ts. AreReferred declared u.name ts o.references) (sym types ∙ (sym (ap declared.types of_unit) ∙ scene.own_types_are)) (types_referred declared u o is many)
 
@@ -195,7 +202,7 @@ module _ (u : TypedUnit) (o : Object) (is : IsProgramCode u o) (G : Image) (ps :
         → MakesFollow declared G (kept_slots declared G) Here p call n u
     makes {Here = Here} lasts injection memory below d enough home framed =
         let there : RunsInUnit G memory.frames (placed_object_unit p o) = record { calls = framed.calls; unit = ap (slice_get G.units) framed.unit ∙ stands.unit } in
-        fragment_to {to = p.instructions.before + (0 + begins_block)} (omega arith) (make_all_moves declared G (kept_slots declared G) Here lasts ps p o.references call steady_call n (placed_object_unit p o) free distinct scene.types_valid among_same kept referred u.name is.name n 0 0 (made_by_unit u) (made_declared declared u.name (made_by_unit u) (with_variables (stmt_of u.start)) are_declared) (omega (arith, is.unit_slots, length-append (made_by_unit u) (with_variables (stmt_of u.start)))) makes_stand injection memory below d enough there (home ∙ sym is.name))
+        fragment_to {to = p.instructions.before + (0 + begins_block)} (omega arith) (make_all_moves declared G (kept_slots declared G) Here lasts ps p o.references call steady_call n (placed_object_unit p o) free distinct scene.types_valid among_same kept referred unit_swap unit_fill u.name is.name n 0 0 (made_by_unit u) (made_declared declared u.name (made_by_unit u) (with_variables (stmt_of u.start)) are_declared) (omega (arith, is.unit_slots, length-append (made_by_unit u) (with_variables (stmt_of u.start)))) makes_stand injection memory below d enough there (home ∙ sym is.name))
 
     -- each variable of the unit has a slot of its frame
     its_slot : (k : ℕ) (v : UnitVariable) → declared.variables (placed_object_unit p o).name k ≡ Some v → k < (placed_object_unit p o).slots

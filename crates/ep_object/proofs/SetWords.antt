@@ -3,7 +3,6 @@ use Rattle.std.proofs.Common.{◌≡◌, ℕ, pos, zero, suc, ◌+◌, ◌*◌, 
 use Rattle.std.specs.Prelude.{⊤}
 use Rattle.std.specs.Int.{bit_at}
 use Rattle.std.proofs.lemmas.Nat.Bits.{bit_at_lowest, bit_at-suc}
-use Rattle.ep_object.specs.Types.{all_undefined}
 use Rattle.ep_object.specs.Effects.{Continues}
 use Rattle.ep_object.specs.Operands.{Operand, Set}
 use Rattle.ep_object.specs.Places.{set_loaded}
@@ -66,11 +65,6 @@ words_many ms = refl
 pub words_loaded : (ms : List ℕ) (st : List Operand) → IsSet ms → set_loaded (words_of_set ms) st ≡ Continues (Set ms ∷ st)
 unfolding words_of_set
 words_loaded ms st is = ap (λ ns. Continues (Set ns ∷ st)) (set_in_words ms is)
-
--- and so they are not all undefined
-pub set_words_defined : (ms : List ℕ) → all_undefined (words_of_set ms) ≡ false
-unfolding words_of_set
-set_words_defined ms = refl
 
 -- ---- members one after another
 

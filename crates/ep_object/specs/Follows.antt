@@ -275,12 +275,12 @@ pub record Inside (untouched : Slots) (injection : Injection) (memory : Memory) 
   pub routine : SameRoutine untouched memory.frames after.frames
   pub operands_are : Then longer after operands
 
--- the type value is given, of which all initial states are values of their types, and the number of a type that describes it is
--- on top
+-- A type value is given that is this one but for initial states, all of which are values of their types, and the number of a type
+-- that describes it is on top.
 pub record TypeOnTop (t : TypeValue) (below : List Operand) (given : TypeValue) (injection : Injection)
     (memory : Memory) (operands : List Operand) : Type 0 where
-  pub type_is : given ≡ t
+  pub type_is : bare_of given ≡ t
   pub number : ℕ
   pub is : operands ≡ Word (pos number) ∷ below
-  pub described : Describes memory.types number t
-  pub starts : AreStarts t
+  pub described : Describes memory.types number given
+  pub starts : AreStarts given

@@ -89,7 +89,8 @@ pub struct TypeEntry {
     pub kind: Kind,
     /// How many words a variable of the type takes.
     pub size: u32,
-    /// The words that a variable of the type begins with, where they are not all undefined.
+    /// The words that a variable of the type begins with, where the type has an initial state, or
+    /// one that it is made of.
     pub start: Option<Words>,
     /// The number of its bare form, which is the same type without initial states, where it is not its own.
     pub bare: Option<u32>,

@@ -31,7 +31,7 @@ parts_of_all types zs = option_map (parts_behind 0) (entries_of types zs)
 abbrev pub bare_parts_of_all : TypeTable → List ℤ → Option (List RecordPart)
 bare_parts_of_all types zs = option_map (λ ns. parts_behind 0 (bare_forms ns)) (entries_of types zs)
 
--- whether a type has another bare form, and whether a variable of it begins with words that are not all undefined
+-- whether a type has another bare form, and whether it begins with words
 abbrev pub has_bare : TypeEntry → Bool
 has_bare e = is_some e.bare
 
@@ -51,7 +51,7 @@ one_passes p types (z ∷ zs) = passes p (entry_of types z) || one_passes p type
 abbrev pub starts_of_all : TypeTable → List ℤ → Option (List ℤ)
 starts_of_all types zs = option_map starts_joined (entries_of types zs)
 
--- the words that a record of them begins with, where they are not all undefined
+-- the words that a record of them begins with, where one of them begins with words
 abbrev pub start_of_all : TypeTable → List ℤ → Option (Option (List ℤ))
 start_of_all types zs = option_map record_start (entries_of types zs)
 

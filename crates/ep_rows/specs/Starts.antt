@@ -1,5 +1,5 @@
 -- What the row on initial states comes through.
-use Rattle.std.specs.Prelude.{◌≡◌, ℤ, List, Option, None, Some, Result, Ok, Err}
+use Rattle.std.specs.Prelude.{◌≡◌, ℕ, ℤ, List, Option, None, Some, Result, Ok, Err}
 use Rattle.ep_frames.specs.Members.{set_of}
 use Rattle.ep_memory.specs.Stores.{Store}
 use Rattle.ep_object.specs.Effects.{Breaks, Continues, Fails, light}
@@ -8,7 +8,6 @@ use Rattle.ep_object.specs.Operands as operand
 use Rattle.ep_object.specs.State.{TypeTable}
 use Rattle.ep_object.specs.Types.{init_row, words_for}
 use Rattle.ep_object.specs.declared.state.Kind.{Kind}
-use Rattle.ep_object.specs.declared.state.Kind.TheVariants.{Array, Ord, Pointer, Record, Set, Text}
 use Rattle.ep_rows.specs.Parts.{typing}
 use Rattle.ep_rows.specs.declared.starts.Given.{Given}
 use Rattle.ep_rows.specs.declared.starts.Given.TheVariants as given
@@ -33,17 +32,8 @@ AreWords ws (Err step) = ⊥
 
 -- the words are those with which a variable of the kind begins, or it tells why there are none
 abbrev pub AreWordsFor : Kind → Operand → Result (List ℤ) Step → Type 0
-AreWordsFor k x (Ok words) = words_for k x ≡ Continues words
-AreWordsFor k x (Err (Error n)) = words_for k x ≡ Fails n
-AreWordsFor k x (Err Broken) = words_for k x ≡ Breaks
+AreWordsFor k x (Ok words) = (bare : ℕ) → words_for k bare x ≡ Continues words
+AreWordsFor k x (Err (Error n)) = (bare : ℕ) → words_for k bare x ≡ Fails n
+AreWordsFor k x (Err Broken) = (bare : ℕ) → words_for k bare x ≡ Breaks
 AreWordsFor k x (Err NoMemory) = Unit {0}
 AreWordsFor k x (Err step) = ⊥
-
--- the kind itself, where it is made of no others
-abbrev pub simple_of : Kind → Option Kind
-simple_of (Ord lo hi) = Some (Ord lo hi)
-simple_of Pointer = Some Pointer
-simple_of Text = None
-simple_of (Array lo hi c) = None
-simple_of (Record ps) = None
-simple_of (Set lo hi) = Some (Set lo hi)

@@ -134,7 +134,7 @@ fn any_bare(types: &[TypeEntry], numbers: &[i64]) -> bool
     false
 }
 
-/// Whether a variable of the type of a number begins with words that are not all undefined.
+/// Whether the type of a number begins with words.
 fn has_start(types: &[TypeEntry], number: i64) -> bool
     ensures { result ≡ passes has_start (type_of types.now number) }
 {
@@ -144,7 +144,7 @@ fn has_start(types: &[TypeEntry], number: i64) -> bool
     }
 }
 
-/// Whether a variable of one of the types with these numbers does.
+/// Whether one of the types with these numbers does.
 fn any_start(types: &[TypeEntry], numbers: &[i64]) -> bool
     ensures { result ≡ one_passes has_start types.now numbers.now }
 {
@@ -192,7 +192,7 @@ fn starts_of_all(alloc: Global, types: &[TypeEntry], numbers: &[i64]) -> Result<
     Ok(List::from_vec(words))
 }
 
-/// The words that a record of them begins with, where they are not all undefined.
+/// The words that a record of them begins with, where one of them begins with words.
 fn record_start(
     alloc: Global,
     types: &[TypeEntry],

@@ -1,16 +1,20 @@
 //! The row that gives a type an initial state (ISO 10206, 6.6).
 
-ghost use Rattle.std.specs.Prelude.{◌≡◌, ◌<◌, ◌∷◌, if◌then◌else◌};
+ghost use Rattle.std.specs.Prelude.{◌≡◌, ◌<◌, ◌∷◌, Some, None, IfOk, if◌then◌else◌};
+ghost use Rattle.ep_frames.specs.Stacks.{word_under_value};
 ghost use Rattle.ep_object.specs.Operands.{Word};
-ghost use Rattle.ep_object.specs.Types.{all_undefined, init_row, initial_entry};
+ghost use Rattle.ep_object.specs.Effects.{Fails, weighing};
+ghost use Rattle.ep_object.specs.Types.{Typing, init_row, initial_entry};
 ghost use Rattle.ep_rows.specs.Parts.{typing};
-ghost use Rattle.ep_rows.specs.Starts.{IsGiven, AreWords, AreWordsFor, given_of, simple_of};
+ghost use Rattle.ep_rows.specs.Starts.{IsGiven, AreWords, AreWordsFor, given_of};
 ghost use Rattle.ep_rows.specs.Steps.{IsDone, IsRestored};
+ghost use Rattle.ep_typed.specs.declared.run_error.TheConstants as run_error;
 
 use crate::control::spend;
 use crate::step::Step;
 use crate::type_table::TypeTable;
 use crate::types::{bare_number, entry_of, intern};
+use crate::values::is_structured;
 use crate::{members, words};
 use ep_base::{List, NoMemory};
 use ep_frames::{Members, Stack};
@@ -19,7 +23,7 @@ use ep_object::{Kind, TypeEntry, Words};
 use ep_typed::run_error;
 use std::alloc::Global;
 
-/// An initial state that stands on top.
+/// An initial state that stands on top, but for the value of an array or a record.
 #[derive(Clone, Copy, Drop)]
 pub(crate) enum Given {
     /// A simple value.
@@ -30,6 +34,7 @@ pub(crate) enum Given {
 
 /// Takes an initial state off, and the number of a type below it.
 fn take(stack: &mut Stack) -> Option<(Given, i64)>
+    requires { word_under_value stack.old ≡ None }
     ensures { IsGiven result stack.old stack.new }
 {
     if let Some(set) = stack.pop_set() {
@@ -93,49 +98,131 @@ fn words_for(alloc: Global, kind: &Kind, given: Given) -> Result<Words, Step>
     }
 }
 
-/// Whether no word is defined.
-fn are_undefined(words: &[i64]) -> bool
-    ensures { result ≡ all_undefined words.now }
-{
-    for w in words {
-        if *w > i64::MIN {
-            return false;
-        }
-    }
-    true
-}
-
-/// The kind itself, where it is made of no others.
-fn simple_kind(kind: &Kind) -> Option<Kind>
-    ensures { result ≡ simple_of kind.now }
+/// A kind once more, if there is memory.
+fn copied(alloc: Global, kind: &Kind) -> Result<Kind, NoMemory>
+    ensures { IfOk result (λ k. k ≡ kind.now) }
 {
     match kind {
-        Kind::Ord(lo, hi) => Some(Kind::Ord(*lo, *hi)),
-        Kind::Pointer => Some(Kind::Pointer),
-        Kind::Set(lo, hi) => Some(Kind::Set(*lo, *hi)),
-        Kind::Text | Kind::Array(_, _, _) | Kind::Record(_) => None,
+        Kind::Ord(lo, hi) => Ok(Kind::Ord(*lo, *hi)),
+        Kind::Pointer => Ok(Kind::Pointer),
+        Kind::Text => Ok(Kind::Text),
+        Kind::Array(lo, hi, component) => Ok(Kind::Array(*lo, *hi, *component)),
+        Kind::Record(parts) => Ok(Kind::Record(List::from_slice(alloc, parts.items())?)),
+        Kind::Set(lo, hi) => Ok(Kind::Set(*lo, *hi)),
     }
 }
 
-/// The type of a number, of this kind, with other words to begin with.
-fn begun(number: u32, kind: Kind, entry: &TypeEntry, words: Words) -> TypeEntry
-    requires { kind ≡ entry.now.kind }
-    ensures { result ≡ initial_entry number entry.now words }
+/// The type of a number with other words to begin with.
+fn begun(alloc: Global, number: u32, entry: &TypeEntry, words: Words) -> Result<TypeEntry, NoMemory>
+    ensures { IfOk result (λ e. e ≡ initial_entry number entry.now words) }
 {
-    if are_undefined(words.items()) {
-        return TypeEntry {
-            kind,
-            size: entry.size,
-            start: None,
-            bare: entry.bare,
-        };
-    }
-    TypeEntry {
+    let kind = copied(alloc, &entry.kind)?;
+    Ok(TypeEntry {
         kind,
         size: entry.size,
         start: Some(words),
         bare: Some(bare_number(number, entry.bare)),
+    })
+}
+
+/// The type with the initial state on top, where that is a word or a set.
+fn init_by_given(
+    alloc: Global,
+    limit: u64,
+    ticks: &mut u64,
+    types: &mut TypeTable,
+    memory: &mut Memory,
+    stack: &mut Stack,
+) -> Step
+    requires room { ticks.old < limit }
+    requires no_value { word_under_value stack.old ≡ None }
+    ensures within { ticks.new < limit }
+    ensures done { IsDone limit (init_row (typing stack.old types.old memory.old))
+        result ticks.old ticks.new (typing stack.old types.old memory.old)
+        (typing stack.new types.new memory.new) }
+    ensures segments { memory.new.segments ≡ memory.old.segments }
+{
+    let Some((given, number)) = take(stack) else {
+        return Step::Broken;
+    };
+    let Some((type_number, entry)) = entry_of(types.entries(), number) else {
+        return Step::Broken;
+    };
+    let words = match words_for(alloc, &entry.kind, given) {
+        Ok(words) => words,
+        Err(step) => return step,
+    };
+    let Ok(type_number) = u32::try_from(type_number) else {
+        return Step::NoMemory;
+    };
+    if !spend(limit, ticks, u64::from(entry.size)) {
+        return put_back(given, number, stack);
     }
+    let Ok(entry) = begun(alloc, type_number, entry, words) else {
+        return Step::NoMemory;
+    };
+    intern(entry, types, memory, stack)
+}
+
+/// The value on top, of so many words, is of another type than the one that is to begin with it.
+fn other_type(limit: u64, ticks: &mut u64, weight: u64) -> Step
+    requires { ticks.old < limit }
+    ensures within { ticks.new < limit }
+    ensures done { (t : Typing) → IsDone limit (weighing weight (Fails run_error.TUPLES_DIFFER))
+        result ticks.old ticks.new t t }
+{
+    if spend(limit, ticks, weight) {
+        Step::Error(run_error::TUPLES_DIFFER)
+    } else {
+        Step::Full
+    }
+}
+
+/// The type with the initial state on top, where that is the value of an array or a record over the number of the type.
+fn init_by_value(
+    number: i64,
+    alloc: Global,
+    limit: u64,
+    ticks: &mut u64,
+    types: &mut TypeTable,
+    memory: &mut Memory,
+    stack: &mut Stack,
+) -> Step
+    requires room { ticks.old < limit }
+    requires there { word_under_value stack.old ≡ Some number }
+    ensures within { ticks.new < limit }
+    ensures done { IsDone limit (init_row (typing stack.old types.old memory.old))
+        result ticks.old ticks.new (typing stack.old types.old memory.old)
+        (typing stack.new types.new memory.new) }
+    ensures segments { memory.new.segments ≡ memory.old.segments }
+{
+    let Some((own, words)) = stack.value_top() else {
+        unreachable!()
+    };
+    let Some((type_number, entry)) = entry_of(types.entries(), number) else {
+        return Step::Broken;
+    };
+    if !is_structured(&entry.kind) {
+        return Step::Broken;
+    }
+    let Ok(type_number) = u32::try_from(type_number) else {
+        return Step::NoMemory;
+    };
+    if own != bare_number(type_number, entry.bare) {
+        return other_type(limit, ticks, words.len() as u64);
+    }
+    if !spend(limit, ticks, words.len() as u64 + u64::from(entry.size)) {
+        return Step::Full;
+    }
+    let Ok(words) = List::from_slice(alloc, words) else {
+        return Step::NoMemory;
+    };
+    let Ok(entry) = begun(alloc, type_number, entry, words) else {
+        return Step::NoMemory;
+    };
+    stack.pop();
+    stack.pop();
+    intern(entry, types, memory, stack)
 }
 
 /// The type with the initial state on top.
@@ -154,25 +241,8 @@ pub fn init(
         (typing stack.new types.new memory.new) }
     ensures segments { memory.new.segments ≡ memory.old.segments }
 {
-    let Some((given, number)) = take(stack) else {
-        return Step::Broken;
-    };
-    let Some((type_number, entry)) = entry_of(types.entries(), number) else {
-        return Step::Broken;
-    };
-    let Some(kind) = simple_kind(&entry.kind) else {
-        return Step::Broken;
-    };
-    let words = match words_for(alloc, &kind, given) {
-        Ok(words) => words,
-        Err(step) => return step,
-    };
-    let Ok(type_number) = u32::try_from(type_number) else {
-        return Step::NoMemory;
-    };
-    if !spend(limit, ticks, u64::from(entry.size)) {
-        return put_back(given, number, stack);
+    match stack.word_under_value() {
+        Some(number) => init_by_value(number, alloc, limit, ticks, types, memory, stack),
+        None => init_by_given(alloc, limit, ticks, types, memory, stack),
     }
-    let entry = begun(type_number, kind, entry, words);
-    intern(entry, types, memory, stack)
 }

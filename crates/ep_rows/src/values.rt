@@ -23,7 +23,7 @@ use ep_object::{Kind, Place, TypeEntry};
 use ep_typed::run_error;
 
 /// Whether variables of the kind have any number of words.
-fn is_structured(kind: &Kind) -> bool
+pub(crate) fn is_structured(kind: &Kind) -> bool
     ensures { result ≡ has_many_words kind.now }
 {
     match kind {

@@ -20,8 +20,12 @@ impl Model for Entries {
     ghost use Rattle.std.specs.Prelude.{List, ℕ};
     ghost use Rattle.ep_scope.specs.declared.thing.Thing.{Thing};
     ghost use Rattle.ep_scope.specs.Keys.{by_bytes};
+    ghost use Rattle.std.specs.Coded.{codes};
+    ghost use Rattle.ep_typed.specs.contracts.value.Value as value;
 
     ghost Value = { List (List ℕ × Thing) };
+
+    ghost coded = { Prim.hlevel (codes, value.the_row.coded) };
 
     ghost view = { λ e. by_bytes e.things.entries };
 }

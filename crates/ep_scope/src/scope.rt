@@ -27,8 +27,12 @@ impl Model for Scope {
     ghost use Rattle.std.specs.Prelude.{[]};
     ghost use Rattle.ep_scope.specs.Scopes.{Region};
     ghost use Rattle.ep_scope.specs.Keys.{by_bytes};
+    ghost use Rattle.std.specs.Coded.{codes};
+    ghost use Rattle.ep_typed.specs.contracts.value.Value as value;
 
     ghost Value = { Region };
+
+    ghost coded = { Prim.hlevel (codes, value.the_row.coded) };
 
     ghost view = { λ s. record { entries = s.entries; qualified = by_bytes s.qualified.entries; structures = s.structures.items; records = [] } };
 }

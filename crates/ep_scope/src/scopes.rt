@@ -23,8 +23,12 @@ pub struct Scopes {
 impl Model for Scopes {
     ghost use Rattle.std.specs.Prelude.{◌<◌, length};
     ghost use Rattle.ep_scope.specs.Scopes.{Row, row_of};
+    ghost use Rattle.std.specs.Coded.{codes};
+    ghost use Rattle.ep_typed.specs.contracts.value.Value as value;
 
     ghost Value = { Row };
+
+    ghost coded = { Prim.hlevel (codes, value.the_row.coded) };
 
     ghost view = { λ s. row_of s.all.items };
 

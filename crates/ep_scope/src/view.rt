@@ -25,8 +25,12 @@ impl<'a> Model for View<'a> {
     ghost use Rattle.std.specs.Prelude.{List, map};
     ghost use Rattle.ep_scope.specs.Records.{open_of};
     ghost use Rattle.ep_scope.specs.Scopes.{Region, within_all};
+    ghost use Rattle.std.specs.Coded.{codes};
+    ghost use Rattle.ep_typed.specs.contracts.value.Value as value;
 
     ghost Value = { List Region };
+
+    ghost coded = { Prim.hlevel (codes, value.the_row.coded) };
 
     ghost view = { λ v. within_all (map open_of v.records.now) v.scopes.now };
 }
@@ -63,8 +67,12 @@ impl<'a> Model for Inner<'a> {
     ghost use Rattle.std.specs.Prelude.{List, map};
     ghost use Rattle.ep_scope.specs.Records.{open_of};
     ghost use Rattle.ep_scope.specs.Scopes.{Region, within_all};
+    ghost use Rattle.std.specs.Coded.{codes};
+    ghost use Rattle.ep_typed.specs.contracts.value.Value as value;
 
     ghost Value = { List Region };
+
+    ghost coded = { Prim.hlevel (codes, value.the_row.coded) };
 
     ghost view = { λ v. within_all (map open_of v.records) v.scopes.now };
 }

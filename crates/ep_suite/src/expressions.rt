@@ -109,6 +109,7 @@ fn tell_constant(
         Ok(Value::Word(value)) => write!(out, "{value}"),
         Ok(Value::Text(_)) => write!(out, "text"),
         Ok(Value::Set(members)) => write!(out, "set of {}", members.items().len()),
+        Ok(Value::Structured(..)) => write!(out, "structured"),
         Err(refusal) => tell_refusal(out, *refusal),
     }
 }

@@ -93,6 +93,20 @@ mutual
   bare_values type.no_component h = tt
   bare_values (type.next_component t ts) h = (bare_value t h.0, bare_values ts h.1)
 
+mutual
+  -- and a type is not empty whose bare form is none
+  pub value_bare : (t : TypeValue) → IsTypeValue (bare_of t) → IsTypeValue t
+  value_bare (type.Ordinal low high) h = h
+  value_bare type.Text h = h
+  value_bare (type.Array low high of) h = (h.0, value_bare of h.1)
+  value_bare (type.Record ts) h = values_bare ts h
+  value_bare (type.Set low high) h = h
+  value_bare (type.Initial of start) h = value_bare of h
+
+  pub values_bare : (ts : ComponentTypes) → AreTypeValues (bare_each ts) → AreTypeValues ts
+  values_bare type.no_component h = tt
+  values_bare (type.next_component t ts) h = (value_bare t h.0, values_bare ts h.1)
+
 -- its components are the bare forms of the components
 pub bare_among : (ts : ComponentTypes) (k : ℕ) → type_among (bare_each ts) k ≡ option_map bare_of (type_among ts k)
 bare_among type.no_component k = refl

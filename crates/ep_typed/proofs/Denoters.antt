@@ -1,12 +1,12 @@
 -- What is found for a denoter is its type value, and a denoter has at most one.
 use Rattle.std.proofs.Common.{◌≡◌, ℕ, ℤ, pos, zero, suc, List, [], ◌∷◌, length, Option, Some, None, slice_get, refl, sym, ap, ◌∙◌, subst}
 use Rattle.std.proofs.lemmas.Option.{same_Some}
-use Rattle.ep_typed.specs.Denoters.{AreInstances, IsInstance, required, named, subrange, enumeration, array, components, set, initial, none, one_more, required_type, definition_of, array_over, array_type, initial_type, set_over, set_type, start_by, record_type, next_type, found_of, type_step, types_step, type_within}
+use Rattle.ep_typed.specs.Denoters.{AreInstances, IsInstance, required, named, subrange, enumeration, array, components, set, initial, none, one_more, required_type, definition_of, array_over, array_type, set_over, set_type, record_type, next_type, found_of, type_step, types_step, type_within}
 use Rattle.ep_typed.specs.Laws.{TypesAreInstances, InstancesAreOne}
 use Rattle.ep_typed.specs.Trees.{Fixed, Denoter, Denoters, Required, Named, Subrange, Enumeration, Array, Record, Set, Initial, no_denoter, next_denoter}
 use Rattle.ep_typed.specs.declared.unit.UnitType.{UnitType}
 use Rattle.ep_typed.specs.TypeValues as type
-use Rattle.ep_typed.specs.TypeValues.{ComponentTypes, Start, TypeValue, Ordinal, bare_of}
+use Rattle.ep_typed.specs.TypeValues.{ComponentTypes, TypeValue, Ordinal, bare_of}
 
 -- the type value of an array comes from that of its index type, which is ordinal, and that of its components
 over_index : (b : TypeValue) (p : Option TypeValue) (v : TypeValue) → array_over (Some b) p ≡ Some v
@@ -37,13 +37,6 @@ pub of_set : (o : Option TypeValue) (v : TypeValue) → set_type o ≡ Some v
     → (b : TypeValue) × (low high : ℤ) × (o ≡ Some b) × (bare_of b ≡ Ordinal low high) × (v ≡ type.Set low high)
 of_set None v e = cc
 of_set (Some b) v e = let x = over_base (bare_of b) v e in (b, x.0, x.1, refl, x.2, x.3)
-
--- that of a type with an initial state from that of the type
-pub of_initial : (o : Option TypeValue) (s : Option Start) (v : TypeValue) → initial_type o s ≡ Some v
-    → (t : TypeValue) × (start : Start) × (o ≡ Some t) × (s ≡ Some start) × (v ≡ type.Initial t start)
-of_initial None s v e = cc
-of_initial (Some t) None v e = cc
-of_initial (Some t) (Some start) v e = (t, start, refl, refl, same_Some v (type.Initial t start) (sym e))
 
 -- that of a record comes from those of its components
 pub of_record : (o : Option ComponentTypes) (v : TypeValue) → record_type o ≡ Some v → (ts : ComponentTypes) × (o ≡ Some ts) × (v ≡ type.Record ts)
@@ -80,9 +73,7 @@ module _ (types : List UnitType) where
     instance_step find h (Set base) v e =
         let p = of_set (type_step types find base) v e in
         subst (λ w. IsInstance types (Set base) w) (sym p.5) (set base p.0 p.1 p.2 (instance_step find h base p.0 p.3) p.4)
-    instance_step find h (Initial of value) v e =
-        let p = of_initial (type_step types find of) (start_by value) v e in
-        subst (λ w. IsInstance types (Initial of value) w) (sym p.4) (initial of value p.0 p.1 (instance_step find h of p.0 p.2) p.3)
+    instance_step find h (Initial of value) v e = initial of value v (instance_step find h of v e)
 
     instances_step : (find : Denoter → Option TypeValue) → ((d : Denoter) (v : TypeValue) → find d ≡ Some v → IsInstance types d v) → (ds : Denoters) (ts : ComponentTypes) → types_step types find ds ≡ Some ts → AreInstances types ds ts
     instances_step find h no_denoter ts e = subst (AreInstances types no_denoter) (same_Some type.no_component ts e) none
@@ -115,7 +106,7 @@ module _ (types : List UnitType) where
       (i : TypeValue) × (low high : ℤ) × (of : TypeValue) × (type.Array low high of ≡ v) × IsInstance types index i × (bare_of i ≡ Ordinal low high) × IsInstance types component of
   IsOf (Record ds) v = (ts : ComponentTypes) × (type.Record ts ≡ v) × AreInstances types ds ts
   IsOf (Set base) v = (b : TypeValue) × (low high : ℤ) × (type.Set low high ≡ v) × IsInstance types base b × (bare_of b ≡ Ordinal low high)
-  IsOf (Initial of value) v = (t : TypeValue) × (start : Start) × (type.Initial t start ≡ v) × IsInstance types of t × (start_by value ≡ Some start)
+  IsOf (Initial of value) v = IsInstance types of v
 
   -- and alike those of components
   abbrev AreOf : Denoters → ComponentTypes → Type 0
@@ -130,7 +121,7 @@ module _ (types : List UnitType) where
   is_of d v (array index component j low high of i over c) = (j, low, high, of, refl, i, over, c)
   is_of d v (components ds ts all) = (ts, refl, all)
   is_of d v (set base b low high i over) = (b, low, high, refl, i, over)
-  is_of d v (initial of value t start i starts) = (t, start, refl, i, starts)
+  is_of d v (initial of value t i) = i
 
   are_of : (ds : Denoters) (ts : ComponentTypes) → AreInstances types ds ts → AreOf ds ts
   are_of ds ts none = refl
@@ -158,11 +149,7 @@ module _ (types : List UnitType) where
         let x = is_of (Set base) w other in
         let bounds = same_ordinal low high x.1 x.2 (sym over ∙ (ap bare_of (instance_one base b x.0 i x.4) ∙ x.5)) in
         (λ k. type.Set (bounds.0 k) (bounds.1 k)) ∙ x.3
-    instance_one d v w (initial of value t start i starts) other =
-        let x = is_of (Initial of value) w other in
-        let own : t ≡ x.0 = instance_one of t x.0 i x.3 in
-        let begin : start ≡ x.1 = same_Some start x.1 (sym starts ∙ x.4) in
-        (λ k. type.Initial (own k) (begin k)) ∙ x.2
+    instance_one d v w (initial of value t i) other = instance_one of t w i (is_of (Initial of value) w other)
 
     instances_one : (ds : Denoters) (ts us : ComponentTypes) → AreInstances types ds ts → AreInstances types ds us → ts ≡ us
     instances_one ds ts us none other = are_of no_denoter us other

@@ -1,7 +1,7 @@
 -- What the denoters of the code are seen as.
 use Rattle.std.proofs.Common.{◌≡◌, ◌∙◌, ℕ, List, None, append-nil, map, sym, ap}
 use Rattle.ep_typed.specs.Trees.{Denoter, Required, Named, Subrange, Enumeration, Array, Record, Set, Initial, denoters}
-use Rattle.ep_typed.specs.Viewed.{bound_of, components_of, denoter_of, denoter_step, field_step, part_step, selector_step, variant_part_step, variant_step}
+use Rattle.ep_typed.specs.Viewed.{bound_of, components_of, constant_expr, denoter_of, denoter_step, field_step, part_step, selector_step, variant_part_step, variant_step}
 use Rattle.ep_typed.specs.declared.denoter.Bound.{Bound}
 use Rattle.ep_typed.specs.declared.denoter.Denoter.{Denoter as Written}
 use Rattle.ep_typed.specs.declared.denoter.Denoter.TheVariants as written
@@ -33,7 +33,7 @@ record_is part = ap denoter_of (sym (written.rolls-Record part)) ∙ fold-roll-D
 pub set_is : (base : Written) → denoter_of (written.Set base) ≡ Set (denoter_of base)
 set_is base = ap denoter_of (sym (written.rolls-Set base)) ∙ fold-roll-Denoter Denoter Denoter (List Denoter) Denoter Denoter (List Denoter) denoter_step selector_step part_step field_step variant_step variant_part_step (layer.Set base)
 
-pub initial_is : (of : Written) (value : Value) → denoter_of (written.Initial of value) ≡ Initial (denoter_of of) value
+pub initial_is : (of : Written) (value : Value) → denoter_of (written.Initial of value) ≡ Initial (denoter_of of) (constant_expr value)
 initial_is of value = ap denoter_of (sym (written.rolls-Initial of value)) ∙ fold-roll-Denoter Denoter Denoter (List Denoter) Denoter Denoter (List Denoter) denoter_step selector_step part_step field_step variant_step variant_part_step (layer.Initial of value)
 
 -- a field, by its denoter

@@ -37,11 +37,32 @@ module _ (types : List UnitType) where
         instance.array index component j low high of (typed_instance index j i) over (typed_instance component of c)
     typed_instance d v (components ds ts all) = instance.components ds ts (typed_instances ds ts all)
     typed_instance d v (set base b low high i over from to) = instance.set base b low high (typed_instance base b i) over
-    typed_instance d v (initial of value t start x starts fits) = instance.initial of value t start (typed_instance of t x) starts
+    typed_instance d v (initial of value t x fits) = instance.initial of value t (typed_instance of t x)
 
     typed_instances : (ds : Denoters) (ts : ComponentTypes) → AreTyped types ds ts → AreInstances types ds ts
     typed_instances ds ts none_typed = instance.none
     typed_instances ds ts (next_typed e es u us x xs) = instance.one_more e es u us (typed_instance e u x) (typed_instances es us xs)
+
+  mutual
+    -- that has no initial states
+    pub typed_bare : (d : Denoter) (v : TypeValue) → IsTyped types d v → bare_of v ≡ v
+    typed_bare d v (required simple.Integer) = refl
+    typed_bare d v (required simple.Char) = refl
+    typed_bare d v (required simple.Boolean) = refl
+    typed_bare d v (named index t at h) = typed_bare (definition_of t) v h
+    typed_bare d v (subrange of low high h has within) = refl
+    typed_bare d v (enumeration first others fits) = refl
+    typed_bare d v (array index component j low high of i over c) = ap (type.Array low high) (typed_bare component of c)
+    typed_bare d v (components ds ts all) = ap type.Record (typed_bares ds ts all)
+    typed_bare d v (set base b low high i over from to) = refl
+    typed_bare d v (initial of value t x fits) = typed_bare of t x
+
+    pub typed_bares : (ds : Denoters) (ts : ComponentTypes) → AreTyped types ds ts → bare_each ts ≡ ts
+    typed_bares ds ts none_typed = refl
+    typed_bares ds ts (next_typed e es u us x xs) =
+        let first = typed_bare e u x in
+        let rest = typed_bares es us xs in
+        λ i. type.next_component (first i) (rest i)
 
   mutual
     -- and that is not empty, and has bounds that are integers
@@ -55,7 +76,7 @@ module _ (types : List UnitType) where
     typed_value d v (array index component j low high of i over c) = (subst IsTypeValue over (bare_value j (typed_value index j i)), typed_value component of c)
     typed_value d v (components ds ts all) = typed_values ds ts all
     typed_value d v (set base b low high i over from to) = (subst IsTypeValue over (bare_value b (typed_value base b i)), from, to)
-    typed_value d v (initial of value t start x starts fits) = typed_value of t x
+    typed_value d v (initial of value t x fits) = typed_value of t x
 
     typed_values : (ds : Denoters) (ts : ComponentTypes) → AreTyped types ds ts → AreTypeValues ts
     typed_values ds ts none_typed = tt
@@ -109,7 +130,7 @@ module _ (types : List UnitType) where
   typed_of_within (suc n) d v h (array index component j low high of i over c) e = cc
   typed_of_within (suc n) d v h (components ds ts all) e = cc
   typed_of_within (suc n) d v h (set base b low high i over from to) e = cc
-  typed_of_within (suc n) d v h (initial of value t start x starts fits) e = typed_of_within (suc n) of t h x e
+  typed_of_within (suc n) d v h (initial of value t x fits) e = typed_of_within (suc n) of t h x e
 
   pub typed_of_host : (d : Denoter) (v : TypeValue) (h : Host) → IsTyped types d v → host_of types d ≡ Some h → IsTypeOf h (bare_of v)
   typed_of_host d v h x e = typed_of_within (suc (length types)) d v h x e
@@ -133,7 +154,7 @@ module _ (types : List UnitType) where
   parts_within (suc n) d v a (enumeration first others fits) e = cc
   parts_within (suc n) d v a (components ds ts all) e = cc
   parts_within (suc n) d v a (set base b low high i over from to) e = cc
-  parts_within (suc n) d v a (initial of value t start x starts fits) e =
+  parts_within (suc n) d v a (initial of value t x fits) e =
       let p = parts_within (suc n) of t a x e in
       record { over = p.over; low = p.low; high = p.high; of = p.of; is = p.is; index = p.index; bounds = p.bounds; component = p.component }
   parts_within (suc n) d v a (array index component j low high of i over c) e =
@@ -157,7 +178,7 @@ module _ (types : List UnitType) where
   components_within (suc n) d v ds (enumeration first others fits) e = cc
   components_within (suc n) d v ds (array index component j low high of i over c) e = cc
   components_within (suc n) d v ds (set base b low high i over from to) e = cc
-  components_within (suc n) d v ds (initial of value t start x starts fits) e =
+  components_within (suc n) d v ds (initial of value t x fits) e =
       let p = components_within (suc n) of t ds x e in record { types_of = p.types_of; is = p.is; all = p.all }
   components_within (suc n) d v ds (components es ts all) e = subst (λ (fs : Denoters). HasComponents fs (type.Record ts)) (same_Some es ds e) (record { types_of = ts; is = refl; all = all })
 
@@ -173,7 +194,7 @@ module _ (types : List UnitType) where
   set_within (suc n) d v base h (enumeration first others fits) e has = cc
   set_within (suc n) d v base h (array index component j low high of i over c) e has = cc
   set_within (suc n) d v base h (components es ts all) e has = cc
-  set_within (suc n) d v base h (initial of value t start x starts fits) e has = set_within (suc n) of t base h x e has
+  set_within (suc n) d v base h (initial of value t x fits) e has = set_within (suc n) of t base h x e has
   set_within (suc n) d v base h (set own b low high i over from to) e has =
       (subst (IsTypeOf h) over (typed_of_host own b h i (ap (host_of types) (same_Some own base e) ∙ has)), from, to)
 

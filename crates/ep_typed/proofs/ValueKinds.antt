@@ -1,9 +1,9 @@
 -- The kind of a denoter's values.
 use Rattle.std.proofs.Common.{◌≡◌, ℕ, zero, suc, List, [], ◌∷◌, length, Option, Some, None, option_map, slice_get, refl, sym, ap, ◌∙◌, subst}
 use Rattle.std.proofs.lemmas.Option.{same_Some}
-use Rattle.ep_typed.proofs.Denoters.{instances_are_one, of_initial, of_set, types_are_instances}
+use Rattle.ep_typed.proofs.Denoters.{instances_are_one, of_set, types_are_instances}
 use Rattle.ep_typed.proofs.Typed.{typed_instance, typed_of_host, typed_set}
-use Rattle.ep_typed.specs.Denoters.{bare_type_of, base_within, definition_of, found_of, host_of, host_within, start_by, type_of, type_step, type_within}
+use Rattle.ep_typed.specs.Denoters.{bare_type_of, base_within, definition_of, found_of, host_of, host_within, type_of, type_step, type_within}
 use Rattle.ep_typed.specs.Hosts.{Host}
 use Rattle.ep_typed.specs.Trees.{Fixed, Denoter, Required, Named, Subrange, Enumeration, Array, Record, Set, Initial}
 use Rattle.ep_typed.specs.TypeValues.{TypeValue, bare_of}
@@ -37,8 +37,7 @@ module _ (types : List UnitType) where
   hosted_within (suc n) (Record ds) h t has is structured = cc
   hosted_within (suc n) (Set base) h t has is structured = cc
   hosted_within (suc n) (Initial of value) h t has is structured =
-      let p = of_initial (type_step types (type_within types n) of) (start_by value) t is in
-      hosted_within (suc n) of h p.0 has p.2 (subst (λ v. IsStructured (bare_of v)) p.4 structured)
+      hosted_within (suc n) of h t has is structured
 
   found_based : (n : ℕ) (o : Option UnitType) (b : Denoter) (h : Host) → ((d : Denoter) → base_within types n d ≡ Some b → host_within types n d ≡ Some h → ⊥)
       → found_of (base_within types n) o ≡ Some b → found_of (host_within types n) o ≡ Some h → ⊥
@@ -75,8 +74,7 @@ module _ (types : List UnitType) where
   formed_within (suc n) (Record ds) b t has is structured = cc
   formed_within (suc n) (Set base) b t has is structured = let p = of_set (type_step types (type_within types n) base) t is in subst (λ v. IsStructured (bare_of v)) p.5 structured
   formed_within (suc n) (Initial of value) b t has is structured =
-      let p = of_initial (type_step types (type_within types n) of) (start_by value) t is in
-      formed_within (suc n) of b p.0 has p.2 (subst (λ v. IsStructured (bare_of v)) p.4 structured)
+      formed_within (suc n) of b t has is structured
 
   -- what has a bare form has a type value
   with_bare : (d : Denoter) (t : TypeValue) → bare_type_of types d ≡ Some t → IsStructured t → (u : TypeValue) × (type_of types d ≡ Some u) × (bare_of u ≡ t) × IsStructured (bare_of u)

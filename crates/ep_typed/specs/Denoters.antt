@@ -3,15 +3,13 @@ use Rattle.std.specs.Prelude.{◌≡◌, ℕ, ℤ, pos, neg_ℤ, zero, suc, List
 use Rattle.ep_typed.specs.Hosts as host
 use Rattle.ep_typed.specs.Hosts.{Host}
 use Rattle.ep_typed.specs.Operations.{maxint, last_char}
-use Rattle.ep_typed.specs.Trees.{Bound, Fixed, Denoter, Required, Named, Subrange, Enumeration, Array, Record, Denoters, no_denoter, next_denoter, Set, Initial}
+use Rattle.ep_typed.specs.Trees.{Bound, Expr, Fixed, Denoter, Required, Named, Subrange, Enumeration, Array, Record, Denoters, no_denoter, next_denoter, Set, Initial}
 use Rattle.ep_typed.specs.Viewed.{denoter_of}
 use Rattle.ep_typed.specs.declared.denoter.RequiredType.{RequiredType}
 use Rattle.ep_typed.specs.declared.denoter.RequiredType.TheVariants as simple
 use Rattle.ep_typed.specs.declared.unit.UnitType.{UnitType}
 use Rattle.ep_typed.specs.TypeValues as type
-use Rattle.ep_typed.specs.TypeValues.{TypeValue, ComponentTypes, Start, Ordinal, Text, no_component, next_component, simple_start, set_start, bare_of}
-use Rattle.ep_typed.specs.declared.value.Value.{Value}
-use Rattle.ep_typed.specs.declared.value.Value.TheVariants as constant
+use Rattle.ep_typed.specs.TypeValues.{TypeValue, ComponentTypes, Ordinal, Text, no_component, next_component, bare_of}
 
 -- the type value of a required type (ISO 10206, 6.4.2.2)
 abbrev pub required_type : RequiredType → TypeValue
@@ -23,16 +21,10 @@ required_type simple.Boolean = Ordinal (pos 0) (pos 1)
 abbrev pub definition_of : UnitType → Denoter
 definition_of t = denoter_of t.entry.denoter
 
--- the initial state that a constant is; a text is none so far
-abbrev pub start_by : Value → Option Start
-start_by (constant.Word w) = Some (simple_start w)
-start_by (constant.Text bytes) = None
-start_by (constant.Set ms) = Some (set_start ms)
-
--- The denoter has the type value: a required type its own, a name that of what it is defined as, a subrange its
--- bounds, an enumeration of one name or more the ordinal numbers of its constants, an array that of its index type and
--- its components, a record those of its components, a set the bounds of its base type, and a type with an initial state that
--- type with what the constant is.
+-- The denoter has the type value, which has no initial states: a required type its own, a name that of what it is defined as, a
+-- subrange its bounds, an enumeration of one name or more the ordinal numbers of its constants, an array that of its index type
+-- and its components, a record those of its components, a set the bounds of its base type, and a type with an initial state that
+-- type. What a variable begins with is found when its type is elaborated.
 mutual
   pub data IsInstance (types : List UnitType) : Denoter → TypeValue → Type 0 where
     required : (r : RequiredType) → IsInstance types (Required r) (required_type r)
@@ -44,8 +36,7 @@ mutual
     components : (ds : Denoters) (ts : ComponentTypes) → AreInstances types ds ts → IsInstance types (Record ds) (type.Record ts)
     set : (base : Denoter) (b : TypeValue) (low high : ℤ) → IsInstance types base b → bare_of b ≡ Ordinal low high
         → IsInstance types (Set base) (type.Set low high)
-    initial : (of : Denoter) (value : Value) (t : TypeValue) (start : Start) → IsInstance types of t → start_by value ≡ Some start
-        → IsInstance types (Initial of value) (type.Initial t start)
+    initial : (of : Denoter) (value : Expr) (t : TypeValue) → IsInstance types of t → IsInstance types (Initial of value) t
 
   -- one for one
   pub data AreInstances (types : List UnitType) : Denoters → ComponentTypes → Type 0 where
@@ -66,7 +57,7 @@ abbrev pub enumeration_host : List (List ℕ) → Option Host
 enumeration_host [] = None
 enumeration_host (first ∷ others) = Some (host.Enumeration (length others))
 
--- the type value of an array, whose index type is ordinal; an initial state of the index type does not matter
+-- the type value of an array, whose index type is ordinal; an initial state that the index type is elaborated with does not matter
 abbrev pub array_over : Option TypeValue → Option TypeValue → Option TypeValue
 array_over (Some (Ordinal low high)) (Some of) = Some (type.Array low high of)
 array_over _ _ = None
@@ -81,11 +72,6 @@ set_over _ = None
 
 abbrev pub set_type : Option TypeValue → Option TypeValue
 set_type base = set_over (option_map bare_of base)
-
--- the type value of a type with an initial state
-abbrev pub initial_type : Option TypeValue → Option Start → Option TypeValue
-initial_type (Some t) (Some start) = Some (type.Initial t start)
-initial_type _ _ = None
 
 -- the type value of a record
 abbrev pub record_type : Option ComponentTypes → Option TypeValue
@@ -175,7 +161,7 @@ module _ (types : List UnitType) where
     type_step find (Array index component) = array_type (type_step find index) (type_step find component)
     type_step find (Record ds) = record_type (types_step find ds)
     type_step find (Set base) = set_type (type_step find base)
-    type_step find (Initial of value) = initial_type (type_step find of) (start_by value)
+    type_step find (Initial of value) = type_step find of
 
     -- those of all of them
     pub types_step : (Denoter → Option TypeValue) → Denoters → Option ComponentTypes
@@ -205,7 +191,7 @@ module _ (types : List UnitType) where
   host_within zero d = None
   host_within (suc n) d = host_step (host_within n) d
 
-  -- the type value of a denoter, where it has one; names that lead back to themselves have none
+  -- the type value of a denoter, without initial states, where it has one; names that lead back to themselves have none
   abbrev pub type_of : Denoter → Option TypeValue
   type_of = type_within (suc (length types))
 

@@ -4,8 +4,8 @@ use Rattle.std.specs.Prelude.{ℕ, ℤ, pos, negsuc, zero, suc, ◌+◌, Bool, t
 use Rattle.ep_typed.specs.Calls.{Argument, Value, Handler, activation_words, in_call}
 use Rattle.ep_typed.specs.Calls as argument_is
 use Rattle.ep_typed.specs.Controls.{in_order, next_value, has_more, others}
-use Rattle.ep_typed.specs.Denoters.{required_type, subrange_type, enumeration_type, array_type, set_type, definition_of, start_by}
-use Rattle.ep_typed.specs.Trees.{Denoter, Required, Named, Subrange, Enumeration, Array, Record, Denoters, no_denoter, next_denoter, Set, Initial, constant_expr, Callee, Place, Variable, Own, Standard, Indexed, Field, Variant, Expr, Constant, Text, Read, One, Two, Short, Step, Function, IndexedValue, FieldValue, SetOf, OnSets, Card, Designator, Single, Range, Designators, no_member, next_member, Actual, Evaluated, Accessed, Actuals, no_actual, next_actual, Item, Plain, Wide, Stmt, Stmts, Empty, Compound, Assign, Tagging, AssignTag, If, While, Repeat, Control, For, MemberControl, ForIn, With, Procedure, Halt, Write, none, next, Case, Arms, no_arm, next_arm, Other, no_other, otherwise_do, Entire, OfUnit, OfRoutine, entire, SetConstant, Structured, Element, AtIndex, AtField, SameField, AtRanges, Elements, no_element, next_element}
+use Rattle.ep_typed.specs.Denoters.{required_type, subrange_type, enumeration_type, array_type, set_type, definition_of}
+use Rattle.ep_typed.specs.Trees.{Denoter, Required, Named, Subrange, Enumeration, Array, Record, Denoters, no_denoter, next_denoter, Set, Initial, Callee, Place, Variable, Own, Standard, Indexed, Field, Variant, Expr, Constant, Text, Read, One, Two, Short, Step, Function, IndexedValue, FieldValue, SetOf, OnSets, Card, Designator, Single, Range, Designators, no_member, next_member, Actual, Evaluated, Accessed, Actuals, no_actual, next_actual, Item, Plain, Wide, Stmt, Stmts, Empty, Compound, Assign, Tagging, AssignTag, If, While, Repeat, Control, For, MemberControl, ForIn, With, Procedure, Halt, Write, none, next, Case, Arms, no_arm, next_arm, Other, no_other, otherwise_do, Entire, OfUnit, OfRoutine, entire, SetConstant, Structured, Element, AtIndex, AtField, SameField, AtRanges, Elements, no_element, next_element}
 use Rattle.ep_typed.specs.Routines.{made_variables, made_by_unit}
 use Rattle.ep_typed.specs.Viewed.{denoter_of, stmt_of}
 use Rattle.ep_typed.specs.Steps.{Call, Normal, Halted, Error, Undefined, Outcome, Computation, give, cut, stop, bind, spend, change, fetch, fetch_or, with_events, assigned, type_at, whole, Component, component, component_number, is_number, tag_of, variant_number, with_type, allocate, allocate_own, own_variable, newest_assigned, with_bound, with_own_bound, standard_file, first_state, using, is_within, size_of, variants_count}
@@ -13,7 +13,7 @@ use Rattle.ep_typed.specs.Operations.{Answer, Number, Fault, unary_answer, binar
 use Rattle.ep_typed.specs.Nameless.{begins_nameless, fills_all, takes_nameless, with_depth}
 use Rattle.ep_typed.specs.Printing.{Result, Bytes, number_of, members_of, line_end, plain_text, wide_text, piece_events}
 use Rattle.ep_typed.specs.Printing as result
-use Rattle.ep_typed.specs.Results.{misfit, part_at, part_of, result_of, suits, unresulting, value_of, weight_of}
+use Rattle.ep_typed.specs.Results.{misfit, part_at, part_of, result_of, start_from, suits, unresulting, value_of, weight_of}
 use Rattle.ep_typed.specs.SetOperations.{set_answer}
 use Rattle.ep_typed.specs.Sets.{least_member, with_number, with_numbers}
 use Rattle.ep_typed.specs.declared.interface.Formal.{Formal}
@@ -392,7 +392,7 @@ module _ (call : Handler) (g : ℕ) (unit : List ℕ) where
       elaborate (Record ds) = bind (elaborate_each ds) (λ ts. elaborated (type.Record ts))
       elaborate (Set base) = bind (elaborate base) (λ t. elaborated_where (set_type (Some t)))
       -- the type, then its initial state
-      elaborate (Initial of value) = bind (elaborate of) (λ t. bind (eval line (constant_expr value)) (λ r. begins_where line t r (start_by value)))
+      elaborate (Initial of value) = bind (elaborate of) (λ t. bind (eval line value) (λ r. begins_where line t r (start_from r)))
 
       -- the types of components, in order
       pub elaborate_each : Denoters → Computation ComponentTypes

@@ -1,7 +1,7 @@
 -- How many typed nodes a unit has: its expressions, places, statements, ranges of `case` statements, of variants, of structured values, of places in variants and of assignments to tags, steps to components of structured values, imports, routines, formals, variables, denoters, bounds and values. An expression that is a constant or a text counts one, and its value one more; that of a set one more for each member. So do the values of constants.
 use Rattle.std.specs.Prelude.{ℕ, ◌+◌, ◌*◌, List, [], ◌∷◌, length, map, sum, Option, Some, None}
-use Rattle.ep_typed.specs.Trees.{Place, Variable, Own, Standard, Indexed, Field, Variant, Expr, Constant, Text, Read, One, Two, Short, Step, Function, IndexedValue, FieldValue, SetOf, OnSets, Card, Designator, Single, Range, Designators, no_member, next_member, Actual, Evaluated, Accessed, Actuals, no_actual, next_actual, Item, Plain, Wide, Stmt, Stmts, Empty, Compound, Assign, AssignTag, If, While, Repeat, For, ForIn, With, Procedure, Case, Halt, Write, none, next, Arm, Arms, no_arm, next_arm, Other, no_other, otherwise_do, entire, SetConstant, Structured, Element, AtIndex, AtField, SameField, AtRanges, Elements, no_element, next_element}
-use Rattle.ep_typed.specs.Viewed.{expr_of, stmt_of}
+use Rattle.ep_typed.specs.Trees.{Place, Variable, Own, Standard, Indexed, Field, Variant, Expr, Constant, Text, Read, One, Two, Short, Step, Function, IndexedValue, FieldValue, SetOf, OnSets, Card, Designator, Single, Range, Designators, no_member, next_member, Actual, Evaluated, Accessed, Actuals, no_actual, next_actual, Item, Plain, Wide, Stmt, Stmts, Empty, Compound, Assign, AssignTag, If, While, Repeat, For, ForIn, With, Procedure, Case, Halt, Write, none, next, Arm, Arms, no_arm, next_arm, Other, no_other, otherwise_do, entire, SetConstant, Structured, Element, AtIndex, AtField, SameField, AtRanges, Elements, no_element, next_element, elements}
+use Rattle.ep_typed.specs.Viewed.{element_of, expr_of, stmt_of}
 use Rattle.ep_typed.specs.declared.denoter.Denoter.{Denoter}
 use Rattle.ep_typed.specs.declared.denoter.Denoter.TheOpen as denoter
 use Rattle.ep_typed.specs.declared.denoter.Denoter.TheOpen.{Denoter-F, Selector-F, FieldPart-F, RecordField-F, Variant-F, VariantPart-F}
@@ -23,68 +23,6 @@ use Rattle.ep_typed.specs.declared.unit.UnitType.{UnitType}
 use Rattle.ep_typed.specs.declared.unit.UnitVariable.{UnitVariable}
 use Rattle.ep_typed.specs.declared.value.Value.{Value}
 use Rattle.ep_typed.specs.declared.value.Value.TheVariants as value
-
--- ---- types
-
--- the number that is there, or 0
-abbrev pub count_where : Option ℕ → ℕ
-count_where None = 0
-count_where (Some n) = n
-
--- a value counts one, and that of a set one more for each member
-abbrev pub value_nodes : Value → ℕ
-value_nodes (value.Word z) = 1
-value_nodes (value.Text bytes) = 1
-value_nodes (value.Set ms) = 1 + length ms
-
--- A denoter, those in it, their bounds, initial states, and the labels of variants, each of which is a range with two bounds.
-abbrev pub denoter_count : Denoter-F ℕ ℕ ℕ ℕ ℕ ℕ → ℕ
-denoter_count (denoter.Required required) = 1
-denoter_count (denoter.Named index tuple) = 1 + length tuple
-denoter_count (denoter.Subrange host low high) = 3 + host
-denoter_count (denoter.Enumeration names) = 1
-denoter_count (denoter.Array index component) = 1 + index + component
-denoter_count (denoter.Record part) = 1 + part
-denoter_count (denoter.Set base) = 1 + base
-denoter_count (denoter.Initial of value) = 1 + of + value_nodes value
-
--- a field by its denoter
-abbrev pub field_count : RecordField-F ℕ ℕ ℕ ℕ ℕ ℕ → ℕ
-field_count f = f.denoter
-
--- the fields of a record or a variant, and its variant part, where it has one
-abbrev pub part_count : FieldPart-F ℕ ℕ ℕ ℕ ℕ ℕ → ℕ
-part_count p = sum p.fields + count_where p.variant_part
-
--- the selector, the variants, and the one that completes them
-abbrev pub variant_part_count : VariantPart-F ℕ ℕ ℕ ℕ ℕ ℕ → ℕ
-variant_part_count p = p.selector + sum p.variants + count_where p.completing
-
--- a tag field by its denoter
-abbrev pub selector_count : Selector-F ℕ ℕ ℕ ℕ ℕ ℕ → ℕ
-selector_count (denoter.Tag name of) = of
-
--- the labels and the fields of a variant
-abbrev pub variant_count : Variant-F ℕ ℕ ℕ ℕ ℕ ℕ → ℕ
-variant_count v = 3 * length v.ranges + v.part
-
-abbrev pub denoter_nodes : Denoter → ℕ
-denoter_nodes = fold-Denoter ℕ ℕ ℕ ℕ ℕ ℕ denoter_count selector_count part_count field_count variant_count variant_part_count
-
-abbrev pub field_nodes : RecordField → ℕ
-field_nodes = fold-RecordField ℕ ℕ ℕ ℕ ℕ ℕ denoter_count selector_count part_count field_count variant_count variant_part_count
-
-abbrev pub part_nodes : FieldPart → ℕ
-part_nodes = fold-FieldPart ℕ ℕ ℕ ℕ ℕ ℕ denoter_count selector_count part_count field_count variant_count variant_part_count
-
-abbrev pub variant_part_nodes : VariantPart → ℕ
-variant_part_nodes = fold-VariantPart ℕ ℕ ℕ ℕ ℕ ℕ denoter_count selector_count part_count field_count variant_count variant_part_count
-
-abbrev pub selector_nodes : Selector → ℕ
-selector_nodes = fold-Selector ℕ ℕ ℕ ℕ ℕ ℕ denoter_count selector_count part_count field_count variant_count variant_part_count
-
-abbrev pub variant_nodes : WrittenVariant → ℕ
-variant_nodes = fold-Variant ℕ ℕ ℕ ℕ ℕ ℕ denoter_count selector_count part_count field_count variant_count variant_part_count
 
 -- ---- expressions
 
@@ -145,6 +83,70 @@ abbrev mutual
   pub designators_nodes : Designators → ℕ
   designators_nodes no_member = 0
   designators_nodes (next_member d more) = designator_nodes d + designators_nodes more
+
+-- ---- types
+
+-- the number that is there, or 0
+abbrev pub count_where : Option ℕ → ℕ
+count_where None = 0
+count_where (Some n) = n
+
+-- A value counts one, and that of a set one more for each member. That of an array or a record counts what its components are given
+-- besides.
+abbrev pub value_nodes : Value → ℕ
+value_nodes (value.Word z) = 1
+value_nodes (value.Text bytes) = 1
+value_nodes (value.Set ms) = 1 + length ms
+value_nodes (value.Structured of es) = 1 + elements_nodes (elements (map element_of es))
+
+-- A denoter, those in it, their bounds, initial states, and the labels of variants, each of which is a range with two bounds.
+abbrev pub denoter_count : Denoter-F ℕ ℕ ℕ ℕ ℕ ℕ → ℕ
+denoter_count (denoter.Required required) = 1
+denoter_count (denoter.Named index tuple) = 1 + length tuple
+denoter_count (denoter.Subrange host low high) = 3 + host
+denoter_count (denoter.Enumeration names) = 1
+denoter_count (denoter.Array index component) = 1 + index + component
+denoter_count (denoter.Record part) = 1 + part
+denoter_count (denoter.Set base) = 1 + base
+denoter_count (denoter.Initial of value) = 1 + of + value_nodes value
+
+-- a field by its denoter
+abbrev pub field_count : RecordField-F ℕ ℕ ℕ ℕ ℕ ℕ → ℕ
+field_count f = f.denoter
+
+-- the fields of a record or a variant, and its variant part, where it has one
+abbrev pub part_count : FieldPart-F ℕ ℕ ℕ ℕ ℕ ℕ → ℕ
+part_count p = sum p.fields + count_where p.variant_part
+
+-- the selector, the variants, and the one that completes them
+abbrev pub variant_part_count : VariantPart-F ℕ ℕ ℕ ℕ ℕ ℕ → ℕ
+variant_part_count p = p.selector + sum p.variants + count_where p.completing
+
+-- a tag field by its denoter
+abbrev pub selector_count : Selector-F ℕ ℕ ℕ ℕ ℕ ℕ → ℕ
+selector_count (denoter.Tag name of) = of
+
+-- the labels and the fields of a variant
+abbrev pub variant_count : Variant-F ℕ ℕ ℕ ℕ ℕ ℕ → ℕ
+variant_count v = 3 * length v.ranges + v.part
+
+abbrev pub denoter_nodes : Denoter → ℕ
+denoter_nodes = fold-Denoter ℕ ℕ ℕ ℕ ℕ ℕ denoter_count selector_count part_count field_count variant_count variant_part_count
+
+abbrev pub field_nodes : RecordField → ℕ
+field_nodes = fold-RecordField ℕ ℕ ℕ ℕ ℕ ℕ denoter_count selector_count part_count field_count variant_count variant_part_count
+
+abbrev pub part_nodes : FieldPart → ℕ
+part_nodes = fold-FieldPart ℕ ℕ ℕ ℕ ℕ ℕ denoter_count selector_count part_count field_count variant_count variant_part_count
+
+abbrev pub variant_part_nodes : VariantPart → ℕ
+variant_part_nodes = fold-VariantPart ℕ ℕ ℕ ℕ ℕ ℕ denoter_count selector_count part_count field_count variant_count variant_part_count
+
+abbrev pub selector_nodes : Selector → ℕ
+selector_nodes = fold-Selector ℕ ℕ ℕ ℕ ℕ ℕ denoter_count selector_count part_count field_count variant_count variant_part_count
+
+abbrev pub variant_nodes : WrittenVariant → ℕ
+variant_nodes = fold-Variant ℕ ℕ ℕ ℕ ℕ ℕ denoter_count selector_count part_count field_count variant_count variant_part_count
 
 -- ---- statements
 

@@ -1,10 +1,11 @@
 -- Results of expressions as values of variables.
-use Rattle.std.specs.Prelude.{ℕ, ℤ, Bool, false, List, length, Option, Some, None, option_map}
+use Rattle.std.specs.Prelude.{ℕ, ℤ, zero, suc, Bool, false, List, length, Option, Some, None, option_map}
+use Rattle.ep_typed.specs.Bounds.{count_of}
 use Rattle.ep_typed.specs.Printing.{Result, Number, Bytes, Structure, Members}
 use Rattle.ep_typed.specs.Sets.{are_between}
 use Rattle.ep_typed.specs.Steps.{Component, State, Value, Word, Undefined, component_number, component_of, is_among, type_at, value_at, word_of, set_of}
 use Rattle.ep_typed.specs.Steps as value
-use Rattle.ep_typed.specs.TypeValues.{TypeValue, bare_of, bare_each, component_type, same_type, size_of}
+use Rattle.ep_typed.specs.TypeValues.{ComponentTypes, Start, Starts, TypeValue, bare_of, bare_each, component_type, no_component, next_component, no_start, next_start, parts_start, same_type, set_size, set_start, simple_start, size_of, undefined_start}
 use Rattle.ep_typed.specs.TypeValues as type
 use Rattle.ep_typed.specs.declared.run_error.TheConstants as run_error
 
@@ -100,3 +101,41 @@ value_of (Number z) = Word z
 value_of (Bytes bytes) = Undefined
 value_of (Structure u v) = v
 value_of (Members ms) = value.Members ms
+
+-- ---- results as initial states (ISO 10206, 6.6)
+
+-- the one that a word is, and the one that a set is, where they are defined
+abbrev pub word_start : Option ℤ → Start
+word_start None = undefined_start 1
+word_start (Some w) = simple_start w
+
+abbrev pub members_start : Option (List ℕ) → Start
+members_start None = undefined_start set_size
+members_start (Some ms) = set_start ms
+
+-- those of so many components, by their numbers
+abbrev pub all_starts : ℕ → (ℕ → Start) → Starts
+all_starts zero of = no_start
+all_starts (suc n) of = next_start (of 0) (all_starts n (λ k. of (suc k)))
+
+abbrev mutual
+  -- the one that a value of a type is
+  pub start_in : TypeValue → Value → Start
+  start_in (type.Ordinal low high) v = word_start (word_of v)
+  start_in type.Text v = undefined_start 1
+  start_in (type.Array low high of) v = parts_start (all_starts (count_of low high) (λ k. start_in of (component_of v k)))
+  start_in (type.Record ts) v = parts_start (starts_in ts (component_of v))
+  start_in (type.Set low high) v = members_start (set_of v)
+  start_in (type.Initial of start) v = start_in of v
+
+  -- those of components of these types
+  pub starts_in : ComponentTypes → (ℕ → Value) → Starts
+  starts_in no_component of = no_start
+  starts_in (next_component t ts) of = next_start (start_in t (of 0)) (starts_in ts (λ k. of (suc k)))
+
+-- the one that a result is; a text is none so far
+abbrev pub start_from : Result → Option Start
+start_from (Number z) = Some (simple_start z)
+start_from (Bytes bytes) = None
+start_from (Structure t v) = Some (start_in t v)
+start_from (Members ms) = Some (set_start ms)

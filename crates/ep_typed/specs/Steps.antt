@@ -9,7 +9,7 @@ use Rattle.ep_typed.specs.declared.tree.StandardFile.{StandardFile}
 use Rattle.ep_typed.specs.declared.tree.StandardFile.TheVariants.{Input, Output}
 use Rattle.ep_typed.specs.Bounds.{component_at}
 pub use Rattle.ep_typed.specs.TypeValues.{TypeValue, Ordinal, Text, Array, component_type, is_within, size_of, same_type, parts_of, start_size}
-use Rattle.ep_typed.specs.TypeValues.{ComponentTypes, Start, no_component, next_component, simple_start, set_start}
+use Rattle.ep_typed.specs.TypeValues.{ComponentTypes, Start, Starts, no_component, next_component, undefined_start, simple_start, set_start, parts_start, no_start, next_start}
 use Rattle.ep_typed.specs.TypeValues as type
 
 -- how a run ends
@@ -26,10 +26,19 @@ pub data Value : Type 0 where
   Components : (of : ℕ → Value) → Value
   Members : (of : List ℕ) → Value
 
--- the value that an initial state is
-abbrev pub started_as : Start → Value
-started_as (simple_start w) = Word w
-started_as (set_start ms) = Members ms
+abbrev mutual
+  -- the value that an initial state is
+  pub started_as : Start → Value
+  started_as (undefined_start size) = Undefined
+  started_as (simple_start w) = Word w
+  started_as (set_start ms) = Members ms
+  started_as (parts_start ss) = Components (started_each ss)
+
+  -- those that the ones of components are, by their numbers
+  pub started_each : Starts → ℕ → Value
+  started_each no_start k = Undefined
+  started_each (next_start s ss) zero = started_as s
+  started_each (next_start s ss) (suc k) = started_each ss k
 
 abbrev mutual
   -- The value that a new variable of a type has (ISO 10206, 6.6): the initial state of the type, where that has one, and else

@@ -9,38 +9,10 @@ use Rattle.ep_typed.specs.declared.denoter.RequiredType.{RequiredType}
 use Rattle.ep_typed.specs.declared.tree.CaseRange.{CaseRange}
 use Rattle.ep_typed.specs.declared.tree.Selection.{Selection}
 use Rattle.ep_typed.specs.declared.tree.StandardFile.{StandardFile}
-use Rattle.ep_typed.specs.declared.value.Value.{Value}
-use Rattle.ep_typed.specs.declared.value.Value.TheVariants as constant
 
 -- a bound of a type: a constant, by its ordinal number
 pub data Bound : Type 0 where
   Fixed : (value : ℤ) → Bound
-
-mutual
-  -- a type denoter (ISO 10206, 6.4.1)
-  pub data Denoter : Type 0 where
-    Required : (required : RequiredType) → Denoter
-    -- the type at this place of a list of types, with the bounds of its tuple
-    Named : (index : ℕ) (tuple : List Bound) → Denoter
-    Subrange : (host : Denoter) (low high : Bound) → Denoter
-    Enumeration : (names : List (List ℕ)) → Denoter
-    -- an array, by its index type and the type of its components
-    Array : (index component : Denoter) → Denoter
-    -- a record, by the types of its components
-    Record : (components : Denoters) → Denoter
-    -- a set, by its base type
-    Set : (base : Denoter) → Denoter
-    -- a type with an initial state, which is a constant (ISO 10206, 6.6)
-    Initial : (of : Denoter) (value : Value) → Denoter
-
-  -- denoters, in order
-  pub data Denoters : Type 0 where
-    no_denoter : Denoters
-    next_denoter : (first : Denoter) (rest : Denoters) → Denoters
-
-abbrev pub denoters : List Denoter → Denoters
-denoters [] = no_denoter
-denoters (d ∷ more) = next_denoter d (denoters more)
 
 -- A routine that is called: its unit, its number in that unit, and 0 for a routine of the unit, or one more than how many
 -- levels up from the one that runs stands that in which it is declared.
@@ -136,15 +108,35 @@ abbrev pub elements : List Element → Elements
 elements [] = no_element
 elements (e ∷ more) = next_element e (elements more)
 
--- a constant as an expression
-abbrev pub constant_expr : Value → Expr
-constant_expr (constant.Word w) = Constant w
-constant_expr (constant.Text bytes) = Text bytes
-constant_expr (constant.Set ms) = SetConstant ms
-
 abbrev pub actuals : List Actual → Actuals
 actuals [] = no_actual
 actuals (a ∷ more) = next_actual a (actuals more)
+
+mutual
+  -- a type denoter (ISO 10206, 6.4.1)
+  pub data Denoter : Type 0 where
+    Required : (required : RequiredType) → Denoter
+    -- the type at this place of a list of types, with the bounds of its tuple
+    Named : (index : ℕ) (tuple : List Bound) → Denoter
+    Subrange : (host : Denoter) (low high : Bound) → Denoter
+    Enumeration : (names : List (List ℕ)) → Denoter
+    -- an array, by its index type and the type of its components
+    Array : (index component : Denoter) → Denoter
+    -- a record, by the types of its components
+    Record : (components : Denoters) → Denoter
+    -- a set, by its base type
+    Set : (base : Denoter) → Denoter
+    -- a type with an initial state, which is a constant, by its form as an expression (ISO 10206, 6.6)
+    Initial : (of : Denoter) (value : Expr) → Denoter
+
+  -- denoters, in order
+  pub data Denoters : Type 0 where
+    no_denoter : Denoters
+    next_denoter : (first : Denoter) (rest : Denoters) → Denoters
+
+abbrev pub denoters : List Denoter → Denoters
+denoters [] = no_denoter
+denoters (d ∷ more) = next_denoter d (denoters more)
 
 -- an expression that is written, with its width where there is one
 pub data Item : Type 0 where

@@ -1,12 +1,21 @@
 -- Type values: types with all bounds as numbers.
-use Rattle.std.specs.Prelude.{ℕ, ℤ, zero, suc, ◌+◌, ◌*◌, Bool, true, false, ◌&&◌, ◌||◌, List, Option, Some, None, cond, int_le, ltb}
+use Rattle.std.specs.Prelude.{ℕ, ℤ, zero, suc, ◌+◌, ◌*◌, Bool, true, false, ◌&&◌, ◌||◌, List, Option, Some, None, cond, int_le, ltb, nat_eq}
 use Rattle.std.specs.Str.{bytes_eq}
 use Rattle.ep_typed.specs.Bounds.{count_of}
 
--- An initial state (ISO 10206, 6.6): the ordinal number of a simple value, or the members of a set in rising order.
-pub data Start : Type 0 where
-  simple_start : (number : ℤ) → Start
-  set_start : (members : List ℕ) → Start
+mutual
+  -- An initial state (ISO 10206, 6.6): undefined, of so many words, the ordinal number of a simple value, the members of a set in
+  -- rising order, or those of components.
+  pub data Start : Type 0 where
+    undefined_start : (size : ℕ) → Start
+    simple_start : (number : ℤ) → Start
+    set_start : (members : List ℕ) → Start
+    parts_start : (parts : Starts) → Start
+
+  -- those of components, in order
+  pub data Starts : Type 0 where
+    no_start : Starts
+    next_start : (first : Start) (rest : Starts) → Starts
 
 mutual
   pub data TypeValue : Type 0 where
@@ -110,12 +119,32 @@ abbrev mutual
 abbrev pub same_bounds : ℤ → ℤ → ℤ → ℤ → Bool
 same_bounds l h m k = (int_le l m && int_le m l) && (int_le h k && int_le k h)
 
--- whether two initial states are the same
-abbrev pub same_start : Start → Start → Bool
-same_start (simple_start w) (simple_start z) = int_le w z && int_le z w
-same_start (simple_start w) (set_start ns) = false
-same_start (set_start ms) (simple_start z) = false
-same_start (set_start ms) (set_start ns) = bytes_eq ms ns
+abbrev mutual
+  -- whether two initial states are the same
+  pub same_start : Start → Start → Bool
+  same_start (undefined_start m) (undefined_start n) = nat_eq m n
+  same_start (undefined_start m) (simple_start z) = false
+  same_start (undefined_start m) (set_start ns) = false
+  same_start (undefined_start m) (parts_start ts) = false
+  same_start (simple_start w) (undefined_start n) = false
+  same_start (simple_start w) (simple_start z) = int_le w z && int_le z w
+  same_start (simple_start w) (set_start ns) = false
+  same_start (simple_start w) (parts_start ts) = false
+  same_start (set_start ms) (undefined_start n) = false
+  same_start (set_start ms) (simple_start z) = false
+  same_start (set_start ms) (set_start ns) = bytes_eq ms ns
+  same_start (set_start ms) (parts_start ts) = false
+  same_start (parts_start ss) (undefined_start n) = false
+  same_start (parts_start ss) (simple_start z) = false
+  same_start (parts_start ss) (set_start ns) = false
+  same_start (parts_start ss) (parts_start ts) = same_starts ss ts
+
+  -- whether those of components are, one for one
+  pub same_starts : Starts → Starts → Bool
+  same_starts no_start no_start = true
+  same_starts no_start (next_start t ts) = false
+  same_starts (next_start s ss) no_start = false
+  same_starts (next_start s ss) (next_start t ts) = same_start s t && same_starts ss ts
 
 abbrev mutual
   -- whether two type values are the same

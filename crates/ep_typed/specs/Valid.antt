@@ -1,7 +1,7 @@
 -- Which typed trees the static rules give: each form has parts of the kinds, types and numbers that it asks for.
 use Rattle.std.specs.Prelude.{◌≡◌, ℕ, ℤ, pos, zero, suc, ◌+◌, ◌<◌, ◌≤◌, Bool, true, false, All, List, [], ◌∷◌, ◌++◌, map, slice_get, drop, length, Option, Some, None, IsTrue, int_le, ⊤, if◌then◌else◌}
 use Rattle.std.specs.Str.{bytes_eq}
-use Rattle.ep_typed.specs.Denoters.{ArrayParts, array_of, base_of, definition_of, denoter_at, denoters_count, record_of, required_type, type_of, host_of, bare_type_of, start_by}
+use Rattle.ep_typed.specs.Denoters.{ArrayParts, array_of, base_of, definition_of, denoter_at, denoters_count, record_of, required_type, type_of, host_of, bare_type_of}
 use Rattle.ep_typed.specs.Hosts.{Host, least, greatest, is_of_host}
 use Rattle.ep_typed.specs.Hosts as host
 use Rattle.ep_typed.specs.Operations.{is_integer, is_apart}
@@ -12,7 +12,7 @@ use Rattle.ep_typed.specs.Trees as tree
 use Rattle.ep_typed.specs.Trees.{Fixed, Denoter, Required, Named, Subrange, Enumeration, Array, Record, Denoters, no_denoter, next_denoter, Initial, Callee, Place, Variable, Own, Standard, Indexed, Field, Variant, Expr, Constant, Text, Read, One, Two, Short, Step, Function, IndexedValue, FieldValue, SetOf, OnSets, Card, Designator, Single, Range, Designators, no_member, next_member, Actual, Evaluated, Accessed, Actuals, no_actual, next_actual, Item, Plain, Wide, Stmt, Stmts, Empty, Compound, Assign, Tagging, AssignTag, If, While, Repeat, Control, For, MemberControl, ForIn, With, Procedure, Halt, Write, none, next, Case, Arms, no_arm, next_arm, Other, no_other, otherwise_do, Entire, OfUnit, OfRoutine, entire, SetConstant, Element, AtIndex, AtField, SameField, AtRanges, Elements, no_element, next_element}
 pub use Rattle.ep_typed.specs.Routines.{heading_of, formal_variable, variables_of, unit_variables}
 use Rattle.ep_typed.specs.Routines.{first_with, made_by_unit}
-use Rattle.ep_typed.specs.Viewed.{denoter_of, stmt_of}
+use Rattle.ep_typed.specs.Viewed.{constant_expr, denoter_of, stmt_of}
 use Rattle.ep_typed.specs.declared.operations.Unary.{Unary}
 use Rattle.ep_typed.specs.declared.operations.Unary.TheVariants as unary
 use Rattle.ep_typed.specs.declared.operations.Binary.{Binary}
@@ -30,7 +30,7 @@ use Rattle.ep_typed.specs.declared.interface.RoutineEntry.{RoutineEntry}
 use Rattle.ep_typed.specs.declared.interface.RoutineResult.{RoutineResult}
 use Rattle.ep_typed.specs.declared.tree.CaseRange.{CaseRange}
 use Rattle.ep_typed.specs.declared.tree.Selection.{Selection}
-use Rattle.ep_typed.specs.TypeValues.{TypeValue, ComponentTypes, Start, bare_of, type_among}
+use Rattle.ep_typed.specs.TypeValues.{TypeValue, ComponentTypes, bare_of, type_among}
 use Rattle.ep_typed.specs.TypeValues as type
 use Rattle.ep_typed.specs.declared.value.Value.{Value}
 use Rattle.ep_typed.specs.declared.value.Value.TheVariants as value
@@ -247,16 +247,14 @@ abbrev pub labels_joined : List (List CaseRange) → List CaseRange
 labels_joined [] = []
 labels_joined (ranges ∷ more) = ranges ++ labels_joined more
 
--- Under a list of types the constant may be the initial state of a type, whose values it may still lie outside of: a value of
--- the host of an ordinal type, or a set over that of a set type (ISO 10206, 6.6).
-abbrev pub IsStartFor : List UnitType → Denoter → Value → Type 0
-IsStartFor types d (value.Word w) = (h : Host) × (host_of types d ≡ Some h) × IsTrue (is_of_host h w)
-IsStartFor types d (value.Text bytes) = ⊥
-IsStartFor types d (value.Set ms) = (h : Host) × IsOfKind (Set h) types d × IsSet ms × IsTrue (are_between (least h) (greatest h) ms)
+-- an arm, a variant or one value of an array has at least one range
+abbrev pub HasRange : List CaseRange → Type 0
+HasRange [] = ⊥
+HasRange (r ∷ rs) = ⊤
 
--- The denoter has the type value and breaks no rule: the bounds of a subrange are in order and of its host, and an
--- enumeration has no more constants than there are integers; the values of a set's base type may be members; an initial state is
--- one for the type.
+-- The denoter has the type value, which has no initial states, and breaks no rule: the bounds of a subrange are in order and of its
+-- host, and an enumeration has no more constants than there are integers; the values of a set's base type may be members; an
+-- initial state is one for the type.
 mutual
   pub data IsTyped (types : List UnitType) : Denoter → TypeValue → Type 0 where
     required : (r : RequiredType) → IsTyped types (Required r) (required_type r)
@@ -270,14 +268,34 @@ mutual
     components : (ds : Denoters) (ts : ComponentTypes) → AreTyped types ds ts → IsTyped types (Record ds) (type.Record ts)
     set : (base : Denoter) (b : TypeValue) (low high : ℤ) → IsTyped types base b → bare_of b ≡ type.Ordinal low high → IsTrue (is_ordinal low) → IsTrue (is_ordinal high)
         → IsTyped types (tree.Set base) (type.Set low high)
-    initial : (of : Denoter) (v : Value) (t : TypeValue) (start : Start) → IsTyped types of t → start_by v ≡ Some start → IsStartFor types of v
-        → IsTyped types (Initial of v) (type.Initial t start)
+    initial : (of : Denoter) (x : Expr) (t : TypeValue) → IsTyped types of t → IsStartFor types t x → IsTyped types (Initial of x) t
 
   -- one for one
   pub data AreTyped (types : List UnitType) : Denoters → ComponentTypes → Type 0 where
     none_typed : AreTyped types no_denoter type.no_component
     next_typed : (d : Denoter) (ds : Denoters) (t : TypeValue) (ts : ComponentTypes) → IsTyped types d t → AreTyped types ds ts
         → AreTyped types (next_denoter d ds) (type.next_component t ts)
+
+  -- The constant may be the initial state of a type, whose values it may still lie outside of (ISO 10206, 6.6): a value of the host
+  -- of an ordinal type, a set over that of a set type, or an array or a record of that type of the list, whose components are given
+  -- such constants.
+  pub data IsStartFor (types : List UnitType) : TypeValue → Expr → Type 0 where
+    word_start : (low high : ℤ) (h : Host) (w : ℤ) → IsTypeOf h (type.Ordinal low high) → IsTrue (is_of_host h w) → IsStartFor types (type.Ordinal low high) (Constant w)
+    set_start : (low high : ℤ) (h : Host) (ms : List ℕ) → IsBaseOf h low high → IsSet ms → IsTrue (are_between (least h) (greatest h) ms)
+        → IsStartFor types (type.Set low high) (SetConstant ms)
+    structured_start : (of : ℕ) (t : TypeValue) (es : Elements) → IsTyped types (Named of []) t → IsStructured t → AreStartsFor types t es
+        → IsStartFor types t (tree.Structured of es)
+
+  -- what components are given
+  pub data AreStartsFor (types : List UnitType) : TypeValue → Elements → Type 0 where
+    none_given : (t : TypeValue) → AreStartsFor types t no_element
+    ranges_given : (low high : ℤ) (h : Host) (of : TypeValue) (ranges : List CaseRange) (x : Expr) (more : Elements) → IsTypeOf h (type.Ordinal low high)
+        → HasRange ranges → All (IsRangeWithin low high) ranges → IsStartFor types of x → AreStartsFor types (type.Array low high of) more
+        → AreStartsFor types (type.Array low high of) (next_element (AtRanges ranges x) more)
+    field_given : (ts : ComponentTypes) (steps : List ℕ) (of : TypeValue) (x : Expr) (more : Elements) → LeadTo ts steps of
+        → IsStartFor types of x → AreStartsFor types (type.Record ts) more → AreStartsFor types (type.Record ts) (next_element (AtField steps x) more)
+    same_given : (ts : ComponentTypes) (from to : List ℕ) (k : Kind) (more : Elements) → LeadToKind ts from k → LeadToKind ts to k
+        → AreStartsFor types (type.Record ts) more → AreStartsFor types (type.Record ts) (next_element (SameField from to) more)
 
 -- under a list of types a valid denoter has a type value
 pub record IsDenoter (types : List UnitType) (d : Denoter) : Type 0 where
@@ -289,11 +307,6 @@ module _ (declared : Declarations) where
   -- the first value of a range is not above the last one, and both are of the host
   abbrev pub IsRange : Host → CaseRange → Type 0
   IsRange h r = IsTrue (int_le r.low r.high) × IsTrue (is_of_host h r.low) × IsTrue (is_of_host h r.high)
-
-  -- an arm, a variant or one value of an array has at least one range
-  abbrev pub HasRange : List CaseRange → Type 0
-  HasRange [] = ⊥
-  HasRange (r ∷ rs) = ⊤
 
   -- Under a list of types the components of a record end with the record of a tag and with variants that it selects so: the
   -- tag is of an ordinal type, and the labels are values of its host, of which none is in two ranges (ISO 10206, 6.4.3.4).
@@ -494,20 +507,21 @@ pub record HasKind (types : List UnitType) (d : Denoter) : Type 0 where
   pub denoter : IsDenoter types d
 
 -- The value is one of the type. A text is of none so far.
-abbrev pub IsValue : TypeValue → Value → Type 0
-IsValue t (value.Word w) = IsTrue (is_within t w)
-IsValue t (value.Text bytes) = ⊥
-IsValue t (value.Set ms) = IsSet ms × IsTrue (has_base_for (Some t) ms)
+abbrev pub IsValue : List UnitType → TypeValue → Value → Type 0
+IsValue types t (value.Word w) = IsTrue (is_within t w)
+IsValue types t (value.Text bytes) = ⊥
+IsValue types t (value.Set ms) = IsSet ms × IsTrue (has_base_for (Some t) ms)
+IsValue types t (value.Structured of es) = IsStartFor types t (constant_expr (value.Structured of es))
 
 -- a type that is no schema, of a valid denoter
 pub record IsType (types : List UnitType) (t : UnitType) : Type 0 where
   pub formals : t.entry.formals ≡ []
   pub denoter : IsDenoter types (definition_of t)
 
--- a constant of an ordinal type or a set type that is a value of it
+-- a constant that is a value of its type
 pub record IsConstant (types : List UnitType) (c : ConstantEntry) : Type 0 where
   pub kind : HasKind types (denoter_of c.denoter)
-  pub value : IsValue kind.denoter.type_value c.value
+  pub value : IsValue types kind.denoter.type_value c.value
 
 -- a variable of a valid denoter without discriminants
 pub record IsVariable (types : List UnitType) (v : UnitVariable) : Type 0 where

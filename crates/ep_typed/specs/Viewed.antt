@@ -34,69 +34,11 @@ use Rattle.ep_typed.specs.declared.tree.TypedStmt.TheOpen as stmt
 use Rattle.ep_typed.specs.declared.tree.TypedStmt.TheOpen.{TypedStmt-F, CaseArm-F}
 use Rattle.ep_typed.specs.declared.tree.TypedStmt.TheFolds.{fold-TypedStmt, fold-CaseArm}
 use Rattle.ep_typed.specs.declared.tree.CaseArm.{CaseArm}
+use Rattle.ep_typed.specs.declared.value.Value.{Value}
+use Rattle.ep_typed.specs.declared.value.Value.TheVariants as constant
 
 abbrev pub bound_of : Bound → tree.Bound
 bound_of (Constant value) = tree.Fixed value
-
--- what is there, or nothing
-abbrev pub behind : Option (List tree.Denoter) → List tree.Denoter
-behind None = []
-behind (Some components) = components
-
--- the record of the fields of a completing variant, where there is one
-abbrev pub completing : Option (List tree.Denoter) → List tree.Denoter
-completing None = []
-completing (Some components) = tree.Record (tree.denoters components) ∷ []
-
-abbrev pub denoter_step : Denoter-F tree.Denoter tree.Denoter (List tree.Denoter) tree.Denoter tree.Denoter (List tree.Denoter) → tree.Denoter
-denoter_step (denoter.Required required) = tree.Required required
-denoter_step (denoter.Named index tuple) = tree.Named index (map bound_of tuple)
-denoter_step (denoter.Subrange host low high) = tree.Subrange host (bound_of low) (bound_of high)
-denoter_step (denoter.Enumeration names) = tree.Enumeration names
-denoter_step (denoter.Array index component) = tree.Array index component
-denoter_step (denoter.Record components) = tree.Record (tree.denoters components)
-denoter_step (denoter.Set base) = tree.Set base
-denoter_step (denoter.Initial of value) = tree.Initial of value
-
--- a field by its type
-abbrev pub field_step : RecordField-F tree.Denoter tree.Denoter (List tree.Denoter) tree.Denoter tree.Denoter (List tree.Denoter) → tree.Denoter
-field_step f = f.denoter
-
--- the fields of a record or a variant, and then what its variant part adds
-abbrev pub part_step : FieldPart-F tree.Denoter tree.Denoter (List tree.Denoter) tree.Denoter tree.Denoter (List tree.Denoter) → List tree.Denoter
-part_step p = p.fields ++ behind p.variant_part
-
--- a variant part by the record of what selects a variant, and then the variants, the completing one last
-abbrev pub variant_part_step : VariantPart-F tree.Denoter tree.Denoter (List tree.Denoter) tree.Denoter tree.Denoter (List tree.Denoter) → List tree.Denoter
-variant_part_step p = p.selector ∷ (p.variants ++ completing p.completing)
-
--- a tag by the record of it alone
-abbrev pub selector_step : Selector-F tree.Denoter tree.Denoter (List tree.Denoter) tree.Denoter tree.Denoter (List tree.Denoter) → tree.Denoter
-selector_step (denoter.Tag name of) = tree.Record (tree.denoters (of ∷ []))
-
--- a variant by the record of its fields
-abbrev pub variant_step : Variant-F tree.Denoter tree.Denoter (List tree.Denoter) tree.Denoter tree.Denoter (List tree.Denoter) → tree.Denoter
-variant_step v = tree.Record (tree.denoters v.part)
-
-abbrev pub denoter_of : Denoter → tree.Denoter
-denoter_of = fold-Denoter tree.Denoter tree.Denoter (List tree.Denoter) tree.Denoter tree.Denoter (List tree.Denoter) denoter_step selector_step part_step field_step variant_step variant_part_step
-
--- the components that a field part gives to its record or variant
-abbrev pub components_of : FieldPart → List tree.Denoter
-components_of = fold-FieldPart tree.Denoter tree.Denoter (List tree.Denoter) tree.Denoter tree.Denoter (List tree.Denoter) denoter_step selector_step part_step field_step variant_step variant_part_step
-
-abbrev pub field_of : RecordField → tree.Denoter
-field_of = fold-RecordField tree.Denoter tree.Denoter (List tree.Denoter) tree.Denoter tree.Denoter (List tree.Denoter) denoter_step selector_step part_step field_step variant_step variant_part_step
-
-abbrev pub selector_of : Selector → tree.Denoter
-selector_of = fold-Selector tree.Denoter tree.Denoter (List tree.Denoter) tree.Denoter tree.Denoter (List tree.Denoter) denoter_step selector_step part_step field_step variant_step variant_part_step
-
-abbrev pub variant_of : Variant → tree.Denoter
-variant_of = fold-Variant tree.Denoter tree.Denoter (List tree.Denoter) tree.Denoter tree.Denoter (List tree.Denoter) denoter_step selector_step part_step field_step variant_step variant_part_step
-
--- and those that a variant part adds
-abbrev pub variants_of : VariantPart → List tree.Denoter
-variants_of = fold-VariantPart tree.Denoter tree.Denoter (List tree.Denoter) tree.Denoter tree.Denoter (List tree.Denoter) denoter_step selector_step part_step field_step variant_step variant_part_step
 
 abbrev pub callee_of : Callee → tree.Callee
 callee_of c = record { unit = c.unit; number = c.number; levels = c.levels }
@@ -154,6 +96,73 @@ designator_of = fold-MemberDesignator tree.Actual tree.Element tree.Designator t
 
 abbrev pub element_of : Element → tree.Element
 element_of = fold-Element tree.Actual tree.Element tree.Designator tree.Expr tree.Place actual_step element_step designator_step expr_step place_step
+
+-- a constant as an expression
+abbrev pub constant_expr : Value → tree.Expr
+constant_expr (constant.Word w) = tree.Constant w
+constant_expr (constant.Text bytes) = tree.Text bytes
+constant_expr (constant.Set ms) = tree.SetConstant ms
+constant_expr (constant.Structured of elements) = tree.Structured of (tree.elements (map element_of elements))
+
+-- what is there, or nothing
+abbrev pub behind : Option (List tree.Denoter) → List tree.Denoter
+behind None = []
+behind (Some components) = components
+
+-- the record of the fields of a completing variant, where there is one
+abbrev pub completing : Option (List tree.Denoter) → List tree.Denoter
+completing None = []
+completing (Some components) = tree.Record (tree.denoters components) ∷ []
+
+abbrev pub denoter_step : Denoter-F tree.Denoter tree.Denoter (List tree.Denoter) tree.Denoter tree.Denoter (List tree.Denoter) → tree.Denoter
+denoter_step (denoter.Required required) = tree.Required required
+denoter_step (denoter.Named index tuple) = tree.Named index (map bound_of tuple)
+denoter_step (denoter.Subrange host low high) = tree.Subrange host (bound_of low) (bound_of high)
+denoter_step (denoter.Enumeration names) = tree.Enumeration names
+denoter_step (denoter.Array index component) = tree.Array index component
+denoter_step (denoter.Record components) = tree.Record (tree.denoters components)
+denoter_step (denoter.Set base) = tree.Set base
+denoter_step (denoter.Initial of value) = tree.Initial of (constant_expr value)
+
+-- a field by its type
+abbrev pub field_step : RecordField-F tree.Denoter tree.Denoter (List tree.Denoter) tree.Denoter tree.Denoter (List tree.Denoter) → tree.Denoter
+field_step f = f.denoter
+
+-- the fields of a record or a variant, and then what its variant part adds
+abbrev pub part_step : FieldPart-F tree.Denoter tree.Denoter (List tree.Denoter) tree.Denoter tree.Denoter (List tree.Denoter) → List tree.Denoter
+part_step p = p.fields ++ behind p.variant_part
+
+-- a variant part by the record of what selects a variant, and then the variants, the completing one last
+abbrev pub variant_part_step : VariantPart-F tree.Denoter tree.Denoter (List tree.Denoter) tree.Denoter tree.Denoter (List tree.Denoter) → List tree.Denoter
+variant_part_step p = p.selector ∷ (p.variants ++ completing p.completing)
+
+-- a tag by the record of it alone
+abbrev pub selector_step : Selector-F tree.Denoter tree.Denoter (List tree.Denoter) tree.Denoter tree.Denoter (List tree.Denoter) → tree.Denoter
+selector_step (denoter.Tag name of) = tree.Record (tree.denoters (of ∷ []))
+
+-- a variant by the record of its fields
+abbrev pub variant_step : Variant-F tree.Denoter tree.Denoter (List tree.Denoter) tree.Denoter tree.Denoter (List tree.Denoter) → tree.Denoter
+variant_step v = tree.Record (tree.denoters v.part)
+
+abbrev pub denoter_of : Denoter → tree.Denoter
+denoter_of = fold-Denoter tree.Denoter tree.Denoter (List tree.Denoter) tree.Denoter tree.Denoter (List tree.Denoter) denoter_step selector_step part_step field_step variant_step variant_part_step
+
+-- the components that a field part gives to its record or variant
+abbrev pub components_of : FieldPart → List tree.Denoter
+components_of = fold-FieldPart tree.Denoter tree.Denoter (List tree.Denoter) tree.Denoter tree.Denoter (List tree.Denoter) denoter_step selector_step part_step field_step variant_step variant_part_step
+
+abbrev pub field_of : RecordField → tree.Denoter
+field_of = fold-RecordField tree.Denoter tree.Denoter (List tree.Denoter) tree.Denoter tree.Denoter (List tree.Denoter) denoter_step selector_step part_step field_step variant_step variant_part_step
+
+abbrev pub selector_of : Selector → tree.Denoter
+selector_of = fold-Selector tree.Denoter tree.Denoter (List tree.Denoter) tree.Denoter tree.Denoter (List tree.Denoter) denoter_step selector_step part_step field_step variant_step variant_part_step
+
+abbrev pub variant_of : Variant → tree.Denoter
+variant_of = fold-Variant tree.Denoter tree.Denoter (List tree.Denoter) tree.Denoter tree.Denoter (List tree.Denoter) denoter_step selector_step part_step field_step variant_step variant_part_step
+
+-- and those that a variant part adds
+abbrev pub variants_of : VariantPart → List tree.Denoter
+variants_of = fold-VariantPart tree.Denoter tree.Denoter (List tree.Denoter) tree.Denoter tree.Denoter (List tree.Denoter) denoter_step selector_step part_step field_step variant_step variant_part_step
 
 abbrev pub wide : Print → TypedExpr → Option TypedExpr → tree.Item
 wide print value None = tree.Plain print (expr_of value)

@@ -86,6 +86,7 @@ fn value(v: &Value) -> u64
         Value::Word(_) => 1,
         Value::Text(_) => 1,
         Value::Set(members) => (members.items().len() as u64).saturating_add(1),
+        Value::Structured(_, given) => elements(given.items()).saturating_add(1),
     }
 }
 

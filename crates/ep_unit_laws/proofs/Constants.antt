@@ -158,12 +158,15 @@ module _ (u : TypedUnit) where
   entry_holds : (i : ℕ) (name : List ℕ) (k : Kind) (v : Value) (all : List ConstantEntry) → i ≤ length u.types → IsConstantOf k v → ListsKind u i k → All (IsConstant u.types) all → All (IsConstant u.types) (with_entry name (entry_denoter k) v all)
   entry_holds i name (kind.Ordinal h) (value.Word z) all le s l x = All-push (IsConstant u.types) all (record { name = name; denoter = host_denoter h; value = value.Word z }) x (constant_valid u i name h z le l s.1)
   entry_holds i name (kind.Ordinal h) (value.Text bytes) all le s l x = absurd s
+  entry_holds i name (kind.Ordinal h) (value.Structured of es) all le s l x = absurd s
   entry_holds i name (kind.Ordinal h) (value.Set ms) all le s l x = absurd s
   entry_holds i name (kind.Set h) (value.Word z) all le s l x = absurd s
   entry_holds i name (kind.Set h) (value.Text bytes) all le s l x = absurd s
+  entry_holds i name (kind.Set h) (value.Structured of es) all le s l x = absurd s
   entry_holds i name (kind.Set h) (value.Set ms) all le s l x = All-push (IsConstant u.types) all (record { name = name; denoter = set_denoter h; value = value.Set ms }) x (set_valid i name h ms le l s.1)
   entry_holds i name kind.EmptySet (value.Word z) all le s l x = absurd s
   entry_holds i name kind.EmptySet (value.Text bytes) all le s l x = absurd s
+  entry_holds i name kind.EmptySet (value.Structured of es) all le s l x = absurd s
   entry_holds i name kind.EmptySet (value.Set ms) all le s l x = All-push (IsConstant u.types) all (record { name = name; denoter = set_denoter host.Integer; value = value.Set ms }) x (set_valid i name host.Integer ms le tt (s typed.Integer))
   entry_holds i name (kind.Structured n) v all le s l x = x
   entry_holds i name kind.Text v all le s l x = x

@@ -2,14 +2,13 @@
 use Rattle.std.proofs.Common.{◌≡◌, ℕ, ℤ, pos, zero, suc, List, [], ◌∷◌, ◌++◌, length, Option, Some, None, slice_get, refl, sym, ap, ◌∙◌}
 use Rattle.std.proofs.lemmas.Option.{same_Some}
 use Rattle.ep_outside.specs.Known.{IsPrefix}
-use Rattle.ep_typed.specs.Denoters.{definition_of, found_of, required_type, start_by, type_within}
+use Rattle.ep_typed.specs.Denoters.{definition_of, found_of, required_type, type_within}
 use Rattle.ep_typed.specs.Trees as tree
 use Rattle.ep_typed.specs.TypeValues as type
 use Rattle.ep_typed.specs.TypeValues.{TypeValue, bare_of}
 use Rattle.ep_typed.specs.declared.denoter.RequiredType.{RequiredType}
 use Rattle.ep_typed.specs.declared.denoter.RequiredType.TheVariants as simple
 use Rattle.ep_typed.specs.declared.unit.UnitType.{UnitType}
-use Rattle.ep_typed.proofs.Denoters.{of_initial}
 use Rattle.ep_scope.specs.declared.kind.Host.{Host}
 use Rattle.ep_scope.specs.declared.kind.Kind.{Kind}
 use Rattle.ep_scope.specs.declared.kind.Kind.TheVariants as kind
@@ -81,8 +80,7 @@ module _ (types : List UnitType) where
   definition_is (suc n) (tree.Record ds) v x e f = cc
   definition_is (suc n) (tree.Set base) v x e f = cc
   definition_is (suc n) (tree.Initial of value) v x e f =
-      let p = of_initial (type_within types (suc n) of) (start_by value) v e in
-      ap bare_of p.4 ∙ definition_is (suc n) of p.0 x p.2 f
+      definition_is (suc n) of v x e f
 
   entry_is : (n number : ℕ) (v x : TypeValue) (o : Option UnitType) → ((t : UnitType) → o ≡ Some t → slice_get types number ≡ Some t) → found_of (type_within types n) (slice_get types number) ≡ Some v
       → found_of ordinal_value o ≡ Some x → bare_of v ≡ x

@@ -81,6 +81,7 @@ module _ (t : Tag) where
   fitting_fits (kind.Ordinal g) (value.Word z) built = word_fits (same_host t.values.host g) z built
   fitting_fits (kind.Ordinal g) (value.Text bytes) built = tt
   fitting_fits (kind.Ordinal g) (value.Set members) built = tt
+  fitting_fits (kind.Ordinal g) (value.Structured of es) built = tt
   fitting_fits (kind.Structured n) v built = tt
   fitting_fits (kind.Set h) v built = tt
   fitting_fits kind.EmptySet v built = tt
@@ -187,10 +188,10 @@ module _ (t : Tag) where
     ranges_hosted [] x = All-nil (IsRange declared h)
     ranges_hosted (r ∷ rs) x = let y = All-head IsRangeOf r rs x in All-cons (IsRange declared h) r rs (y.0, of_host r.low y.1, of_host r.high y.2) (ranges_hosted rs (All-tail IsRangeOf r rs x))
 
-    pub all_labelled : (all : List (List CaseRange)) → All (λ rs. has_label rs ≡ true) all → All (HasRange declared) all
-    all_labelled [] x = All-nil (HasRange declared)
-    all_labelled (rs ∷ all) x = All-cons (HasRange declared) rs all (has rs (All-head (λ rs. has_label rs ≡ true) rs all x)) (all_labelled all (All-tail (λ rs. has_label rs ≡ true) rs all x))
+    pub all_labelled : (all : List (List CaseRange)) → All (λ rs. has_label rs ≡ true) all → All HasRange all
+    all_labelled [] x = All-nil HasRange
+    all_labelled (rs ∷ all) x = All-cons HasRange rs all (has rs (All-head (λ rs. has_label rs ≡ true) rs all x)) (all_labelled all (All-tail (λ rs. has_label rs ≡ true) rs all x))
       where
-        has : (rs : List CaseRange) → has_label rs ≡ true → HasRange declared rs
+        has : (rs : List CaseRange) → has_label rs ≡ true → HasRange rs
         has [] e = cc
         has (r ∷ rs) e = tt

@@ -2,7 +2,7 @@
 use Rattle.std.proofs.Common.{◌≡◌, ℕ, ℤ, zero, suc, ◌<◌, Bool, true, false, ◌&&◌, List, [], ◌∷◌, length, Option, Some, None, option_map, slice_get, refl, sym, ap, ◌∙◌, subst, arith}
 use Rattle.std.proofs.lemmas.Option.{slice_get_within}
 use Rattle.std.specs.Prelude.{if◌then◌else◌}
-use Rattle.ep_typed.specs.Denoters.{definition_of, found_of, required_type, start_by, type_within}
+use Rattle.ep_typed.specs.Denoters.{definition_of, found_of, required_type, type_within}
 use Rattle.ep_typed.specs.Sets.{is_ordinal}
 use Rattle.ep_typed.specs.Trees as tree
 use Rattle.ep_typed.specs.TypeValues as type
@@ -12,7 +12,6 @@ use Rattle.ep_typed.specs.declared.denoter.RequiredType.{RequiredType}
 use Rattle.ep_typed.specs.declared.denoter.RequiredType.TheVariants as simple
 use Rattle.ep_typed.specs.declared.unit.Unit.{Unit as TypedUnit}
 use Rattle.ep_typed.specs.declared.unit.UnitType.{UnitType}
-use Rattle.ep_typed.proofs.Denoters.{of_initial}
 use Rattle.ep_typed.proofs.Forms.{set_is}
 use Rattle.ep_outside.specs.Known.{IsPrefix}
 use Rattle.ep_scope.specs.declared.kind.Host.{Host}
@@ -48,8 +47,7 @@ module _ (types : List UnitType) where
   definition_members (suc n) (tree.Record ds) v e m = cc
   definition_members (suc n) (tree.Set base) v e m = cc
   definition_members (suc n) (tree.Initial of value) v e m =
-      let p = of_initial (type_within types (suc n) of) (start_by value) v e in
-      subst (λ t. are_members (Some (bare_of t)) ≡ true) (sym p.4) (definition_members (suc n) of p.0 p.2 m)
+      definition_members (suc n) of v e m
 
   -- by its entry in fewer types
   entry_members : (n number : ℕ) (v : TypeValue) (o : Option UnitType) → ((t : UnitType) → o ≡ Some t → slice_get types number ≡ Some t) → found_of (type_within types n) (slice_get types number) ≡ Some v

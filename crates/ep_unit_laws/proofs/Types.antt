@@ -264,6 +264,7 @@ module _ (u : TypedUnit) where
   bound_of_host h (value.Word z) s = s.1
   bound_of_host h (value.Text bytes) s = absurd s
   bound_of_host h (value.Set members) s = absurd s
+  bound_of_host h (value.Structured of es) s = absurd s
 
   ordered_if : (b : Bool) (a : Unit {0}) → (if b then Accepts tt else Breaks (rule.EMPTY_RANGE ∷ [])) ≡ Accepts a → b ≡ true
   ordered_if true a e = refl

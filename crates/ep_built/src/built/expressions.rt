@@ -218,7 +218,7 @@ pub(super) fn component_value(v: &ComponentValue) -> Option<Line>
     }
 }
 
-/// Of the value of a constant definition or of an initial state, which is no structured value as a whole.
+/// Of the value of a constant definition, which is no structured value as a whole.
 pub(super) fn constant_value(v: &ComponentValue) -> Option<Line>
     ensures { result ≡ constant_value_unbuilt v.now }
 {

@@ -3,7 +3,7 @@
 ghost use Rattle.std.specs.Prelude.{◌≡◌, map};
 ghost use Rattle.ep_built.specs.Built.{core_unbuilt, field_section_unbuilt, fields_unbuilt, first_in, plain_unbuilt, structure_unbuilt, type_denoter_unbuilt, variant_part_unbuilt, variant_unbuilt};
 
-use crate::built::expressions::{constant_value, expression, labels};
+use crate::built::expressions::{component_value, expression, labels};
 use crate::built::{at_node, forms};
 use ep_base::Line;
 use ep_tree::{Core, FieldSection, Fields, Plain, Structure, TypeDenoter, Variant, VariantPart};
@@ -15,7 +15,7 @@ pub(super) fn type_denoter(t: &TypeDenoter) -> Option<Line>
     let line = plain(t.plain.get());
     match &t.initial {
         None => line,
-        Some(value) => line.or(constant_value(value)),
+        Some(value) => line.or(component_value(value)),
     }
 }
 

@@ -117,7 +117,7 @@ module _ (scopes : List Region) (h : Host) where
 
 -- the ranges of an arm: at least one, and each of the host
 abbrev AreOwn : Declarations → Host → List CaseRange → Type 0
-AreOwn declared h rs = HasRange declared rs × All (IsRange declared (typed_host h)) rs
+AreOwn declared h rs = HasRange rs × All (IsRange declared (typed_host h)) rs
 
 -- the labels of all arms
 abbrev pub AreApartIn : List Region → Host → List (List Label) → Type 0
@@ -143,19 +143,24 @@ module _ (declared : Declarations) (labels : LabelsAreSound) (scopes : List Regi
   fitting_fits (kind.Ordinal g) (value.Word z) built p = end_by g z built (same_host h g) refl p.1
   fitting_fits (kind.Ordinal g) (value.Text bytes) built p = absurd p
   fitting_fits (kind.Ordinal g) (value.Set members) built p = absurd p
+  fitting_fits (kind.Ordinal g) (value.Structured of es) built p = absurd p
   fitting_fits (kind.Structured n) v built p = absurd p
   fitting_fits (kind.Set base) (value.Word z) built p = tt
   fitting_fits (kind.Set base) (value.Text bytes) built p = tt
   fitting_fits (kind.Set base) (value.Set members) built p = tt
+  fitting_fits (kind.Set base) (value.Structured of es) built p = tt
   fitting_fits kind.EmptySet (value.Word z) built p = tt
   fitting_fits kind.EmptySet (value.Text bytes) built p = tt
   fitting_fits kind.EmptySet (value.Set members) built p = tt
+  fitting_fits kind.EmptySet (value.Structured of es) built p = tt
   fitting_fits kind.Text (value.Word z) built p = tt
   fitting_fits kind.Text (value.Text bytes) built p = tt
   fitting_fits kind.Text (value.Set members) built p = tt
+  fitting_fits kind.Text (value.Structured of es) built p = tt
   fitting_fits kind.File (value.Word z) built p = tt
   fitting_fits kind.File (value.Text bytes) built p = tt
   fitting_fits kind.File (value.Set members) built p = tt
+  fitting_fits kind.File (value.Structured of es) built p = tt
 
   end_fits : (e : Expression) → Fits (IfForm IsEnd) (end_judged scopes h e)
   end_fits e = go (label_judged scopes e) refl

@@ -339,4 +339,4 @@ module _ (declared : Declarations) (G : Image) (routine : ℕ) (r : ImageRoutine
         → Fragment declared G (Since untouched injection began memory) (suc n) (point injection memory place (top ++ below)) (in_call 0 0 (activation name from line) (spend (suc weight) body)) (place + 1) (λ a. Inside untouched injection memory (TypeOnTop t below a)) 0 (λ a. type_credit)
     type_keeps within enough levels_are n place line calls injection began memory below name from t body steady untouched inner =
         routine_gives 0 within enough [] levels_are n place 0 line calls (number.Unit r.unit) injection began memory below refl refl name from body steady untouched (λ a. TypeOnTop t below a) (λ a. type_credit)
-        (λ a longer after later operands same h. record { type_is = h.type_is; number = h.number; is = h.is; described = subst (λ table. Describes table h.number t) (sym same) h.described; starts = h.starts }) inner
+        (λ a longer after later operands same h. record { type_is = h.type_is; number = h.number; is = h.is; described = subst (λ table. Describes table h.number a) (sym same) h.described; starts = h.starts }) inner

@@ -36,7 +36,7 @@ abbrev mutual
 
 mutual
   -- a kind is that of the bare form
-  kind_like : (types : TypeTable) (u : TypeValue) (k : Kind) → IsKindOf types u k → IsKindLike types (bare_of u) k
+  pub kind_like : (types : TypeTable) (u : TypeValue) (k : Kind) → IsKindOf types u k → IsKindLike types (bare_of u) k
   kind_like types (type.Ordinal low high) k h = h
   kind_like types type.Text k h = h
   kind_like types (type.Array low high of) k h = (h.0, h.1, (of, refl, h.2))

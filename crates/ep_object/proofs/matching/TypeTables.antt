@@ -2,7 +2,7 @@
 use Rattle.std.proofs.Common.{length-append, ◌≡◌, ℕ, ℤ, zero, suc, ◌+◌, ◌<◌, ◌⊎◌, inl, inr, Bool, true, false, IsTrue, List, [], ◌∷◌, ◌++◌, length, Option, Some, None, slice_get, refl, sym, ap, subst, ◌∙◌, arith, cond, get_or, position}
 use Rattle.std.proofs.lemmas.Int.{ints}
 use Rattle.ep_object.proofs.matching.Likes.{one_kind}
-use Rattle.std.specs.Prelude.{nat_lt, ◌||◌, not, if◌then◌else◌, ◌&&◌, int_le, is_some}
+use Rattle.std.specs.Prelude.{nat_eq, nat_lt, ◌||◌, not, if◌then◌else◌, ◌&&◌, int_le, is_some}
 use Rattle.std.specs.List.{list_any, position_or_len}
 use Rattle.std.proofs.lemmas.Option.{slice_get-get_or}
 use Rattle.std.proofs.lemmas.List.Quantifiers.{position-Some}
@@ -28,7 +28,7 @@ use Rattle.ep_typed.specs.Valid.{Declarations}
 use Rattle.ep_outside.specs.Known.{IsPrefix}
 use Rattle.ep_object.specs.declared.code.Image.{Image}
 use Rattle.ep_object.specs.declared.state.Place.{Place}
-use Rattle.ep_typed.specs.TypeValues.{ComponentTypes, TypeValue, components_of, same_bounds, same_types, size_of, Start, is_started, parts_of, same_start, simple_start, set_start, start_size}
+use Rattle.ep_typed.specs.TypeValues.{ComponentTypes, TypeValue, components_of, same_bounds, same_types, size_of, Start, is_started, parts_of, same_start, same_starts, simple_start, set_start, start_size, Starts, next_start, no_start, parts_start, undefined_start}
 use Rattle.ep_typed.specs.TypeValues as type
 
 -- a number that was found is that of this type, whose size its kind gives
@@ -128,15 +128,42 @@ met_among u t r = go (list_any (same_type u) r.types)
     go true h = inr h
     go false h = either (same_type t u) (list_any (same_type t) r.types) h
 
--- initial states that are told to be the same are
-starts_are : (s u : Start) → IsTrue (same_start s u) → s ≡ u
-starts_are (simple_start w) (simple_start z) same = ap simple_start (same_word w z same)
-  where
-    same_word : (x y : ℤ) → IsTrue (int_le x y && int_le y x) → x ≡ y
-    same_word x y t = let p = both (int_le x y) (int_le y x) t in omega (arith, ints, p.0, p.1)
-starts_are (simple_start w) (set_start ns) same = cc
-starts_are (set_start ms) (simple_start z) same = cc
-starts_are (set_start ms) (set_start ns) same = (let d = bytes_eq-Decides ms ns in ap set_start (d.0 same))
+mutual
+  -- initial states that are told to be the same are
+  starts_are : (s u : Start) → IsTrue (same_start s u) → s ≡ u
+  starts_are (undefined_start m) (undefined_start n) same = ap undefined_start (same_number m n same)
+    where
+      same_number : (x y : ℕ) → IsTrue (nat_eq x y) → x ≡ y
+      same_number x y t = grind (arith, nat_tests)
+  starts_are (undefined_start m) (simple_start z) same = cc
+  starts_are (undefined_start m) (set_start ns) same = cc
+  starts_are (undefined_start m) (parts_start us) same = cc
+  starts_are (simple_start w) (undefined_start n) same = cc
+  starts_are (simple_start w) (simple_start z) same = ap simple_start (same_word w z same)
+    where
+      same_word : (x y : ℤ) → IsTrue (int_le x y && int_le y x) → x ≡ y
+      same_word x y t = let p = both (int_le x y) (int_le y x) t in omega (arith, ints, p.0, p.1)
+  starts_are (simple_start w) (set_start ns) same = cc
+  starts_are (simple_start w) (parts_start us) same = cc
+  starts_are (set_start ms) (undefined_start n) same = cc
+  starts_are (set_start ms) (simple_start z) same = cc
+  starts_are (set_start ms) (set_start ns) same = (let d = bytes_eq-Decides ms ns in ap set_start (d.0 same))
+  starts_are (set_start ms) (parts_start us) same = cc
+  starts_are (parts_start ss) (undefined_start n) same = cc
+  starts_are (parts_start ss) (simple_start z) same = cc
+  starts_are (parts_start ss) (set_start ns) same = cc
+  starts_are (parts_start ss) (parts_start us) same = ap parts_start (all_starts_are ss us same)
+
+  -- and so are those of components
+  all_starts_are : (ss us : Starts) → IsTrue (same_starts ss us) → ss ≡ us
+  all_starts_are no_start no_start same = refl
+  all_starts_are no_start (next_start u us) same = cc
+  all_starts_are (next_start s ss) no_start same = cc
+  all_starts_are (next_start s ss) (next_start u us) same =
+      let p = both (same_start s u) (same_starts ss us) same in
+      let first = starts_are s u p.0 in
+      let rest = all_starts_are ss us p.1 in
+      λ i. next_start (first i) (rest i)
 
 mutual
   -- type values that are told to be the same are

@@ -1,6 +1,6 @@
 -- Words that are taken out of others, and that are put among others: what they hold.
 use Rattle.std.proofs.Common.{◌≡◌, ℕ, ℤ, pos, negsuc, zero, suc, ◌+◌, ◌-◌, ◌*◌, ◌≤◌, ◌<◌, inl, inr, true, List, [], ◌∷◌, ◌++◌, length, length-append, take, drop, leb, Some, slice_get, refl, sym, ap, ◌∙◌, subst, arith}
-use Rattle.std.specs.Prelude.{int_le}
+use Rattle.std.specs.Prelude.{int_le, nat_eq}
 use Rattle.std.proofs.lemmas.Bool.Decides.{nat_tests}
 use Rattle.std.proofs.lemmas.List.{length-take-le}
 use Rattle.std.proofs.lemmas.Slice.Eq.{bytes_eq-Decides}
@@ -10,7 +10,7 @@ use Rattle.ep_object.proofs.matching.Elements.{slice_get-drop}
 use Rattle.ep_object.proofs.matching.Words.{AreSameBut, has_at-same, part_within}
 use Rattle.ep_typed.specs.Steps.{Value, Undefined, component_of}
 use Rattle.ep_typed.specs.Steps as meaning
-use Rattle.ep_typed.specs.TypeValues.{ComponentTypes, Start, TypeValue, same_bounds, same_start, same_type, same_types, set_start, simple_start, size_of}
+use Rattle.ep_typed.specs.TypeValues.{ComponentTypes, Start, Starts, TypeValue, next_start, no_start, parts_start, same_bounds, same_start, same_starts, same_type, same_types, set_start, simple_start, size_of, undefined_start}
 use Rattle.ep_typed.specs.TypeValues as type
 
 -- ---- elements
@@ -189,9 +189,19 @@ int_le-same (negsuc n) = grind (arith, nat_tests)
 bounds_are : (low high : ℤ) → same_bounds low high low high ≡ true
 bounds_are low high = rw (int_le-same low, int_le-same high) refl
 
-start_is_same : (start : Start) → same_start start start ≡ true
-start_is_same (simple_start w) = rw (int_le-same w) refl
-start_is_same (set_start ms) = (let d = bytes_eq-Decides ms ms in d.1 refl)
+nat_eq-same : (n : ℕ) → nat_eq n n ≡ true
+nat_eq-same n = grind (arith, nat_tests)
+
+mutual
+  start_is_same : (start : Start) → same_start start start ≡ true
+  start_is_same (undefined_start size) = nat_eq-same size
+  start_is_same (simple_start w) = rw (int_le-same w) refl
+  start_is_same (set_start ms) = (let d = bytes_eq-Decides ms ms in d.1 refl)
+  start_is_same (parts_start ss) = starts_are_same ss
+
+  starts_are_same : (ss : Starts) → same_starts ss ss ≡ true
+  starts_are_same no_start = refl
+  starts_are_same (next_start s ss) = rw (start_is_same s, starts_are_same ss) refl
 
 mutual
   pub type_is_same : (t : TypeValue) → same_type t t ≡ true

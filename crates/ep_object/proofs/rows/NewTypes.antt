@@ -1,10 +1,6 @@
 -- A type is elaborated: the machine goes on matching, or ends for want of room where it was lost.
 use Rattle.std.proofs.Common.{append-nil, leb, ◌≡◌, ℕ, ℤ, pos, suc, ◌+◌, ◌⊎◌, inl, inr, Bool, true, false, IsTrue, List, [], ◌∷◌, ◌++◌, length, map, Option, Some, None, slice_get, refl, sym, ap, subst, ◌∙◌, arith, cond, ◌*◌, ◌≤◌}
-use Rattle.ep_object.specs.Sets.{words_of_set}
-use Rattle.ep_object.specs.declared.state.Kind.{Kind}
 use Rattle.ep_object.specs.declared.state.RecordPart.{RecordPart}
-use Rattle.ep_object.proofs.SetWords.{set_words_defined}
-use Rattle.ep_object.proofs.matching.Standing.{word_defined}
 use Rattle.ep_typed.specs.Bounds.{count_of}
 use Rattle.ep_object.specs.Starts.{AreStarts, AreStartsOfEach, IsStartOf, start_words, start_words_of_each, words_kept, words_of_start}
 use Rattle.ep_object.proofs.matching.Likes.{like_ordinal}
@@ -16,11 +12,10 @@ use Rattle.std.proofs.lemmas.Bool.Decides.{nat_tests}
 use Rattle.std.proofs.lemmas.Option.{slice_get_within, same_Some}
 use Rattle.ep_object.specs.Matching.{Memory, at, Injection, AreBare, AreEntries, Describes, MatchesCounts, Matches, Slots, own_slot, Grown, HasSize, IsBare, IsKindOf, IsLike, HaveSize}
 use Rattle.ep_object.specs.Follows.{GivesUp, SameRoutine, Facts, Lasts, Inside, TypeOnTop}
-use Rattle.ep_object.specs.Operands.{Operand, Word}
-use Rattle.ep_object.specs.Operands as operand
+use Rattle.ep_object.specs.Operands.{Operand, Word, weight}
 use Rattle.ep_object.specs.Runs.{Outcome, outcome, outcome_of, after}
 use Rattle.ep_object.specs.State.{State, TypeTable, Running, size_limit, Segments, bare_number}
-use Rattle.ep_object.specs.Types.{Numbered, Typing, and_numbered, any_bare, any_start, array_met, array_over, bare_forms, entries_of, interned_over, lowest_first, parts_behind, record_entry, record_met, record_of, record_over, record_start, repeated, starts_joined, words_behind, interned, ordinal_entry, array_entry, array_of, bounds_of, entry_in, entry_of, numbered_entry, set_entry, set_of, all_undefined, initial_as, words_for}
+use Rattle.ep_object.specs.Types.{Numbered, Typing, and_numbered, any_bare, any_start, array_met, array_over, bare_forms, entries_of, interned_over, lowest_first, parts_behind, record_entry, record_met, record_of, record_over, record_start, repeated, starts_joined, words_behind, interned, ordinal_entry, array_entry, array_of, bounds_of, entry_in, entry_of, numbered_entry, set_entry, set_of, initial_as, words_begin, words_for}
 use Rattle.ep_typed.specs.Sets.{is_ordinal}
 use Rattle.ep_object.specs.Table.{typing, with_typing}
 use Rattle.ep_object.specs.Effects.{Effect, Work, mapped, having, having_weighed, weighing, Fails, Continues}
@@ -32,9 +27,9 @@ use Rattle.ep_object.proofs.following.Bind.{gives_up}
 use Rattle.ep_object.proofs.matching.Growing.{entry_as, same_routine-refl}
 use Rattle.ep_typed.specs.Steps.{Resources, held, words_of_type, met, watched, same_type, Allocation, with_type}
 use Rattle.ep_typed.specs.Steps as meaning
-use Rattle.ep_typed.specs.Valid.{Declarations, IsTypeValue}
+use Rattle.ep_typed.specs.Valid.{Declarations}
 use Rattle.ep_object.specs.declared.code.Image.{Image}
-use Rattle.ep_typed.specs.TypeValues.{ComponentTypes, TypeValue, size_of, sizes_of, is_started, Start, are_started, set_start, simple_start}
+use Rattle.ep_typed.specs.TypeValues.{ComponentTypes, TypeValue, bare_of, size_of, sizes_of, is_started, Start, are_started}
 use Rattle.ep_typed.specs.TypeValues as type
 use Rattle.ep_object.specs.declared.op.TheConstants as op
 use Rattle.ep_typed.specs.declared.run_error.TheConstants as run_error
@@ -87,7 +82,7 @@ module _ {injection : Injection} {r : Resources} {segments : Segments} {types : 
 -- what an instruction of a weight does that makes the type, or ends for want of storage
 abbrev pub MakesBy : ℕ → Slots → Declarations → Image → Facts → ℕ → List Operand → List Operand → TypeValue → Injection → Memory → meaning.State → Type 0
 MakesBy weight untouched declared G Here place operands below t injection memory s =
-    Does declared G Here (at place operands memory s.trace) weight (place + 1) (Inside untouched injection memory (TypeOnTop t below t)) (with_type t s)
+    Does declared G Here (at place operands memory s.trace) weight (place + 1) (Inside untouched injection memory (TypeOnTop (bare_of t) below t)) (with_type t s)
     ⊎ GivesUp G (at place operands memory s.trace) 0 (suc weight) (with_type t s)
 
 -- one without weight
@@ -393,52 +388,16 @@ rec_does {untouched = untouched} {Here = Here} declared G place line below ns ts
 
 -- ---- initial states
 
--- an operand is that of an initial state
-abbrev pub IsStartOperand : Start → Operand → Type 0
-IsStartOperand (simple_start w) o = o ≡ Word w
-IsStartOperand (set_start ms) o = o ≡ operand.Set ms
-
--- the words that a kind takes of an initial state
-kind_takes : (types : TypeTable) (of : TypeValue) (k : Kind) (start : Start) (x : Operand) → IsKindOf types of k → IsStartOperand start x → IsStartOf of start → words_for k x ≡ Continues (words_of_start start)
-kind_takes types (type.Ordinal low high) k (simple_start w) x is same fits =
-    (λ i. words_for (is i) (same i)) ∙ ap (λ b. cond b (Continues (w ∷ [])) (Fails run_error.OUTSIDE_TYPE)) fits
-kind_takes types (type.Set low high) k (set_start ms) x is same fits =
-    (λ i. words_for (is i) (same i)) ∙ ap (λ b. cond b (Continues (words_of_set ms)) (Fails run_error.SET_MEMBER)) fits.1
-kind_takes types (type.Initial of other) k (simple_start w) x is same fits = kind_takes types of k (simple_start w) x is same fits
-kind_takes types (type.Initial of other) k (set_start ms) x is same fits = kind_takes types of k (set_start ms) x is same fits
-kind_takes types (type.Ordinal low high) k (set_start ms) x is same fits = cc
-kind_takes types (type.Set low high) k (simple_start w) x is same fits = cc
-kind_takes types type.Text k (simple_start w) x is same fits = cc
-kind_takes types type.Text k (set_start ms) x is same fits = cc
-kind_takes types (type.Array low high of) k (simple_start w) x is same fits = cc
-kind_takes types (type.Array low high of) k (set_start ms) x is same fits = cc
-kind_takes types (type.Record ts) k (simple_start w) x is same fits = cc
-kind_takes types (type.Record ts) k (set_start ms) x is same fits = cc
-
--- of which not all are undefined
-start_defined : (of : TypeValue) (start : Start) → IsTypeValue of → IsStartOf of start → all_undefined (words_of_start start) ≡ false
-start_defined (type.Ordinal low high) (simple_start w) valid fits = rw (word_defined low high w valid.1 fits) refl
-start_defined (type.Set low high) (set_start ms) valid fits = set_words_defined ms
-start_defined (type.Initial of other) (simple_start w) valid fits = start_defined of (simple_start w) valid fits
-start_defined (type.Initial of other) (set_start ms) valid fits = start_defined of (set_start ms) valid fits
-start_defined (type.Ordinal low high) (set_start ms) valid fits = cc
-start_defined (type.Set low high) (simple_start w) valid fits = cc
-start_defined type.Text start valid fits = absurd valid
-start_defined (type.Array low high of) (simple_start w) valid fits = cc
-start_defined (type.Array low high of) (set_start ms) valid fits = cc
-start_defined (type.Record ts) (simple_start w) valid fits = cc
-start_defined (type.Record ts) (set_start ms) valid fits = cc
-
--- `TInit`, over the number of a type and a value that a variable of it could take
+-- `TInit`, over the number of a type and a value whose words a variable of it may begin with
 pub init_does : {untouched : Slots} {Here : Facts} (declared : Declarations) (G : Image) (place line : ℕ) (below : List Operand) (of : TypeValue) (start : Start) (number : ℕ) (x : Operand)
     → slice_get G.instructions place ≡ Some (instr op.T_INIT (pos 0) 0 line)
     → Lasts untouched Here → (injection : Injection) (memory : Memory) (s : meaning.State)
-    → IsTypeValue of → Describes memory.types number of → AreStarts of → IsStartOf of start → IsStartOperand start x
+    → (d : Describes memory.types number of) → AreStarts of → IsStartOf of start → words_for d.kind (bare_number number d.bare) x ≡ Continues (words_of_start start)
     → Matches declared G injection s memory → Here injection s memory
-    → MakesBy (size_of of) untouched declared G Here place (x ∷ Word (pos number) ∷ below) below (type.Initial of start) injection memory s
-init_does {untouched = untouched} {Here = Here} declared G place line below of start number x has lasts injection memory s valid d starts fits is matches known =
+    → MakesBy (weight x + size_of of) untouched declared G Here place (x ∷ Word (pos number) ∷ below) below (type.Initial of start) injection memory s
+init_does {untouched = untouched} {Here = Here} declared G place line below of start number x has lasts injection memory s d starts fits takes matches known =
     elaborated (fits, starts) lasts injection memory s known
-    (elaborates (size_of of) place i (x ∷ Word (pos number) ∷ below) below (type.Initial of start) makes s leads matches
+    (elaborates (weight x + size_of of) place i (x ∷ Word (pos number) ∷ below) below (type.Initial of start) makes s leads matches
     (interns_one (type.Initial of start) s.resources below d.kind (starts_length (type.Initial of start) (fits, starts)) (Some (bare_number number d.bare)) (typing k) matches.types
     (record { is_kind = d.is_kind; other = refl; form = λ b e. subst (λ n. IsBare memory.types n of) (same_Some (bare_number number d.bare) b e) d.form }) (matches.types.sized number (entry_as of d.kind d.bare) d.stands) (few matches.counts) (bounded matches.counts)))
   where
@@ -457,21 +416,14 @@ init_does {untouched = untouched} {Here = Here} declared G place line below of s
     led : Work Typing → Outcome
     led w = record { weight = w.weight; to = after G i k (mapped (with_typing k) w.effect) }
 
-    words : List ℤ
-    words = words_of_start start
-
-    leads : outcome G k ≡ led (weighing (size_of of) makes)
+    leads : outcome G k ≡ led (weighing (weight x + size_of of) makes)
     leads =
         ap (λ y. outcome_of G y k) has
         ∙ (ap entry_to (numbered_there memory.types number e d.stands)
-        ∙ (ap words_to (kind_takes memory.types of d.kind start x d.is_kind is fits)
-        ∙ ap begun_to (start_defined of start valid fits)))
+        ∙ ap words_to takes)
       where
         entry_to : Option Numbered → Outcome
-        entry_to o = led (having_weighed o (λ n. initial_as n (words_for n.entry.kind x) below (typing k)))
+        entry_to o = led (having_weighed o (λ n. initial_as n (weight x) (words_begin n x) below (typing k)))
 
         words_to : Effect (List ℤ) → Outcome
-        words_to w = led (initial_as (record { number = number; entry = e }) w below (typing k))
-
-        begun_to : Bool → Outcome
-        begun_to b = led (weighing (size_of of) (interned (cond b (record e { start = None }) (record e { start = Some words; bare = Some (bare_number number d.bare) })) below (typing k)))
+        words_to w = led (initial_as (record { number = number; entry = e }) (weight x) w below (typing k))

@@ -3,7 +3,7 @@ use Rattle.ep_gen_code.specs.Growth.{Grows}
 use Rattle.ep_gen_type.specs.TypeCode.{each_code}
 use Rattle.std.proofs.lemmas.Int.{to_z_pos}
 use Rattle.ep_gen_code.proofs.Growing.{on_ok}
-use Rattle.ep_typed.specs.Viewed.{denoter_of, field_of, selector_of, variant_of, variants_of, components_of}
+use Rattle.ep_typed.specs.Viewed.{denoter_of, field_of, selector_of, constant_expr, variant_of, variants_of, components_of}
 use Rattle.ep_gen_type.proofs.TypeForms.{by_base, by_components, by_one, by_parts, by_start, components_both, components_first, components_more, components_one, how_many-of, part_some, variants_some}
 use Rattle.ep_typed.specs.Trees.{denoters, Denoter, Record}
 use Rattle.ep_typed.specs.declared.denoter.FieldPart.{FieldPart, out-FieldPart}
@@ -48,7 +48,7 @@ variant_part_code-returns-in-Some t c =
     (components_one c.selector_code.new.code variants last (rw c.items.ensures at c.in_ok-variants_code.ensures) g))) (rw c.get.ensures at c.record_code.ensures)
 
 pub initial_code-returns : goal.initial_code-returns
-initial_code-returns t c = on_ok c.emit.result (by_start c.args.code.now (denoter_of c.args.of.now) c.args.value.now c.in_ok-elaborate.ensures c.in_ok-start_code.ensures) c.emit.ensures
+initial_code-returns t c = on_ok c.emit.result (by_start c.args.code.now (denoter_of c.args.of.now) (constant_expr c.args.value.now) c.in_ok-elaborate.ensures c.in_ok-initial_state_code.ensures) c.emit.ensures
 
 pub set_code-returns : goal.set_code-returns
 set_code-returns t c = on_ok c.emit.result (by_base c.args.code.now (denoter_of c.args.base.now) c.in_ok-elaborate.ensures) c.emit.ensures

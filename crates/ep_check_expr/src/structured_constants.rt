@@ -1,0 +1,268 @@
+//! What typed forms are as constants that may be arrays or records (ISO 10206, 6.6, 6.8.2 and 6.8.7).
+
+ghost use Rattle.std.specs.Prelude.{◌≡◌, [], IfOk, Ok, map};
+ghost use Rattle.ep_scope.specs.Scopes.{structure_in};
+ghost use Rattle.ep_typed.specs.Trees as tree;
+ghost use Rattle.ep_typed.specs.Viewed.{element_of, expr_of};
+ghost use Rattle.ep_typed.specs.declared.tree.Element.TheVariants as element;
+ghost use Rattle.ep_check_expr.specs.StructuredConstants as spec;
+
+use crate::folding::{Folded, KnownValue, folded_form, number_in};
+use ep_base::{Boxed, List, NoMemory};
+use ep_scope::{ArrayType, Composition, View, structure_of};
+use ep_typed::{CaseRange, CaseRanges, Element, Elements, TypedExpr, Value};
+use std::alloc::Global;
+
+/// A constant.
+#[derive(Drop)]
+pub(crate) enum ConstantValue {
+    /// A number or a set.
+    Known(KnownValue),
+    /// An array or a record: the number of its type, and what its components are given.
+    Structured(u32, Elements),
+}
+
+impl ConstantValue {
+    /// Its value.
+    pub(crate) fn into_value(self) -> Value
+        ensures { result ≡ spec.value_in self }
+    {
+        match self {
+            ConstantValue::Known(KnownValue::Number(z)) => Value::Word(z),
+            ConstantValue::Known(KnownValue::Members(members)) => Value::Set(members),
+            ConstantValue::Structured(number, given) => Value::Structured(number, given),
+        }
+    }
+
+    /// The typed form that a component is given.
+    fn into_form(self) -> TypedExpr
+        ensures { result ≡ spec.form_in self }
+    {
+        match self {
+            ConstantValue::Known(KnownValue::Number(z)) => TypedExpr::Constant(z),
+            ConstantValue::Known(KnownValue::Members(members)) => TypedExpr::SetConstant(members),
+            ConstantValue::Structured(number, given) => TypedExpr::Structured(number, given),
+        }
+    }
+}
+
+/// Why a form is no constant.
+#[derive(Clone, Copy, Drop)]
+pub(crate) enum NoConstant {
+    /// A variable is read or a function is called.
+    Varies,
+    /// There would be an error.
+    Errs,
+}
+
+/// What a typed form is as a constant.
+#[cycle(constancies)]
+pub(crate) fn constancy(
+    alloc: Global,
+    e: &TypedExpr,
+    scopes: &View<'_>,
+) -> Result<Result<ConstantValue, NoConstant>, NoMemory>
+    ensures { IfOk result (λ c. c ≡ spec.constancy scopes.now (expr_of e.now)) }
+{
+    match e {
+        TypedExpr::Structured(number, given) => {
+            let of = array_of(scopes, *number);
+            let given = elements(alloc, of, given.items(), scopes)?;
+            Ok(structured(*number, given))
+        }
+        other => Ok(known(folded_form(alloc, other)?)),
+    }
+}
+
+/// What components are given.
+#[cycle(constancies)]
+fn elements(
+    alloc: Global,
+    of: Option<ArrayType>,
+    all: &[Element],
+    scopes: &View<'_>,
+) -> Result<Result<Elements, NoConstant>, NoMemory>
+    ensures { IfOk result (λ c. c ≡ spec.elements_constancy scopes.now of (Ok []) (tree.elements (map element_of all.now))) }
+{
+    let mut found = Ok(List::new(alloc));
+    for one in all {
+        let more = element(alloc, of, one, scopes)?;
+        found = with_element(found, more)?;
+    }
+    Ok(found)
+}
+
+/// What a component is given, of a value of this array type or of a record.
+#[cycle(constancies)]
+fn element(
+    alloc: Global,
+    of: Option<ArrayType>,
+    e: &Element,
+    scopes: &View<'_>,
+) -> Result<Result<Element, NoConstant>, NoMemory>
+    ensures { IfOk result (λ c. c ≡ spec.element_constancy scopes.now of (element_of e.now)) }
+{
+    match e {
+        Element::AtIndex(index, value) => {
+            let index = folded_form(alloc, index.get())?;
+            let value = constancy(alloc, value.get(), scopes)?;
+            ranges_given(alloc, index_ranges(alloc, of, &index)?, value)
+        }
+        Element::AtRanges(ranges, value) => {
+            let value = constancy(alloc, value.get(), scopes)?;
+            ranges_given(alloc, Ok(List::from_slice(alloc, ranges.items())?), value)
+        }
+        Element::AtField(steps, value) => {
+            let value = constancy(alloc, value.get(), scopes)?;
+            field_given(alloc, steps.items(), value)
+        }
+        Element::SameField(from, to) => same_given(alloc, from.items(), to.items()),
+    }
+}
+
+/// The array type of this number, where it is one.
+fn array_of(scopes: &View<'_>, number: u32) -> Option<ArrayType>
+    ensures { result ≡ spec.array_in (structure_in scopes.now number) }
+{
+    match structure_of(scopes, number) {
+        Some(Composition::Array(of)) => Some(*of),
+        _ => None,
+    }
+}
+
+/// What is known of a form that is no array and no record.
+fn known(folded: Folded) -> Result<ConstantValue, NoConstant>
+    ensures { result ≡ spec.known_constancy folded }
+{
+    match folded {
+        Folded::Known(value) => Ok(ConstantValue::Known(value)),
+        Folded::Varies => Err(NoConstant::Varies),
+        Folded::Errs => Err(NoConstant::Errs),
+    }
+}
+
+/// Of two reasons, that a part varies, where one says so.
+fn either(first: NoConstant, second: NoConstant) -> NoConstant
+    ensures { result ≡ spec.either first second }
+{
+    match first {
+        NoConstant::Varies => NoConstant::Varies,
+        NoConstant::Errs => second,
+    }
+}
+
+/// The range of one index of an array, which lies in the bounds.
+fn index_range(
+    alloc: Global,
+    of: Option<ArrayType>,
+    index: i64,
+) -> Result<Result<CaseRanges, NoConstant>, NoMemory>
+    ensures { IfOk result (λ c. c ≡ spec.index_range of index) }
+{
+    let Some(of) = of else {
+        return Ok(Err(NoConstant::Errs));
+    };
+    if of.low <= index && index <= of.high {
+        let mut ranges = List::new(alloc);
+        ranges.push(CaseRange {
+            low: index,
+            high: index,
+        })?;
+        Ok(Ok(ranges))
+    } else {
+        Ok(Err(NoConstant::Errs))
+    }
+}
+
+/// Alike, by what is known of the index.
+fn index_ranges(
+    alloc: Global,
+    of: Option<ArrayType>,
+    index: &Folded,
+) -> Result<Result<CaseRanges, NoConstant>, NoMemory>
+    ensures { IfOk result (λ c. c ≡ spec.index_constancy of index.now) }
+{
+    match index {
+        Folded::Known(x) => index_range(alloc, of, number_in(x)),
+        Folded::Varies => Ok(Err(NoConstant::Varies)),
+        Folded::Errs => Ok(Err(NoConstant::Errs)),
+    }
+}
+
+/// The components in ranges, and the value that all of them have.
+fn ranges_given(
+    alloc: Global,
+    ranges: Result<CaseRanges, NoConstant>,
+    value: Result<ConstantValue, NoConstant>,
+) -> Result<Result<Element, NoConstant>, NoMemory>
+    ensures { IfOk result (λ c. c ≡ spec.ranges_given ranges value) }
+{
+    match (ranges, value) {
+        (Ok(ranges), Ok(value)) => {
+            let value = Boxed::new(alloc, value.into_form())?;
+            Ok(Ok(Element::AtRanges(ranges, value)))
+        }
+        (Ok(_), Err(why)) => Ok(Err(why)),
+        (Err(why), Ok(_)) => Ok(Err(why)),
+        (Err(why), Err(other)) => Ok(Err(either(why, other))),
+    }
+}
+
+/// The component of a record to which steps lead, and its value.
+fn field_given(
+    alloc: Global,
+    steps: &[u32],
+    value: Result<ConstantValue, NoConstant>,
+) -> Result<Result<Element, NoConstant>, NoMemory>
+    ensures { IfOk result (λ c. c ≡ spec.field_given steps.now value) }
+{
+    match value {
+        Ok(value) => {
+            let steps = List::from_slice(alloc, steps)?;
+            let value = Boxed::new(alloc, value.into_form())?;
+            Ok(Ok(Element::AtField(steps, value)))
+        }
+        Err(why) => Ok(Err(why)),
+    }
+}
+
+/// The component of a record that is given what another one has.
+fn same_given(
+    alloc: Global,
+    from: &[u32],
+    to: &[u32],
+) -> Result<Result<Element, NoConstant>, NoMemory>
+    ensures { IfOk result (λ c. c ≡ Ok (element.SameField from.now to.now)) }
+{
+    let from = List::from_slice(alloc, from)?;
+    let to = List::from_slice(alloc, to)?;
+    Ok(Ok(Element::SameField(from, to)))
+}
+
+/// A value of the array or record type of this number.
+fn structured(number: u32, given: Result<Elements, NoConstant>) -> Result<ConstantValue, NoConstant>
+    ensures { result ≡ spec.structured number given }
+{
+    match given {
+        Ok(given) => Ok(ConstantValue::Structured(number, given)),
+        Err(why) => Err(why),
+    }
+}
+
+/// What components are given, with one more.
+fn with_element(
+    before: Result<Elements, NoConstant>,
+    more: Result<Element, NoConstant>,
+) -> Result<Result<Elements, NoConstant>, NoMemory>
+    ensures { IfOk result (λ c. c ≡ spec.with_element before more) }
+{
+    match (before, more) {
+        (Ok(mut before), Ok(more)) => {
+            before.push(more)?;
+            Ok(Ok(before))
+        }
+        (Ok(_), Err(why)) => Ok(Err(why)),
+        (Err(why), Ok(_)) => Ok(Err(why)),
+        (Err(why), Err(other)) => Ok(Err(either(why, other))),
+    }
+}
