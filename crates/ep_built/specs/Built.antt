@@ -12,7 +12,7 @@
 -- - the type itself, for `packed`, for what is no name, no subrange, no enumeration and no structure, for a name with a tuple, and for a name that is not built
 -- - the variant part of a record, for a discriminant as its selector, and for a tag whose type has a name that is not built
 -- - the statement, for an assignment to something else than a name that is built, alone or with indexes and fields, or with these behind one pair of parentheses, for a call of something else, and for a `for` whose control variable has a name that is not built
--- - the structured value, for a name of its type that is not built, and where it is the whole value of a constant definition
+-- - the structured value, for a name of its type that is not built
 -- - the factor, for `nil`, and for a character string of another length than one that is not the whole value of an argument of a `write` or `writeln` statement
 -- - the access, for a name that is not built, and for other selectors than indexes and fields, alone or behind one pair of parentheses.
 --
@@ -272,16 +272,6 @@ built_factor _ = false
 abbrev pub built_access : List ℕ → List SelectorForm → Bool
 built_access name forms = are_components forms && not (is_later name)
 
--- the line of a structured value
-abbrev pub structure_line : {A B C D E F G H I J K L M N : Type 0} → Factor-F A B C D E F G H I J K L M N → Option ℕ
-structure_line (Factor-F.Structured line name values) = Some line
-structure_line _ = None
-
--- the line of a structured value that a whole component value is, with the name of its type or without
-abbrev pub structured_line : {A B C D F G H I J K L M N : Type 0} → ComponentValue-F A B C D F G H I Expression J K L M N → Option ℕ
-structured_line (ComponentValue-F.Expression e) = when_some (bare e) (λ f. structure_line (out-Factor f))
-structured_line (ComponentValue-F.Bracketed line values) = Some line
-
 -- ---- the first node that is not built
 
 -- the line of the first node that is not built, if there is one
@@ -492,10 +482,6 @@ values_unbuilt = fold-Values Found Found Found Selecting Placed Belonging Found 
 abbrev pub access_unbuilt : Access → Found
 access_unbuilt a = (placed_access a).1
 
--- the first line in the value of a constant definition, which is no structured value as a whole
-abbrev pub constant_value_unbuilt : ComponentValue → Found
-constant_value_unbuilt v = option_or (structured_line (out-ComponentValue v)) (component_value_unbuilt v)
-
 -- ---- types. Nothing inside a tuple is reached while none of its forms is built.
 
 -- the first line inside a type
@@ -684,7 +670,7 @@ compound_unbuilt c = (fold-Compound Found Found Placed Found at_statement at_arm
 
 -- the first line in a constant definition
 abbrev pub constant_unbuilt : ConstantDefinition → Found
-constant_unbuilt d = constant_value_unbuilt d.value
+constant_unbuilt d = component_value_unbuilt d.value
 
 -- the first line in a type definition
 abbrev pub type_unbuilt : TypeDefinition → Found

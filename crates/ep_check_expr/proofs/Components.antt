@@ -1,13 +1,14 @@
 -- A component is valid: what is read of a structured variable, and what is taken of a structured value.
 use Rattle.std.proofs.Common.{◌≡◌, ◌∙◌, ℕ, List, [], ◌∷◌, slice_get, Option, Some, None, refl, sym, subst}
 use Rattle.std.proofs.lemmas.Option.{same_Some}
-use Rattle.std.specs.Prelude.{All}
+use Rattle.std.specs.Prelude.{All, unwrap_or}
 use Rattle.ep_typed.specs.Denoters.{host_of, bare_type_of}
-use Rattle.ep_typed.specs.Trees.{Denoter, Expr, Field, FieldValue, IndexedValue, Place, Read}
+use Rattle.ep_typed.specs.Trees as tree
+use Rattle.ep_typed.specs.Trees.{Denoter, Elements, Expr, Field, FieldValue, IndexedValue, Place, Read}
 use Rattle.ep_typed.specs.TypeValues as type
-use Rattle.ep_typed.specs.TypeValues.{ComponentTypes, TypeValue}
+use Rattle.ep_typed.specs.TypeValues.{ComponentTypes, TypeValue, bare_of}
 use Rattle.ep_typed.specs.Valid as valid
-use Rattle.ep_typed.specs.Valid.{Declarations, IsExpr, IsOfKind, IsTypeOfKind}
+use Rattle.ep_typed.specs.Valid.{AreElements, Declarations, IsExpr, IsOfKind, IsTypeOfKind}
 use Rattle.ep_typed.specs.declared.unit.UnitType.{UnitType}
 use Rattle.ep_scope.specs.declared.kind.Kind.{Kind}
 use Rattle.ep_scope.specs.declared.kind.Kind.TheVariants as kind
@@ -20,7 +21,10 @@ use Rattle.ep_scope.specs.declared.structure.StructuredType.{StructuredType}
 use Rattle.ep_scope.specs.declared.structure.TagType.{TagType}
 use Rattle.ep_scope.specs.declared.structure.VariantStep.{VariantStep}
 use Rattle.ep_check_expr.specs.Agreement.{AreHeld, HasKind, HoldsStructure, IsAccessOf, IsFieldAt, IsFieldValue, IsFormOf, IsHost, IsOfType, IsPartValue, IsStoredIn, IsStructuredAt, IsStructuredValue, IsValueOf, IsValueOfKind, TypeValues}
-use Rattle.ep_check_expr.specs.FieldDesignators.{component_taken, part_taken, reached}
+use Rattle.ep_check_expr.specs.ConstantAccesses.{element_known, field_known}
+use Rattle.ep_check_expr.specs.FieldDesignators.{component_taken, constant_part, part_taken, reached}
+use Rattle.ep_check_expr.specs.declared.folding.Folded.{Folded}
+use Rattle.ep_check_expr.proofs.ConstantAccesses.{element_known-fits, field_known-fits}
 use Rattle.ep_check_expr.specs.Hosts.{typed_host}
 use Rattle.ep_check_expr.specs.Indexing.{component_access}
 use Rattle.ep_check_expr.specs.declared.access.Access.{Access}
@@ -158,6 +162,13 @@ module _ (declared : Declarations) (types : TypeValues) (structures : List Struc
   one_type : (n : ℕ) (t u : TypeValue) → IsValueOf types n t → types (type_name.Entry n) ≡ Some u → t ≡ u
   one_type n t u v e = same_Some t u (sym v.0 ∙ e)
 
+  -- what is written out of a type value
+  written_elements : (t : TypeValue) (number : ℕ) (es : Elements) → IsExpr declared (valid.Structured t) (tree.Structured number es) → (u : TypeValue) → t ≡ u → AreElements declared u es
+  written_elements t number es written u same = subst (λ w. AreElements declared w es) (bare_same t (bare_of written.0.type_value) written.1 ∙ same) written.3
+    where
+      bare_same : (a b : TypeValue) → valid.Structured a ≡ valid.Structured b → b ≡ a
+      bare_same a b e = cc
+
   module _ (n : ℕ) (x : Expr) (unread : (place : Place) → x ≡ Read place → ⊥) (v : IsStructuredValue declared types structures n x) where
     -- a component of the value of an array
     pub indexed-component : (a : ArrayType) (index : Expr) → HoldsStructure types v.1.0 (made_so n (composition.Array a)) → IsExpr declared (valid.Ordinal (typed_host a.index)) index
@@ -168,6 +179,17 @@ module _ (declared : Declarations) (types : TypeValues) (structures : List Struc
         let array : IsExpr declared (valid.Structured (type.Array a.low a.high made.0)) x = subst (λ t. IsExpr declared (valid.Structured t) x) same v.0.2 in (
           indexed-form a.kind x index (taken-value a.kind made.0 (IndexedValue x index) made.3 v.1 (λ w p. (a.low, a.high, made.0, array, p, (typed_host a.index, made.2, f)))),
           value-access a.component whole x (IndexedValue x index) unread g,
+        )
+
+    -- a component of an array that is written out, where it is known
+    pub element-known : (a : ArrayType) (number : ℕ) (es : Elements) → x ≡ tree.Structured number es → (r : Folded) → HoldsStructure types v.1.0 (made_so n (composition.Array a)) → (whole : Access) → IsAccessOf declared types whole (Some x)
+        → (y : Expr) → element_known a.kind es r ≡ Some y → IsComponentForm a.component a.kind whole (Some y)
+    element-known a number es is r h whole g y known =
+        let made = h.value_made in
+        let same : v.0.0 ≡ type.Array a.low a.high made.0 = one_type n v.0.0 h.type_value v.0.1 h.has_value ∙ made.1 in
+        let written = subst (IsExpr declared (valid.Structured v.0.0)) is v.0.2 in (
+          element_known-fits declared types structures a.kind a.low a.high made.0 es r y made.3 v.1 (written_elements v.0.0 number es written (type.Array a.low a.high made.0) same) known,
+          value-access a.component whole x y unread g,
         )
 
     -- a component of the value of a record
@@ -183,6 +205,27 @@ module _ (declared : Declarations) (types : TypeValues) (structures : List Struc
         → IsFormOf declared types structures f.kind (part_taken path f.tag f.number x)
     field-taken ts whole f some [] p = part-form ts whole f.kind f.number f.tag p
     field-taken ts whole f some (s ∷ path) p = unbuilt-form f.kind some v.1.0 v.1.1
+
+    -- alike of a record that is written out
+    known-part : (ts : ComponentTypes) → IsExpr declared (valid.Structured (type.Record ts)) x → (f : FieldType) (number : ℕ) (es : Elements) → x ≡ tree.Structured number es → IsPartValue types f.tag f.number f.kind ts → (o : Option Expr)
+        → field_known f.kind es f.tag f.number ≡ o → IsFormOf declared types structures f.kind (Some (unwrap_or o (component_taken f.tag f.number x)))
+    known-part ts whole f number es is p None known = part-form ts whole f.kind f.number f.tag p
+    known-part ts whole f number es is p (Some y) known =
+        field_known-fits declared types structures f.kind ts es f.tag f.number y p v.1
+        (written_elements (type.Record ts) number es (subst (IsExpr declared (valid.Structured (type.Record ts))) is whole) (type.Record ts) refl) known
+
+    field-known : (ts : ComponentTypes) → IsExpr declared (valid.Structured (type.Record ts)) x → (f : FieldType) → HasComponents f.kind → (number : ℕ) (es : Elements) → x ≡ tree.Structured number es → (path : List VariantStep) → IsFieldValue types path f ts
+        → IsFormOf declared types structures f.kind (constant_part (field_known f.kind es f.tag f.number) path f.tag f.number x)
+    field-known ts whole f some number es is [] p = known-part ts whole f number es is p (field_known f.kind es f.tag f.number) refl
+    field-known ts whole f some number es is (s ∷ path) p = unbuilt-form f.kind some v.1.0 v.1.1
+
+    pub known-field : (fs : List FieldType) (place : ℕ) (f : FieldType) → slice_get fs place ≡ Some f → HoldsStructure types v.1.0 (made_so n (composition.Record fs)) → HasComponents f.kind → (number : ℕ) (es : Elements) → x ≡ tree.Structured number es
+        → IsFormOf declared types structures f.kind (constant_part (field_known f.kind es f.tag f.number) f.path f.tag f.number x)
+    known-field fs place f there h some number es is =
+        let made = h.value_made in
+        let same : v.0.0 ≡ type.Record made.0 = one_type n v.0.0 h.type_value v.0.1 h.has_value ∙ made.1 in
+        let whole : IsExpr declared (valid.Structured (type.Record made.0)) x = subst (λ t. IsExpr declared (valid.Structured t) x) same v.0.2 in
+        field-known made.0 whole f some number es is f.path (all_there (λ (g : FieldType). IsFieldValue types g.path g made.0) fs place f made.2 there)
 
     pub field-component : (fs : List FieldType) (number : ℕ) (f : FieldType) → slice_get fs number ≡ Some f → HoldsStructure types v.1.0 (made_so n (composition.Record fs)) → HasComponents f.kind
         → IsFormOf declared types structures f.kind (part_taken f.path f.tag f.number x)

@@ -2,7 +2,7 @@
 use Rattle.std.proofs.Common.{◌≡◌, ◌+◌, ℕ, nat_le, List, [], ◌∷◌, slice_get, Option, Some, None, refl, subst, sym}
 use Rattle.std.specs.Prelude.{All}
 use Rattle.ep_typed.specs.Trees as tree
-use Rattle.ep_typed.specs.Trees.{Place, Expr, Constant, Text, Read, One, Two, Short, Step, Function, IndexedValue, FieldValue, SetConstant, SetOf, OnSets, Card, Field}
+use Rattle.ep_typed.specs.Trees.{Elements, Place, Expr, Constant, Text, Read, One, Two, Short, Step, Function, IndexedValue, FieldValue, SetConstant, SetOf, OnSets, Card, Field}
 use Rattle.ep_typed.specs.Valid.{Declarations}
 use Rattle.ep_typed.specs.declared.unit.UnitType.{UnitType}
 use Rattle.ep_scope.specs.Fields.{field_number}
@@ -21,7 +21,7 @@ use Rattle.ep_check_expr.specs.Judgements.{Judged, Accepts, Breaks, Typed}
 use Rattle.ep_check_expr.specs.declared.access.Access.{Access}
 use Rattle.ep_check_expr.specs.declared.access.Access.TheVariants as access
 use Rattle.ep_check_expr.specs.declared.forms.TheConstants as limit
-use Rattle.ep_check_expr.proofs.Components.{HasComponents, built-form, component-type, field-component, unbuilt-form}
+use Rattle.ep_check_expr.proofs.Components.{HasComponents, built-form, component-type, field-component, known-field, unbuilt-form}
 use Rattle.ep_check_expr.proofs.FieldPlaces.{field-place, field-tagged, read-access, some-field, unread-access}
 use Rattle.ep_check_expr.proofs.Keeping.{Satisfies, if-satisfies}
 use Rattle.ep_check_expr.proofs.Passing.{IsForm}
@@ -110,6 +110,13 @@ module _ (declared : Declarations) (types : TypeValues) (structures : List Struc
       value-access x unread whole g (part_form f x),
     )
 
+    -- where it is written out
+    written-field : (m : ℕ) (es : Elements) → IsStructuredValue declared types structures n (tree.Structured m es) → (whole : Access) → IsAccessOf declared types whole (Some (tree.Structured m es)) → IsFieldForm whole (Some (tree.Structured m es))
+    written-field m es v whole g = (
+      known-field declared types structures n (tree.Structured m es) (λ place e. cc) v fs number f there (in_view v.1.0 v.1.1) some-kind m es refl,
+      value-access (tree.Structured m es) (λ place e. cc) whole g (part_form f (tree.Structured m es)),
+    )
+
     -- each way
     field-valid : (x : Option Expr) → IsFormOf declared types structures (kind.Structured n) x → (whole : Access) → IsAccessOf declared types whole x → IsFieldForm whole x
     field-valid None g whole h = unbuilt-field g.0 g.1 whole
@@ -117,7 +124,7 @@ module _ (declared : Declarations) (types : TypeValues) (structures : List Struc
     field-valid (Some (Function callee given)) g whole h = value-field (Function callee given) refl (λ place e. cc) g whole h
     field-valid (Some (IndexedValue array index)) g whole h = value-field (IndexedValue array index) refl (λ place e. cc) g whole h
     field-valid (Some (FieldValue inner k)) g whole h = value-field (FieldValue inner k) refl (λ place e. cc) g whole h
-    field-valid (Some (tree.Structured number es)) g whole h = value-field (tree.Structured number es) refl (λ place e. cc) g whole h
+    field-valid (Some (tree.Structured m es)) g whole h = written-field m es g whole h
     field-valid (Some (Constant z)) g whole h = absurd g
     field-valid (Some (Text bytes)) g whole h = absurd g
     field-valid (Some (One operation x)) g whole h = absurd g

@@ -132,7 +132,7 @@ giving_row parameters = declaration.Function parameters (written (type_name.Entr
 -- r with a value parameter and s without any, which give arrays, and k and l, which take one as f and g take an integer
 abbrev scope : List Region
 scope = record {
-  entries = (codes "red", declares 0 (declaration.Constant (kind.Ordinal color) (value.Word (pos 0)))) ∷ (codes "x", declares 0 (declaration.Variable (type_name.Required simple.Integer) integer))
+  entries = (codes "red", declares 0 (declaration.Constant (kind.Ordinal color) (value.Word (pos 0)) 1)) ∷ (codes "x", declares 0 (declaration.Variable (type_name.Required simple.Integer) integer))
       ∷ (codes "f", declares 0 (function_of mode.Value)) ∷ (codes "g", declares 1 (function_of mode.Variable)) ∷ (codes "h", declares 2 (declaration.Function [] (written (type_name.Required simple.Integer)) integer))
       ∷ (codes "a", declares 6 (declaration.Variable (type_name.Entry 3) (kind.Structured 3))) ∷ (codes "b", declares 7 (declaration.Variable (type_name.Entry 4) (kind.Structured 4)))
       ∷ (codes "r", declares 3 (giving_row (integer_parameter mode.Value ∷ []))) ∷ (codes "s", declares 4 (giving_row [])) ∷ (codes "k", declares 5 (function_of_row mode.Value)) ∷ (codes "l", declares 6 (function_of_row mode.Variable)) ∷ [];
@@ -381,8 +381,8 @@ abbrev with_records : List Region
 with_records = record {
   entries = (codes "c", declares 8 (declaration.Variable (type_name.Entry 5) (kind.Structured 5))) ∷ (codes "d", declares 9 (declaration.Variable (type_name.Entry 6) (kind.Structured 6)))
       ∷ (codes "e", declares 2 (declaration.Function [] (written (type_name.Entry 6)) (kind.Structured 6)))
-      ∷ (codes "x", declares 0 (declaration.Variable (type_name.Required simple.Integer) integer)) ∷ (codes "red", declares 0 (declaration.Constant (kind.Ordinal color) (value.Word (pos 0)))) ∷ [];
-  qualified = (codes "shades", (codes "x", declares 1 (declaration.Constant (kind.Ordinal color) (value.Word (pos 1)))) ∷ []) ∷ [];
+      ∷ (codes "x", declares 0 (declaration.Variable (type_name.Required simple.Integer) integer)) ∷ (codes "red", declares 0 (declaration.Constant (kind.Ordinal color) (value.Word (pos 0)) 1)) ∷ [];
+  qualified = (codes "shades", (codes "x", declares 1 (declaration.Constant (kind.Ordinal color) (value.Word (pos 1)) 1)) ∷ []) ∷ [];
   structures = point ∷ points ∷ [];
   records = [];
 } ∷ []

@@ -1,8 +1,8 @@
 -- What an index gives of a valid form is valid.
 use Rattle.std.proofs.Common.{◌≡◌, true, ℕ, suc, max, nat_le, List, [], ◌∷◌, Option, Some, None, refl, subst, sym}
-use Rattle.std.specs.Prelude.{All}
+use Rattle.std.specs.Prelude.{All, unwrap_or}
 use Rattle.ep_typed.specs.Trees as tree
-use Rattle.ep_typed.specs.Trees.{Place, Expr, Constant, Text, Read, One, Two, Short, Step, Function, IndexedValue, FieldValue, SetConstant, SetOf, OnSets, Card, Indexed}
+use Rattle.ep_typed.specs.Trees.{Elements, Place, Expr, Constant, Text, Read, One, Two, Short, Step, Function, IndexedValue, FieldValue, SetConstant, SetOf, OnSets, Card, Indexed}
 use Rattle.ep_typed.specs.Valid.{Declarations}
 use Rattle.ep_typed.specs.declared.unit.UnitType.{UnitType}
 use Rattle.ep_scope.specs.Scopes.{Region, structure_in}
@@ -14,12 +14,14 @@ use Rattle.ep_scope.specs.declared.structure.Composition.{Composition}
 use Rattle.ep_scope.specs.declared.structure.Composition.TheVariants as composition
 use Rattle.ep_scope.specs.declared.structure.StructuredType.{StructuredType}
 use Rattle.ep_check_expr.specs.Agreement.{HoldsStructure, IsAccessOf, IsFormOf, IsStructuredAt, IsStructuredValue, TypeValues, structures_of}
+use Rattle.ep_check_expr.specs.ConstantAccesses.{element_known}
+use Rattle.ep_check_expr.specs.Folding.{folded}
 use Rattle.ep_check_expr.specs.Indexing.{component_depth, component_form, component_typed, element_form, indexed, indexed_by, indexed_if, no_index}
 use Rattle.ep_check_expr.specs.Judgements.{Judged, Accepts, Breaks, Typed}
 use Rattle.ep_check_expr.specs.Operators.{are_compatible, character, is_integer, unbuilt_typed}
 use Rattle.ep_check_expr.specs.declared.access.Access.{Access}
 use Rattle.ep_check_expr.specs.declared.forms.TheConstants as limit
-use Rattle.ep_check_expr.proofs.Components.{IsComponentForm, built-component, indexed-component, unbuilt-component}
+use Rattle.ep_check_expr.proofs.Components.{IsComponentForm, built-component, element-known, indexed-component, unbuilt-component}
 use Rattle.ep_check_expr.proofs.Keeping.{Satisfies, if-satisfies}
 use Rattle.ep_check_expr.proofs.Passing.{IsForm}
 use Rattle.ep_check_expr.proofs.Places.{component-place, made_so, some-component, some-list, structure_in-holds}
@@ -54,7 +56,7 @@ module _ (declared : Declarations) (types : TypeValues) (structures : List Struc
   module _ (a : ArrayType) (n : ℕ) (in_view : (list : List UnitType) → All (HoldsStructure types list) structures → HoldsStructure types list (made_so n (composition.Array a))) where
     -- a component has a valid form, where the array and the index have one
     abbrev IsElement : Access → Option Expr → Option Expr → Type 0
-    IsElement whole x i = IsComponentForm declared types structures a.component a.kind whole (component_form x i)
+    IsElement whole x i = IsComponentForm declared types structures a.component a.kind whole (component_form a.kind x i)
 
     -- where the array or the index is not built
     unbuilt-element : (list : List UnitType) → All (HoldsStructure types list) structures → (whole : Access) → IsComponentForm declared types structures a.component a.kind whole None
@@ -66,12 +68,23 @@ module _ (declared : Declarations) (types : TypeValues) (structures : List Struc
     read-element place (Some x) at f whole = built-component declared types structures a.component a.kind (Indexed place x) (component-place declared types structures n (composition.Array a) in_view a refl place x at f.1) whole
 
     -- where it is a value
-    value-element : (x : Expr) → ((j : Expr) → element_form x j ≡ IndexedValue x j) → ((place : Place) → x ≡ Read place → ⊥) → (i : Option Expr) → IsStructuredValue declared types structures n x → IsFormOf declared types structures (kind.Ordinal a.index) i
+    value-element : (x : Expr) → ((j : Expr) → element_form a.kind x j ≡ IndexedValue x j) → ((place : Place) → x ≡ Read place → ⊥) → (i : Option Expr) → IsStructuredValue declared types structures n x → IsFormOf declared types structures (kind.Ordinal a.index) i
         → (whole : Access) → IsAccessOf declared types whole (Some x) → IsElement whole (Some x) i
     value-element x is unread None v f whole g = unbuilt-element v.1.0 v.1.1 whole
     value-element x is unread (Some j) v f whole g =
         subst (λ z. IsComponentForm declared types structures a.component a.kind whole (Some z)) (sym (is j))
         (indexed-component declared types structures n x unread v a j (in_view v.1.0 v.1.1) f.1 whole g)
+
+    -- where it is written out
+    known-element : (number : ℕ) (es : Elements) (j : Expr) → (v : IsStructuredValue declared types structures n (tree.Structured number es)) → IsFormOf declared types structures (kind.Ordinal a.index) (Some j) → (whole : Access) → IsAccessOf declared types whole (Some (tree.Structured number es))
+        → (o : Option Expr) → element_known a.kind es (folded j) ≡ o → IsComponentForm declared types structures a.component a.kind whole (Some (unwrap_or o (IndexedValue (tree.Structured number es) j)))
+    known-element number es j v f whole g None e = indexed-component declared types structures n (tree.Structured number es) (λ place is. cc) v a j (in_view v.1.0 v.1.1) f.1 whole g
+    known-element number es j v f whole g (Some y) e = element-known declared types structures n (tree.Structured number es) (λ place is. cc) v a number es refl (folded j) (in_view v.1.0 v.1.1) whole g y e
+
+    written-element : (number : ℕ) (es : Elements) (i : Option Expr) → IsStructuredValue declared types structures n (tree.Structured number es) → IsFormOf declared types structures (kind.Ordinal a.index) i → (whole : Access) → IsAccessOf declared types whole (Some (tree.Structured number es))
+        → IsElement whole (Some (tree.Structured number es)) i
+    written-element number es None v f whole g = unbuilt-element v.1.0 v.1.1 whole
+    written-element number es (Some j) v f whole g = known-element number es j v f whole g (element_known a.kind es (folded j)) refl
 
     -- each way
     element-valid : (x i : Option Expr) → IsFormOf declared types structures (kind.Structured n) x → IsFormOf declared types structures (kind.Ordinal a.index) i → (whole : Access) → IsAccessOf declared types whole x → IsElement whole x i
@@ -80,7 +93,7 @@ module _ (declared : Declarations) (types : TypeValues) (structures : List Struc
     element-valid (Some (Function callee given)) i f g whole h = value-element (Function callee given) (λ j. refl) (λ place e. cc) i f g whole h
     element-valid (Some (IndexedValue array index)) i f g whole h = value-element (IndexedValue array index) (λ j. refl) (λ place e. cc) i f g whole h
     element-valid (Some (FieldValue inner number)) i f g whole h = value-element (FieldValue inner number) (λ j. refl) (λ place e. cc) i f g whole h
-    element-valid (Some (tree.Structured number es)) i f g whole h = value-element (tree.Structured number es) (λ j. refl) (λ place e. cc) i f g whole h
+    element-valid (Some (tree.Structured number es)) i f g whole h = written-element number es i f g whole h
     element-valid (Some (Constant z)) i f g whole h = absurd f
     element-valid (Some (Text bytes)) i f g whole h = absurd f
     element-valid (Some (One operation x)) i f g whole h = absurd f

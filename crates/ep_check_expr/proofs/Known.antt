@@ -1,13 +1,12 @@
 -- What is known of a valid form as a constant is of its kind: a value of its host, or a set over it.
 use Rattle.std.proofs.Common.{◌≡◌, ℕ, ℤ, pos, negsuc, zero, suc, ◌≤◌, ◌%◌, Bool, true, false, List, [], Option, Some, None, IsTrue, length, refl, sym, ap, ◌∙◌, subst, arith}
 use Rattle.std.proofs.lemmas.Bool.Decides.{nat_tests}
-use Rattle.std.specs.Prelude.{⊤, if◌then◌else◌, ◌-ℤ◌, unsigned_abs}
+use Rattle.std.specs.Prelude.{if◌then◌else◌, ◌-ℤ◌, unsigned_abs}
 use Rattle.ep_typed.specs.Hosts.{Host, least, greatest, is_of_host}
 use Rattle.ep_typed.specs.Hosts as host
 use Rattle.ep_typed.specs.Operations.{Answer, Number, Fault, is_integer, decides, within, ordinal_of, unary_answer, binary_answer, step_answer}
 use Rattle.ep_typed.specs.Sets.{member_limit}
 use Rattle.ep_typed.specs.SetOperations.{set_answer}
-use Rattle.ep_typed.specs.TypeValues.{TypeValue}
 use Rattle.ep_typed.specs.Trees as tree
 use Rattle.ep_typed.specs.Trees.{Expr, Constant, Text, Read, One, Two, Short, Step, Function, IndexedValue, FieldValue, SetConstant, SetOf, OnSets, Card, Designator, Single, Range, Designators, no_member, next_member}
 use Rattle.ep_typed.specs.Valid.{AreDesignators, Declarations, IsDesignator, IsExpr, IsUnary, IsBinary, IsOnSets}
@@ -20,24 +19,13 @@ use Rattle.ep_typed.specs.declared.operations.SetOperation.{SetOperation}
 use Rattle.ep_typed.specs.declared.operations.SetOperation.TheVariants as on_sets
 use Rattle.ep_typed.specs.declared.operations.ShortOperation.{ShortOperation}
 use Rattle.ep_typed.specs.declared.run_error.TheConstants as run_error
-use Rattle.ep_typed.specs.declared.value.Value.TheVariants as value
 use Rattle.ep_typed.proofs.Sets.{few_members}
-use Rattle.ep_scope.specs.declared.structure.StructuredType.{StructuredType}
-use Rattle.ep_scope.specs.declared.kind.Host as scope
-use Rattle.ep_scope.specs.declared.kind.Kind.TheVariants as kind
-use Rattle.ep_scope.specs.declared.kind.Kind.{Kind}
-use Rattle.ep_check_expr.specs.Agreement.{IsHost, IsConstantOf, IsFormOf, IsSetOver, TypeValues}
-use Rattle.ep_check_expr.specs.Constants.{constant_of, constant_folded, known}
-use Rattle.ep_check_expr.specs.Hosts.{typed_host}
-use Rattle.ep_check_expr.specs.Judgements.{Judged, Accepts, Breaks}
-use Rattle.ep_check_expr.specs.StructuredConstants.{value_known}
-use Rattle.ep_check_expr.specs.declared.constants.ConstantForm.{ConstantForm}
+use Rattle.ep_check_expr.specs.Agreement.{IsSetOver}
 use Rattle.ep_check_expr.specs.Folding.{answered, as_known, folded, folded_member, folded_members, joined, members_in, number_in, one_folded, result_of, set_found, short_folded, two_folded}
 use Rattle.ep_check_expr.specs.declared.folding.Folded.{Folded}
 use Rattle.ep_check_expr.specs.declared.folding.Folded.TheVariants.{Known, Varies, Errs}
 use Rattle.ep_check_expr.specs.declared.folding.KnownValue.{KnownValue}
 use Rattle.ep_check_expr.specs.declared.folding.KnownValue.TheVariants as known_value
-use Rattle.ep_check_expr.proofs.Passing.{structured-expr}
 use Rattle.ep_check_expr.proofs.SetsOver.{IsFound, combined-over, empty-over, range-over, single-over}
 
 -- ---- numbers
@@ -268,105 +256,3 @@ module _ (declared : Declarations) where
     members-of_kind h no_member found x before v f = before x f
     members-of_kind h (next_member d more) found x before v f =
         members-of_kind h more (joined found (folded_member d)) x (joined-known h found (folded_member d) before (λ y e. member-of_kind h d y v.0 e)) v.1 f
-
--- ---- constants
-
-zero_of_host : (h : Host) → IsTrue (is_of_host h (pos 0))
-zero_of_host host.Integer = refl
-zero_of_host host.Char = refl
-zero_of_host host.Boolean = refl
-zero_of_host (host.Enumeration last) = grind (arith, nat_tests)
-
--- what is accepted is of its kind
-abbrev pub IsJudgedConstant : Judged ConstantForm → Type 0
-IsJudgedConstant (Accepts c) = IsConstantOf c.kind c.value
-IsJudgedConstant (Breaks rules) = ⊤
-
--- a form is a text, or else what is known of it counts
-pub text_or_known : (P : Judged ConstantForm → Type 0) (k : Kind) (x : Expr) → ((bytes : List ℕ) → x ≡ Text bytes → P (known k (value.Text bytes))) → P (constant_folded k (folded x)) → P (constant_of k (Some x))
-text_or_known P k (Text bytes) f g = f bytes refl
-text_or_known P k (Constant z) f g = g
-text_or_known P k (Read place) f g = g
-text_or_known P k (One operation x) f g = g
-text_or_known P k (Two operation x y) f g = g
-text_or_known P k (Short operation x y) f g = g
-text_or_known P k (Step down low high x y) f g = g
-text_or_known P k (Function callee given) f g = g
-text_or_known P k (IndexedValue array index) f g = g
-text_or_known P k (FieldValue whole number) f g = g
-text_or_known P k (tree.Structured number es) f g = g
-text_or_known P k (SetConstant members) f g = g
-text_or_known P k (SetOf members) f g = g
-text_or_known P k (OnSets operation x y) f g = g
-text_or_known P k (Card x) f g = g
-
-module _ (declared : Declarations) (types : TypeValues) (structures : List StructuredType) where
-  -- what is known is a constant of the kind where it is a value of that
-  known-judged : (k : Kind) (r : Folded) → ((y : KnownValue) → r ≡ Known y → IsConstantOf k (value_known y)) → IsJudgedConstant (constant_folded k r)
-  known-judged k (Known y) f = f y refl
-  known-judged k Varies f = tt
-  known-judged k Errs f = tt
-
-  -- a text is of the kind of texts alone
-  no_text : (k : valid.Kind) (x : Expr) (bytes : List ℕ) → (k ≡ valid.Bytes → ⊥) → IsExpr declared k x → x ≡ Text bytes → ⊥
-  no_text k x bytes other v e = other (subst (IsExpr declared k) e v)
-
-  ordinal-constant : (h : scope.Host) (y : KnownValue) → IsHost h → OfKind (valid.Ordinal (typed_host h)) y → IsConstantOf (kind.Ordinal h) (value_known y)
-  ordinal-constant h (known_value.Number z) s p = (s, p)
-  ordinal-constant h (known_value.Members ms) s p = absurd p
-
-  set-constant : (h : scope.Host) (y : KnownValue) → IsHost h → OfKind (valid.Set (typed_host h)) y → IsConstantOf (kind.Set h) (value_known y)
-  set-constant h (known_value.Number z) s p = absurd p
-  set-constant h (known_value.Members ms) s p = (s, p)
-
-  empty-constant : (y : KnownValue) → ((h : Host) → OfKind (valid.Set h) y) → IsConstantOf kind.EmptySet (value_known y)
-  empty-constant (known_value.Number z) p = absurd (p host.Boolean)
-  empty-constant (known_value.Members ms) p = p
-
-  -- no value is known of a structured kind, and none of a text that is not written
-  none_structured : (k : Kind) (t : TypeValue) (y : KnownValue) → OfKind (valid.Structured t) y → IsConstantOf k (value_known y)
-  none_structured k t (known_value.Number z) p = absurd p
-  none_structured k t (known_value.Members ms) p = absurd p
-
-  none_text : (k : Kind) (y : KnownValue) → OfKind valid.Bytes y → IsConstantOf k (value_known y)
-  none_text k (known_value.Number z) p = absurd p
-  none_text k (known_value.Members ms) p = absurd p
-
-  -- a valid form is a constant of its kind, if it is one
-  pub constant-fits : (k : Kind) (form : Option Expr) → IsFormOf declared types structures k form → IsJudgedConstant (constant_of k form)
-  constant-fits (kind.Ordinal h) None s = (s, zero_of_host (typed_host h))
-  constant-fits (kind.Ordinal h) (Some x) s =
-      text_or_known IsJudgedConstant (kind.Ordinal h) x (λ bytes e. absurd (no_text (valid.Ordinal (typed_host h)) x bytes (λ o. cc) s.1 e))
-      (known-judged (kind.Ordinal h) (folded x) (λ y e. ordinal-constant h y s.0 (known-of_kind declared x (valid.Ordinal (typed_host h)) y s.1 e)))
-  constant-fits (kind.Structured n) None s = tt
-  constant-fits (kind.Structured n) (Some x) s =
-      let v = structured-expr declared types structures n x s in
-      text_or_known IsJudgedConstant (kind.Structured n) x (λ bytes e. absurd (no_text (valid.Structured v.0) x bytes (λ o. cc) v.2 e))
-      (known-judged (kind.Structured n) (folded x) (λ y e. none_structured (kind.Structured n) v.0 y (known-of_kind declared x (valid.Structured v.0) y v.2 e)))
-  constant-fits (kind.Set h) None s = (s, empty-over (typed_host h))
-  constant-fits (kind.Set h) (Some x) s =
-      text_or_known IsJudgedConstant (kind.Set h) x (λ bytes e. absurd (no_text (valid.Set (typed_host h)) x bytes (λ o. cc) s.1 e))
-      (known-judged (kind.Set h) (folded x) (λ y e. set-constant h y s.0 (known-of_kind declared x (valid.Set (typed_host h)) y s.1 e)))
-  constant-fits kind.EmptySet None s = empty-over
-  constant-fits kind.EmptySet (Some x) s =
-      text_or_known IsJudgedConstant kind.EmptySet x (λ bytes e. absurd (no_text (valid.Set host.Boolean) x bytes (λ o. cc) (s host.Boolean) e))
-      (known-judged kind.EmptySet (folded x) (λ y e. empty-constant y (λ h. known-of_kind declared x (valid.Set h) y (s h) e)))
-  constant-fits kind.Text None s = tt
-  constant-fits kind.Text (Some x) s =
-      text_or_known IsJudgedConstant kind.Text x (λ bytes e. tt) (known-judged kind.Text (folded x) (λ y e. none_text kind.Text y (known-of_kind declared x valid.Bytes y s e)))
-  constant-fits kind.File None s = absurd s
-  constant-fits kind.File (Some (Text bytes)) s = absurd s
-  constant-fits kind.File (Some (Constant z)) s = absurd s
-  constant-fits kind.File (Some (Read place)) s = tt
-  constant-fits kind.File (Some (One operation x)) s = absurd s
-  constant-fits kind.File (Some (Two operation x y)) s = absurd s
-  constant-fits kind.File (Some (Short operation x y)) s = absurd s
-  constant-fits kind.File (Some (Step down low high x y)) s = absurd s
-  constant-fits kind.File (Some (Function callee given)) s = absurd s
-  constant-fits kind.File (Some (IndexedValue array index)) s = absurd s
-  constant-fits kind.File (Some (FieldValue whole number)) s = absurd s
-  constant-fits kind.File (Some (tree.Structured number es)) s = absurd s
-  constant-fits kind.File (Some (SetConstant members)) s = absurd s
-  constant-fits kind.File (Some (SetOf members)) s = absurd s
-  constant-fits kind.File (Some (OnSets operation x y)) s = absurd s
-  constant-fits kind.File (Some (Card x)) s = absurd s

@@ -1,13 +1,13 @@
 -- The laws of typed forms.
-use Rattle.std.proofs.Common.{◌≡◌, ℕ, ℤ, Bool, true, false, List, ◌∷◌, [], Option, Some, None, map, refl, ap, sym, subst}
-use Rattle.std.specs.Prelude.{if◌then◌else◌}
+use Rattle.std.proofs.Common.{◌≡◌, Bool, if◌then◌else◌, ℕ, ℤ, true, false, List, ◌∷◌, [], Option, Some, None, Ok, Err, map, refl, ap, sym, subst}
 use Rattle.ep_typed.specs.Hosts.{is_of_host}
 use Rattle.ep_typed.specs.Trees.{Expr, Constant, Text}
 use Rattle.ep_typed.specs.Valid.{Declarations}
+use Rattle.ep_typed.specs.declared.value.Value.{Value}
 use Rattle.ep_typed.specs.declared.value.Value.TheVariants as value
 use Rattle.ep_tree.specs.declared.expression.Access.{Access}
 use Rattle.ep_tree.specs.declared.expression.Argument.{Argument, out-Argument}
-use Rattle.ep_tree.specs.declared.expression.ComponentValue.{ComponentValue}
+use Rattle.ep_tree.specs.declared.expression.ComponentValue.{ComponentValue, out-ComponentValue}
 use Rattle.ep_tree.specs.declared.expression.Expression.{Expression}
 use Rattle.ep_scope.specs.Scopes.{Region, depth_in, meant, meant_in}
 use Rattle.ep_scope.specs.declared.structure.StructuredType.{StructuredType}
@@ -17,21 +17,23 @@ use Rattle.ep_scope.specs.declared.kind.Kind.{Kind}
 use Rattle.ep_scope.specs.declared.kind.Kind.TheVariants as kind
 use Rattle.ep_scope.specs.declared.rule.TheConstants as rule
 use Rattle.ep_check_expr.specs.Agreement.{AgreesBy, AreActuals, IsAccessOf, IsFormOf, IsHost, TypeValues, structures_of}
-use Rattle.ep_check_expr.specs.Constants.{IsSoundConstant, as_constant, as_bound, as_label, constant_expression, constant_folded, constant_of, known, stand_in, unbuilt_constant, varies}
+use Rattle.ep_check_expr.specs.Constants.{IsSoundConstant, as_constant, constant_by, constant_expression, constant_of, known, may_be_constant, nesting, purpose_of, stand_in, unbuilt_of}
 use Rattle.ep_check_expr.specs.Expressions.{given, judged, judged_value, name_judged, spelled}
 use Rattle.ep_check_expr.specs.Hosts.{typed_host}
 use Rattle.ep_check_expr.specs.Judgements.{Judged, Accepts, Breaks, Typed, unbuilt, when_accepted}
 use Rattle.ep_check_expr.specs.Laws.{ExpressionsAreSound, AccessesAreSound, VariablesAreSound, ArgumentsAreSound, ValuesAreSound, ConstantsAreSound, BoundsAreSound, LabelsAreSound, InitialStatesAreSound, ExpressionsAreKnown, ConstantsAreKnown, BoundsAreKnown}
 use Rattle.ep_check_expr.specs.Origins.{IsKnownKind}
-use Rattle.ep_check_expr.specs.Folding.{folded}
-use Rattle.ep_check_expr.specs.declared.folding.Folded.{Folded}
-use Rattle.ep_check_expr.specs.declared.folding.Folded.TheVariants.{Known, Varies, Errs}
+use Rattle.ep_check_expr.specs.declared.access.Access as accessed
 use Rattle.ep_check_expr.specs.declared.access.Access.TheVariants as access
 use Rattle.ep_check_expr.specs.Constructors.{set_judged}
 use Rattle.ep_check_expr.specs.Functions.{applied_one, applied_two}
 use Rattle.ep_check_expr.specs.Operators.{signed, negated, added, multiplied, compared}
 use Rattle.ep_check_expr.specs.Names.{leaf}
 use Rattle.ep_check_expr.specs.declared.constants.ConstantForm.{ConstantForm}
+use Rattle.ep_check_expr.specs.declared.constants.Purpose.{Purpose}
+use Rattle.ep_check_expr.specs.declared.constants.Purpose.TheVariants as purpose
+use Rattle.ep_check_expr.specs.declared.structured_constants.ConstantValue.{ConstantValue}
+use Rattle.ep_check_expr.specs.declared.structured_constants.NoConstant.TheVariants as reason
 use Rattle.ep_check_expr.proofs.Plain.{spelled-plain, signed-plain, negated-plain, added-plain, multiplied-plain, compared-plain, applied_one-plain, applied_two-plain}
 use Rattle.ep_check_expr.proofs.Passing.{IsForm, arguments-fit}
 use Rattle.ep_check_expr.proofs.Nodes.{given-value}
@@ -40,13 +42,12 @@ use Rattle.ep_check_expr.proofs.Hosted.{IsKnown, knowledge_is_kept}
 use Rattle.ep_check_expr.proofs.Designated.{designated-fits}
 use Rattle.ep_check_expr.proofs.Indexed.{indexed-fits}
 use Rattle.ep_check_expr.proofs.Keeping.{AreGiven, IsKept, Satisfies, if-satisfies, pair-satisfies, weaker-satisfies}
-use Rattle.ep_check_expr.proofs.Known.{IsJudgedConstant, constant-fits, text_or_known}
+use Rattle.ep_check_expr.proofs.ConstantForms.{IsJudgedConstant, as_constant-fits}
 use Rattle.ep_check_expr.proofs.Meant.{called-fits, meant-declared, meant_in-declared, value_named-fits}
 use Rattle.ep_check_expr.proofs.Labels.{constructed-plain, labels-weaker}
 use Rattle.ep_check_expr.proofs.Constructed.{constructed-fits}
-use Rattle.ep_check_expr.proofs.StructuredConstants.{IsJudgedInitial, initial_state-fits}
 use Rattle.ep_check_expr.proofs.Structures.{components-weaker, structure-any, structure-fits}
-use Rattle.ep_check_expr.specs.StructuredConstants.{value_known}
+use Rattle.ep_check_expr.specs.StructuredConstants.{Constancy, constancy, value_in}
 use Rattle.ep_check_expr.specs.StructuredValues.{structure_judged}
 use Rattle.ep_check_expr.proofs.Sound.{Fits, signed-fits, negated-fits, added-fits, multiplied-fits, compared-fits, applied_one-fits, applied_two-fits}
 
@@ -147,95 +148,62 @@ arguments_are_sound scopes ps arguments t accepted declared types agrees list fs
 pub values_are_sound : ValuesAreSound
 values_are_sound scopes v asked t accepted declared types agrees = subst (HasForm declared types scopes) accepted (value-fits declared types scopes agrees v asked)
 
-module _ (declared : Declarations) (types : TypeValues) (scopes : List Region) where
-  -- a constant of a valid form is of its kind
-  as_constant-fits : (J : Judged Typed) → HasForm declared types scopes J → IsJudgedConstant (when_accepted as_constant J)
-  as_constant-fits (Accepts t) p = constant-fits declared types (structures_of scopes) t.kind t.form p
-  as_constant-fits (Breaks rules) p = tt
-
-  -- so is a bound
-  as_bound-fits : (J : Judged Typed) → HasForm declared types scopes J → IsJudgedConstant (when_accepted as_bound J)
-  as_bound-fits (Accepts t) p = bound-fits (varies t) (as_constant t) (constant-fits declared types (structures_of scopes) t.kind t.form p)
-    where
-      bound-fits : (b : Bool) (C : Judged ConstantForm) → IsJudgedConstant C → IsJudgedConstant (if b then Breaks (rule.BOUND_CONSTANT ∷ rule.CONSTANT ∷ []) else C)
-      bound-fits true C q = tt
-      bound-fits false C q = q
-  as_bound-fits (Breaks rules) p = tt
-
-  -- an end of a label
-  as_label-fits : (J : Judged Typed) → HasForm declared types scopes J → IsJudgedConstant (when_accepted as_label J)
-  as_label-fits (Accepts t) p = label-fits (varies t) (as_constant t) (constant-fits declared types (structures_of scopes) t.kind t.form p)
-    where
-      label-fits : (b : Bool) (C : Judged ConstantForm) → IsJudgedConstant C → IsJudgedConstant (if b then Breaks (rule.CASE_LABELS ∷ rule.CONSTANT ∷ []) else C)
-      label-fits true C q = tt
-      label-fits false C q = q
-  as_label-fits (Breaks rules) p = tt
+-- a constant of a valid form is of its kind, whatever it is asked for
+constant_is_sound : (scopes : List Region) (for : Purpose) (J : Judged Typed) (c : ConstantForm) → when_accepted (as_constant scopes for) J ≡ Accepts c
+    → ((declared : Declarations) (types : TypeValues) → AgreesBy declared types (structures_of scopes) (depth_in scopes) scopes → HasForm declared types scopes J) → IsSoundConstant scopes c
+constant_is_sound scopes for J c accepted form declared types agrees =
+    subst (IsJudgedConstant types declared.routine_types) accepted (as_constant-fits declared types scopes agrees for J (form declared types agrees))
 
 pub constants_are_sound : ConstantsAreSound
-constants_are_sound scopes v c accepted declared agrees =
-    subst IsJudgedConstant accepted (as_constant-fits declared agrees.0 scopes (judged_value scopes v None) (value-fits declared agrees.0 scopes agrees.1 v None))
+constants_are_sound scopes v c accepted = constant_is_sound scopes (purpose_of (out-ComponentValue v)) (judged_value scopes v None) c accepted (λ declared types agrees. value-fits declared types scopes agrees v None)
 
 -- so is a constant expression
 pub constant_expressions_are_sound : (scopes : List Region) (e : Expression) (c : ConstantForm) → constant_expression scopes e ≡ Accepts c → IsSoundConstant scopes c
-constant_expressions_are_sound scopes e c accepted declared agrees =
-    subst IsJudgedConstant accepted (as_constant-fits declared agrees.0 scopes (judged scopes e) (expression-fits declared agrees.0 scopes agrees.1 e))
+constant_expressions_are_sound scopes e c accepted = constant_is_sound scopes purpose.Expression (judged scopes e) c accepted (λ declared types agrees. expression-fits declared types scopes agrees e)
 
 pub bounds_are_sound : BoundsAreSound
-bounds_are_sound scopes e c accepted declared agrees =
-    subst IsJudgedConstant accepted (as_bound-fits declared agrees.0 scopes (judged scopes e) (expression-fits declared agrees.0 scopes agrees.1 e))
+bounds_are_sound scopes e c accepted = constant_is_sound scopes purpose.Bound (judged scopes e) c accepted (λ declared types agrees. expression-fits declared types scopes agrees e)
 
 pub labels_are_sound : LabelsAreSound
-labels_are_sound scopes e c accepted declared agrees =
-    subst IsJudgedConstant accepted (as_label-fits declared agrees.0 scopes (judged scopes e) (expression-fits declared agrees.0 scopes agrees.1 e))
+labels_are_sound scopes e c accepted = constant_is_sound scopes purpose.Label (judged scopes e) c accepted (λ declared types agrees. expression-fits declared types scopes agrees e)
 
 pub initial_states_are_sound : InitialStatesAreSound
-initial_states_are_sound scopes asked v c accepted declared types agrees =
-    subst (IsJudgedInitial declared types) accepted (initial_state-fits declared types scopes agrees (judged_value scopes v asked) (value-fits declared types scopes agrees v asked))
+initial_states_are_sound scopes asked v c accepted =
+    constant_is_sound scopes purpose.InitialState (judged_value scopes v asked) c accepted (λ declared types agrees. value-fits declared types scopes agrees v asked)
 
 -- ---- hosts
 
-folded_kind : (k : Kind) (f : Folded) (c : ConstantForm) → constant_folded k f ≡ Accepts c → k ≡ c.kind
-folded_kind k (Known x) c e = let is : record { value = value_known x; kind = k; built = true } ≡ c = cc in ap (λ y. y.kind) is
-folded_kind k Varies c e = cc
-folded_kind k Errs c e = cc
+known_kind : (k : Kind) (v : Value) (depth : ℕ) (c : ConstantForm) → known k v depth ≡ Accepts c → k ≡ c.kind
+known_kind k v depth c e = let is : record { value = v; kind = k; depth = depth; built = true } ≡ c = cc in ap (λ y. y.kind) is
 
-unbuilt_kind : (k : Kind) (c : ConstantForm) → unbuilt_constant k ≡ Accepts c → k ≡ c.kind
-unbuilt_kind (kind.Ordinal h) c e = let is : record { value = stand_in (kind.Ordinal h); kind = kind.Ordinal h; built = false } ≡ c = cc in ap (λ x. x.kind) is
-unbuilt_kind (kind.Structured n) c e = cc
-unbuilt_kind (kind.Set h) c e = let is : record { value = stand_in (kind.Set h); kind = kind.Set h; built = false } ≡ c = cc in ap (λ x. x.kind) is
-unbuilt_kind kind.EmptySet c e = let is : record { value = stand_in kind.EmptySet; kind = kind.EmptySet; built = false } ≡ c = cc in ap (λ x. x.kind) is
-unbuilt_kind kind.Text c e = let is : record { value = stand_in kind.Text; kind = kind.Text; built = false } ≡ c = cc in ap (λ x. x.kind) is
-unbuilt_kind kind.File c e = let is : record { value = stand_in kind.File; kind = kind.File; built = false } ≡ c = cc in ap (λ x. x.kind) is
+unbuilt_kind : (k : Kind) (c : ConstantForm) → unbuilt_of k ≡ Accepts c → k ≡ c.kind
+unbuilt_kind k c e = let is : record { value = stand_in k; kind = k; depth = 1; built = false } ≡ c = cc in ap (λ x. x.kind) is
 
-text_kind : (k : Kind) (bytes : List ℕ) (c : ConstantForm) → known k (value.Text bytes) ≡ Accepts c → k ≡ c.kind
-text_kind k bytes c e = let is : record { value = value.Text bytes; kind = k; built = true } ≡ c = cc in ap (λ x. x.kind) is
+-- what stands for a form that is not built has its kind too
+unbuilt_kind_if : (k : Kind) (b : Bool) (c : ConstantForm) → (if b then unbuilt_of k else Breaks (rule.CONSTANT ∷ [])) ≡ Accepts c → k ≡ c.kind
+unbuilt_kind_if k true c e = unbuilt_kind k c e
+unbuilt_kind_if k false c e = cc
 
-same_kind : (k : Kind) (form : Option Expr) (c : ConstantForm) → constant_of k form ≡ Accepts c → k ≡ c.kind
-same_kind k None c e = unbuilt_kind k c e
-same_kind k (Some x) c e = text_or_known (λ J. J ≡ Accepts c → k ≡ c.kind) k x (λ bytes is. text_kind k bytes c) (folded_kind k (folded x) c) e
+kind_by : (for : Purpose) (k : Kind) (depth : ℕ) (r : Constancy ConstantValue) (c : ConstantForm) → constant_by for k depth r ≡ Accepts c → k ≡ c.kind
+kind_by for k depth (Ok v) c e = known_kind k (value_in v) (nesting v depth) c e
+kind_by for k depth (Err reason.Varies) c e = cc
+kind_by for k depth (Err reason.Errs) c e = cc
 
--- a constant has the kind of its expression
-known_constant : (scopes : List Region) (kind : Kind) (form : Option Expr) → IsKnownKind scopes kind → (c : ConstantForm) → constant_of kind form ≡ Accepts c → IsKnownKind scopes c.kind
-known_constant scopes k form p c e = subst (IsKnownKind scopes) (same_kind k form c e) p
+same_kind : (scopes : List Region) (for : Purpose) (a : accessed.Access) (k : Kind) (depth : ℕ) (form : Option Expr) (c : ConstantForm) → constant_of scopes for a k depth form ≡ Accepts c → k ≡ c.kind
+same_kind scopes for a k depth None c e = unbuilt_kind_if k (may_be_constant for a k) c e
+same_kind scopes for a k depth (Some (Text bytes)) c e = known_kind k (value.Text bytes) 1 c e
+same_kind scopes for a k depth (Some x) c e = kind_by for k depth (constancy scopes x) c e
 
 pub expressions_are_known : ExpressionsAreKnown
 expressions_are_known scopes e t accepted = subst (Satisfies (IsKnown scopes)) accepted (expressions-fit (IsKnown scopes) scopes (knowledge_is_kept scopes) e)
 
--- of a judgement whose kind is known, the constant's is
-constant_known : (scopes : List Region) (J : Judged Typed) (c : ConstantForm) → Satisfies (IsKnown scopes) J → when_accepted as_constant J ≡ Accepts c → IsKnownKind scopes c.kind
-constant_known scopes (Accepts t) c p e = known_constant scopes t.kind t.form p c e
-constant_known scopes (Breaks rules) c p e = cc
-
-bound_known : (scopes : List Region) (J : Judged Typed) (c : ConstantForm) → Satisfies (IsKnown scopes) J → when_accepted as_bound J ≡ Accepts c → IsKnownKind scopes c.kind
-bound_known scopes (Accepts t) c p e = go (varies t) e
-  where
-    go : (b : Bool) → (if b then Breaks (rule.BOUND_CONSTANT ∷ rule.CONSTANT ∷ []) else as_constant t) ≡ Accepts c → IsKnownKind scopes c.kind
-    go true e = cc
-    go false e = known_constant scopes t.kind t.form p c e
-bound_known scopes (Breaks rules) c p e = cc
+-- of a judgement whose kind is known, the constant's is, which is the same
+constant_known : (scopes : List Region) (for : Purpose) (J : Judged Typed) (c : ConstantForm) → Satisfies (IsKnown scopes) J → when_accepted (as_constant scopes for) J ≡ Accepts c → IsKnownKind scopes c.kind
+constant_known scopes for (Accepts t) c p e = subst (IsKnownKind scopes) (same_kind scopes for t.access t.kind t.depth t.form c e) p
+constant_known scopes for (Breaks rules) c p e = cc
 
 pub constants_are_known : ConstantsAreKnown
-constants_are_known scopes v c accepted = constant_known scopes (judged_value scopes v None) c (values-fit (IsKnown scopes) scopes (knowledge_is_kept scopes) v None) accepted
+constants_are_known scopes v c accepted = constant_known scopes (purpose_of (out-ComponentValue v)) (judged_value scopes v None) c (values-fit (IsKnown scopes) scopes (knowledge_is_kept scopes) v None) accepted
 
 pub bounds_are_known : BoundsAreKnown
-bounds_are_known scopes e c accepted = bound_known scopes (judged scopes e) c (expressions-fit (IsKnown scopes) scopes (knowledge_is_kept scopes) e) accepted
+bounds_are_known scopes e c accepted = constant_known scopes purpose.Bound (judged scopes e) c (expressions-fit (IsKnown scopes) scopes (knowledge_is_kept scopes) e) accepted

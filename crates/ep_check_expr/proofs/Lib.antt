@@ -1,8 +1,11 @@
 pub mod Accepted
 pub mod Plain
 pub mod Passing
+pub mod Betweens
 pub mod Breaking
 pub mod Calls
+pub mod ConstantAccesses
+pub mod ConstantForms
 pub mod Constructed
 pub mod Labels
 pub mod Leading
@@ -34,6 +37,8 @@ pub mod Structures
 pub mod Gathering
 pub mod Taking
 pub mod Written
+pub mod Joining
 pub mod Keeping
 pub mod Lawful
+pub mod Starts
 pub mod StructuredConstants

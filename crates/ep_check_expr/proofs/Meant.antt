@@ -1,12 +1,14 @@
 -- What names stand for is valid under declarations that hold what the scopes declare.
-use Rattle.std.proofs.Common.{◌≡◌, ℕ, Bool, true, false, List, [], ◌∷◌, Option, Some, None, slice_get, refl}
+use Rattle.std.proofs.Common.{◌≡◌, ℕ, Bool, true, false, List, [], ◌∷◌, Option, Some, None, slice_get, map, refl}
 use Rattle.std.specs.Prelude.{⊤, if◌then◌else◌}
 use Rattle.std.specs.Str.{bytes_eq}
 use Rattle.ep_typed.specs.Valid.{Declarations}
 use Rattle.ep_typed.specs.declared.value.Value.{Value}
 use Rattle.ep_typed.specs.declared.value.Value.TheVariants as value
 use Rattle.ep_typed.specs.Hosts as hosts
-use Rattle.ep_typed.specs.Trees.{Place, Read, Variable, entire}
+use Rattle.ep_typed.specs.Trees.{Place, Read, Variable, elements, entire}
+use Rattle.ep_typed.specs.Viewed.{constant_expr, element_of}
+use Rattle.ep_check_expr.proofs.Starts.{start-structured}
 use Rattle.ep_scope.specs.Fields.{field_number}
 use Rattle.ep_scope.specs.Required.{look_up, required_of}
 use Rattle.ep_scope.specs.Scopes.{Entries, OpenField, OpenRecord, Region, Meant, Declares, Requires, FieldOf, Nothing, field_among, field_at, field_if, field_of, field_or, meant, meant_in, or_field, unless_field, look_up_in, look_up_if, as_thing, as_required, or_outside, unless_hidden}
@@ -23,11 +25,11 @@ use Rattle.ep_scope.specs.declared.thing.Declaration.TheVariants as declaration
 use Rattle.ep_scope.specs.declared.thing.Declared.{Declared}
 use Rattle.ep_scope.specs.declared.thing.Thing.{Thing}
 use Rattle.ep_scope.specs.declared.thing.Thing.TheVariants as thing
-use Rattle.ep_check_expr.specs.Agreement.{IsConstantOf, IsStoredIn, IsDeclaration, IsFieldAt, IsOpen, IsThing, AreThings, AreInterfaces, AreOpen, AgreesBy, TypeValues, IsFormOf}
+use Rattle.ep_check_expr.specs.Agreement.{IsConstantIn, IsStoredIn, IsDeclaration, IsFieldAt, IsOpen, IsThing, AreThings, AreInterfaces, AreOpen, AgreesBy, TypeValues, IsFormOf}
 use Rattle.ep_check_expr.specs.Arguments.{callee_at, own_place}
 use Rattle.ep_check_expr.specs.FieldDesignators.{along}
 use Rattle.ep_check_expr.specs.Hosts.{typed_host}
-use Rattle.ep_check_expr.specs.Names.{call_declared, field_place, value_declared, value_form, value_required, value_named}
+use Rattle.ep_check_expr.specs.Names.{call_declared, field_place, value_declared, value_required, value_named}
 use Rattle.ep_check_expr.specs.Functions.{Given}
 use Rattle.ep_check_expr.specs.Judgements.{Judged, Typed}
 use Rattle.ep_check_expr.proofs.FieldPlaces.{all_there, read-access}
@@ -131,10 +133,11 @@ module _ (declared : Declarations) (types : TypeValues) (structures : List Struc
       (unless_hidden-meant (look_up r.entries interface) (or_outside (look_up_in r interface name) (meant_in rs interface name))
       (or_outside-meant (look_up_in r interface name) (meant_in rs interface name) (look_up_if-thing (look_up r.qualified interface) name (look_up-things r.qualified interface h.1)) (meant_in-declared rs interface name h.2)))
 
-  constant-fits : (k : Kind) (v : Value) → IsConstantOf k v → IsFormOf declared types structures k (value_form v)
+  constant-fits : (k : Kind) (v : Value) → IsConstantIn declared types structures k v → IsFormOf declared types structures k (Some (constant_expr v))
   constant-fits (kind.Ordinal h) (value.Word z) s = (s.0, (typed_host h, refl, s.1))
   constant-fits (kind.Ordinal h) _ s = absurd s
-  constant-fits (kind.Structured n) v s = absurd s
+  constant-fits (kind.Structured n) (value.Structured of es) s = ((s.0.0, s.0.1, start-structured declared s.0.0 of (elements (map element_of es)) s.0.2), s.1)
+  constant-fits (kind.Structured n) _ s = absurd s.0
   constant-fits (kind.Set h) (value.Set ms) s = (s.0, (typed_host h, refl, s.1.0, s.1.1))
   constant-fits (kind.Set h) _ s = absurd s
   constant-fits kind.EmptySet (value.Set ms) s = λ h. (h, refl, (s h).0, (s h).1)
@@ -157,7 +160,7 @@ module _ (declared : Declarations) (types : TypeValues) (structures : List Struc
   Holds = Satisfies (IsForm declared types structures)
 
   value_declared-fits : (d : Declared) (what : Declaration) → IsDeclaration declared types structures depth d what → Holds (value_declared depth d what)
-  value_declared-fits d (declaration.Constant k v) s = (constant-fits k v s, tt)
+  value_declared-fits d (declaration.Constant k v deep) s = (constant-fits k v s, tt)
   value_declared-fits d (declaration.«Type» of host nodes) s = tt
   value_declared-fits d (declaration.Variable of k) s = (variable-fits (Variable d.unit d.number) k s.0, (Variable d.unit d.number, refl, s.1))
   value_declared-fits d (declaration.Own of k guarded) s = (variable-fits (own_place depth d) k s.0, (own_place depth d, refl, s.1))
@@ -182,7 +185,7 @@ module _ (declared : Declarations) (types : TypeValues) (structures : List Struc
   value_named-fits name Nothing s = tt
 
   call_declared-fits : (d : Declared) (what : Declaration) (gs : List Given) → IsDeclaration declared types structures depth d what → AreGiven (IsForm declared types structures) gs → Holds (call_declared depth d what gs)
-  call_declared-fits d (declaration.Constant k v) gs s p = tt
+  call_declared-fits d (declaration.Constant k v deep) gs s p = tt
   call_declared-fits d (declaration.«Type» of host nodes) gs s p = tt
   call_declared-fits d (declaration.Variable of k) gs s p = tt
   call_declared-fits d (declaration.Own of k guarded) gs s p = tt

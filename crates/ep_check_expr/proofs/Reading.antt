@@ -55,7 +55,7 @@ function-placed callee k (Accepts t) = deep-plain IsPlaced plain _ _ _
 function-placed callee k (Breaks rules) = tt
 
 declared-placed : (depth : ℕ) (d : Declared) (what : Declaration) → Satisfies IsPlaced (value_declared depth d what)
-declared-placed depth d (declaration.Constant k v) = tt
+declared-placed depth d (declaration.Constant k v deep) = tt
 declared-placed depth d (declaration.«Type» of h nodes) = tt
 declared-placed depth d (declaration.Variable of k) = (Variable d.unit d.number, refl)
 declared-placed depth d (declaration.Own of k guarded) = (own_place depth d, refl)
@@ -63,7 +63,7 @@ declared-placed depth d (declaration.Procedure parameters) = tt
 declared-placed depth d (declaration.Function parameters of k) = function-placed (callee_at depth d) k (arguments_judged parameters [])
 
 called-placed : (depth : ℕ) (d : Declared) (what : Declaration) (gs : List Given) → Satisfies IsPlaced (call_declared depth d what gs)
-called-placed depth d (declaration.Constant k v) gs = tt
+called-placed depth d (declaration.Constant k v deep) gs = tt
 called-placed depth d (declaration.«Type» of h nodes) gs = tt
 called-placed depth d (declaration.Variable of k) gs = tt
 called-placed depth d (declaration.Own of k guarded) gs = tt
@@ -103,10 +103,10 @@ call-placed depth (FieldOf f) = tt
 call-placed depth Nothing = tt
 
 -- a component is read of its place where the array is
-component-placed : (x i : Option Expr) → IsReadingIf x → IsReadingIf (component_form x i)
-component-placed None i r = tt
-component-placed (Some x) None r = tt
-component-placed (Some x) (Some i) r = (Indexed r.0 i, ap (λ z. element_form z i) r.1)
+component-placed : (k : Kind) (x i : Option Expr) → IsReadingIf x → IsReadingIf (component_form k x i)
+component-placed k None i r = tt
+component-placed k (Some x) None r = tt
+component-placed k (Some x) (Some i) r = (Indexed r.0 i, ap (λ z. element_form k z i) r.1)
 
 -- what is read of a tag is read of a place
 tag-reads : (x : Option Expr) → IsTagReadingIf x → IsReadingIf x
@@ -125,7 +125,7 @@ access-placed component access.Value x form f r = tt
 index-placed : (a : ArrayType) (x i : Typed) → IsPlaced x → Satisfies IsPlaced (component_typed a x i)
 index-placed a x i p =
     if-satisfies IsPlaced (nat_le (component_depth x.access x.depth i.depth) limit.DEPTH) (Accepts _) (Breaks (rule.TOO_DEEP ∷ []))
-    (λ e. access-placed a.component x.access x.form (component_form x.form i.form) (component-placed x.form i.form) p) tt
+    (λ e. access-placed a.component x.access x.form (component_form a.kind x.form i.form) (component-placed a.kind x.form i.form) p) tt
 
 -- so is a field
 field-built : (f : FieldType) (guarded : Protection) (x : Option Expr) → IsReadingIf x → IsReading (variable_access f.of guarded f.tag) (field_form f x)

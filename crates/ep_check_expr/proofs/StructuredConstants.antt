@@ -1,12 +1,11 @@
--- A valid form that is constant, an array or a record too, may be the initial state of a type of its kind.
-use Rattle.std.proofs.Common.{◌≡◌, ◌∙◌, ℕ, ℤ, pos, negsuc, arith, Bool, true, false, IsTrue, List, [], ◌∷◌, ◌++◌, map, Option, Some, None, Ok, Err, refl, sym, ap, subst}
+-- A valid form that is constant, an array or a record too, may begin each type of its kind.
+use Rattle.std.proofs.Common.{◌≡◌, ◌∙◌, ℕ, ℤ, pos, negsuc, arith, Bool, true, false, IsTrue, List, [], ◌∷◌, map, Option, Some, None, Ok, Err, refl, sym, ap, subst}
 use Rattle.std.proofs.lemmas.Bool.Decides.{nat_tests}
 use Rattle.std.proofs.lemmas.List.Elements.{All-cons, All-nil}
 use Rattle.std.proofs.lemmas.Option.{same_Some}
 use Rattle.std.specs.Prelude.{All, ⊤, int_le, ◌&&◌, if◌then◌else◌}
 use Rattle.ep_typed.proofs.Typed.{typed_bare}
 use Rattle.ep_typed.specs.Hosts.{Host}
-use Rattle.ep_typed.specs.Hosts as hosts
 use Rattle.ep_typed.specs.Trees as tree
 use Rattle.ep_typed.specs.Trees.{Expr, Text, AtIndex, AtField, SameField, AtRanges, Elements, no_element, next_element, elements, Named}
 use Rattle.ep_typed.specs.TypeValues as type
@@ -20,21 +19,13 @@ use Rattle.ep_typed.specs.declared.tree.Element.{Element}
 use Rattle.ep_typed.specs.declared.tree.Element.TheVariants as element
 use Rattle.ep_typed.specs.declared.tree.TypedExpr.TheVariants as expr
 use Rattle.ep_typed.specs.declared.unit.UnitType.{UnitType}
-use Rattle.ep_typed.specs.declared.value.Value.{Value}
-use Rattle.ep_typed.specs.declared.value.Value.TheVariants as value
 use Rattle.ep_scope.specs.Scopes.{Region, depth_in, structure_in}
-use Rattle.ep_scope.specs.declared.kind.Kind.{Kind}
-use Rattle.ep_scope.specs.declared.kind.Kind.TheVariants as kind
-use Rattle.ep_scope.specs.declared.parameter.TypeName.TheVariants as type_name
 use Rattle.ep_scope.specs.declared.structure.ArrayType.{ArrayType}
 use Rattle.ep_scope.specs.declared.structure.Composition.{Composition}
 use Rattle.ep_scope.specs.declared.structure.Composition.TheVariants as composition
-use Rattle.ep_check_expr.specs.Agreement.{AgreesBy, IsConstantOf, IsFile, IsFormOf, IsInitialOf, TypeValues, structures_of}
-use Rattle.ep_check_expr.specs.Constants.{as_initial_state, constant_folded, constant_of, initial_constancy, initial_state_of}
+use Rattle.ep_check_expr.specs.Agreement.{AgreesBy, TypeValues, structures_of}
 use Rattle.ep_check_expr.specs.Folding.{folded, number_in}
-use Rattle.ep_check_expr.specs.Judgements.{Judged, Accepts, Breaks, Typed, when_accepted}
-use Rattle.ep_check_expr.specs.StructuredConstants.{Constancy, array_in, constancy, element_constancy, elements_constancy, index_constancy, form_in, index_range, known_constancy, of_both, of_one, value_in, value_known, with_element}
-use Rattle.ep_check_expr.specs.declared.constants.ConstantForm.{ConstantForm}
+use Rattle.ep_check_expr.specs.StructuredConstants.{Constancy, array_in, constancy, element_constancy, elements_constancy, index_constancy, form_in, index_range, known_constancy, of_both, of_one, value_in, value_known}
 use Rattle.ep_check_expr.specs.declared.folding.Folded.{Folded}
 use Rattle.ep_check_expr.specs.declared.folding.Folded.TheVariants.{Known, Varies, Errs}
 use Rattle.ep_check_expr.specs.declared.folding.KnownValue.{KnownValue}
@@ -42,10 +33,8 @@ use Rattle.ep_check_expr.specs.declared.folding.KnownValue.TheVariants as known_
 use Rattle.ep_check_expr.specs.declared.structured_constants.ConstantValue.{ConstantValue}
 use Rattle.ep_check_expr.specs.declared.structured_constants.ConstantValue.TheVariants as constant
 use Rattle.ep_check_expr.specs.declared.structured_constants.NoConstant.TheVariants as reason
-use Rattle.ep_check_expr.proofs.Keeping.{Satisfies}
-use Rattle.ep_check_expr.proofs.Known.{IsJudgedConstant, OfKind, constant-fits, known-of_kind}
+use Rattle.ep_check_expr.proofs.Known.{OfKind, known-of_kind}
 use Rattle.ep_check_expr.proofs.Listed.{listed-made, structure_in-listed}
-use Rattle.ep_check_expr.proofs.Passing.{structured-expr}
 use Rattle.ep_check_expr.proofs.Places.{made_so}
 use Rattle.ep_check_expr.proofs.Rows.{and_first, and_second}
 
@@ -65,15 +54,6 @@ field_is steps v = (ap element_of (sym (element.rolls-AtField steps (form_in v))
 
 same_is : (from to : List ℕ) → element_of (element.SameField from to) ≡ SameField from to
 same_is from to = ap element_of (sym (element.rolls-SameField from to)) ∙ simp fold-roll-Element
-
--- elements with one more
-abbrev with_last : Elements → tree.Element → Elements
-with_last no_element e = next_element e no_element
-with_last (next_element x more) e = next_element x (with_last more e)
-
-last_is : (xs : List Element) (x : Element) → elements (map element_of (xs ++ x ∷ [])) ≡ with_last (elements (map element_of xs)) (element_of x)
-last_is [] x = refl
-last_is (y ∷ xs) x = ap (next_element (element_of y)) (last_is xs x)
 
 -- ---- what constants are made of
 
@@ -107,24 +87,13 @@ of_one-constant f (Err why) b e = cc
 -- ---- constants that may be initial states
 
 module _ (list : List UnitType) where
-  -- elements with one more are given
-  starts_last : (t : TypeValue) (es : Elements) (e : tree.Element) → AreStartsFor list t es → AreStartsFor list t (next_element e no_element) → AreStartsFor list t (with_last es e)
-  starts_last t es e (valid.none_given u) last = last
-  starts_last t es e (valid.ranges_given low high h of ranges v more i has within s rest) last =
-      valid.ranges_given low high h of ranges v (with_last more e) i has within s (starts_last (type.Array low high of) more e rest last)
-  starts_last t es e (valid.field_given ts steps of v more leads s rest) last = valid.field_given ts steps of v (with_last more e) leads s (starts_last (type.Record ts) more e rest last)
-  starts_last t es e (valid.same_given ts from to k more p q rest) last = valid.same_given ts from to k (with_last more e) p q (starts_last (type.Record ts) more e rest last)
-
   -- what components are given, as it is found
   abbrev AreGiven : TypeValue → List Element → Type 0
   AreGiven t xs = AreStartsFor list t (elements (map element_of xs))
 
-  -- what one is given
+  -- what one is given, before whatever else
   abbrev IsGiven : TypeValue → Element → Type 0
-  IsGiven t x = AreStartsFor list t (next_element (element_of x) no_element)
-
-  given_last : (t : TypeValue) (xs : List Element) (x : Element) → AreGiven t xs → IsGiven t x → AreGiven t (xs ++ x ∷ [])
-  given_last t xs x p q = subst (AreStartsFor list t) (sym (last_is xs x)) (starts_last t (elements (map element_of xs)) (element_of x) p q)
+  IsGiven t x = (more : Elements) → AreStartsFor list t more → AreStartsFor list t (next_element (element_of x) more)
 
   -- a value that is known
   known-starts : (k : valid.Kind) (t : TypeValue) (y : KnownValue) → OfKind k y → IsTypeOfKind k t → IsStartFor list t (constant_expr (value_known y))
@@ -192,11 +161,6 @@ indexes-within low high of o Errs rs bounds e = cc
 
 -- ---- forms
 
--- what is built may be the initial state of a type of its kind
-abbrev pub IsJudgedInitial : Declarations → TypeValues → Judged ConstantForm → Type 0
-IsJudgedInitial declared types (Accepts c) = c.built ≡ true → IsInitialOf declared types c.kind c.value
-IsJudgedInitial declared types (Breaks rules) = ⊤
-
 module _ (declared : Declarations) (types : TypeValues) (scopes : List Region) (agrees : AgreesBy declared types (structures_of scopes) (depth_in scopes) scopes) where
   abbrev list : List UnitType
   list = declared.routine_types
@@ -215,19 +179,18 @@ module _ (declared : Declarations) (types : TypeValues) (scopes : List Region) (
   ranges-start : (low high : ℤ) (h : Host) (of : TypeValue) (rs : List CaseRange) (v : ConstantValue) → IsTypeOf h (type.Ordinal low high) → AreWithin low high rs → IsStartFor list of (constant_expr (value_in v))
       → IsGiven list (type.Array low high of) (element.AtRanges rs (form_in v))
   ranges-start low high h of rs v i within s =
-      subst (λ e. AreStartsFor list (type.Array low high of) (next_element e no_element)) (sym (ranges_are rs v))
-      (valid.ranges_given low high h of rs (constant_expr (value_in v)) no_element i within.0 within.1 s (valid.none_given (type.Array low high of)))
+      λ more rest. subst (λ e. AreStartsFor list (type.Array low high of) (next_element e more)) (sym (ranges_are rs v))
+      (valid.ranges_given low high h of rs (constant_expr (value_in v)) more i within.0 within.1 s rest)
 
   mutual
     -- a valid form that is constant may be the initial state of each type of its kind
     pub constancy-starts : (x : Expr) (k : valid.Kind) (t : TypeValue) (v : ConstantValue) → IsExpr declared k x → constancy scopes x ≡ Ok v → IsTypeOfKind k t → IsStartFor list t (constant_expr (value_in v))
     constancy-starts (tree.Structured n es) k t v f e s =
-        let p = of_one-constant (λ xs. constant.Structured n xs) (elements_constancy scopes (array_in (structure_in scopes n)) (Ok []) es) v e in
+        let p = of_one-constant (λ xs. constant.Structured n xs) (elements_constancy scopes (array_in (structure_in scopes n)) es) v e in
         let is : (bare_of f.0.type_value ≡ t) × IsStructured (bare_of f.0.type_value) = subst (λ j. IsTypeOfKind j t) f.1 s in
-        let typed : IsTyped list (Named n []) t = subst (IsTyped list (Named n [])) (sym (typed_bare list (Named n []) f.0.type_value f.0.typed) ∙ is.0) f.0.typed in
-        let given = elements-start (array_in (structure_in scopes n)) t es (Ok []) p.part (bounded n t f.0 is.0 (structure_in scopes n) refl)
-        (λ xs b. subst (AreGiven list t) (same_Ok [] xs b) (valid.none_given t)) (subst (λ u. AreElements declared u es) is.0 f.3) p.is in
-        subst (λ w. IsStartFor list t (constant_expr (value_in w))) p.gives (valid.structured_start n t (elements (map element_of p.part)) typed (subst IsStructured is.0 is.1) given)
+        let same : f.0.type_value ≡ t = sym (typed_bare list (Named n []) f.0.type_value f.0.typed) ∙ is.0 in
+        let given = elements-start (array_in (structure_in scopes n)) t es p.part (bounded n t f.0 is.0 (structure_in scopes n) refl) (subst (λ u. AreElements declared u es) is.0 f.3) p.is in
+        subst (λ w. IsStartFor list t (constant_expr (value_in w))) p.gives (valid.structured_start n t (elements (map element_of p.part)) (f.0.has_type ∙ ap Some same) (subst (IsTyped list (Named n [])) same f.0.typed) (subst IsStructured is.0 is.1) given)
     constancy-starts x k t v f e s = folded-starts list k t (folded x) v (λ y q. known-of_kind declared x k y f q) e s
 
     -- what a component is given
@@ -245,11 +208,11 @@ module _ (declared : Declarations) (types : TypeValues) (scopes : List Region) (
     element-starts o (type.Record ts) (AtField steps y) x bounds f e =
         let p = of_one-constant (λ v. element.AtField steps (form_in v)) (constancy scopes y) x e in
         subst (IsGiven list (type.Record ts)) p.gives
-        (subst (λ d. AreStartsFor list (type.Record ts) (next_element d no_element)) (sym (field_is steps p.part))
-        (valid.field_given ts steps f.1.0 (constant_expr (value_in p.part)) no_element f.1.1 (constancy-starts y f.0 f.1.0 p.part f.2 p.is f.1.2) (valid.none_given (type.Record ts))))
+        (λ more rest. subst (λ d. AreStartsFor list (type.Record ts) (next_element d more)) (sym (field_is steps p.part))
+        (valid.field_given ts steps f.1.0 (constant_expr (value_in p.part)) more f.1.1 (constancy-starts y f.0 f.1.0 p.part f.2 p.is f.1.2) rest))
     element-starts o (type.Record ts) (SameField from to) x bounds f e =
         subst (IsGiven list (type.Record ts)) (same_Ok (element.SameField from to) x e)
-        (subst (λ d. AreStartsFor list (type.Record ts) (next_element d no_element)) (sym (same_is from to)) (valid.same_given ts from to f.0 no_element f.1 f.2 (valid.none_given (type.Record ts))))
+        (λ more rest. subst (λ d. AreStartsFor list (type.Record ts) (next_element d more)) (sym (same_is from to)) (valid.same_given ts from to f.0 more f.1 f.2 rest))
     element-starts o (type.Record ts) (AtIndex i y) x bounds f e = absurd f
     element-starts o (type.Record ts) (AtRanges ranges y) x bounds f e = absurd f
     element-starts o (type.Ordinal low high) d x bounds f e = absurd f
@@ -257,68 +220,9 @@ module _ (declared : Declarations) (types : TypeValues) (scopes : List Region) (
     element-starts o (type.Set low high) d x bounds f e = absurd f
     element-starts o (type.Initial of start) d x bounds f e = absurd f
 
-    -- what components are given besides those before
-    elements-start : (o : Option ArrayType) (t : TypeValue) (es : Elements) (before : Constancy (List Element)) (xs : List Element) → IsBounded o t
-        → ((ys : List Element) → before ≡ Ok ys → AreGiven list t ys) → AreElements declared t es → elements_constancy scopes o before es ≡ Ok xs → AreGiven list t xs
-    elements-start o t no_element before xs bounds p f e = p xs e
-    elements-start o t (next_element d more) before xs bounds p f e =
-        elements-start o t more (with_element before (element_constancy scopes o d)) xs bounds
-        (λ ys b.
-        let q = of_both-constant (λ zs z. zs ++ z ∷ []) before (element_constancy scopes o d) ys b in
-        subst (AreGiven list t) q.gives (given_last list t q.left q.right (p q.left q.left_is) (element-starts o t d q.right bounds f.0 q.right_is))) f.1 e
-
-  -- ---- initial states
-
-  constant-initial : (k : Kind) (v : Value) → IsConstantOf k v → IsInitialOf declared types k v
-  constant-initial (kind.Ordinal h) v p = p
-  constant-initial (kind.Structured n) v p = absurd p
-  constant-initial (kind.Set h) v p = p
-  constant-initial kind.EmptySet v p = p
-  constant-initial kind.Text v p = p
-  constant-initial kind.File v p = p
-
-  folded-initial : (k : Kind) (r : Folded) → IsJudgedConstant (constant_folded k r) → IsJudgedInitial declared types (initial_constancy k (known_constancy r))
-  folded-initial k (Known x) p = λ built. constant-initial k (value_known x) p
-  folded-initial k Varies p = tt
-  folded-initial k Errs p = tt
-
-  -- a form that is no array and no record is what it is as any constant
-  form-initial : (k : Kind) (x : Expr) → ((n : ℕ) (es : Elements) → x ≡ tree.Structured n es → ⊥) → IsJudgedConstant (constant_of k (Some x)) → IsJudgedInitial declared types (initial_state_of scopes k (Some x))
-  form-initial k (Text bytes) never p = λ built. constant-initial k (value.Text bytes) p
-  form-initial k (tree.Structured n es) never p = absurd (never n es refl)
-  form-initial k x never p = folded-initial k (folded x) p
-
-  -- an array or a record
-  constancy-initial : (n : ℕ) (t : TypeValue) (r : Constancy ConstantValue) → types (type_name.Entry n) ≡ Some t → ((v : ConstantValue) → r ≡ Ok v → IsStartFor list t (constant_expr (value_in v))) → IsJudgedInitial declared types (initial_constancy (kind.Structured n) r)
-  constancy-initial n t (Ok v) is p = λ built. (t, is, p v refl)
-  constancy-initial n t (Err reason.Varies) is p = tt
-  constancy-initial n t (Err reason.Errs) is p = tt
-
-  structure-initial : (n : ℕ) (x : Expr) (t : TypeValue) → types (type_name.Entry n) ≡ Some t → IsStructured t → IsExpr declared (valid.Structured t) x → IsJudgedInitial declared types (initial_state_of scopes (kind.Structured n) (Some x))
-  structure-initial n (Text bytes) t is s f = cc
-  structure-initial n x t is s f = constancy-initial n t (constancy scopes x) is (λ v e. constancy-starts x (valid.Structured t) t v f e (refl, s))
-
-  unbuilt-initial : (k : Kind) (v : Value) → IsJudgedInitial declared types (Accepts (record { value = v; kind = k; built = false }))
-  unbuilt-initial k v = λ built. cc
-
-  no_structure : (k : valid.Kind) (x : Expr) → ((t : TypeValue) → k ≡ valid.Structured t → ⊥) → IsExpr declared k x → (n : ℕ) (es : Elements) → x ≡ tree.Structured n es → ⊥
-  no_structure k x other f n es e = let g = subst (IsExpr declared k) e f in other (bare_of g.0.type_value) g.1
-
-  form-fits : (k : Kind) (form : Option Expr) → IsFormOf declared types (structures_of scopes) k form → IsJudgedInitial declared types (initial_state_of scopes k form)
-  form-fits k None f = unbuilt-initial k _
-  form-fits (kind.Structured n) (Some x) f =
-      let v = structured-expr declared types (structures_of scopes) n x f in
-      structure-initial n x v.0 v.1.0 v.1.1 v.2
-  form-fits (kind.Ordinal h) (Some x) f = form-initial (kind.Ordinal h) x (no_structure _ x (λ t o. cc) f.1) (constant-fits declared types (structures_of scopes) (kind.Ordinal h) (Some x) f)
-  form-fits (kind.Set h) (Some x) f = form-initial (kind.Set h) x (no_structure _ x (λ t o. cc) f.1) (constant-fits declared types (structures_of scopes) (kind.Set h) (Some x) f)
-  form-fits kind.EmptySet (Some x) f = form-initial kind.EmptySet x (no_structure _ x (λ t o. cc) (f hosts.Boolean)) (constant-fits declared types (structures_of scopes) kind.EmptySet (Some x) f)
-  form-fits kind.Text (Some x) f = form-initial kind.Text x (no_structure valid.Bytes x (λ t o. cc) f) (constant-fits declared types (structures_of scopes) kind.Text (Some x) f)
-  form-fits kind.File (Some x) f = form-initial kind.File x (no_file x f) (constant-fits declared types (structures_of scopes) kind.File (Some x) f)
-    where
-      no_file : (x : Expr) → IsFile x → (n : ℕ) (es : Elements) → x ≡ tree.Structured n es → ⊥
-      no_file x f n es e = subst IsFile e f
-
-  -- an initial state of a valid form may be one of a type of its kind
-  pub initial_state-fits : (J : Judged Typed) → Satisfies (λ t. IsFormOf declared types (structures_of scopes) t.kind t.form) J → IsJudgedInitial declared types (when_accepted (as_initial_state scopes) J)
-  initial_state-fits (Accepts t) p = form-fits t.kind t.form p
-  initial_state-fits (Breaks rules) p = tt
+    -- what components are given
+    elements-start : (o : Option ArrayType) (t : TypeValue) (es : Elements) (xs : List Element) → IsBounded o t → AreElements declared t es → elements_constancy scopes o es ≡ Ok xs → AreGiven list t xs
+    elements-start o t no_element xs bounds f e = subst (AreGiven list t) (same_Ok [] xs e) (valid.none_given t)
+    elements-start o t (next_element d more) xs bounds f e =
+        let p = of_both-constant (λ y ys. y ∷ ys) (element_constancy scopes o d) (elements_constancy scopes o more) xs e in
+        subst (AreGiven list t) p.gives (element-starts o t d p.left bounds f.0 p.left_is (elements (map element_of p.right)) (elements-start o t more p.right bounds f.1 p.right_is))

@@ -1,5 +1,5 @@
 -- Declarations that hold what scopes declare, under which typed forms are valid.
-use Rattle.std.specs.Prelude.{◌≡◌, ℕ, pos, All, List, [], ◌∷◌, ◌++◌, Option, Some, None, IsTrue, int_le, ⊤}
+use Rattle.std.specs.Prelude.{◌≡◌, ℕ, pos, Bool, true, All, List, [], ◌∷◌, ◌++◌, Option, Some, None, IsTrue, int_le, ⊤}
 use Rattle.ep_typed.specs.Denoters.{ArrayParts, array_of, base_of, denoter_at, host_of, record_of, bare_type_of}
 use Rattle.ep_typed.specs.Hosts.{greatest, is_of_host, least}
 use Rattle.ep_typed.specs.Hosts as typed
@@ -62,14 +62,6 @@ IsKind kind.File = ⊤
 abbrev pub IsSetOver : typed.Host → List ℕ → Type 0
 IsSetOver h ms = IsSet ms × IsTrue (are_between (least h) (greatest h) ms)
 
--- the constant is of its kind, and that of the empty set is one over each host; none is of a structured type so far
-abbrev pub IsConstantOf : Kind → Value → Type 0
-IsConstantOf (kind.Ordinal h) (value.Word z) = IsHost h × IsTrue (is_of_host (typed_host h) z)
-IsConstantOf (kind.Set h) (value.Set ms) = IsHost h × IsSetOver (typed_host h) ms
-IsConstantOf kind.EmptySet (value.Set ms) = (h : typed.Host) → IsSetOver h ms
-IsConstantOf kind.Text (value.Text bytes) = ⊤
-IsConstantOf _ _ = ⊥
-
 -- a read file is its place, and of no ordinal type
 abbrev pub IsFile : Expr → Type 0
 IsFile (Constant z) = ⊥
@@ -112,10 +104,20 @@ IsStructuredDenoter list d n = (s : Structure) × HasStructure list d s × HasSt
 abbrev pub IsValueOf : TypeValues → ℕ → TypeValue → Type 0
 IsValueOf types n t = (types (type_name.Entry n) ≡ Some t) × IsStructured t
 
--- the constant may be the initial state of a type of the kind
-abbrev pub IsInitialOf : Declarations → TypeValues → Kind → Value → Type 0
-IsInitialOf declared types (kind.Structured n) v = (t : TypeValue) × (types (type_name.Entry n) ≡ Some t) × IsStartFor declared.routine_types t (constant_expr v)
-IsInitialOf declared types k v = IsConstantOf k v
+-- Under a list of types the constant is of its kind: that of the empty set is one over each host, and what an array or a record
+-- is given may begin the one type value of its type.
+abbrev pub IsConstantOf : TypeValues → List UnitType → Kind → Value → Type 0
+IsConstantOf types list (kind.Ordinal h) (value.Word z) = IsHost h × IsTrue (is_of_host (typed_host h) z)
+IsConstantOf types list (kind.Structured n) (value.Structured of es) = (t : TypeValue) × IsValueOf types n t × IsStartFor list t (constant_expr (value.Structured of es))
+IsConstantOf types list (kind.Set h) (value.Set ms) = IsHost h × IsSetOver (typed_host h) ms
+IsConstantOf types list kind.EmptySet (value.Set ms) = (h : typed.Host) → IsSetOver h ms
+IsConstantOf types list kind.Text (value.Text bytes) = ⊤
+IsConstantOf types list _ _ = ⊥
+
+-- so is one that is built, and what stands for one that is not, but for arrays and records
+abbrev pub IsConstantIf : Bool → TypeValues → List UnitType → Kind → Value → Type 0
+IsConstantIf built types list (kind.Structured n) v = built ≡ true → IsConstantOf types list (kind.Structured n) v
+IsConstantIf built types list k v = IsConstantOf types list k v
 
 -- the denoter is one of the kind; none is of a string type or of a file type so far
 abbrev pub HasKind : TypeValues → List UnitType → Denoter → Kind → Type 0
@@ -342,10 +344,15 @@ module _ (declared : Declarations) (types : TypeValues) (structures : List Struc
   IsFunctionOf callee ps k =
       (r : RoutineEntry) × IsCallee declared callee r × IsFunctionWith (declared.types callee.unit) k r × AreParameters types (declared.types callee.unit) ps r.formals
 
+  -- a constant is of its kind, and where that is structured, some list of types holds the structured types in view
+  abbrev pub IsConstantIn : Kind → Value → Type 0
+  IsConstantIn (kind.Structured n) v = IsConstantOf types declared.routine_types (kind.Structured n) v × AreHeld types structures
+  IsConstantIn k v = IsConstantOf types declared.routine_types k v
+
 -- for code that so many routines are around
 module _ (declared : Declarations) (types : TypeValues) (structures : List StructuredType) (depth : ℕ) where
   abbrev pub IsDeclaration : Declared → Declaration → Type 0
-  IsDeclaration d (declaration.Constant kind value) = IsConstantOf kind value
+  IsDeclaration d (declaration.Constant kind value deep) = IsConstantIn declared types structures kind value
   IsDeclaration d (declaration.«Type» of kind nodes) = IsKind kind
   IsDeclaration d (declaration.Variable of kind) = IsStoredIn declared types structures (Variable d.unit d.number) kind × IsOfType declared types (Variable d.unit d.number) of
   IsDeclaration d (declaration.Own of kind guarded) = IsStoredIn declared types structures (own_place depth d) kind × IsOfType declared types (own_place depth d) of

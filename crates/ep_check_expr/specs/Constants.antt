@@ -1,8 +1,11 @@
 -- The rules of constant expressions (ISO 10206, 6.3.1 and 6.8.2).
-use Rattle.std.specs.Prelude.{◌≡◌, ℕ, pos, Bool, true, false, List, [], ◌∷◌, Option, Some, None, Ok, Err, if◌then◌else◌}
-use Rattle.std.specs.Option.{option_map_or}
-use Rattle.ep_tree.specs.declared.expression.ComponentValue.{ComponentValue}
+use Rattle.std.specs.Prelude.{Bool, if◌then◌else◌, ℕ, pos, true, false, List, [], ◌∷◌, Option, Some, None, Ok, Err}
+use Rattle.std.specs.Option.{is_some, option_and_then}
+use Rattle.ep_tree.specs.Shapes.{access_in, bare}
+use Rattle.ep_tree.specs.declared.expression.ComponentValue.{ComponentValue, out-ComponentValue}
+use Rattle.ep_tree.specs.declared.expression.ComponentValue.TheOpen.{ComponentValue-F}
 use Rattle.ep_tree.specs.declared.expression.Expression.{Expression}
+use Rattle.ep_tree.specs.declared.expression.Factor.{Factor, out-Factor}
 use Rattle.ep_typed.specs.Trees.{Expr, Text}
 use Rattle.ep_typed.specs.declared.value.Value.{Value}
 use Rattle.ep_typed.specs.declared.value.Value.TheVariants as value
@@ -11,15 +14,17 @@ use Rattle.ep_scope.specs.Scopes.{Region, depth_in}
 use Rattle.ep_scope.specs.declared.kind.Kind.{Kind}
 use Rattle.ep_scope.specs.declared.kind.Kind.TheVariants as kind
 use Rattle.ep_scope.specs.declared.rule.TheConstants as rule
-use Rattle.ep_check_expr.specs.Agreement.{Agrees, AgreesBy, IsConstantOf, IsInitialOf, TypeValues, structures_of}
+use Rattle.ep_check_expr.specs.Agreement.{AgreesBy, IsConstantIf, TypeValues, structures_of}
 use Rattle.ep_check_expr.specs.Expressions.{judged, judged_value}
-use Rattle.ep_check_expr.specs.Folding.{folded}
 use Rattle.ep_check_expr.specs.Judgements.{Judged, Accepts, Breaks, Typed, when_accepted}
-use Rattle.ep_check_expr.specs.StructuredConstants.{Constancy, constancy, value_in, value_known}
+use Rattle.ep_check_expr.specs.StructuredConstants.{Constancy, constancy, value_in}
+use Rattle.ep_check_expr.specs.declared.access.Access.{Access}
+use Rattle.ep_check_expr.specs.declared.access.Access.TheVariants as access
 use Rattle.ep_check_expr.specs.declared.constants.ConstantForm.{ConstantForm}
-use Rattle.ep_check_expr.specs.declared.folding.Folded.{Folded}
-use Rattle.ep_check_expr.specs.declared.folding.Folded.TheVariants.{Known, Varies, Errs}
+use Rattle.ep_check_expr.specs.declared.constants.Purpose.{Purpose}
+use Rattle.ep_check_expr.specs.declared.constants.Purpose.TheVariants as purpose
 use Rattle.ep_check_expr.specs.declared.structured_constants.ConstantValue.{ConstantValue}
+use Rattle.ep_check_expr.specs.declared.structured_constants.ConstantValue.TheVariants as constant
 use Rattle.ep_check_expr.specs.declared.structured_constants.NoConstant.TheVariants as reason
 
 -- the value of a form that is not built stands for none: the number 0, the empty set, or the empty text (own)
@@ -31,93 +36,88 @@ stand_in kind.EmptySet = value.Set []
 stand_in kind.Text = value.Text []
 stand_in kind.File = value.Text []
 
--- a constant with its value
-abbrev pub known : Kind → Value → Judged ConstantForm
-known kind v = Accepts (record { value = v; kind = kind; built = true })
+-- a constant with its value, and how deep the form nests for which its name stands
+abbrev pub known : Kind → Value → ℕ → Judged ConstantForm
+known kind v depth = Accepts (record { value = v; kind = kind; depth = depth; built = true })
 
 -- a constant without its value
 abbrev pub unbuilt_of : Kind → Judged ConstantForm
-unbuilt_of k = Accepts (record { value = stand_in k; kind = k; built = false })
+unbuilt_of k = Accepts (record { value = stand_in k; kind = k; depth = 1; built = false })
 
--- a constant expression is constant, and no error
-abbrev pub constant_folded : Kind → Folded → Judged ConstantForm
-constant_folded kind (Known x) = known kind (value_known x)
-constant_folded kind Varies = Breaks (rule.CONSTANT ∷ [])
-constant_folded kind Errs = Breaks (rule.CONSTANT ∷ [])
+-- Whether a form that is not built may be constant. Of a structured type it is what a function gives, or a component of that,
+-- which is not: but for a component of a constant, and for what may be a structured value.
+abbrev pub may_be_constant : Purpose → Access → Kind → Bool
+may_be_constant purpose.Definition a k = true
+may_be_constant purpose.InitialState a k = true
+may_be_constant for access.Constant k = true
+may_be_constant for a (kind.Structured n) = false
+may_be_constant for a k = true
 
--- A constant that is not built. A structured value is that of a variable or of a function so far, which is not constant.
-abbrev pub unbuilt_constant : Kind → Judged ConstantForm
-unbuilt_constant (kind.Structured n) = Breaks (rule.CONSTANT ∷ [])
-unbuilt_constant k = unbuilt_of k
+-- a form that is not built, as a constant
+abbrev pub unbuilt_form : Purpose → Access → Kind → Judged ConstantForm
+unbuilt_form for a k = if may_be_constant for a k then unbuilt_of k else Breaks (rule.CONSTANT ∷ [])
 
-abbrev pub constant_of : Kind → Option Expr → Judged ConstantForm
-constant_of kind None = unbuilt_constant kind
-constant_of kind (Some (Text bytes)) = known kind (value.Text bytes)
-constant_of kind (Some x) = constant_folded kind (folded x)
+-- The rules that fail where a variable is read or a function is called: that of constant expressions, and that of what the
+-- constant is asked for. These are bounds (ISO 10206, 6.4.2.4), labels of a `case` (6.9.3.5) and initial states (6.6).
+abbrev pub varying : Purpose → List ℕ
+varying purpose.Definition = rule.CONSTANT ∷ []
+varying purpose.Expression = rule.CONSTANT ∷ []
+varying purpose.Bound = rule.BOUND_CONSTANT ∷ rule.CONSTANT ∷ []
+varying purpose.Label = rule.CASE_LABELS ∷ rule.CONSTANT ∷ []
+varying purpose.InitialState = rule.INITIAL_STATE ∷ rule.CONSTANT ∷ []
 
--- what an expression that is accepted is as a constant
-abbrev pub as_constant : Typed → Judged ConstantForm
-as_constant t = constant_of t.kind t.form
+-- an array or a record nests as deep as its expression, and any other constant is one node
+abbrev pub nesting : ConstantValue → ℕ → ℕ
+nesting (constant.Known x) depth = 1
+nesting (constant.Structured of es) depth = depth
 
--- whether a variable is read
-abbrev pub is_varying : Folded → Bool
-is_varying (Known x) = false
-is_varying Varies = true
-is_varying Errs = false
+-- a constant expression, which nests so deep, is constant, and no error
+abbrev pub constant_by : Purpose → Kind → ℕ → Constancy ConstantValue → Judged ConstantForm
+constant_by for kind depth (Ok v) = known kind (value_in v) (nesting v depth)
+constant_by for kind depth (Err reason.Varies) = Breaks (varying for)
+constant_by for kind depth (Err reason.Errs) = Breaks (rule.CONSTANT ∷ [])
 
-abbrev pub varies : Typed → Bool
-varies t = option_map_or (λ x. is_varying (folded x)) t.form false
+-- whether an expression is a name with what is selected of it, and nothing more
+abbrev pub is_access : Expression → Bool
+is_access e = is_some (option_and_then (λ (f : Factor). access_in (out-Factor f)) (bare e))
 
--- a bound that varies breaks the rule of bounds too (ISO 10206, 6.4.2.4)
-abbrev pub as_bound : Typed → Judged ConstantForm
-as_bound t = if varies t then Breaks (rule.BOUND_CONSTANT ∷ rule.CONSTANT ∷ []) else as_constant t
-
--- a label of a `case` that varies breaks the rule of labels too (ISO 10206, 6.9.3.5)
-abbrev pub as_label : Typed → Judged ConstantForm
-as_label t = if varies t then Breaks (rule.CASE_LABELS ∷ rule.CONSTANT ∷ []) else as_constant t
-
--- an initial state that varies breaks the rule of initial states too (ISO 10206, 6.6)
-abbrev pub initial_constancy : Kind → Constancy ConstantValue → Judged ConstantForm
-initial_constancy kind (Ok v) = known kind (value_in v)
-initial_constancy kind (Err reason.Varies) = Breaks (rule.INITIAL_STATE ∷ rule.CONSTANT ∷ [])
-initial_constancy kind (Err reason.Errs) = Breaks (rule.CONSTANT ∷ [])
+-- what the value of a constant definition is asked for
+abbrev pub purpose_of : {A B C D E F G H I J K L M : Type 0} → ComponentValue-F A B C D E F G H Expression I J K L M → Purpose
+purpose_of (ComponentValue-F.Expression e) = if is_access e then purpose.Expression else purpose.Definition
+purpose_of (ComponentValue-F.Bracketed line values) = purpose.Definition
 
 module _ (scopes : List Region) where
-  -- an initial state, which may be an array or a record
-  abbrev pub initial_state_of : Kind → Option Expr → Judged ConstantForm
-  initial_state_of kind None = unbuilt_of kind
-  initial_state_of kind (Some (Text bytes)) = known kind (value.Text bytes)
-  initial_state_of kind (Some x) = initial_constancy kind (constancy scopes x)
+  -- a typed form of this kind as a constant
+  abbrev pub constant_of : Purpose → Access → Kind → ℕ → Option Expr → Judged ConstantForm
+  constant_of for access kind depth None = unbuilt_form for access kind
+  constant_of for access kind depth (Some (Text bytes)) = known kind (value.Text bytes) 1
+  constant_of for access kind depth (Some x) = constant_by for kind depth (constancy scopes x)
 
-  -- what a value that is accepted is as an initial state
-  abbrev pub as_initial_state : Typed → Judged ConstantForm
-  as_initial_state t = initial_state_of t.kind t.form
+  -- what an expression that is accepted is as a constant
+  abbrev pub as_constant : Purpose → Typed → Judged ConstantForm
+  as_constant for t = constant_of for t.access t.kind t.depth t.form
 
   -- the value of a constant definition
   abbrev pub constant_judged : ComponentValue → Judged ConstantForm
-  constant_judged v = when_accepted as_constant (judged_value scopes v None)
+  constant_judged v = when_accepted (as_constant (purpose_of (out-ComponentValue v))) (judged_value scopes v None)
 
   -- a constant expression
   abbrev pub constant_expression : Expression → Judged ConstantForm
-  constant_expression e = when_accepted as_constant (judged scopes e)
+  constant_expression e = when_accepted (as_constant purpose.Expression) (judged scopes e)
 
   -- a bound outside of a schema
   abbrev pub bound_judged : Expression → Judged ConstantForm
-  bound_judged e = when_accepted as_bound (judged scopes e)
+  bound_judged e = when_accepted (as_constant purpose.Bound) (judged scopes e)
 
   -- an end of a label of a `case`
   abbrev pub label_judged : Expression → Judged ConstantForm
-  label_judged e = when_accepted as_label (judged scopes e)
+  label_judged e = when_accepted (as_constant purpose.Label) (judged scopes e)
 
   -- an initial state, where a value of the structured type of this number is asked for, or of another type
   abbrev pub initial_state_judged : Option ℕ → ComponentValue → Judged ConstantForm
-  initial_state_judged asked v = when_accepted as_initial_state (judged_value scopes v asked)
+  initial_state_judged asked v = when_accepted (as_constant purpose.InitialState) (judged_value scopes v asked)
 
--- under all declarations that hold what the scopes declare, the constant is of its kind
+-- under all declarations that hold what the scopes declare, where each type has one type value, the constant is of its kind
 abbrev pub IsSoundConstant : List Region → ConstantForm → Type 0
-IsSoundConstant scopes c = (declared : Declarations) → Agrees declared scopes → IsConstantOf c.kind c.value
-
--- alike, where each type has one type value, what is built may be the initial state of a type of its kind
-abbrev pub IsSoundInitialState : List Region → ConstantForm → Type 0
-IsSoundInitialState scopes c =
-    (declared : Declarations) (types : TypeValues) → AgreesBy declared types (structures_of scopes) (depth_in scopes) scopes → c.built ≡ true → IsInitialOf declared types c.kind c.value
+IsSoundConstant scopes c =
+    (declared : Declarations) (types : TypeValues) → AgreesBy declared types (structures_of scopes) (depth_in scopes) scopes → IsConstantIf c.built types declared.routine_types c.kind c.value

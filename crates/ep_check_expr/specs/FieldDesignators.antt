@@ -1,6 +1,6 @@
 -- What the name of a field gives of a record (ISO 10206, 6.5.3.3).
-use Rattle.std.specs.Prelude.{ℕ, ◌+◌, nat_le, List, [], ◌∷◌, length, slice_get, Option, Some, None, if◌then◌else◌}
-use Rattle.ep_typed.specs.Trees.{Expr, Field, FieldValue, Place, Read, Variant}
+use Rattle.std.specs.Prelude.{ℕ, ◌+◌, nat_le, List, [], ◌∷◌, length, slice_get, Option, Some, None, if◌then◌else◌, unwrap_or}
+use Rattle.ep_typed.specs.Trees.{Expr, Field, FieldValue, Place, Read, Structured, Variant}
 use Rattle.ep_scope.specs.Fields.{field_number}
 use Rattle.ep_scope.specs.Scopes.{Region, structure_in}
 use Rattle.ep_scope.specs.declared.kind.Kind.{Kind}
@@ -13,6 +13,7 @@ use Rattle.ep_scope.specs.declared.structure.Composition.TheVariants as composit
 use Rattle.ep_scope.specs.declared.structure.FieldType.{FieldType}
 use Rattle.ep_scope.specs.declared.structure.TagType.{TagType}
 use Rattle.ep_scope.specs.declared.structure.VariantStep.{VariantStep}
+use Rattle.ep_check_expr.specs.ConstantAccesses.{field_known}
 use Rattle.ep_check_expr.specs.Judgements.{Judged, Accepts, Breaks, Typed}
 use Rattle.ep_check_expr.specs.declared.access.Access.{Access}
 use Rattle.ep_check_expr.specs.declared.access.Access.TheVariants as access
@@ -55,9 +56,16 @@ abbrev pub part_taken : List VariantStep → Option TagType → ℕ → Expr →
 part_taken [] tag number whole = Some (component_taken tag number whole)
 part_taken (s ∷ path) tag number whole = None
 
--- a field is read of its place where the record is (ISO 10206, 6.5.3.3), and else taken of its value
+-- alike of a constant, where it may be known (ISO 10206, 6.8.8.3)
+abbrev pub constant_part : Option Expr → List VariantStep → Option TagType → ℕ → Expr → Option Expr
+constant_part known [] tag number whole = Some (unwrap_or known (component_taken tag number whole))
+constant_part known (s ∷ path) tag number whole = None
+
+-- A field is read of its place where the record is (ISO 10206, 6.5.3.3), and else taken of its value. A record that is written out is
+-- a constant.
 abbrev pub part_form : FieldType → Expr → Option Expr
 part_form f (Read place) = Some (Read (reached f place))
+part_form f (Structured of es) = constant_part (field_known f.kind es f.tag f.number) f.path f.tag f.number (Structured of es)
 part_form f whole = part_taken f.path f.tag f.number whole
 
 -- a field, where the record is built

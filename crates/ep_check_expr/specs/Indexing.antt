@@ -1,6 +1,6 @@
 -- What an index gives of an array (ISO 10206, 6.5.3.2).
-use Rattle.std.specs.Prelude.{ℕ, suc, ◌-◌, max, nat_le, List, [], ◌∷◌, Option, Some, None, if◌then◌else◌}
-use Rattle.ep_typed.specs.Trees.{Expr, Indexed, IndexedValue, Read}
+use Rattle.std.specs.Prelude.{ℕ, suc, ◌-◌, max, nat_le, List, [], ◌∷◌, Option, Some, None, if◌then◌else◌, unwrap_or}
+use Rattle.ep_typed.specs.Trees.{Expr, Indexed, IndexedValue, Read, Structured}
 use Rattle.ep_scope.specs.Scopes.{Region, structure_in}
 use Rattle.ep_scope.specs.declared.kind.Kind.{Kind}
 use Rattle.ep_scope.specs.declared.kind.Kind.TheVariants as kind
@@ -9,20 +9,24 @@ use Rattle.ep_scope.specs.declared.rule.TheConstants as rule
 use Rattle.ep_scope.specs.declared.structure.ArrayType.{ArrayType}
 use Rattle.ep_scope.specs.declared.structure.Composition.{Composition}
 use Rattle.ep_scope.specs.declared.structure.Composition.TheVariants as composition
+use Rattle.ep_check_expr.specs.ConstantAccesses.{element_known}
+use Rattle.ep_check_expr.specs.Folding.{folded}
 use Rattle.ep_check_expr.specs.Judgements.{Judged, Accepts, Breaks, Typed, both}
 use Rattle.ep_check_expr.specs.Operators.{are_compatible, character, is_integer, map_both, unbuilt_typed}
 use Rattle.ep_check_expr.specs.declared.access.Access.{Access}
 use Rattle.ep_check_expr.specs.declared.access.Access.TheVariants as access
 use Rattle.ep_check_expr.specs.declared.forms.TheConstants as limit
 
--- a component is read of its place where the array is (ISO 10206, 6.5.3.2), and else taken of its value (6.8.6.2)
-abbrev pub element_form : Expr → Expr → Expr
-element_form (Read place) index = Read (Indexed place index)
-element_form array index = IndexedValue array index
+-- A component of this kind is read of its place where the array is (ISO 10206, 6.5.3.2), and else taken of its value (6.8.6.2).
+-- An array that is written out is a constant, whose component is known where the index is (6.8.8.2).
+abbrev pub element_form : Kind → Expr → Expr → Expr
+element_form k (Read place) index = Read (Indexed place index)
+element_form k (Structured of es) index = unwrap_or (element_known k es (folded index)) (IndexedValue (Structured of es) index)
+element_form k array index = IndexedValue array index
 
 -- a component, where the array and the index are built
-abbrev pub component_form : Option Expr → Option Expr → Option Expr
-component_form = map_both element_form
+abbrev pub component_form : Kind → Option Expr → Option Expr → Option Expr
+component_form k = map_both (element_form k)
 
 -- a component is a variable where the array is one, and protected where that is (ISO 10206, 6.5.1)
 abbrev pub component_access : TypeName → Access → Access
@@ -47,7 +51,7 @@ component_depth whole array index = suc (below_component whole array index)
 abbrev pub component_typed : ArrayType → Typed → Typed → Judged Typed
 component_typed a x i =
     if nat_le (component_depth x.access x.depth i.depth) limit.DEPTH
-    then Accepts (record { form = component_form x.form i.form; kind = a.kind; depth = component_depth x.access x.depth i.depth; access = component_access a.component x.access })
+    then Accepts (record { form = component_form a.kind x.form i.form; kind = a.kind; depth = component_depth x.access x.depth i.depth; access = component_access a.component x.access })
     else Breaks (rule.TOO_DEEP ∷ [])
 
 -- what is indexed has no index, or the index another host

@@ -8,7 +8,7 @@ use Rattle.ep_scope.specs.Scopes.{Region}
 use Rattle.ep_scope.specs.declared.parameter.FormalParameter.{FormalParameter}
 use Rattle.ep_check_expr.specs.Agreement.{IsSound, IsSoundAccess, IsSoundTaken}
 use Rattle.ep_check_expr.specs.Arguments.{Taken, arguments_judged}
-use Rattle.ep_check_expr.specs.Constants.{IsSoundConstant, IsSoundInitialState, constant_judged, bound_judged, initial_state_judged, label_judged}
+use Rattle.ep_check_expr.specs.Constants.{IsSoundConstant, constant_judged, bound_judged, initial_state_judged, label_judged}
 use Rattle.ep_check_expr.specs.Expressions.{given, judged, judged_value, name_judged}
 use Rattle.ep_check_expr.specs.Judgements.{Accepts, Typed}
 use Rattle.ep_check_expr.specs.Origins.{IsKnownKind}
@@ -46,9 +46,9 @@ BoundsAreSound = (scopes : List Region) (e : Expression) (c : ConstantForm) → 
 abbrev pub LabelsAreSound : Type 0
 LabelsAreSound = (scopes : List Region) (e : Expression) (c : ConstantForm) → label_judged scopes e ≡ Accepts c → IsSoundConstant scopes c
 
--- and an initial state, whatever is asked of it, may be one of a type of its kind
+-- and an initial state, whatever is asked of it
 abbrev pub InitialStatesAreSound : Type 0
-InitialStatesAreSound = (scopes : List Region) (asked : Option ℕ) (v : ComponentValue) (c : ConstantForm) → initial_state_judged scopes asked v ≡ Accepts c → IsSoundInitialState scopes c
+InitialStatesAreSound = (scopes : List Region) (asked : Option ℕ) (v : ComponentValue) (c : ConstantForm) → initial_state_judged scopes asked v ≡ Accepts c → IsSoundConstant scopes c
 
 -- the host of an expression that is accepted is required or declared
 abbrev pub ExpressionsAreKnown : Type 0

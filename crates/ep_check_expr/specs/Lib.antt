@@ -1,6 +1,7 @@
 pub mod Agreement
 pub mod Answers
 pub mod Arguments
+pub mod ConstantAccesses
 pub mod Constants
 pub mod Constructors
 pub mod Expressions

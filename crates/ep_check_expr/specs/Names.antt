@@ -1,11 +1,11 @@
 -- What names stand for as values and as functions (ISO 10206, 6.7.1 and 6.8.1).
-use Rattle.std.specs.Prelude.{ℕ, ◌+◌, pos, nat_eq, Bool, true, false, ◌||◌, List, [], ◌∷◌, ◌++◌, codes, Option, Some, None, if◌then◌else◌}
+use Rattle.std.specs.Prelude.{ℕ, ◌+◌, pos, nat_eq, Bool, true, false, ◌||◌, List, [], ◌∷◌, ◌++◌, codes, Some, if◌then◌else◌}
 use Rattle.std.specs.List.{list_any}
 use Rattle.std.specs.Str.{bytes_eq}
 use Rattle.ep_typed.specs.Operations.{maxint, last_char}
-use Rattle.ep_typed.specs.Trees.{Expr, Constant, Text, SetConstant, Read, Place, Variable, Standard, entire}
+use Rattle.ep_typed.specs.Trees.{Expr, Constant, Read, Place, Variable, Standard, entire}
+use Rattle.ep_typed.specs.Viewed.{constant_expr}
 use Rattle.ep_typed.specs.declared.value.Value.{Value}
-use Rattle.ep_typed.specs.declared.value.Value.TheVariants as value
 use Rattle.ep_scope.specs.Scopes.{Region, Meant, OpenField, Declares, Requires, FieldOf, Nothing, depth_in, meant, meant_in}
 use Rattle.ep_scope.specs.Scopes as meaning
 use Rattle.ep_scope.specs.declared.kind.Kind.{Kind}
@@ -35,15 +35,9 @@ leaf form kind access = Accepts (record { form = Some form; kind = kind; depth =
 abbrev pub parenthesized : Typed → Typed
 parenthesized x = record { form = x.form; kind = x.kind; depth = x.depth; access = access.Value }
 
--- the value of a constant; that of an array or a record has no code yet
-abbrev pub value_form : Value → Option Expr
-value_form (value.Word z) = Some (Constant z)
-value_form (value.Text bytes) = Some (Text bytes)
-value_form (value.Set members) = Some (SetConstant members)
-value_form (value.Structured n es) = None
-
-abbrev pub constant_typed : Kind → Value → Judged Typed
-constant_typed k v = Accepts (record { form = value_form v; kind = k; depth = 1; access = access.Constant })
+-- the value of a constant, whose form nests so deep; an array or a record is done as a structured value at each use (own)
+abbrev pub constant_typed : Kind → Value → ℕ → Judged Typed
+constant_typed k v deep = Accepts (record { form = Some (constant_expr v); kind = k; depth = deep; access = access.Constant })
 
 -- the value of a variable stands above its place
 abbrev pub reading : Expr → Kind → Access → Judged Typed
@@ -64,7 +58,7 @@ field_read f =
 
 -- what is declared as a value, in code of a depth
 abbrev pub value_declared : ℕ → Declared → Declaration → Judged Typed
-value_declared depth d (declaration.Constant kind value) = constant_typed kind value
+value_declared depth d (declaration.Constant kind value deep) = constant_typed kind value deep
 value_declared depth d (declaration.«Type» of host nodes) = Breaks (rule.OTHER_THING ∷ [])
 value_declared depth d (declaration.Variable of kind) = reading (Read (Variable d.unit d.number)) kind (access.Variable of protection.Unprotected)
 value_declared depth d (declaration.Own of kind guarded) = reading (Read (own_place depth d)) kind (access.Variable of guarded)
@@ -115,7 +109,7 @@ call_required (required.Procedure p) gs = Breaks (rule.PROCEDURE ∷ rule.OTHER_
 abbrev pub call_declared : ℕ → Declared → Declaration → List Given → Judged Typed
 call_declared depth d (declaration.Function parameters of kind) gs = function_called (callee_at depth d) parameters kind gs
 call_declared depth d (declaration.Procedure parameters) gs = Breaks (rule.PROCEDURE ∷ rule.OTHER_THING ∷ all_faults gs)
-call_declared depth d (declaration.Constant kind value) gs = Breaks (rule.OTHER_THING ∷ all_faults gs)
+call_declared depth d (declaration.Constant kind value deep) gs = Breaks (rule.OTHER_THING ∷ all_faults gs)
 call_declared depth d (declaration.«Type» of host nodes) gs = Breaks (rule.OTHER_THING ∷ all_faults gs)
 call_declared depth d (declaration.Variable of kind) gs = Breaks (rule.OTHER_THING ∷ all_faults gs)
 call_declared depth d (declaration.Own of kind guarded) gs = Breaks (rule.OTHER_THING ∷ all_faults gs)

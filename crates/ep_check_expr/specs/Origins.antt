@@ -32,7 +32,7 @@ HasHost kind.File h = ⊥
 
 -- a constant or variable of the host is declared, or a type or the result of a function with it
 abbrev pub DeclaresHost : Declaration → Host → Type 0
-DeclaresHost (declaration.Constant k v) h = HasHost k h
+DeclaresHost (declaration.Constant k v deep) h = HasHost k h
 DeclaresHost (declaration.«Type» of k nodes) h = HasHost k h
 DeclaresHost (declaration.Variable of k) h = HasHost k h
 DeclaresHost (declaration.Own of k guarded) h = HasHost k h

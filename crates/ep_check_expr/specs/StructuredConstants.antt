@@ -98,15 +98,23 @@ field_given steps v = of_one (λ x. element.AtField steps (form_in x)) v
 abbrev pub structured : ℕ → Constancy (List Element) → Constancy ConstantValue
 structured n es = of_one (λ xs. constant.Structured n xs) es
 
+-- what components are given before, and besides
+abbrev pub joined : Constancy (List Element) → Constancy (List Element) → Constancy (List Element)
+joined before more = of_both (◌++◌) before more
+
+-- elements behind one
+abbrev pub with_first : Constancy Element → Constancy (List Element) → Constancy (List Element)
+with_first first more = of_both (λ x xs. x ∷ xs) first more
+
 -- elements with one more
-abbrev pub with_element : Constancy (List Element) → Constancy Element → Constancy (List Element)
-with_element before more = of_both (λ xs x. xs ++ x ∷ []) before more
+abbrev pub with_last : Constancy (List Element) → Constancy Element → Constancy (List Element)
+with_last before last = of_both (λ xs x. xs ++ x ∷ []) before last
 
 module _ (scopes : List Region) where
   abbrev mutual
     -- a constant, or why the form is none
     pub constancy : Expr → Constancy ConstantValue
-    constancy (tree.Structured n es) = structured n (elements_constancy (array_in (structure_in scopes n)) (Ok []) es)
+    constancy (tree.Structured n es) = structured n (elements_constancy (array_in (structure_in scopes n)) es)
     constancy x = known_constancy (folded x)
 
     -- what a component is given, of a value of this array type or of a record
@@ -116,7 +124,7 @@ module _ (scopes : List Region) where
     element_constancy of (AtField steps y) = field_given steps (constancy y)
     element_constancy of (SameField from to) = Ok (element.SameField from to)
 
-    -- what components are given besides those before
-    pub elements_constancy : Option ArrayType → Constancy (List Element) → Elements → Constancy (List Element)
-    elements_constancy of before no_element = before
-    elements_constancy of before (next_element e more) = elements_constancy of (with_element before (element_constancy of e)) more
+    -- what components are given
+    pub elements_constancy : Option ArrayType → Elements → Constancy (List Element)
+    elements_constancy of no_element = Ok []
+    elements_constancy of (next_element e more) = with_first (element_constancy of e) (elements_constancy of more)

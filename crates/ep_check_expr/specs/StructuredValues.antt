@@ -6,7 +6,7 @@ use Rattle.std.specs.Str.{bytes_eq}
 use Rattle.ep_tree.specs.Shapes.{as_identifier, when_none}
 use Rattle.ep_tree.specs.declared.expression.Expression.{Expression}
 use Rattle.ep_tree.specs.declared.expression.Label.{Label as LabelTree, out-Label}
-use Rattle.ep_typed.specs.Operations.{is_apart, is_in}
+use Rattle.ep_typed.specs.Operations.{is_apart}
 use Rattle.ep_typed.specs.Steps.{variant_number}
 use Rattle.ep_typed.specs.Trees.{AtField, AtIndex, AtRanges, Element, Expr, SameField, Structured, elements}
 use Rattle.ep_typed.specs.declared.tree.CaseRange.{CaseRange}
@@ -30,6 +30,7 @@ use Rattle.ep_scope.specs.declared.thing.Declaration.{Declaration}
 use Rattle.ep_scope.specs.declared.thing.Declaration.TheVariants as declaration
 use Rattle.ep_check_expr.specs.declared.access.Access.TheVariants as access
 use Rattle.ep_check_expr.specs.Arguments.{given_to}
+use Rattle.ep_check_expr.specs.ConstantAccesses.{has_index, part_steps}
 use Rattle.ep_check_expr.specs.Constructors.{Label}
 use Rattle.ep_check_expr.specs.Folding.{folded, number_in}
 use Rattle.ep_check_expr.specs.Judgements.{Judged, Accepts, Breaks, Typed, when_accepted}
@@ -227,10 +228,6 @@ abbrev pub are_apart : List CaseRange → Bool
 are_apart [] = true
 are_apart (r ∷ rs) = list_all (is_apart r) rs && are_apart rs
 
--- whether the index is in one of them
-abbrev pub has_index : List CaseRange → ℤ → Bool
-has_index ranges z = list_any (λ r. is_in r z) ranges
-
 -- whether the index behind a range is, where the array has it
 abbrev pub goes_on : ArrayType → List CaseRange → CaseRange → Bool
 goes_on a ranges r = int_le a.high r.high || has_index ranges (r.high +ℤ pos 1)
@@ -328,11 +325,6 @@ is_plain within f = is_at within f.path && not (is_tag f.tag)
 -- the tag that is there
 abbrev pub is_tag_at : VariantNumbers → FieldType → Bool
 is_tag_at within f = is_at within f.path && is_tag f.tag
-
--- the steps from the record, or from the innermost variant, to a component; a tag is the one component of a record that has its number
-abbrev pub part_steps : Option TagType → ℕ → List ℕ
-part_steps None number = number ∷ []
-part_steps (Some tag) number = number ∷ 0 ∷ []
 
 -- the steps from the record to a field
 abbrev pub field_steps : FieldType → List ℕ

@@ -7,7 +7,7 @@ ghost use Rattle.ep_check_expr.specs.Constants.{constant_expression};
 ghost use Rattle.ep_check_expr.specs.Expressions.{judged};
 ghost use Rattle.ep_check_expr.specs.Public.{AnswersExpression, AnswersConstant, IsValidForm, IsValidConstant, UnlessUnbuilt, refused};
 
-use crate::constants::as_constant;
+use crate::constants::{Purpose, as_constant};
 use crate::expressions::typed_expression;
 use crate::forms::Refusal;
 use ep_base::Line;
@@ -104,7 +104,7 @@ fn constant_in_view(
         return Err(ExpressionRefusal::NotBuilt(line));
     }
     match typed_expression(alloc, tree, scopes) {
-        Ok(typed) => match as_constant(alloc, &typed) {
+        Ok(typed) => match as_constant(alloc, Purpose::Expression, &typed, scopes) {
             Ok(form) => {
                 if form.built {
                     Ok(form.into_value())

@@ -10,6 +10,7 @@ ghost use Rattle.ep_check_expr.specs.StructuredValues as spec;
 ghost use Rattle.ep_check_expr.specs.StructuredValues.{arranged, component_given, with_index, with_range, with_ranges};
 
 use crate::arguments::given_value;
+use crate::constant_accesses::has_index;
 use crate::folding::{Folded, folded_form, number_in};
 use crate::forms::{Refusal, Typed};
 use crate::operators::are_compatible;
@@ -382,15 +383,6 @@ fn are_apart(ranges: &[CaseRange]) -> bool
         }
     }
     true
-}
-
-/// Whether an index is in one of the ranges.
-fn has_index(ranges: &[CaseRange], index: i64) -> bool
-    ensures { result ≡ spec.has_index ranges.now index }
-{
-    ranges
-        .iter()
-        .any(|range| range.low <= index && index <= range.high)
 }
 
 /// Whether the index behind a range is in one of the ranges, where the array has it.

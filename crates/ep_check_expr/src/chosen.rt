@@ -7,6 +7,7 @@ ghost use Rattle.ep_check_expr.specs.Answers.{AnswersJudged, choice_of, filled_o
 ghost use Rattle.ep_check_expr.specs.StructuredValues as spec;
 
 use crate::arguments::given_value;
+use crate::constant_accesses::has_index;
 use crate::filled::{Filled, field_form, is_at};
 use crate::folding::{Folded, folded_form, number_in};
 use crate::forms::{Refusal, Typed};
@@ -82,22 +83,13 @@ fn is_tag_value(tag: &TagType, constant: Option<i64>) -> bool
     }
 }
 
-/// Whether a value is in one of these ranges.
-fn has_value(ranges: &[CaseRange], value: i64) -> bool
-    ensures { result ≡ spec.has_index ranges.now value }
-{
-    ranges
-        .iter()
-        .any(|range| range.low <= value && value <= range.high)
-}
-
 /// The first variant that has a value among its labels.
 fn labelled_variant(labels: &[CaseRanges], value: i64) -> Option<usize>
     ensures { result ≡ spec.labelled_variant labels.now value }
 {
     labels
         .iter()
-        .position(|ranges| has_value(ranges.items(), value))
+        .position(|ranges| has_index(ranges.items(), value))
 }
 
 /// The variant that a value of a tag selects: the first one that has it among its labels, or else the one that completes them.

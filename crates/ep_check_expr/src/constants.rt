@@ -1,18 +1,21 @@
 //! Constant expressions.
 
-ghost use Rattle.std.specs.Prelude.{◌≡◌, IfOk, None, false};
+ghost use Rattle.std.specs.Prelude.{◌≡◌, IsTrue, None};
 ghost use Rattle.ep_built.specs.Built.{component_value_unbuilt, expression_unbuilt};
 ghost use Rattle.ep_check_expr.specs.Answers.{typed_of, AnswersJudged};
-ghost use Rattle.ep_check_expr.specs.Constants.{as_constant, constant_folded, constant_judged, constant_expression, bound_judged, as_initial_state as initial_state, initial_constancy, initial_state_judged, is_varying, label_judged, known, unbuilt_constant, unbuilt_of, varies};
+ghost use Rattle.ep_tree.specs.declared.expression.ComponentValue.{out-ComponentValue};
+ghost use Rattle.ep_check_expr.specs.Constants.{as_constant, bound_judged, constant_by, constant_expression, constant_judged, initial_state_judged, is_access, known, label_judged, may_be_constant, nesting, purpose_of, unbuilt_form, unbuilt_of, varying};
+ghost use Rattle.ep_check_expr.specs.Names.{is_one_of};
 ghost use Rattle.ep_check_expr.specs.Judgements.{Accepts};
 
+use crate::access::Access;
 use crate::expressions::{typed_expression, typed_value};
-use crate::folding::{Folded, KnownValue, folded_form};
 use crate::forms::{Refusal, Typed};
+use crate::shapes::bare;
 use crate::structured_constants::{ConstantValue, NoConstant, constancy};
-use ep_base::{Bytes, NoMemory};
+use ep_base::Bytes;
 use ep_scope::{Kind, View, rule};
-use ep_tree::{ComponentValue, Expression};
+use ep_tree::{ComponentValue, Expression, Factor};
 use ep_typed::{TypedExpr, Value};
 use std::alloc::Global;
 
@@ -23,8 +26,40 @@ pub struct ConstantForm {
     pub value: Value,
     /// The kind.
     pub kind: Kind,
+    /// How deep the form nests for which the name of such a constant stands.
+    pub depth: u32,
     /// Whether it is built.
     pub built: bool,
+}
+
+/// What a constant is asked for.
+#[derive(Clone, Copy, Drop)]
+pub(crate) enum Purpose {
+    /// The value of a constant definition that may be a structured value.
+    Definition,
+    /// The value of another constant definition, or a constant expression.
+    Expression,
+    /// A bound of a subrange.
+    Bound,
+    /// An end of a label of a `case`.
+    Label,
+    /// An initial state.
+    InitialState,
+}
+
+impl Purpose {
+    /// The rule that fails where a variable is read or a function is called.
+    fn varying(self) -> u32
+        ensures { IsTrue (is_one_of result (varying self)) }
+    {
+        match self {
+            Purpose::Definition => rule::CONSTANT,
+            Purpose::Expression => rule::CONSTANT,
+            Purpose::Bound => rule::BOUND_CONSTANT,
+            Purpose::Label => rule::CASE_LABELS,
+            Purpose::InitialState => rule::INITIAL_STATE,
+        }
+    }
 }
 
 impl Drop for ConstantForm {
@@ -32,6 +67,7 @@ impl Drop for ConstantForm {
         let ConstantForm {
             value: _,
             kind: _,
+            depth: _,
             built: _,
         } = self;
     }
@@ -45,6 +81,7 @@ impl ConstantForm {
         let ConstantForm {
             value,
             kind: _,
+            depth: _,
             built: _,
         } = self;
         value
@@ -60,9 +97,27 @@ pub fn constant_value(
     requires { component_value_unbuilt tree.now ≡ None }
     ensures form { AnswersJudged (λ c. c) result (constant_judged scopes.now tree.now) }
 {
+    let typed = typed_value(alloc, tree, None, scopes)?;
+    as_constant(alloc, purpose_of(tree), &typed, scopes)
+}
+
+/// What the value of a constant definition is asked for.
+fn purpose_of(tree: &ComponentValue) -> Purpose
+    ensures { result ≡ purpose_of (out-ComponentValue tree.now) }
+{
     match tree {
-        ComponentValue::Expression(e) => constant_expression_value(alloc, e.get(), scopes),
-        ComponentValue::Bracketed(_, _) => Err(Refusal::Rule(rule::STRUCTURED_VALUE)),
+        ComponentValue::Expression(e) if is_access(e.get()) => Purpose::Expression,
+        _ => Purpose::Definition,
+    }
+}
+
+/// Whether an expression is a name with what is selected of it, and nothing more.
+fn is_access(e: &Expression) -> bool
+    ensures { result ≡ is_access e.now }
+{
+    match bare(e) {
+        Some(Factor::Access(_)) => true,
+        _ => false,
     }
 }
 
@@ -76,7 +131,7 @@ pub fn constant_expression_value(
     ensures form { AnswersJudged (λ c. c) result (constant_expression scopes.now tree.now) }
 {
     let typed = typed_expression(alloc, tree, scopes)?;
-    as_constant(alloc, &typed)
+    as_constant(alloc, Purpose::Expression, &typed, scopes)
 }
 
 /// The value of a bound outside of a schema, alike.
@@ -89,10 +144,7 @@ pub fn bound_value(
     ensures form { AnswersJudged (λ c. c) result (bound_judged scopes.now tree.now) }
 {
     let typed = typed_expression(alloc, tree, scopes)?;
-    if varies(alloc, &typed)? {
-        return Err(Refusal::Rule(rule::BOUND_CONSTANT));
-    }
-    as_constant(alloc, &typed)
+    as_constant(alloc, Purpose::Bound, &typed, scopes)
 }
 
 /// The value of an end of a label of a `case`, alike.
@@ -105,10 +157,7 @@ pub fn label_value(
     ensures form { AnswersJudged (λ c. c) result (label_judged scopes.now tree.now) }
 {
     let typed = typed_expression(alloc, tree, scopes)?;
-    if varies(alloc, &typed)? {
-        return Err(Refusal::Rule(rule::CASE_LABELS));
-    }
-    as_constant(alloc, &typed)
+    as_constant(alloc, Purpose::Label, &typed, scopes)
 }
 
 /// The value of an initial state, alike, where a value of a structured type may be asked for.
@@ -122,104 +171,96 @@ pub fn initial_state_value(
     ensures form { AnswersJudged (λ c. c) result (initial_state_judged scopes.now asked tree.now) }
 {
     let typed = typed_value(alloc, tree, asked, scopes)?;
-    as_initial_state(alloc, &typed, scopes)
+    as_constant(alloc, Purpose::InitialState, &typed, scopes)
 }
 
-/// What a value that is accepted is as an initial state.
-fn as_initial_state(alloc: Global, t: &Typed, scopes: &View<'_>) -> Result<ConstantForm, Refusal>
-    ensures { AnswersJudged (λ c. c) result (initial_state scopes.now (typed_of t.now)) }
+/// What a form that is accepted is as a constant.
+pub(crate) fn as_constant(
+    alloc: Global,
+    purpose: Purpose,
+    t: &Typed,
+    scopes: &View<'_>,
+) -> Result<ConstantForm, Refusal>
+    ensures { AnswersJudged (λ c. c) result (as_constant scopes.now purpose (typed_of t.now)) }
 {
     let Some(form) = &t.form else {
-        return Ok(unbuilt_of(alloc, t.kind));
+        return unbuilt_form(alloc, purpose, &t.access, t.kind);
     };
     match form.get() {
         TypedExpr::Text(bytes) => {
             let copy = Bytes::from_slice(alloc, bytes.items())?;
-            Ok(known(t.kind, Value::Text(copy)))
+            Ok(known(t.kind, Value::Text(copy), 1))
         }
-        other => initial_constancy(t.kind, constancy(alloc, other, scopes)?),
+        other => constant_by(purpose, t.kind, t.depth, constancy(alloc, other, scopes)?),
     }
 }
 
-/// An initial state by what it is as a constant.
-fn initial_constancy(
+/// A form that is not built, as a constant.
+fn unbuilt_form(
+    alloc: Global,
+    purpose: Purpose,
+    access: &Access,
     kind: Kind,
+) -> Result<ConstantForm, Refusal>
+    ensures { AnswersJudged (λ c. c) result (unbuilt_form purpose access.now kind) }
+{
+    if may_be_constant(purpose, access, kind) {
+        Ok(unbuilt_of(alloc, kind))
+    } else {
+        Err(Refusal::Rule(rule::CONSTANT))
+    }
+}
+
+/// Whether a form that is not built may be constant.
+fn may_be_constant(purpose: Purpose, access: &Access, kind: Kind) -> bool
+    ensures { result ≡ may_be_constant purpose access.now kind }
+{
+    match (purpose, access, kind) {
+        (Purpose::Definition | Purpose::InitialState, _, _) => true,
+        (_, Access::Constant, _) => true,
+        (_, _, Kind::Structured(_)) => false,
+        _ => true,
+    }
+}
+
+/// A constant by what it is as a value.
+fn constant_by(
+    purpose: Purpose,
+    kind: Kind,
+    depth: u32,
     constancy: Result<ConstantValue, NoConstant>,
 ) -> Result<ConstantForm, Refusal>
-    ensures { AnswersJudged (λ c. c) result (initial_constancy kind constancy) }
+    ensures { AnswersJudged (λ c. c) result (constant_by purpose kind depth constancy) }
 {
     match constancy {
-        Ok(value) => Ok(known(kind, value.into_value())),
-        Err(NoConstant::Varies) => Err(Refusal::Rule(rule::INITIAL_STATE)),
+        Ok(value) => {
+            let depth = nesting(&value, depth);
+            Ok(known(kind, value.into_value(), depth))
+        }
+        Err(NoConstant::Varies) => Err(Refusal::Rule(purpose.varying())),
         Err(NoConstant::Errs) => Err(Refusal::Rule(rule::CONSTANT)),
     }
 }
 
-/// Whether a variable is read.
-fn varies(alloc: Global, t: &Typed) -> Result<bool, NoMemory>
-    ensures { IfOk result (λ b. b ≡ varies (typed_of t.now)) }
+/// How deep the form of a constant nests, of an expression of this depth.
+fn nesting(value: &ConstantValue, depth: u32) -> u32
+    ensures { result ≡ nesting value.now depth }
 {
-    let Some(form) = &t.form else {
-        return Ok(false);
-    };
-    Ok(is_varying(&folded_form(alloc, form.get())?))
-}
-
-/// Whether what is known is that a variable is read.
-fn is_varying(known: &Folded) -> bool
-    ensures { result ≡ is_varying known.now }
-{
-    match known {
-        Folded::Varies => true,
-        _ => false,
-    }
-}
-
-/// What an expression that is accepted is as a constant.
-pub(crate) fn as_constant(alloc: Global, t: &Typed) -> Result<ConstantForm, Refusal>
-    ensures { AnswersJudged (λ c. c) result (as_constant (typed_of t.now)) }
-{
-    let Some(form) = &t.form else {
-        return unbuilt_constant(alloc, t.kind);
-    };
-    match form.get() {
-        TypedExpr::Text(bytes) => {
-            let copy = Bytes::from_slice(alloc, bytes.items())?;
-            Ok(known(t.kind, Value::Text(copy)))
-        }
-        other => constant_folded(t.kind, folded_form(alloc, other)?),
-    }
-}
-
-/// A constant expression by what is known of it.
-fn constant_folded(kind: Kind, folded: Folded) -> Result<ConstantForm, Refusal>
-    ensures { AnswersJudged (λ c. c) result (constant_folded kind folded) }
-{
-    match folded {
-        Folded::Known(KnownValue::Number(z)) => Ok(known(kind, Value::Word(z))),
-        Folded::Known(KnownValue::Members(members)) => Ok(known(kind, Value::Set(members))),
-        _ => Err(Refusal::Rule(rule::CONSTANT)),
+    match value {
+        ConstantValue::Known(_) => 1,
+        ConstantValue::Structured(_, _) => depth,
     }
 }
 
 /// A constant with its value.
-fn known(kind: Kind, value: Value) -> ConstantForm
-    ensures { known kind value ≡ Accepts result }
+fn known(kind: Kind, value: Value, depth: u32) -> ConstantForm
+    ensures { known kind value depth ≡ Accepts result }
 {
     ConstantForm {
         value,
         kind,
+        depth,
         built: true,
-    }
-}
-
-/// A constant that is not built; a structured value is none.
-fn unbuilt_constant(alloc: Global, kind: Kind) -> Result<ConstantForm, Refusal>
-    ensures { AnswersJudged (λ c. c) result (unbuilt_constant kind) }
-{
-    match kind {
-        Kind::Structured(_) => Err(Refusal::Rule(rule::CONSTANT)),
-        _ => Ok(unbuilt_of(alloc, kind)),
     }
 }
 
@@ -238,6 +279,7 @@ fn unbuilt_of(alloc: Global, kind: Kind) -> ConstantForm
     ConstantForm {
         value,
         kind,
+        depth: 1,
         built: false,
     }
 }

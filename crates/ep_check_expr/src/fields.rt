@@ -1,20 +1,22 @@
 //! What the name of a field gives of a record.
 
-ghost use Rattle.std.specs.Prelude.{◌≡◌, ◌<◌, IfOk, MatchOption};
+ghost use Rattle.std.specs.Prelude.{◌≡◌, ◌<◌, IfOk, MatchOption, map};
 ghost use Rattle.std.specs.Option.{option_map};
-ghost use Rattle.ep_typed.specs.Viewed.{expr_of, place_of};
+ghost use Rattle.ep_typed.specs.Trees.{Structured, elements};
+ghost use Rattle.ep_typed.specs.Viewed.{element_of, expr_of, place_of};
 ghost use Rattle.ep_check_expr.specs.Answers.{AnswersSteps, AnswersTyped, typed_of};
 ghost use Rattle.ep_check_expr.specs.FieldDesignators as spec;
 ghost use Rattle.ep_check_expr.specs.FieldDesignators.{component_place, component_taken, designated, field_access, field_form, field_typed, part_form, part_taken, steps_to, variable_access};
 
 use crate::access::Access;
+use crate::constant_accesses::field_known;
 use crate::forms::{DEPTH, Refusal, Typed};
 use ep_base::{Boxed, Name, NoMemory};
 use ep_scope::{
-    Composition, FieldType, Kind, Protection, TagType, TypeName, VariantStep, View, field_number,
-    rule, structure_of,
+    Composition, FieldType, Kind, Protection, TagType, TypeName, VariantStep, View,
+    copied_selection, field_number, rule, structure_of,
 };
-use ep_typed::{TypedExpr, TypedPlace};
+use ep_typed::{Elements, Shared, TypedExpr, TypedPlace};
 use std::alloc::Global;
 
 /// The variant to which these steps lead from a record at a place.
@@ -27,7 +29,7 @@ pub(crate) fn along(
 {
     let mut place = whole;
     for step in path {
-        let selection = step.selection.copy(alloc)?;
+        let selection = copied_selection(alloc, step.selection.get())?;
         place = Boxed::new(alloc, TypedPlace::Variant(place, selection, step.variant))?;
     }
     Ok(place)
@@ -120,6 +122,26 @@ fn part_taken(
     Ok(Some(taken))
 }
 
+/// A field of a constant, where it may be known; one that is in a variant has no code yet.
+fn constant_part(
+    alloc: Global,
+    field: &FieldType,
+    number: u32,
+    given: Shared<Elements>,
+) -> Result<Option<Boxed<TypedExpr>>, NoMemory>
+    ensures { IfOk result (λ x. option_map expr_of x
+        ≡ part_form field.now (Structured number (elements (map element_of given)))) }
+{
+    if field.path.items().is_empty() {
+        let items = given.get().items();
+        if let Some(form) = field_known(alloc, field.kind, items, &field.tag, field.number)? {
+            return Ok(Some(Boxed::new(alloc, form)?));
+        }
+    }
+    let whole = Boxed::new(alloc, TypedExpr::Structured(number, given))?;
+    part_taken(alloc, field, whole)
+}
+
 /// A field, read of its place where the record is, and else taken of its value.
 fn part_form(
     alloc: Global,
@@ -133,6 +155,7 @@ fn part_form(
             let place = reached(alloc, field, Boxed::new(alloc, place)?)?;
             Ok(Some(Boxed::new(alloc, TypedExpr::Read(place))?))
         }
+        TypedExpr::Structured(number, given) => constant_part(alloc, field, number, given),
         value => part_taken(alloc, field, Boxed::new(alloc, value)?),
     }
 }

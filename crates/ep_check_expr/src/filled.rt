@@ -139,7 +139,7 @@ fn variant_steps(alloc: Global, path: &[VariantStep]) -> Result<ComponentSteps, 
 }
 
 /// The steps from a record to a field.
-fn field_steps(alloc: Global, field: &FieldType) -> Result<ComponentSteps, NoMemory>
+pub fn field_steps(alloc: Global, field: &FieldType) -> Result<ComponentSteps, NoMemory>
     ensures { IfOk result (λ steps. steps ≡ spec.field_steps field.now) }
 {
     let mut steps = variant_steps(alloc, field.path.items())?;

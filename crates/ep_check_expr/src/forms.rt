@@ -1,6 +1,6 @@
 //! Typed forms under construction.
 
-ghost use Rattle.std.specs.Prelude.{◌≡◌, IsTrue, None, Some};
+ghost use Rattle.std.specs.Prelude.{◌≡◌, IfOk, IsTrue, None, Some};
 ghost use Rattle.std.specs.Option.{option_map};
 ghost use Rattle.ep_typed.specs.Trees.{Constant};
 ghost use Rattle.ep_scope.specs.declared.kind.Kind.TheVariants as kind;
@@ -14,7 +14,7 @@ ghost use Rattle.ep_check_expr.specs.declared.access.Access.TheVariants as acces
 ghost use Rattle.ep_check_expr.specs.Hosts.{typed_host};
 ghost use Rattle.ep_typed.specs.Hosts as hosts;
 ghost use Rattle.ep_check_expr.specs.declared.forms.Refusal.TheVariants.{NoMemory};
-ghost use Rattle.ep_typed.specs.Viewed.{expr_of, place_of};
+ghost use Rattle.ep_typed.specs.Viewed.{constant_expr, expr_of, place_of};
 ghost use Rattle.ep_typed.specs.Trees.{Read, Text};
 
 use crate::access::Access;
@@ -176,27 +176,22 @@ impl Typed {
         Typed::leaf(alloc, TypedExpr::Text(copy), Kind::Text, Access::Value)
     }
 
-    /// The value of a constant; that of an array or a record has no code yet.
-    pub(crate) fn value(alloc: Global, value: &Value, kind: Kind) -> Result<Typed, Refusal>
-        ensures { AnswersTyped result (constant_typed kind value.now) }
+    /// The value of a constant, whose form nests so deep.
+    pub(crate) fn value(
+        alloc: Global,
+        value: &Value,
+        kind: Kind,
+        depth: u32,
+    ) -> Result<Typed, Refusal>
+        ensures { AnswersTyped result (constant_typed kind value.now depth) }
     {
-        match value {
-            Value::Word(word) => Typed::constant(alloc, *word, kind, Access::Constant),
-            Value::Text(bytes) => {
-                let copy = Bytes::from_slice(alloc, bytes.items())?;
-                Typed::leaf(alloc, TypedExpr::Text(copy), kind, Access::Constant)
-            }
-            Value::Set(members) => {
-                let copy = Bytes::from_slice(alloc, members.items())?;
-                Typed::leaf(alloc, TypedExpr::SetConstant(copy), kind, Access::Constant)
-            }
-            Value::Structured(_, _) => Ok(Typed {
-                form: None,
-                kind,
-                depth: 1,
-                access: Access::Constant,
-            }),
-        }
+        let form = Some(Boxed::new(alloc, value_form(alloc, value)?)?);
+        Ok(Typed {
+            form,
+            kind,
+            depth,
+            access: Access::Constant,
+        })
     }
 
     /// What is read of a place.
@@ -417,5 +412,20 @@ pub fn greatest(host: Host) -> i64
         Host::Char => u8::MAX as i64,
         Host::Boolean => 1,
         Host::Enumeration(e) => e.last as i64,
+    }
+}
+
+/// The form of a value. All uses of a constant share what an array or a record is given.
+fn value_form(alloc: Global, value: &Value) -> Result<TypedExpr, NoMemory>
+    ensures { IfOk result (λ form. expr_of form ≡ constant_expr value.now) }
+{
+    match value {
+        Value::Word(word) => Ok(TypedExpr::Constant(*word)),
+        Value::Text(bytes) => Ok(TypedExpr::Text(Bytes::from_slice(alloc, bytes.items())?)),
+        Value::Set(members) => {
+            let members = Bytes::from_slice(alloc, members.items())?;
+            Ok(TypedExpr::SetConstant(members))
+        }
+        Value::Structured(number, given) => Ok(TypedExpr::Structured(*number, given.share()?)),
     }
 }

@@ -7,6 +7,8 @@ ghost use Rattle.ep_check_expr.specs.Answers.{AnswersDepth, AnswersTyped, typed_
 ghost use Rattle.ep_check_expr.specs.Indexing.{below_component, component_access, component_form, element_form, component_typed, indexed, indexed_array, indexed_text};
 
 use crate::access::Access;
+use crate::constant_accesses::element_known;
+use crate::folding::folded_form;
 use crate::forms::{DEPTH, Refusal, Typed, above};
 use crate::operators::{are_compatible, is_integer};
 use ep_base::{Boxed, NoMemory};
@@ -45,18 +47,27 @@ fn component_depth(access: &Access, array: u32, index: u32) -> Result<u32, Refus
     }
 }
 
-/// A component, read of its place where the array is, and else taken of its value.
+/// A component of this kind, read of its place where the array is, and else taken of its value, where it is not known.
 fn element_form(
     alloc: Global,
+    kind: Kind,
     array: Boxed<TypedExpr>,
     index: Boxed<TypedExpr>,
 ) -> Result<Boxed<TypedExpr>, NoMemory>
-    ensures { IfOk result (λ now. expr_of now ≡ element_form (expr_of array) (expr_of index)) }
+    ensures { IfOk result (λ now. expr_of now ≡ element_form kind (expr_of array) (expr_of index)) }
 {
     match array.into_inner() {
         TypedExpr::Read(place) => {
             let place = TypedPlace::Indexed(Boxed::new(alloc, place)?, index);
             Boxed::new(alloc, TypedExpr::Read(place))
+        }
+        TypedExpr::Structured(number, given) => {
+            let known = folded_form(alloc, index.get())?;
+            if let Some(form) = element_known(alloc, kind, given.get().items(), &known)? {
+                return Boxed::new(alloc, form);
+            }
+            let array = Boxed::new(alloc, TypedExpr::Structured(number, given))?;
+            Boxed::new(alloc, TypedExpr::IndexedValue(array, index))
         }
         value => {
             let array = Boxed::new(alloc, value)?;
@@ -68,13 +79,14 @@ fn element_form(
 /// A component, where the array and the index are built.
 fn component_form(
     alloc: Global,
+    kind: Kind,
     array: Option<Boxed<TypedExpr>>,
     index: Option<Boxed<TypedExpr>>,
 ) -> Result<Option<Boxed<TypedExpr>>, NoMemory>
-    ensures { IfOk result (λ now. option_map expr_of now ≡ component_form (option_map expr_of array) (option_map expr_of index)) }
+    ensures { IfOk result (λ now. option_map expr_of now ≡ component_form kind (option_map expr_of array) (option_map expr_of index)) }
 {
     match (array, index) {
-        (Some(array), Some(index)) => Ok(Some(element_form(alloc, array, index)?)),
+        (Some(array), Some(index)) => Ok(Some(element_form(alloc, kind, array, index)?)),
         _ => Ok(None),
     }
 }
@@ -85,7 +97,7 @@ fn component(alloc: Global, of: ArrayType, array: Typed, index: Typed) -> Result
 {
     let depth = component_depth(&array.access, array.depth, index.depth)?;
     let access = component_access(of.component, &array.access);
-    let form = component_form(alloc, array.into_form(), index.into_form())?;
+    let form = component_form(alloc, of.kind, array.into_form(), index.into_form())?;
     Ok(Typed {
         form,
         kind: of.kind,

@@ -60,7 +60,7 @@ fn declared_value(alloc: Global, depth: u32, d: &Declared) -> Result<Typed, Refu
     ensures { AnswersTyped result (value_declared depth d.now d.now.what) }
 {
     match &d.what {
-        Declaration::Constant(kind, value) => Typed::value(alloc, value, *kind),
+        Declaration::Constant(kind, value, deep) => Typed::value(alloc, value, *kind, *deep),
         Declaration::Type(_, _, _) => Err(Refusal::Rule(rule::OTHER_THING)),
         Declaration::Variable(of, kind) => {
             let unit = d.unit.copy(alloc)?;

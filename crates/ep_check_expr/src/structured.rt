@@ -15,7 +15,7 @@ use crate::names::undeclared;
 use ep_base::{Boxed, NoMemory};
 use ep_scope::{Declaration, Kind, Meaning, Required, View, meaning_in, meaning_of, rule};
 use ep_tree::QualifiedName;
-use ep_typed::{Element, Elements, TypedExpr};
+use ep_typed::{Element, Elements, Shared, TypedExpr};
 use std::alloc::Global;
 
 /// The structured type that a value for something of this kind is to have, where it has one.
@@ -97,7 +97,10 @@ pub(crate) fn structured(
     let depth = above(depth)?;
     let form = match elements {
         None => None,
-        Some(elements) => Some(Boxed::new(alloc, TypedExpr::Structured(number, elements))?),
+        Some(elements) => {
+            let elements = Shared::new(alloc, elements)?;
+            Some(Boxed::new(alloc, TypedExpr::Structured(number, elements))?)
+        }
     };
     Ok(Typed {
         form,

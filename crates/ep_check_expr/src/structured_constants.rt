@@ -10,7 +10,7 @@ ghost use Rattle.ep_check_expr.specs.StructuredConstants as spec;
 use crate::folding::{Folded, KnownValue, folded_form, number_in};
 use ep_base::{Boxed, List, NoMemory};
 use ep_scope::{ArrayType, Composition, View, structure_of};
-use ep_typed::{CaseRange, CaseRanges, Element, Elements, TypedExpr, Value};
+use ep_typed::{CaseRange, CaseRanges, Element, Elements, Shared, TypedExpr, Value};
 use std::alloc::Global;
 
 /// A constant.
@@ -19,7 +19,7 @@ pub(crate) enum ConstantValue {
     /// A number or a set.
     Known(KnownValue),
     /// An array or a record: the number of its type, and what its components are given.
-    Structured(u32, Elements),
+    Structured(u32, Shared<Elements>),
 }
 
 impl ConstantValue {
@@ -67,8 +67,8 @@ pub(crate) fn constancy(
     match e {
         TypedExpr::Structured(number, given) => {
             let of = array_of(scopes, *number);
-            let given = elements(alloc, of, given.items(), scopes)?;
-            Ok(structured(*number, given))
+            let given = elements(alloc, of, given.get().items(), scopes)?;
+            structured(alloc, *number, given)
         }
         other => Ok(known(folded_form(alloc, other)?)),
     }
@@ -82,12 +82,12 @@ fn elements(
     all: &[Element],
     scopes: &View<'_>,
 ) -> Result<Result<Elements, NoConstant>, NoMemory>
-    ensures { IfOk result (λ c. c ≡ spec.elements_constancy scopes.now of (Ok []) (tree.elements (map element_of all.now))) }
+    ensures { IfOk result (λ c. c ≡ spec.elements_constancy scopes.now of (tree.elements (map element_of all.now))) }
 {
     let mut found = Ok(List::new(alloc));
     for one in all {
         let more = element(alloc, of, one, scopes)?;
-        found = with_element(found, more)?;
+        found = with_last(found, more)?;
     }
     Ok(found)
 }
@@ -240,25 +240,32 @@ fn same_given(
 }
 
 /// A value of the array or record type of this number.
-fn structured(number: u32, given: Result<Elements, NoConstant>) -> Result<ConstantValue, NoConstant>
-    ensures { result ≡ spec.structured number given }
+fn structured(
+    alloc: Global,
+    number: u32,
+    given: Result<Elements, NoConstant>,
+) -> Result<Result<ConstantValue, NoConstant>, NoMemory>
+    ensures { IfOk result (λ c. c ≡ spec.structured number given) }
 {
     match given {
-        Ok(given) => Ok(ConstantValue::Structured(number, given)),
-        Err(why) => Err(why),
+        Ok(given) => {
+            let given = Shared::new(alloc, given)?;
+            Ok(Ok(ConstantValue::Structured(number, given)))
+        }
+        Err(why) => Ok(Err(why)),
     }
 }
 
 /// What components are given, with one more.
-fn with_element(
+fn with_last(
     before: Result<Elements, NoConstant>,
-    more: Result<Element, NoConstant>,
+    last: Result<Element, NoConstant>,
 ) -> Result<Result<Elements, NoConstant>, NoMemory>
-    ensures { IfOk result (λ c. c ≡ spec.with_element before more) }
+    ensures { IfOk result (λ c. c ≡ spec.with_last before last) }
 {
-    match (before, more) {
-        (Ok(mut before), Ok(more)) => {
-            before.push(more)?;
+    match (before, last) {
+        (Ok(mut before), Ok(last)) => {
+            before.push(last)?;
             Ok(Ok(before))
         }
         (Ok(_), Err(why)) => Ok(Err(why)),

@@ -202,7 +202,7 @@ rows =
       scopes =
           record {
             entries =
-                (codes "x", thing.Declared (declares 0 x)) ∷ (codes "red", thing.Declared (declares 0 (declaration.Constant (kind.Ordinal color) (value.Word (pos 0)))))
+                (codes "x", thing.Declared (declares 0 x)) ∷ (codes "red", thing.Declared (declares 0 (declaration.Constant (kind.Ordinal color) (value.Word (pos 0)) 1)))
                 ∷ (codes "a", thing.Declared (declares 2 (array 3))) ∷ (codes "b", thing.Declared (declares 3 (array 4))) ∷ (codes "g", thing.Declared (declares 4 guarded)) ∷ [];
             qualified = [];
             structures = row ∷ [];

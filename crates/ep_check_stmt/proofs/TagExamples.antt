@@ -60,7 +60,7 @@ abbrev in_view : List Region
 in_view =
     record {
       entries =
-          (codes "red", declares 0 (declaration.Constant (kind.Ordinal color) (value.Word (pos 0)))) ∷ (codes "v", declares 7 (declaration.Variable (type_name.Entry 5) (kind.Structured 5)))
+          (codes "red", declares 0 (declaration.Constant (kind.Ordinal color) (value.Word (pos 0)) 1)) ∷ (codes "v", declares 7 (declaration.Variable (type_name.Entry 5) (kind.Structured 5)))
           ∷ (codes "g", declares 0 (declaration.Own (type_name.Entry 5) (kind.Structured 5) protection.Protected)) ∷ [];
       qualified = [];
       structures = shape ∷ [];

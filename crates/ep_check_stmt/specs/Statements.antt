@@ -164,7 +164,7 @@ module _ (depth : ℕ) (unit : List ℕ) (results : List FunctionResult) where
   abbrev pub declared_target : Declared → Declaration → Judged Target
   declared_target d (declaration.Variable of k) = Accepts (record { receiver = Some (At (tree.Variable d.unit d.number)); kind = k })
   declared_target d (declaration.Own of k guarded) = when_accepted (λ done. Accepts (record { receiver = Some (At (own_place depth d)); kind = k })) (unless_protected guarded)
-  declared_target d (declaration.Constant k value) = Breaks (rule.CONSTANT_THREATENED ∷ rule.VARIABLE_NEEDED ∷ [])
+  declared_target d (declaration.Constant k value deep) = Breaks (rule.CONSTANT_THREATENED ∷ rule.VARIABLE_NEEDED ∷ [])
   declared_target d (declaration.«Type» of h nodes) = Breaks (rule.OTHER_THING ∷ rule.VARIABLE_NEEDED ∷ [])
   declared_target d (declaration.Procedure parameters) = Breaks (rule.OTHER_THING ∷ rule.VARIABLE_NEEDED ∷ [])
   declared_target d (declaration.Function parameters of h) = function_target depth unit d results
@@ -346,7 +346,7 @@ control_if false v = no_control []
 abbrev pub declared_control : Locals → ℕ → Declared → Declaration → Judged Named
 declared_control locals depth d (declaration.Variable of k) = control_if (declares_variable locals d.unit) (record { variable = tree.OfUnit d.unit d.number; kind = k })
 declared_control locals depth d (declaration.Own of k guarded) = control_if (declares_own locals depth d) (record { variable = tree.OfRoutine (depth - d.level) d.number; kind = k })
-declared_control locals depth d (declaration.Constant k value) = no_control (rule.CONSTANT_THREATENED ∷ rule.VARIABLE_NEEDED ∷ [])
+declared_control locals depth d (declaration.Constant k value deep) = no_control (rule.CONSTANT_THREATENED ∷ rule.VARIABLE_NEEDED ∷ [])
 declared_control locals depth d (declaration.«Type» of h nodes) = no_control (rule.OTHER_THING ∷ rule.VARIABLE_NEEDED ∷ [])
 declared_control locals depth d (declaration.Procedure parameters) = no_control (rule.OTHER_THING ∷ rule.VARIABLE_NEEDED ∷ [])
 declared_control locals depth d (declaration.Function parameters of h) = no_control (rule.OTHER_THING ∷ rule.VARIABLE_NEEDED ∷ [])
@@ -532,7 +532,7 @@ call_arguments _ = None
 abbrev pub declared_rules : Declaration → List ℕ
 declared_rules (declaration.Procedure parameters) = rule.PROCEDURE ∷ rule.OTHER_THING ∷ []
 declared_rules (declaration.Function parameters of h) = rule.PROCEDURE ∷ []
-declared_rules (declaration.Constant k value) = rule.OTHER_THING ∷ []
+declared_rules (declaration.Constant k value deep) = rule.OTHER_THING ∷ []
 declared_rules (declaration.«Type» of h nodes) = rule.OTHER_THING ∷ []
 declared_rules (declaration.Variable of k) = rule.OTHER_THING ∷ []
 declared_rules (declaration.Own of k guarded) = rule.OTHER_THING ∷ []
@@ -595,7 +595,7 @@ module _ (context : Context) where
   abbrev pub declared_called : ℕ → Declared → Declaration → List Argument → Judged (Option Stmt)
   declared_called line d (declaration.Procedure parameters) arguments = own_called line d parameters arguments
   declared_called line d (declaration.Function parameters of h) arguments = Breaks (rule.PROCEDURE ∷ [])
-  declared_called line d (declaration.Constant k value) arguments = Breaks (rule.OTHER_THING ∷ [])
+  declared_called line d (declaration.Constant k value deep) arguments = Breaks (rule.OTHER_THING ∷ [])
   declared_called line d (declaration.«Type» of h nodes) arguments = Breaks (rule.OTHER_THING ∷ [])
   declared_called line d (declaration.Variable of k) arguments = Breaks (rule.OTHER_THING ∷ [])
   declared_called line d (declaration.Own of k guarded) arguments = Breaks (rule.OTHER_THING ∷ [])

@@ -644,7 +644,7 @@ impl<'a> Context<'a> {
                 self.call_own(line, declared, parameters.items(), arguments)
             }
             Declaration::Function(_, _, _) => Err(Refusal::Rule(rule::PROCEDURE)),
-            Declaration::Constant(_, _) => Err(Refusal::Rule(rule::OTHER_THING)),
+            Declaration::Constant(_, _, _) => Err(Refusal::Rule(rule::OTHER_THING)),
             Declaration::Type(_, _, _) => Err(Refusal::Rule(rule::OTHER_THING)),
             Declaration::Variable(_, _) => Err(Refusal::Rule(rule::OTHER_THING)),
             Declaration::Own(_, _, _) => Err(Refusal::Rule(rule::OTHER_THING)),

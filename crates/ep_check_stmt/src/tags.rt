@@ -17,7 +17,7 @@ use crate::targets::Receiver;
 use ep_base::{Boxed, Line, Name, NoMemory};
 use ep_scope::{
     Composition, Declaration, FieldType, Inner, Kind, Meaning, OpenRecord, Protection,
-    RecordVariable, View, field_number, meaning_in, meaning_of, structure_of,
+    RecordVariable, View, copied_selection, field_number, meaning_in, meaning_of, structure_of,
 };
 use ep_tree::{Access, Arm, Compound, Expression, Selector, Statement};
 use ep_typed::{EntireVariable, TagControl, TypedExpr, TypedStmt};
@@ -54,7 +54,7 @@ pub(crate) fn assignment(
                 low: tag.low,
                 high: tag.high,
             };
-            let selection = tag.selection.copy(alloc)?;
+            let selection = copied_selection(alloc, tag.selection.get())?;
             let form = TypedStmt::AssignTag(line, control, whole, selection, value);
             Boxed::new(alloc, form)
         }

@@ -215,7 +215,7 @@ impl Context<'_> {
                 let place = own_place(depth_in(self.scopes)?, declared);
                 Ok(Target::at(place, *kind))
             }
-            Declaration::Constant(_, _) => Err(Refusal::Rule(rule::CONSTANT_THREATENED)),
+            Declaration::Constant(_, _, _) => Err(Refusal::Rule(rule::CONSTANT_THREATENED)),
             Declaration::Type(_, _, _) => Err(Refusal::Rule(rule::OTHER_THING)),
             Declaration::Procedure(_) => Err(Refusal::Rule(rule::OTHER_THING)),
             Declaration::Function(_, _, _) => {

@@ -279,7 +279,7 @@ pub(crate) fn expr_threatens(x: &TypedExpr, routines: &[UnitRoutine], variable: 
         }
         TypedExpr::Card(operand) => expr_threatens(operand.get(), routines, variable),
         TypedExpr::Structured(_, elements) => {
-            elements_threaten(elements.items(), routines, variable)
+            elements_threaten(elements.get().items(), routines, variable)
         }
     }
 }

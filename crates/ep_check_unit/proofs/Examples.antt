@@ -263,7 +263,7 @@ threatened_nowhere = refl
 
 -- const s = [..], with values of this kind
 abbrev entries : Kind → Value → List ConstantEntry
-entries k v = (with_constant (codes "s") k v (first_block (codes "u") true)).constants
+entries k v = (with_constant (codes "s") k v 1 (first_block (codes "u") true)).constants
 
 -- ['a']
 letters_entered : entries (kind.Set host.Char) (value.Set (97 ∷ [])) ≡ record { name = codes "s"; denoter = denoter.Set (denoter.Required simple.Char); value = value.Set (97 ∷ []) } ∷ []

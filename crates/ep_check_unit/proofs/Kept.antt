@@ -40,13 +40,13 @@ use Rattle.ep_scope.specs.declared.thing.Declared.{Declared}
 use Rattle.ep_scope.specs.declared.thing.Thing.{Thing}
 use Rattle.ep_scope.specs.declared.thing.Thing.TheVariants as thing
 use Rattle.ep_check_expr.specs.Judgements.{Judged, Accepts, Breaks, when_accepted}
-use Rattle.ep_check_expr.specs.Constants.{constant_judged, bound_judged, initial_state_judged}
+use Rattle.ep_check_expr.specs.Constants.{bound_judged, initial_state_judged}
 use Rattle.ep_check_expr.specs.Names.{undeclared}
 use Rattle.ep_check_expr.specs.StructuredValues.{asked_by}
 use Rattle.ep_check_expr.specs.declared.constants.ConstantForm.{ConstantForm}
 use Rattle.ep_check_stmt.proofs.judged.Fits.{Any, Fits, fits_then, fits_both, fits_any}
 use Rattle.ep_check_stmt.specs.Statements.{Judgement, Passes, Waits, Fails}
-use Rattle.ep_check_unit.specs.Declarations.{unless_large, Fielded, Gathered, Labelled, ListJudged, Listed, Part as DenoterPart, PartJudged as VariantsJudged, Section, Tag, VariantJudged, all_fields, completing_added, completing_written, field_of, fields_named, labels_noted, list_ended, list_written, record_over, selection_of, tag_written, unless_left_out, variant_added, variant_list, variant_listing, variant_part_written, variant_written, variants_after, variants_written, none_gathered, section_written, sections_written, set_on, set_over, unless_wide, all_variables_declared, and_then, array_over, at_line, common_host, constant_definition, constant_entered, begun, begun_with, constants_declared, denoter_part, fitting_state, may_begin, with_initial_state, declaration_ended, declared_type, entered, enumerated, enumeration, index_host, index_values, next_enumeration, noted, ordered, range, scopes_of, settled, settled_part, settled_type, Standing, Stands, Falls, subrange, type_definition, type_definitions, type_entered, type_meant, type_named, type_written, unused, variable_declaration, variable_entered, variables_declared, variables_entered, with_constant, with_name, with_type, is_outermost, with_own_variable, with_unit_variable, with_variable, own_thing, Written}
+use Rattle.ep_check_unit.specs.Declarations.{constant_fitting, unless_large, Fielded, Gathered, Labelled, ListJudged, Listed, Part as DenoterPart, PartJudged as VariantsJudged, Section, Tag, VariantJudged, all_fields, completing_added, completing_written, field_of, fields_named, labels_noted, list_ended, list_written, record_over, selection_of, tag_written, unless_left_out, variant_added, variant_list, variant_listing, variant_part_written, variant_written, variants_after, variants_written, none_gathered, section_written, sections_written, set_on, set_over, unless_wide, all_variables_declared, and_then, array_over, at_line, common_host, constant_definition, constant_entered, begun, begun_with, constants_declared, denoter_part, fitting_state, may_begin, with_initial_state, declaration_ended, declared_type, entered, enumerated, enumeration, index_host, index_values, next_enumeration, noted, ordered, range, scopes_of, settled, settled_part, settled_type, Standing, Stands, Falls, subrange, type_definition, type_definitions, type_entered, type_meant, type_named, type_written, unused, variable_declaration, variable_entered, variables_declared, variables_entered, with_constant, with_name, with_type, is_outermost, with_own_variable, with_unit_variable, with_variable, own_thing, Written}
 use Rattle.ep_check_unit.specs.Functions.{if_given, in_block, is_assigned, is_in_view, own_name_entered, result_entered, routine_declaration, row_gives, same_result}
 use Rattle.ep_check_unit.specs.Routines.{BodyJudged, Headed, PartJudged, all_declared, assigns_among, block_declared, body_closed, body_declared, body_ended, declared_routine, formals_entered, forwarded, has_body, headed_again, headed_first, headed_over, headed_then, heading_entered, identified_again, identified_over, inside_declared, is_repeated, of_body, of_part, of_routine, part_judged, parts_declared, result_headed, result_judged, routine_body_judged, routine_judged, routine_there, scope_opened, sections_judged, start_headed, start_name, statements_judged, with_routine}
 use Rattle.ep_check_unit.specs.declared.functions.HeadingResult.{HeadingResult}
@@ -74,14 +74,14 @@ module _ (n : List ℕ) where
   noted-kept true line b h = h
   noted-kept false line b h = h
 
-  constant_entered-kept : (name : List ℕ) (k : Kind) (v : Value) (b : Block) → IsOf b → Fits IsOf (constant_entered name k v b)
-  constant_entered-kept name k v b h = fits_then Any IsOf (λ _. Accepts (with_constant name k v b)) (unused name b) (fits_any (unused name b)) (λ a i. h)
+  constant_entered-kept : (name : List ℕ) (k : Kind) (v : Value) (deep : ℕ) (b : Block) → IsOf b → Fits IsOf (constant_entered name k v deep b)
+  constant_entered-kept name k v deep b h = fits_then Any IsOf (λ _. Accepts (with_constant name k v deep b)) (unused name b) (fits_any (unused name b)) (λ a i. h)
 
   -- ---- types
 
   declared_type-kept : (d : Declared) (what : Declaration) (b : Block) → IsOf b → Fits IsIn (declared_type d what b)
   declared_type-kept d (declaration.«Type» of h nodes) b i = i
-  declared_type-kept d (declaration.Constant k v) b i = tt
+  declared_type-kept d (declaration.Constant k v deep) b i = tt
   declared_type-kept d (declaration.Variable of k) b i = tt
   declared_type-kept d (declaration.Own of k guarded) b i = tt
   declared_type-kept d (declaration.Procedure ps) b i = tt
@@ -109,7 +109,7 @@ module _ (n : List ℕ) where
   enumerated-kept : (h : Host) (ordinal : ℕ) (names : List (List ℕ)) (b : Block) → IsOf b → Fits IsOf (enumerated h ordinal names b)
   enumerated-kept h ordinal [] b i = i
   enumerated-kept h ordinal (name ∷ names) b i =
-      fits_then IsOf IsOf (enumerated h (suc ordinal) names) (constant_entered name (kind.Ordinal h) (value.Word (pos ordinal)) b) (constant_entered-kept name (kind.Ordinal h) (value.Word (pos ordinal)) b i)
+      fits_then IsOf IsOf (enumerated h (suc ordinal) names) (constant_entered name (kind.Ordinal h) (value.Word (pos ordinal)) 1 b) (constant_entered-kept name (kind.Ordinal h) (value.Word (pos ordinal)) 1 b i)
       (λ c j. enumerated-kept h (suc ordinal) names c j)
 
   enumeration-kept : (names : List (List ℕ)) (b : Block) → IsOf b → Fits IsIn (enumeration names b)
@@ -268,8 +268,8 @@ module _ (n : List ℕ) where
 
   constant_definition-kept : (d : ConstantDefinition) (b : Block) → IsOf b → Fits IsOf (constant_definition d b)
   constant_definition-kept d b i =
-      fits_both Any Any IsOf _ (constant_judged (scopes_of b) d.value) (unused d.name b) (fits_any (constant_judged (scopes_of b) d.value)) (fits_any (unused d.name b))
-      (λ form new j k. noted-kept form.built d.line (with_constant d.name form.kind form.value b) i)
+      fits_both Any Any IsOf _ (constant_fitting d.value b) (unused d.name b) (fits_any (constant_fitting d.value b)) (fits_any (unused d.name b))
+      (λ form new j k. noted-kept form.built d.line (with_constant d.name form.kind form.value form.depth b) i)
 
   type_definition-kept : (line : ℕ) (d : TypeDefinition) (b : Block) → IsOf b → Fits IsOf (type_definition line d b)
   type_definition-kept line d b i =
@@ -331,7 +331,7 @@ module _ (n : List ℕ) where
   declared_routine-kept : (number : ℕ) (d : Declaration) (b : Block) → IsOf b → Fits IsHeaded (declared_routine number d b)
   declared_routine-kept number (declaration.Procedure ps) b i = i
   declared_routine-kept number (declaration.Function ps of h) b i = i
-  declared_routine-kept number (declaration.Constant k v) b i = tt
+  declared_routine-kept number (declaration.Constant k v deep) b i = tt
   declared_routine-kept number (declaration.«Type» of h nodes) b i = tt
   declared_routine-kept number (declaration.Variable of k) b i = tt
   declared_routine-kept number (declaration.Own of k guarded) b i = tt

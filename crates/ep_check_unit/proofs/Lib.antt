@@ -1,5 +1,4 @@
 pub mod Bodies
-pub mod ConstantValues
 pub mod Defined
 pub mod Denoters
 pub mod Examples
@@ -15,3 +14,4 @@ pub mod FieldSections
 pub mod Rounds
 pub mod Subranges
 pub mod VariantParts
+pub mod KnownValues

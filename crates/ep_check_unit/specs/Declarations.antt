@@ -2,7 +2,7 @@
 --
 -- Items are taken in the order of the text. A constant definition and a variable declaration are items, on the line of their first token, and a type part is one, on the line of the word `type`. A name means what is declared before its use, or outside of the block: a later declaration of it plays no part (own).
 use Rattle.std.specs.List.{list_any}
-use Rattle.std.specs.Prelude.{ℕ, nat_eq, nat_le, ◌==◌, ◌+◌, ℤ, pos, suc, int_le, Bool, true, false, ◌&&◌, ◌||◌, List, [], ◌∷◌, ◌++◌, length, slice_get, map, Option, Some, None, is_some, if◌then◌else◌, ⊤}
+use Rattle.std.specs.Prelude.{ℕ, nat_eq, nat_le, ◌==◌, ◌+◌, ℤ, pos, suc, int_le, Bool, true, false, ◌&&◌, ◌||◌, List, [], ◌∷◌, ◌++◌, length, map, Option, Some, None, is_some, if◌then◌else◌}
 use Rattle.std.specs.Option.{option_or}
 use Rattle.std.specs.Str.{bytes_eq}
 use Rattle.ep_tree.specs.declared.expression.ComponentValue.{ComponentValue}
@@ -21,9 +21,7 @@ use Rattle.ep_tree.specs.declared.types.VariantSelector.TheVariants as selector
 use Rattle.ep_tree.specs.declared.declaration.ConstantDefinition.{ConstantDefinition}
 use Rattle.ep_tree.specs.declared.declaration.TypeDefinition.{TypeDefinition}
 use Rattle.ep_tree.specs.declared.declaration.VariableDeclaration.{VariableDeclaration}
-use Rattle.ep_typed.specs.Denoters.{enumeration_type, found_of, required_type, subrange_type}
 use Rattle.ep_typed.specs.Sets.{is_ordinal, last_member}
-use Rattle.ep_typed.specs.Trees as tree
 use Rattle.ep_typed.specs.TypeValues as type
 use Rattle.ep_typed.specs.TypeValues.{TypeValue}
 use Rattle.ep_typed.specs.declared.denoter.Bound.TheVariants.{Constant as Fixed}
@@ -39,7 +37,6 @@ use Rattle.ep_typed.specs.declared.denoter.RequiredType.TheVariants as simple
 use Rattle.ep_typed.specs.declared.interface.ConstantEntry.{ConstantEntry}
 use Rattle.ep_typed.specs.declared.tree.CaseRange.{CaseRange}
 use Rattle.ep_typed.specs.declared.tree.Selection.{Selection}
-use Rattle.ep_typed.specs.declared.unit.UnitType.{UnitType}
 use Rattle.ep_typed.specs.declared.unit.UnitVariable.{UnitVariable}
 use Rattle.ep_typed.specs.declared.value.Value.{Value}
 use Rattle.ep_typed.specs.declared.value.Value.TheVariants as value
@@ -69,6 +66,8 @@ use Rattle.ep_check_expr.specs.Constants.{constant_judged, bound_judged, initial
 use Rattle.ep_check_expr.specs.declared.constants.ConstantForm.{ConstantForm}
 use Rattle.ep_check_expr.specs.Names.{undeclared}
 use Rattle.ep_check_expr.specs.StructuredValues.{asked_by}
+pub use Rattle.ep_check_unit.specs.OrdinalTypes.{ordinal_value, value_of}
+use Rattle.ep_check_unit.specs.FittingConstants.{unless_outside}
 use Rattle.ep_check_unit.specs.Blocks.{Block, own_count}
 use Rattle.ep_check_unit.specs.Labels.{completed, no_labels, tag_values, variant_labelled}
 use Rattle.ep_check_unit.specs.declared.block.Enclosing.{Enclosing}
@@ -158,13 +157,13 @@ with_entry name None v all = all
 with_entry name (Some d) v all = all ++ record { name = name; denoter = d; value = v } ∷ []
 
 -- a constant is entered, with its entry in the list of constants
-abbrev pub with_constant : List ℕ → Kind → Value → Block → Block
-with_constant name k v b =
-    with_name name (own_thing b (length b.constants) (declaration.Constant k v)) (record b { constants = with_entry name (entry_denoter k) v b.constants })
+abbrev pub with_constant : List ℕ → Kind → Value → ℕ → Block → Block
+with_constant name k v deep b =
+    with_name name (own_thing b (length b.constants) (declaration.Constant k v deep)) (record b { constants = with_entry name (entry_denoter k) v b.constants })
 
 -- a constant whose name is not there yet
-abbrev pub constant_entered : List ℕ → Kind → Value → Block → Judged Block
-constant_entered name k v b = when_accepted (λ _. Accepts (with_constant name k v b)) (unused name b)
+abbrev pub constant_entered : List ℕ → Kind → Value → ℕ → Block → Judged Block
+constant_entered name k v deep b = when_accepted (λ _. Accepts (with_constant name k v deep b)) (unused name b)
 
 -- The nodes of a type are its denoters and bounds, with the names in it replaced by what they name (own). They are counted
 -- up to one more than a type may have.
@@ -229,13 +228,6 @@ number_in (value.Text bytes) = pos 0
 number_in (value.Set members) = pos 0
 number_in (value.Structured of es) = pos 0
 
--- the value of no array and of no record
-abbrev pub IsPlain : Value → Type 0
-IsPlain (value.Word z) = ⊤
-IsPlain (value.Text bytes) = ⊤
-IsPlain (value.Set members) = ⊤
-IsPlain (value.Structured of es) = ⊥
-
 -- the denoter of a subrange of a host
 abbrev pub subrange_denoter : Host → ConstantForm → ConstantForm → Denoter
 subrange_denoter h low high = denoter.Subrange (host_denoter h) (Fixed (number_in low.value)) (Fixed (number_in high.value))
@@ -278,7 +270,7 @@ next_enumeration last b = host.Enumeration (record { number = length b.types; la
 -- its constants from this number on, in order
 abbrev pub enumerated : Host → ℕ → List (List ℕ) → Block → Judged Block
 enumerated h ordinal [] b = Accepts b
-enumerated h ordinal (name ∷ names) b = when_accepted (enumerated h (suc ordinal) names) (constant_entered name (kind.Ordinal h) (value.Word (pos ordinal)) b)
+enumerated h ordinal (name ∷ names) b = when_accepted (enumerated h (suc ordinal) names) (constant_entered name (kind.Ordinal h) (value.Word (pos ordinal)) 1 b)
 
 -- an enumeration (ISO 10206, 6.4.2.3); no text has one without constants, which would be an empty range
 abbrev pub enumeration_of : Host → List (List ℕ) → Block → Judged Written
@@ -323,18 +315,6 @@ settled_part p line b = when_accepted (λ w. Accepts (if p.is_name then w else s
 abbrev pub index_host : Kind → Judged Host
 index_host (kind.Ordinal h) = Accepts h
 index_host _ = Breaks (rule.ORDINAL ∷ [])
-
--- the type value of a subrange or an enumeration, by its own denoter, whatever it begins with
-abbrev pub ordinal_value : tree.Denoter → Option TypeValue
-ordinal_value (tree.Subrange host low high) = subrange_type low high
-ordinal_value (tree.Enumeration names) = enumeration_type names
-ordinal_value (tree.Initial of value) = ordinal_value of
-ordinal_value _ = None
-
--- that of an ordinal type, which is required or has an entry in the list of types
-abbrev pub value_of : List UnitType → TypeName → Option TypeValue
-value_of types (type_name.Required r) = Some (required_type r)
-value_of types (type_name.Entry number) = found_of ordinal_value (slice_get types number)
 
 -- the values of an index type, or of the type of a tag (ISO 10206, 6.4.3.4)
 abbrev pub index_values : Written → Judged TagValues
@@ -744,9 +724,13 @@ type_written line t b = (denoter_part t).written line b
 
 -- ---- constant definitions (ISO 10206, 6.3.1)
 
+-- the value of a definition, which lies in its type
+abbrev pub constant_fitting : ComponentValue → Block → Judged ConstantForm
+constant_fitting v b = when_accepted (unless_outside b.types (scopes_of b)) (constant_judged (scopes_of b) v)
+
 abbrev pub constant_definition : ConstantDefinition → Block → Judged Block
 constant_definition d b =
-    both (λ form new. Accepts (noted form.built d.line (with_constant d.name form.kind form.value b))) (constant_judged (scopes_of b) d.value) (unused d.name b)
+    both (λ form new. Accepts (noted form.built d.line (with_constant d.name form.kind form.value form.depth b))) (constant_fitting d.value b) (unused d.name b)
 
 -- ---- type parts (ISO 10206, 6.4.1)
 

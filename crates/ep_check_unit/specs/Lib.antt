@@ -2,7 +2,9 @@ pub mod Answers
 pub mod Blocks
 pub mod Checks
 pub mod Declarations
+pub mod FittingConstants
 pub mod Functions
 pub mod Labels
+pub mod OrdinalTypes
 pub mod Routines
 pub mod Units

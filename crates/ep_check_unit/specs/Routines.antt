@@ -122,7 +122,7 @@ abbrev pub declared_routine : ℕ → Declaration → Block → Judged Headed
 declared_routine number (declaration.Procedure ps) b = Accepts (record { number = number; parameters = ps; result = None; block = b })
 declared_routine number (declaration.Function ps of k) b =
     Accepts (record { number = number; parameters = ps; result = Some (record { name = own_name_at (slice_get b.routines number); of = of; kind = k }); block = b })
-declared_routine number (declaration.Constant k v) b = Breaks (rule.TWICE ∷ [])
+declared_routine number (declaration.Constant k v deep) b = Breaks (rule.TWICE ∷ [])
 declared_routine number (declaration.«Type» of h nodes) b = Breaks (rule.TWICE ∷ [])
 declared_routine number (declaration.Variable of k) b = Breaks (rule.TWICE ∷ [])
 declared_routine number (declaration.Own of k guarded) b = Breaks (rule.TWICE ∷ [])

@@ -4,7 +4,7 @@ ghost use Rattle.std.specs.Prelude.{◌≡◌, [], length, IfOk, OnOk};
 ghost use Rattle.std.specs.Option.{option_map};
 ghost use Rattle.ep_check_unit.specs.Answers.{AnswersBlock, AnswersNumber, AnswersType, with_constant_entry};
 ghost use Rattle.ep_check_unit.specs.Blocks.{block_of, first_own, has_number, own_count, result_count};
-ghost use Rattle.ep_check_unit.specs.Declarations.{IsPlain, constant_entered, entered, entry_denoter, noted, own_thing, with_type};
+ghost use Rattle.ep_check_unit.specs.Declarations.{constant_entered, entered, entry_denoter, noted, own_thing, with_type};
 ghost use Rattle.ep_check_unit.specs.Checks.{IsUnitWith};
 ghost use Rattle.ep_check_unit.specs.Units.{first_block};
 
@@ -326,15 +326,15 @@ impl Block {
         name: &Name,
         kind: Kind,
         value: &Value,
+        depth: u32,
     ) -> Result<(), Refusal>
-        requires { IsPlain value.now }
         ensures { AnswersBlock result (block_of self.new)
-            (constant_entered name.now kind value.now (block_of self.old)) }
+            (constant_entered name.now kind value.now depth (block_of self.old)) }
     {
         let number = number(self.constants.items().len())?;
         self.add_entry(alloc, name, kind, value)?;
         let copy = copied(alloc, value)?;
-        let thing = self.own_thing(alloc, number, Declaration::Constant(kind, copy))?;
+        let thing = self.own_thing(alloc, number, Declaration::Constant(kind, copy, depth))?;
         self.enter(alloc, name, thing)
     }
 
@@ -346,7 +346,6 @@ impl Block {
         kind: Kind,
         value: &Value,
     ) -> Result<(), NoMemory>
-        requires { IsPlain value.now }
         ensures { OnOk result (block_of self.new ≡ with_constant_entry name.now kind value.now
             (block_of self.old)) }
     {
@@ -390,16 +389,15 @@ impl Block {
     }
 }
 
-/// An equal value of no array and of no record.
+/// An equal value. What an array or a record is given is shared.
 fn copied(alloc: Global, value: &Value) -> Result<Value, NoMemory>
-    requires { IsPlain value.now }
     ensures { IfOk result (λ copy. copy ≡ value.now) }
 {
     match value {
         Value::Word(word) => Ok(Value::Word(*word)),
         Value::Text(bytes) => Ok(Value::Text(List::from_slice(alloc, bytes.items())?)),
         Value::Set(members) => Ok(Value::Set(List::from_slice(alloc, members.items())?)),
-        Value::Structured(..) => unreachable!(),
+        Value::Structured(number, given) => Ok(Value::Structured(*number, given.share()?)),
     }
 }
 

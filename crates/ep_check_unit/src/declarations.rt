@@ -1,19 +1,21 @@
 //! Declarations, item by item.
 
 ghost use Rattle.std.specs.Prelude.{◌≡◌, None, IfOk, map};
-ghost use Rattle.ep_built.specs.Built.{constant_value_unbuilt, constant_unbuilt, first_in, type_denoter_unbuilt, type_unbuilt, variable_unbuilt};
+ghost use Rattle.ep_built.specs.Built.{component_value_unbuilt, constant_unbuilt, first_in, type_denoter_unbuilt, type_unbuilt, variable_unbuilt};
+ghost use Rattle.ep_check_expr.specs.Answers.{AnswersJudged};
 ghost use Rattle.ep_check_expr.specs.Judgements.{when_accepted};
 ghost use Rattle.ep_check_unit.specs.Answers.{AnswersBlock, AnswersStanding};
 ghost use Rattle.ep_check_unit.specs.Blocks.{block_of};
-ghost use Rattle.ep_check_unit.specs.Declarations.{all_variables_declared, at_line, constant_definition, constants_declared, new_variable, type_definition, type_definitions, type_denoter, variable_declaration, variable_entered, variable_placed, variables_entered, with_own_variable, with_unit_variable};
+ghost use Rattle.ep_check_unit.specs.Declarations.{all_variables_declared, at_line, constant_definition, constant_fitting, constants_declared, new_variable, type_definition, type_definitions, type_denoter, variable_declaration, variable_entered, variable_placed, variables_entered, with_own_variable, with_unit_variable};
 
 use crate::block::{Block, number};
+use crate::fitting::fits;
 use crate::types::{NamedType, type_denoter};
 use ep_base::{Line, List, Name, NoMemory};
-use ep_check_expr::{Refusal, constant_value};
+use ep_check_expr::{ConstantForm, Refusal, constant_value};
 use ep_check_stmt::{CheckRefusal, refused_at};
-use ep_scope::{Declaration, Protection};
-use ep_tree::{ConstantDefinition, TypeDefinition, Types, VariableDeclaration};
+use ep_scope::{Declaration, Protection, rule};
+use ep_tree::{ComponentValue, ConstantDefinition, TypeDefinition, Types, VariableDeclaration};
 use ep_typed::UnitVariable;
 use std::alloc::Global;
 
@@ -48,19 +50,36 @@ impl Block {
         Ok(())
     }
 
+    /// The value of a constant definition, which lies in its type.
+    fn constant_fitting(
+        &self,
+        alloc: Global,
+        value: &ComponentValue,
+    ) -> Result<ConstantForm, Refusal>
+        requires { component_value_unbuilt value.now ≡ None }
+        ensures { AnswersJudged (λ c. c) result (constant_fitting value.now (block_of self.now)) }
+    {
+        let scopes = self.scopes.in_view();
+        let form = constant_value(alloc, value, &scopes)?;
+        if fits(alloc, self.types.items(), &scopes, &form.value)? {
+            Ok(form)
+        } else {
+            Err(Refusal::Rule(rule::CONSTANT))
+        }
+    }
+
     /// `id "=" cvalue`
-    #[tactic(auto, using(crate::proofs::ConstantValues::value_built, crate::proofs::ConstantValues::constant_plain))]
     fn define_constant(
         &mut self,
         alloc: Global,
         definition: &ConstantDefinition,
     ) -> Result<(), Refusal>
-        requires { constant_value_unbuilt definition.now.value ≡ None }
+        requires { component_value_unbuilt definition.now.value ≡ None }
         ensures { AnswersBlock result (block_of self.new)
             (constant_definition definition.now (block_of self.old)) }
     {
-        let form = constant_value(alloc, &definition.value, &self.scopes.in_view())?;
-        self.add_constant(alloc, &definition.name, form.kind, &form.value)?;
+        let form = self.constant_fitting(alloc, &definition.value)?;
+        self.add_constant(alloc, &definition.name, form.kind, &form.value, form.depth)?;
         self.note(form.built, definition.line);
         Ok(())
     }

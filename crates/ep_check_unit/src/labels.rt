@@ -49,7 +49,7 @@ fn required_values(host: Host, required: RequiredType) -> TagValues
 }
 
 /// Those of a subrange or an enumeration, by its own denoter, whatever it begins with.
-fn denoted_values(host: Host, denoter: &Denoter) -> Result<TagValues, Refusal>
+pub(crate) fn denoted_values(host: Host, denoter: &Denoter) -> Result<TagValues, Refusal>
     ensures { AnswersForm (λ t. t) result (spec.tag_values host (ordinal_value (denoter_of denoter.now))) }
 {
     match denoter {

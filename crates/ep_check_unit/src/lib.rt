@@ -11,6 +11,7 @@
 mod block;
 mod component;
 mod declarations;
+mod fitting;
 mod formals;
 mod functions;
 mod headings;

@@ -318,7 +318,7 @@ impl Block {
     {
         for (place, name) in names.iter().enumerate() {
             let ordinal = Value::Word(i64::from(number(place)?));
-            self.add_constant(alloc, name, Kind::Ordinal(host), &ordinal)?;
+            self.add_constant(alloc, name, Kind::Ordinal(host), &ordinal, 1)?;
         }
         Ok(())
     }

@@ -15,13 +15,11 @@ use crate::records::{Listing, WrittenField, denoted, nodes, own_fields};
 use crate::types::{NamedType, counted, type_denoter};
 use ep_base::{Boxed, Line, List, Name, NoMemory};
 use ep_check_expr::Refusal;
-use ep_scope::{
-    FieldType, FieldTypes, Kind, SharedSelection, TagType, VariantPath, VariantStep, rule,
-};
+use ep_scope::{FieldType, FieldTypes, Kind, TagType, VariantPath, VariantStep, rule};
 use ep_tree::{Label, VariantSelector};
 use ep_typed::{
-    CaseRange, CaseRanges, FieldPart, Selection, Selector, Variant, VariantLabels, VariantPart,
-    Variants,
+    CaseRange, CaseRanges, FieldPart, Selection, Selector, Shared, Variant, VariantLabels,
+    VariantPart, Variants,
 };
 use std::alloc::Global;
 
@@ -157,7 +155,7 @@ impl Gathered {
 /// A step before others.
 fn one_more(
     alloc: Global,
-    selection: &SharedSelection,
+    selection: &Shared<Selection>,
     variant: u32,
     path: &[VariantStep],
 ) -> Result<VariantPath, NoMemory>
@@ -187,7 +185,7 @@ fn shared(tag: &Option<TagType>) -> Result<Option<TagType>, NoMemory>
 /// A field of a variant of this number.
 fn inside(
     alloc: Global,
-    selection: &SharedSelection,
+    selection: &Shared<Selection>,
     variant: u32,
     field: &FieldType,
 ) -> Result<FieldType, NoMemory>
@@ -232,7 +230,7 @@ fn add_field(field: FieldType, all: &mut FieldTypes) -> Result<(), Refusal>
 /// The fields of a variant of this number more.
 fn add_variant(
     alloc: Global,
-    selection: &SharedSelection,
+    selection: &Shared<Selection>,
     variant: u32,
     fields: &[FieldType],
     all: &mut FieldTypes,
@@ -250,7 +248,7 @@ fn add_variant(
 /// The fields of variants more.
 fn add_variants(
     alloc: Global,
-    selection: &SharedSelection,
+    selection: &Shared<Selection>,
     lists: &[FieldTypes],
     all: &mut FieldTypes,
 ) -> Result<(), Refusal>
@@ -265,7 +263,7 @@ fn add_variants(
 /// The tag as a field, in the component behind the other fields.
 fn tag_field(
     alloc: Global,
-    selection: &SharedSelection,
+    selection: &Shared<Selection>,
     component: u32,
     tag: Tag<'_>,
 ) -> Result<FieldType, NoMemory>
@@ -293,7 +291,7 @@ fn tag_field(
 /// The fields of a list with a variant part: its own, the tag, and those of the variants.
 fn all_fields(
     alloc: Global,
-    selection: &SharedSelection,
+    selection: &Shared<Selection>,
     component: u32,
     tag: Tag<'_>,
     own: &[WrittenField],
@@ -345,7 +343,7 @@ pub(crate) fn variant_list(
     let component = number(own.len())?;
     let nodes = counted(counted(nodes(own), tag.of.nodes), gathered.nodes);
     let (labels, variants, lists, completing) = gathered.into_parts();
-    let selection = SharedSelection::new(
+    let selection = Shared::new(
         alloc,
         Selection {
             tag: component,

@@ -147,7 +147,7 @@ pub fn expression_code(alloc: Global, e: &TypedExpr, code: &mut Code) -> Result<
         }
         TypedExpr::Card(operand) => card_code(alloc, operand.get(), code),
         TypedExpr::Structured(number, elements) => {
-            structured_code(alloc, *number, elements.items(), code)
+            structured_code(alloc, *number, elements.get().items(), code)
         }
     }
 }

@@ -49,7 +49,7 @@ use Rattle.ep_typed.specs.declared.unit.UnitType.{UnitType}
 abbrev start_kind : (types : List UnitType) (t : TypeValue) (v : Expr) → IsStartFor types t v → (k : Kind) × IsTypeOfKind k t
 start_kind types t v (word_start low high h w bounds of_host) = (Ordinal h, bounds)
 start_kind types t v (set_start low high h ms base is_set between) = (kind.Set h, base)
-start_kind types t v (structured_start of t2 es typed structured parts) = (Structured t2, (refl, structured))
+start_kind types t v (structured_start of t2 es found typed structured parts) = (Structured t2, (refl, structured))
 
 module _ (declared : Declarations) (G : Image) (untouched : Slots) (Here : Facts) (lasts : Lasts untouched Here) (among : AreAmong untouched (kept_slots declared G)) (ps : List Placement) (p : Placement) (references : List Reference) (call : Handler) (steady_call : IsSteadyHandler call) (n : ℕ) (kept : CallsAreKept declared G ps call n) (g : ℕ) (unit : List ℕ) (line : ℕ) (types : List UnitType) (types_are : declared.types unit ≡ types) (referred : AreReferred declared unit types references) (swap_referred : IsSwapReferred declared unit references) (fill_referred : IsFillReferred declared unit references) where
   -- a unit that has a type has types
@@ -78,7 +78,7 @@ module _ (declared : Declarations) (G : Image) (untouched : Slots) (Here : Facts
     constant_follows t v (set_start low high h ms base is_set between) at stands injection memory below d enough home =
         fragment_post (λ r longer after pushed i. record { grown = i.grown; routine = i.routine; operands_are = record { members = ms; is_members = (i.operands_are).0; is_set = is_set; is = (i.operands_are).1 } })
         (fragment_to (omega arith) (set_follows ps p references call g unit line n ms is_set at stands injection memory below d))
-    constant_follows t v (structured_start of t2 es typed structured parts) at stands injection memory below d enough home =
+    constant_follows t v (structured_start of t2 es found typed structured parts) at stands injection memory below d enough home =
         subst (λ u. IsFollowed declared G untouched Here p call g unit n (Structured u) (tree.Structured of es) line at (start_code line (tree.Structured of es))) (typed_bare types (Named of []) t2 typed)
         (structured_follows declared G untouched Here lasts among ps p references call steady_call n kept g unit line types types_are referred swap_referred of t2 typed
         (subst IsStructured (sym (typed_bare types (Named of []) t2 typed)) structured) es at (parts_code line es)
@@ -177,7 +177,7 @@ module _ (declared : Declarations) (G : Image) (untouched : Slots) (Here : Facts
             })
             (fragment_to (omega arith) (set_follows ps p references call g unit line n ms is_set at stands injection memory (Word (pos number) ∷ below) d)));
       }
-  value_follows t a number over v (structured_start of t2 es typed structured parts) at stands injection memory below d least home =
+  value_follows t a number over v (structured_start of t2 es found typed structured parts) at stands injection memory below d least home =
       let bare_is : bare_of t2 ≡ t2 = typed_bare types (Named of []) t2 typed in
       let sizes : size_of (bare_of t2) ≡ size_of a = ap size_of (bare_is ∙ sym over) ∙ bare_size a in
       record {

@@ -187,7 +187,11 @@ fn initial_state_code(value: &Value, code: &mut Code) -> Result<(), NoMemory>
         Value::Word(number) => emit(code, op::PUSH, *number, 0),
         Value::Text(_) => Ok(()),
         Value::Set(members) => set_start_code(members.items(), code),
-        Value::Structured(number, parts) => structured_start_code(*number, parts.items(), code),
+        Value::Structured(number, parts) => structured_start_code(
+            *number,
+            parts.get().items(),
+            code,
+        ),
     }
 }
 
@@ -199,7 +203,11 @@ fn constant_code(value: &TypedExpr, code: &mut Code) -> Result<(), NoMemory>
     match value {
         TypedExpr::Constant(number) => emit(code, op::PUSH, *number, 0),
         TypedExpr::SetConstant(members) => set_start_code(members.items(), code),
-        TypedExpr::Structured(number, parts) => structured_start_code(*number, parts.items(), code),
+        TypedExpr::Structured(number, parts) => structured_start_code(
+            *number,
+            parts.get().items(),
+            code,
+        ),
         _ => Ok(()),
     }
 }

@@ -30,7 +30,7 @@ pub use record::{OpenField, OpenRecord, RecordVariable};
 pub use required::{Function, Procedure, Required, RequiredConstant, required_identifier};
 pub use scope::{Scope, ScopeRefusal};
 pub use scopes::Scopes;
-pub use selection::SharedSelection;
+pub use selection::copied_selection;
 pub use structure::{
     ArrayType, Composition, FieldType, FieldTypes, StructuredType, TagType, VariantPath,
     VariantStep, field_number,

@@ -8,8 +8,8 @@ ghost use Rattle.ep_scope.specs.Fields.{field_number};
 use crate::kind::{Host, Kind};
 use crate::parameter::TypeName;
 use crate::scope::Scope;
-use crate::selection::SharedSelection;
 use ep_base::{List, Name, NoMemory};
+use ep_typed::{Selection, Shared};
 
 /// A structured type of a unit (ISO 10206, 6.4.3.1).
 pub struct StructuredType {
@@ -93,7 +93,7 @@ impl Drop for FieldType {
 /// The step from a record, or from a variant, to a variant of its variant part.
 pub struct VariantStep {
     /// How the variants of that part are selected.
-    pub selection: SharedSelection,
+    pub selection: Shared<Selection>,
     /// The number of the variant among them, counted from 0.
     pub variant: u32,
 }
@@ -113,7 +113,7 @@ pub type VariantPath = List<VariantStep>;
 /// The tag of a variant part (ISO 10206, 6.4.3.4).
 pub struct TagType {
     /// How it selects the variants.
-    pub selection: SharedSelection,
+    pub selection: Shared<Selection>,
     /// The host of its type.
     pub host: Host,
     /// The least value of its type.

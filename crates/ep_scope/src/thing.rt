@@ -48,8 +48,8 @@ impl Drop for Declared {
 
 /// What a declaration declares.
 pub enum Declaration {
-    /// A constant (ISO 10206, 6.3.1).
-    Constant(Kind, Value),
+    /// A constant (ISO 10206, 6.3.1): its kind, its value, and how deep the form nests for which its name stands.
+    Constant(Kind, Value, u32),
     /// A name of this type, its kind, and how many nodes it has (ISO 10206, 6.4.1).
     Type(TypeName, Kind, u32),
     /// A variable of this type (ISO 10206, 6.5.1).
@@ -65,7 +65,7 @@ pub enum Declaration {
 impl Drop for Declaration {
     fn drop(self) {
         match self {
-            Declaration::Constant(_, _) => {}
+            Declaration::Constant(_, _, _) => {}
             Declaration::Type(_, _, _) => {}
             Declaration::Variable(_, _) => {}
             Declaration::Own(_, _, _) => {}

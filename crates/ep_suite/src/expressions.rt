@@ -53,7 +53,7 @@ fn variable(alloc: Global) -> Option<Scope> {
 
 /// The scope of the variable and the constant.
 fn scope(alloc: Global) -> Option<Scope> {
-    let what = Declaration::Constant(Kind::Ordinal(Host::Integer), Value::Word(5));
+    let what = Declaration::Constant(Kind::Ordinal(Host::Integer), Value::Word(5), 1);
     let five = declared(alloc, what)?;
     let interface = Name::from_bytes(alloc, b"i").ok()?;
     let name = Name::from_bytes(alloc, b"c").ok()?;

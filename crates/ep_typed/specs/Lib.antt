@@ -4,6 +4,7 @@ pub mod Calls
 pub mod Controls
 pub mod Denoters
 pub mod Events
+pub mod formers
 pub mod Hosts
 pub mod Laws
 pub mod Meaning

@@ -12,7 +12,7 @@ use Rattle.ep_typed.specs.Trees as tree
 use Rattle.ep_typed.specs.Trees.{Fixed, Denoter, Required, Named, Subrange, Enumeration, Array, Record, Denoters, no_denoter, next_denoter, Initial, Callee, Place, Variable, Own, Standard, Indexed, Field, Variant, Expr, Constant, Text, Read, One, Two, Short, Step, Function, IndexedValue, FieldValue, SetOf, OnSets, Card, Designator, Single, Range, Designators, no_member, next_member, Actual, Evaluated, Accessed, Actuals, no_actual, next_actual, Item, Plain, Wide, Stmt, Stmts, Empty, Compound, Assign, Tagging, AssignTag, If, While, Repeat, Control, For, MemberControl, ForIn, With, Procedure, Halt, Write, none, next, Case, Arms, no_arm, next_arm, Other, no_other, otherwise_do, Entire, OfUnit, OfRoutine, entire, SetConstant, Element, AtIndex, AtField, SameField, AtRanges, Elements, no_element, next_element}
 pub use Rattle.ep_typed.specs.Routines.{heading_of, formal_variable, variables_of, unit_variables}
 use Rattle.ep_typed.specs.Routines.{first_with, made_by_unit}
-use Rattle.ep_typed.specs.Viewed.{constant_expr, denoter_of, stmt_of}
+use Rattle.ep_typed.specs.Viewed.{denoter_of, stmt_of}
 use Rattle.ep_typed.specs.declared.operations.Unary.{Unary}
 use Rattle.ep_typed.specs.declared.operations.Unary.TheVariants as unary
 use Rattle.ep_typed.specs.declared.operations.Binary.{Binary}
@@ -283,7 +283,7 @@ mutual
     word_start : (low high : ℤ) (h : Host) (w : ℤ) → IsTypeOf h (type.Ordinal low high) → IsTrue (is_of_host h w) → IsStartFor types (type.Ordinal low high) (Constant w)
     set_start : (low high : ℤ) (h : Host) (ms : List ℕ) → IsBaseOf h low high → IsSet ms → IsTrue (are_between (least h) (greatest h) ms)
         → IsStartFor types (type.Set low high) (SetConstant ms)
-    structured_start : (of : ℕ) (t : TypeValue) (es : Elements) → IsTyped types (Named of []) t → IsStructured t → AreStartsFor types t es
+    structured_start : (of : ℕ) (t : TypeValue) (es : Elements) → type_of types (Named of []) ≡ Some t → IsTyped types (Named of []) t → IsStructured t → AreStartsFor types t es
         → IsStartFor types t (tree.Structured of es)
 
   -- what components are given
@@ -506,22 +506,22 @@ pub record HasKind (types : List UnitType) (d : Denoter) : Type 0 where
   pub of_kind : IsOfKind kind types d
   pub denoter : IsDenoter types d
 
--- The value is one of the type. A text is of none so far.
-abbrev pub IsValue : List UnitType → TypeValue → Value → Type 0
-IsValue types t (value.Word w) = IsTrue (is_within t w)
-IsValue types t (value.Text bytes) = ⊥
-IsValue types t (value.Set ms) = IsSet ms × IsTrue (has_base_for (Some t) ms)
-IsValue types t (value.Structured of es) = IsStartFor types t (constant_expr (value.Structured of es))
+-- The value is one of the type. A text, an array and a record are of none so far.
+abbrev pub IsValue : TypeValue → Value → Type 0
+IsValue t (value.Word w) = IsTrue (is_within t w)
+IsValue t (value.Text bytes) = ⊥
+IsValue t (value.Set ms) = IsSet ms × IsTrue (has_base_for (Some t) ms)
+IsValue t (value.Structured of es) = ⊥
 
 -- a type that is no schema, of a valid denoter
 pub record IsType (types : List UnitType) (t : UnitType) : Type 0 where
   pub formals : t.entry.formals ≡ []
   pub denoter : IsDenoter types (definition_of t)
 
--- a constant that is a value of its type
+-- a constant of an ordinal type or a set type that is a value of it
 pub record IsConstant (types : List UnitType) (c : ConstantEntry) : Type 0 where
   pub kind : HasKind types (denoter_of c.denoter)
-  pub value : IsValue types kind.denoter.type_value c.value
+  pub value : IsValue kind.denoter.type_value c.value
 
 -- a variable of a valid denoter without discriminants
 pub record IsVariable (types : List UnitType) (v : UnitVariable) : Type 0 where

@@ -13,6 +13,7 @@ mod laws;
 mod nodes;
 mod operations;
 pub mod run_error;
+mod shared;
 mod tree;
 mod unit;
 mod value;
@@ -33,6 +34,7 @@ pub use interface::{
 pub use laws::{laws_of_denoters, laws_of_meanings};
 pub use nodes::unit_nodes;
 pub use operations::{Binary, Print, SetOperation, ShortOperation, Unary};
+pub use shared::Shared;
 pub use tree::{
     Actual, Actuals, Callee, CaseArm, CaseArms, CaseRange, CaseRanges, ComponentSteps, Element,
     Elements, EntireVariable, ForControl, MemberControl, MemberDesignator, MemberDesignators,

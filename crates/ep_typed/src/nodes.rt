@@ -86,7 +86,7 @@ fn value(v: &Value) -> u64
         Value::Word(_) => 1,
         Value::Text(_) => 1,
         Value::Set(members) => (members.items().len() as u64).saturating_add(1),
-        Value::Structured(_, given) => elements(given.items()).saturating_add(1),
+        Value::Structured(_, given) => elements(given.get().items()).saturating_add(1),
     }
 }
 
@@ -474,7 +474,7 @@ fn expression(x: &TypedExpr) -> u64
                 .saturating_add(1)
         }
         TypedExpr::Card(operand) => expression(operand.get()).saturating_add(1),
-        TypedExpr::Structured(_, given) => elements(given.items()).saturating_add(1),
+        TypedExpr::Structured(_, given) => elements(given.get().items()).saturating_add(1),
     }
 }
 

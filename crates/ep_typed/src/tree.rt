@@ -1,6 +1,7 @@
 //! Typed trees: expressions, places and statements whose names, types and kinds are settled.
 
 use crate::operations::{Binary, Print, SetOperation, ShortOperation, Unary};
+use crate::shared::Shared;
 use ep_base::{Boxed, Bytes, Line, List, Name};
 
 /// A standard file (ISO 10206, 6.10 and 6.12).
@@ -126,8 +127,8 @@ pub enum TypedExpr {
     /// `card`
     Card(Boxed<TypedExpr>),
     /// A structured value (ISO 10206, 6.8.7.1): the number of its type in the unit's list of types, and what its components
-    /// are given.
-    Structured(u32, Elements),
+    /// are given. Uses of one constant share it.
+    Structured(u32, Shared<Elements>),
 }
 
 /// What a component of a structured value is given.

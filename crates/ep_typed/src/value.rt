@@ -1,5 +1,6 @@
 //! The values of constants.
 
+use crate::shared::Shared;
 use crate::tree::Elements;
 use ep_base::Bytes;
 
@@ -14,7 +15,7 @@ pub enum Value {
     /// An array or a record (ISO 10206, 6.8.7): the number of its type in the unit's list of types, and what its components
     /// are given, of which all values are constants: forms `Constant`, `SetConstant` and `Structured`. Components of arrays
     /// are given by ranges.
-    Structured(u32, Elements),
+    Structured(u32, Shared<Elements>),
 }
 
 impl Drop for Value {

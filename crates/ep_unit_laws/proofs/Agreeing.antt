@@ -14,6 +14,7 @@ use Rattle.ep_typed.specs.Viewed.{denoter_of, stmt_of}
 use Rattle.ep_typed.specs.declared.interface.Formal.{Formal}
 use Rattle.ep_typed.specs.declared.interface.RoutineEntry.{RoutineEntry}
 use Rattle.ep_typed.specs.declared.unit.Unit.{Unit as TypedUnit}
+use Rattle.ep_typed.specs.declared.value.Value.{Value}
 use Rattle.ep_typed.specs.declared.unit.UnitRoutine.{UnitRoutine}
 use Rattle.ep_typed.specs.declared.unit.UnitVariable.{UnitVariable}
 use Rattle.ep_scope.specs.Scopes.{Entries, Region, depth_in}
@@ -31,7 +32,7 @@ use Rattle.ep_scope.specs.declared.thing.Declaration.TheVariants as declaration
 use Rattle.ep_scope.specs.declared.thing.Declared.{Declared}
 use Rattle.ep_scope.specs.declared.thing.Thing.{Thing}
 use Rattle.ep_scope.specs.declared.thing.Thing.TheVariants as thing
-use Rattle.ep_check_expr.specs.Agreement.{Agrees, AgreesBy, AreInterfaces, AreOpen, AreParameters, AreThings, Arrays, HasKind, HoldsStructure, IsDeclaration, IsDenoterOf, IsKind, IsListed, IsMadeOf, Records, Structure, IsFunctionWith, IsOfType, IsStoredIn, IsThing, structures_of}
+use Rattle.ep_check_expr.specs.Agreement.{Agrees, AgreesBy, AreInterfaces, AreOpen, AreParameters, AreThings, Arrays, HasKind, HoldsStructure, IsConstantIn, IsConstantOf, IsDeclaration, IsDenoterOf, IsKind, IsListed, IsMadeOf, Records, Structure, IsFunctionWith, IsOfType, IsStoredIn, IsThing, structures_of}
 use Rattle.ep_check_expr.specs.Arguments.{callee_at, callee_levels}
 use Rattle.ep_check_expr.specs.Hosts.{typed_host}
 use Rattle.ep_check_unit.specs.Declarations.{scopes_of, type_denoter}
@@ -276,8 +277,16 @@ module _ (u : TypedUnit) (es : List Enclosing) where
   structure_listed i s le x = (x.denoter, ap (option_map bare_of) x.denoter.has_type, structure_holds u i s le x)
 
   module _ (structures : List StructuredType) (all : All (HoldsStructure (type_values u) u.types) structures) where
+    constant_held : (k : Kind) (v : Value) → IsConstantOf (type_values u) u.types k v → IsConstantIn within (type_values u) structures k v
+    constant_held (kind.Structured n) v x = (x, (u.types, all))
+    constant_held (kind.Ordinal h) v x = x
+    constant_held (kind.Set h) v x = x
+    constant_held kind.EmptySet v x = x
+    constant_held kind.Text v x = x
+    constant_held kind.File v x = x
+
     declared_holds : (i : ℕ) (d : Declared) (what : Declaration) → i ≤ length u.types → d.unit ≡ u.name → HoldsDeclaration u es i d what → IsDeclaration within (type_values u) structures (length es) d what
-    declared_holds i d (declaration.Constant k v) le e x = x.0
+    declared_holds i d (declaration.Constant k v deep) le e x = constant_held k v x.0
     declared_holds i d (declaration.«Type» of k nodes) le e x = lists_kind_small u i k x.lists
     declared_holds i d (declaration.Variable of k) le e x = (variable_stored u structures all i d.number d.unit of k le e x, variable_typed u i d.number d.unit of k le e x)
     declared_holds i d (declaration.Own of k guarded) le e x = (own_stored u structures all es i d.level d.number of k le x, own_typed u es i d.level d.number of k le x)

@@ -6,6 +6,7 @@ use Rattle.std.proofs.lemmas.List.Elements.{All-push}
 use Rattle.std.specs.Prelude.{All, if◌then◌else◌}
 use Rattle.ep_outside.specs.Known.{IsPrefix}
 use Rattle.ep_tree.specs.declared.declaration.ConstantDefinition.{ConstantDefinition}
+use Rattle.ep_tree.specs.declared.expression.ComponentValue.{ComponentValue}
 use Rattle.ep_typed.specs.Hosts as typed
 use Rattle.ep_typed.specs.Hosts.{greatest, is_of_host, least}
 use Rattle.ep_typed.specs.Sets.{IsSet, are_between, has, is_ordinal, last_member, member_limit}
@@ -27,33 +28,35 @@ use Rattle.ep_scope.specs.declared.kind.Host.{Host}
 use Rattle.ep_scope.specs.declared.kind.Host.TheVariants as host
 use Rattle.ep_scope.specs.declared.kind.Kind.{Kind}
 use Rattle.ep_scope.specs.declared.kind.Kind.TheVariants as kind
+use Rattle.ep_scope.specs.declared.rule.TheConstants as rule
 use Rattle.ep_scope.specs.declared.thing.Declaration.TheVariants as declaration
-use Rattle.ep_check_expr.specs.Agreement.{IsConstantOf, IsSetOver}
+use Rattle.ep_check_expr.specs.Agreement.{IsConstantIf, IsConstantOf, IsSetOver}
 use Rattle.ep_check_expr.specs.Constants.{constant_judged}
 use Rattle.ep_check_expr.specs.Hosts.{typed_host}
 use Rattle.ep_check_expr.specs.Judgements.{Judged, Accepts, Breaks}
 use Rattle.ep_check_expr.specs.Laws.{ConstantsAreSound, ConstantsAreKnown}
 use Rattle.ep_check_expr.specs.declared.constants.ConstantForm.{ConstantForm}
 use Rattle.ep_check_stmt.proofs.judged.Fits.{Any, Fits, fits_any, fits_both, fits_is, fits_then}
-use Rattle.ep_check_unit.specs.Declarations.{are_all_members, constant_definition, constant_entered, entry_denoter, enumerated, host_denoter, members_denoter, own_thing, scopes_of, set_denoter, unused, with_constant, with_entry, with_name}
+use Rattle.ep_check_unit.specs.Declarations.{are_all_members, constant_definition, constant_entered, constant_fitting, entry_denoter, enumerated, host_denoter, members_denoter, own_thing, scopes_of, set_denoter, unused, with_constant, with_entry, with_name}
+use Rattle.ep_check_unit.specs.FittingConstants.{fits, unless_outside}
 use Rattle.ep_check_unit.specs.Blocks.{Block}
 use Rattle.ep_unit_laws.proofs.Agreeing.{holds_agrees, within}
 use Rattle.ep_unit_laws.proofs.Denoting.{Denotes, DenotesSet, bare_takes, denotes_set, denotes_subrange, full_type, kind_bare, kind_has_values}
-use Rattle.ep_unit_laws.proofs.Holds.{Holds, Lists, ListsKind, constant_valid, host_denotes, known_listed, lists_small, things_push}
+use Rattle.ep_unit_laws.proofs.Holds.{Holds, Lists, ListsKind, constant_valid, host_denotes, known_listed, lists_small, things_push, type_values}
 use Rattle.ep_unit_laws.proofs.Open.{IsOpen, open_push}
 use Rattle.ep_unit_laws.proofs.Leading.{Grows, Leads, Enters, bodies_refl, enters_refl, enters_then, head_in, length_push, noted_leads, prefix_length, prefix_more, prefix_refl}
 
 -- a constant is no routine
-constant_opens : (b : Block) (name : List ℕ) (k : Kind) (v : Value) → IsOpen b → IsOpen (with_name name (own_thing b (length b.constants) (declaration.Constant k v)) b)
-constant_opens b name k v x = open_push b.scopes.inner.entries b.scopes.outer b.own.enclosing (length b.routines) b.bodies name (own_thing b (length b.constants) (declaration.Constant k v)) tt x
+constant_opens : (b : Block) (name : List ℕ) (k : Kind) (v : Value) (deep : ℕ) → IsOpen b → IsOpen (with_name name (own_thing b (length b.constants) (declaration.Constant k v deep)) b)
+constant_opens b name k v deep x = open_push b.scopes.inner.entries b.scopes.outer b.own.enclosing (length b.routines) b.bodies name (own_thing b (length b.constants) (declaration.Constant k v deep)) tt x
 
 -- the list of constants grows
 entry_prefix : (name : List ℕ) (d : Option Denoter) (v : Value) (all : List ConstantEntry) → IsPrefix all (with_entry name d v all)
 entry_prefix name None v all = prefix_refl all
 entry_prefix name (Some d) v all = prefix_more all (record { name = name; denoter = d; value = v } ∷ [])
 
-constant_grows : (name : List ℕ) (k : Kind) (v : Value) (b : Block) → Grows b (with_constant name k v b)
-constant_grows name k v b = record {
+constant_grows : (name : List ℕ) (k : Kind) (v : Value) (deep : ℕ) (b : Block) → Grows b (with_constant name k v deep b)
+constant_grows name k v deep b = record {
   types = prefix_refl b.types;
   constants = entry_prefix name (entry_denoter k) v b.constants;
   variables = prefix_refl b.variables;
@@ -65,7 +68,7 @@ constant_grows name k v b = record {
   alone = λ e. refl;
   headings = prefix_refl (map head_in b.routines);
   waits = λ w. w;
-  opens = λ x. constant_opens b name k v x;
+  opens = λ x. constant_opens b name k v deep x;
   bodies = λ x. bodies_refl b;
 }
 
@@ -155,7 +158,7 @@ module _ (u : TypedUnit) where
   }
 
   -- the list of constants with one of its kind, whose host is listed
-  entry_holds : (i : ℕ) (name : List ℕ) (k : Kind) (v : Value) (all : List ConstantEntry) → i ≤ length u.types → IsConstantOf k v → ListsKind u i k → All (IsConstant u.types) all → All (IsConstant u.types) (with_entry name (entry_denoter k) v all)
+  entry_holds : (i : ℕ) (name : List ℕ) (k : Kind) (v : Value) (all : List ConstantEntry) → i ≤ length u.types → IsConstantOf (type_values u) u.types k v → ListsKind u i k → All (IsConstant u.types) all → All (IsConstant u.types) (with_entry name (entry_denoter k) v all)
   entry_holds i name (kind.Ordinal h) (value.Word z) all le s l x = All-push (IsConstant u.types) all (record { name = name; denoter = host_denoter h; value = value.Word z }) x (constant_valid u i name h z le l s.1)
   entry_holds i name (kind.Ordinal h) (value.Text bytes) all le s l x = absurd s
   entry_holds i name (kind.Ordinal h) (value.Structured of es) all le s l x = absurd s
@@ -173,10 +176,10 @@ module _ (u : TypedUnit) where
   entry_holds i name kind.File v all le s l x = x
 
   -- so the block with it is held
-  constant_holds : (i : ℕ) (name : List ℕ) (k : Kind) (v : Value) (b : Block) → i ≤ length u.types → IsConstantOf k v → ListsKind u i k → Holds u i b → Holds u i (with_constant name k v b)
-  constant_holds i name k v b le s l x = record {
+  constant_holds : (i : ℕ) (name : List ℕ) (k : Kind) (v : Value) (deep : ℕ) (b : Block) → i ≤ length u.types → IsConstantOf (type_values u) u.types k v → ListsKind u i k → Holds u i b → Holds u i (with_constant name k v deep b)
+  constant_holds i name k v deep b le s l x = record {
     unit = x.unit;
-    things = things_push u b.own.enclosing i b.scopes.inner.entries name (own_thing b (length b.constants) (declaration.Constant k v)) x.things (x.unit, (s, l));
+    things = things_push u b.own.enclosing i b.scopes.inner.entries name (own_thing b (length b.constants) (declaration.Constant k v deep)) x.things (x.unit, (s, l));
     plain = x.plain;
     structures = x.structures;
     outer = x.outer;
@@ -193,20 +196,40 @@ module _ (u : TypedUnit) where
 
   -- ---- constant definitions
 
-  definition_leads : (d : ConstantDefinition) (form : ConstantForm) (b : Block) → ConstantsAreSound → ConstantsAreKnown → constant_judged (scopes_of b) d.value ≡ Accepts form → Leads u b (with_constant d.name form.kind form.value b)
-  definition_leads d form b sound known e = record {
-    grows = constant_grows d.name form.kind form.value b;
+  built_constant : (k : Kind) (built : Bool) (v : Value) → built ≡ true → IsConstantIf built (type_values u) u.types k v → IsConstantOf (type_values u) u.types k v
+  built_constant (kind.Structured n) built v is c = c is
+  built_constant (kind.Ordinal h) built v is c = c
+  built_constant (kind.Set h) built v is c = c
+  built_constant kind.EmptySet built v is c = c
+  built_constant kind.Text built v is c = c
+  built_constant kind.File built v is c = c
+
+  definition_leads : (d : ConstantDefinition) (form : ConstantForm) (b : Block) → ConstantsAreSound → ConstantsAreKnown → constant_judged (scopes_of b) d.value ≡ Accepts form → form.built ≡ true → Leads u b (with_constant d.name form.kind form.value form.depth b)
+  definition_leads d form b sound known e is = record {
+    grows = constant_grows d.name form.kind form.value form.depth b;
     holds = λ under ext w x.
         let le : length b.types ≤ length u.types = prefix_length b.types u.types ext.types in
-        constant_holds (length b.types) d.name form.kind form.value b le
-        (sound (scopes_of b) d.value form e (within u b.own.enclosing) (holds_agrees u (length b.types) b under le x))
+        constant_holds (length b.types) d.name form.kind form.value form.depth b le
+        (built_constant form.kind form.built form.value is (sound (scopes_of b) d.value form e (within u b.own.enclosing) (type_values u) (holds_agrees u (length b.types) b under le x).1))
         (known_listed u (length b.types) b form.kind x (known (scopes_of b) d.value form e)) x;
   }
 
+  -- what lies in its type is what was judged
+  abbrev WasJudged : ComponentValue → Block → ConstantForm → Type 0
+  WasJudged v b form = constant_judged (scopes_of b) v ≡ Accepts form
+
+  inside_judged : (v : ComponentValue) (b : Block) (t : Bool) (c : ConstantForm) → WasJudged v b c → Fits (WasJudged v b) (if t then Accepts c else Breaks (rule.CONSTANT ∷ []))
+  inside_judged v b true c e = e
+  inside_judged v b false c e = tt
+
+  fitting_accepted : (v : ComponentValue) (b : Block) → Fits (WasJudged v b) (constant_fitting v b)
+  fitting_accepted v b =
+      fits_then (WasJudged v b) (WasJudged v b) (unless_outside b.types (scopes_of b)) (constant_judged (scopes_of b) v) (fits_is (constant_judged (scopes_of b) v)) (λ c e. inside_judged v b (fits b.types (scopes_of b) c.value) c e)
+
   pub constant_definition-leads : ConstantsAreSound → ConstantsAreKnown → (d : ConstantDefinition) (b : Block) → Fits (Leads u b) (constant_definition d b)
   constant_definition-leads sound known d b =
-      fits_both (λ form. constant_judged (scopes_of b) d.value ≡ Accepts form) Any (Leads u b) _ (constant_judged (scopes_of b) d.value) (unused d.name b) (fits_is (constant_judged (scopes_of b) d.value)) (fits_any (unused d.name b))
-      (λ form new e k. noted_leads u form.built d.line b (with_constant d.name form.kind form.value b) (λ is. definition_leads d form b sound known e) (constant_grows d.name form.kind form.value b))
+      fits_both (WasJudged d.value b) Any (Leads u b) _ (constant_fitting d.value b) (unused d.name b) (fitting_accepted d.value b) (fits_any (unused d.name b))
+      (λ form new e k. noted_leads u form.built d.line b (with_constant d.name form.kind form.value form.depth b) (λ is. definition_leads d form b sound known e is) (constant_grows d.name form.kind form.value form.depth b))
 
   -- ---- the constants of an enumeration
 
@@ -217,19 +240,19 @@ module _ (u : TypedUnit) where
   abbrev pub ListsWithin : ℕ → Enumeration → Type 0
   ListsWithin i e = (i ≤ length u.types) × Lists u i (host.Enumeration e)
 
-  constant_enters : (i : ℕ) (e : Enumeration) (ordinal : ℕ) (name : List ℕ) (b : Block) → ordinal ≤ e.last → Fits (Enters u (ListsWithin i e) i b) (constant_entered name (kind.Ordinal (host.Enumeration e)) (value.Word (pos ordinal)) b)
+  constant_enters : (i : ℕ) (e : Enumeration) (ordinal : ℕ) (name : List ℕ) (b : Block) → ordinal ≤ e.last → Fits (Enters u (ListsWithin i e) i b) (constant_entered name (kind.Ordinal (host.Enumeration e)) (value.Word (pos ordinal)) 1 b)
   constant_enters i e ordinal name b le =
-      fits_then Any (Enters u (ListsWithin i e) i b) (λ _. Accepts (with_constant name (kind.Ordinal (host.Enumeration e)) (value.Word (pos ordinal)) b)) (unused name b) (fits_any (unused name b))
+      fits_then Any (Enters u (ListsWithin i e) i b) (λ _. Accepts (with_constant name (kind.Ordinal (host.Enumeration e)) (value.Word (pos ordinal)) 1 b)) (unused name b) (fits_any (unused name b))
       (λ a k. record {
-        grows = constant_grows name (kind.Ordinal (host.Enumeration e)) (value.Word (pos ordinal)) b;
+        grows = constant_grows name (kind.Ordinal (host.Enumeration e)) (value.Word (pos ordinal)) 1 b;
         same = refl;
-        holds = λ p under ext x. constant_holds i name (kind.Ordinal (host.Enumeration e)) (value.Word (pos ordinal)) b p.0 (lists_small u i (host.Enumeration e) p.1, enumerated_ordinal e ordinal le) p.1 x;
+        holds = λ p under ext x. constant_holds i name (kind.Ordinal (host.Enumeration e)) (value.Word (pos ordinal)) 1 b p.0 (lists_small u i (host.Enumeration e) p.1, enumerated_ordinal e ordinal le) p.1 x;
       })
 
   pub enumerated_enters : (i : ℕ) (e : Enumeration) (ordinal : ℕ) (names : List (List ℕ)) (b : Block) → ordinal + length names ≤ suc e.last → Fits (Enters u (ListsWithin i e) i b) (enumerated (host.Enumeration e) ordinal names b)
   enumerated_enters i e ordinal [] b le = enters_refl u (ListsWithin i e) i b
   enumerated_enters i e ordinal (name ∷ names) b le =
-      enters_then u (ListsWithin i e) i b (enumerated (host.Enumeration e) (suc ordinal) names) (constant_entered name (kind.Ordinal (host.Enumeration e)) (value.Word (pos ordinal)) b)
+      enters_then u (ListsWithin i e) i b (enumerated (host.Enumeration e) (suc ordinal) names) (constant_entered name (kind.Ordinal (host.Enumeration e)) (value.Word (pos ordinal)) 1 b)
       (constant_enters i e ordinal name b (omega (arith, le)))
       (λ c. enumerated_enters i e (suc ordinal) names c (omega (arith, le)))
 
@@ -237,8 +260,8 @@ module _ (u : TypedUnit) where
 pub enumerated_counts : (e : Enumeration) (ordinal : ℕ) (names : List (List ℕ)) (b : Block) → Fits (λ c. length c.constants ≡ length b.constants + length names) (enumerated (host.Enumeration e) ordinal names b)
 enumerated_counts e ordinal [] b = omega arith
 enumerated_counts e ordinal (name ∷ names) b =
-    fits_then (λ c. length c.constants ≡ suc (length b.constants)) (λ c. length c.constants ≡ length b.constants + suc (length names)) (enumerated (host.Enumeration e) (suc ordinal) names) (constant_entered name (kind.Ordinal (host.Enumeration e)) (value.Word (pos ordinal)) b)
-    (fits_then Any (λ c. length c.constants ≡ suc (length b.constants)) (λ _. Accepts (with_constant name (kind.Ordinal (host.Enumeration e)) (value.Word (pos ordinal)) b)) (unused name b) (fits_any (unused name b)) (λ a k. length_push b.constants _))
+    fits_then (λ c. length c.constants ≡ suc (length b.constants)) (λ c. length c.constants ≡ length b.constants + suc (length names)) (enumerated (host.Enumeration e) (suc ordinal) names) (constant_entered name (kind.Ordinal (host.Enumeration e)) (value.Word (pos ordinal)) 1 b)
+    (fits_then Any (λ c. length c.constants ≡ suc (length b.constants)) (λ _. Accepts (with_constant name (kind.Ordinal (host.Enumeration e)) (value.Word (pos ordinal)) 1 b)) (unused name b) (fits_any (unused name b)) (λ a k. length_push b.constants _))
     (λ c one. counted c one (enumerated (host.Enumeration e) (suc ordinal) names c) (enumerated_counts e (suc ordinal) names c))
   where
     counted : (c : Block) → length c.constants ≡ suc (length b.constants) → (j : Judged Block) → Fits (λ d. length d.constants ≡ length c.constants + length names) j → Fits (λ d. length d.constants ≡ length b.constants + suc (length names)) j

@@ -349,7 +349,7 @@ module _ (u : TypedUnit) where
     numbered = λ under. let n = numbered under in record { level_is = refl; above = n.above; below = n.below };
     held = λ under i x. declares_headed b.own.enclosing i d ps (Some (record { name = own_name_at (slice_get b.routines d.number); of = of; kind = k })) (numbered under).level_is (held i x);
   }
-  declared_stands d (declaration.Constant k v) b numbered held = tt
+  declared_stands d (declaration.Constant k v deep) b numbered held = tt
   declared_stands d (declaration.«Type» of h nodes) b numbered held = tt
   declared_stands d (declaration.Variable of k) b numbered held = tt
   declared_stands d (declaration.Own of k guarded) b numbered held = tt

@@ -22,7 +22,7 @@ use Rattle.ep_typed.proofs.Typed.{typed_bare, typed_of_host, typed_set}
 use Rattle.ep_scope.specs.declared.kind.Kind.{Kind}
 use Rattle.ep_scope.specs.declared.kind.Kind.TheVariants as kind
 use Rattle.ep_scope.specs.declared.rule.TheConstants as rule
-use Rattle.ep_check_expr.specs.Agreement.{Arrays, IsInitialOf, IsSetOver, Records, Structure}
+use Rattle.ep_check_expr.specs.Agreement.{Arrays, IsConstantIf, IsSetOver, Records, Structure}
 use Rattle.ep_check_expr.specs.Constants.{initial_state_judged}
 use Rattle.ep_check_expr.specs.Hosts.{typed_host}
 use Rattle.ep_check_expr.specs.StructuredValues.{asked_by}
@@ -115,44 +115,48 @@ module _ (types : List UnitType) where
 
 module _ (u : TypedUnit) where
   -- a constant of one kind that may be the initial state of a type of the other is one
-  pub fitting_start : (es : List Enclosing) (k : ℕ) (d : Denoter) (of : Kind) (t : TypeValue) (given : Kind) (v : Value) → k ≤ length u.types → DenotesKind u.types k d of t → may_begin given of ≡ true
-      → IsInitialOf (within u es) (type_values u) given v → IsStartFor u.types t (constant_expr v)
-  fitting_start es k d (kind.Ordinal h) t (kind.Ordinal g) (value.Word z) le x m c = word_fits u.types k d (typed_host h) t z le x (subst (λ q. IsTrue (is_of_host q z)) (host_same h g m) c.1)
-  fitting_start es k d (kind.Ordinal h) t (kind.Ordinal g) (value.Text bytes) le x m c = absurd c
-  fitting_start es k d (kind.Ordinal h) t (kind.Ordinal g) (value.Set ms) le x m c = absurd c
-  fitting_start es k d (kind.Ordinal h) t (kind.Ordinal g) (value.Structured of elements) le x m c = absurd c
-  fitting_start es k d (kind.Ordinal h) t (kind.Structured n) v le x m c = cc
-  fitting_start es k d (kind.Ordinal h) t (kind.Set g) v le x m c = cc
-  fitting_start es k d (kind.Ordinal h) t kind.EmptySet v le x m c = cc
-  fitting_start es k d (kind.Ordinal h) t kind.Text v le x m c = cc
-  fitting_start es k d (kind.Ordinal h) t kind.File v le x m c = cc
-  fitting_start es k d (kind.Set h) t (kind.Set g) (value.Word z) le x m c = absurd c
-  fitting_start es k d (kind.Set h) t (kind.Set g) (value.Text bytes) le x m c = absurd c
-  fitting_start es k d (kind.Set h) t (kind.Set g) (value.Structured of elements) le x m c = absurd c
-  fitting_start es k d (kind.Set h) t (kind.Set g) (value.Set ms) le x m c = set_fits u.types k d (typed_host h) t ms le x (subst (λ q. IsSetOver q ms) (host_same h g m) c.1)
-  fitting_start es k d (kind.Set h) t kind.EmptySet (value.Word z) le x m c = absurd c
-  fitting_start es k d (kind.Set h) t kind.EmptySet (value.Text bytes) le x m c = absurd c
-  fitting_start es k d (kind.Set h) t kind.EmptySet (value.Structured of elements) le x m c = absurd c
-  fitting_start es k d (kind.Set h) t kind.EmptySet (value.Set ms) le x m c = set_fits u.types k d (typed_host h) t ms le x (c (typed_host h))
-  fitting_start es k d (kind.Set h) t (kind.Ordinal g) v le x m c = cc
-  fitting_start es k d (kind.Set h) t (kind.Structured n) v le x m c = cc
-  fitting_start es k d (kind.Set h) t kind.Text v le x m c = cc
-  fitting_start es k d (kind.Set h) t kind.File v le x m c = cc
-  fitting_start es k d (kind.Structured n) t (kind.Ordinal g) v le x m c = cc
-  fitting_start es k d (kind.Structured n) t (kind.Structured o) v le x m c =
+  pub fitting_start : (es : List Enclosing) (k : ℕ) (d : Denoter) (of : Kind) (t : TypeValue) (given : Kind) (built : Bool) (v : Value) → k ≤ length u.types → built ≡ true → DenotesKind u.types k d of t → may_begin given of ≡ true
+      → IsConstantIf built (type_values u) u.types given v → IsStartFor u.types t (constant_expr v)
+  fitting_start es k d (kind.Ordinal h) t (kind.Ordinal g) built (value.Word z) le is x m c = word_fits u.types k d (typed_host h) t z le x (subst (λ q. IsTrue (is_of_host q z)) (host_same h g m) c.1)
+  fitting_start es k d (kind.Ordinal h) t (kind.Ordinal g) built (value.Text bytes) le is x m c = absurd c
+  fitting_start es k d (kind.Ordinal h) t (kind.Ordinal g) built (value.Set ms) le is x m c = absurd c
+  fitting_start es k d (kind.Ordinal h) t (kind.Ordinal g) built (value.Structured of elements) le is x m c = absurd c
+  fitting_start es k d (kind.Ordinal h) t (kind.Structured n) built v le is x m c = cc
+  fitting_start es k d (kind.Ordinal h) t (kind.Set g) built v le is x m c = cc
+  fitting_start es k d (kind.Ordinal h) t kind.EmptySet built v le is x m c = cc
+  fitting_start es k d (kind.Ordinal h) t kind.Text built v le is x m c = cc
+  fitting_start es k d (kind.Ordinal h) t kind.File built v le is x m c = cc
+  fitting_start es k d (kind.Set h) t (kind.Set g) built (value.Word z) le is x m c = absurd c
+  fitting_start es k d (kind.Set h) t (kind.Set g) built (value.Text bytes) le is x m c = absurd c
+  fitting_start es k d (kind.Set h) t (kind.Set g) built (value.Structured of elements) le is x m c = absurd c
+  fitting_start es k d (kind.Set h) t (kind.Set g) built (value.Set ms) le is x m c = set_fits u.types k d (typed_host h) t ms le x (subst (λ q. IsSetOver q ms) (host_same h g m) c.1)
+  fitting_start es k d (kind.Set h) t kind.EmptySet built (value.Word z) le is x m c = absurd c
+  fitting_start es k d (kind.Set h) t kind.EmptySet built (value.Text bytes) le is x m c = absurd c
+  fitting_start es k d (kind.Set h) t kind.EmptySet built (value.Structured of elements) le is x m c = absurd c
+  fitting_start es k d (kind.Set h) t kind.EmptySet built (value.Set ms) le is x m c = set_fits u.types k d (typed_host h) t ms le x (c (typed_host h))
+  fitting_start es k d (kind.Set h) t (kind.Ordinal g) built v le is x m c = cc
+  fitting_start es k d (kind.Set h) t (kind.Structured n) built v le is x m c = cc
+  fitting_start es k d (kind.Set h) t kind.Text built v le is x m c = cc
+  fitting_start es k d (kind.Set h) t kind.File built v le is x m c = cc
+  fitting_start es k d (kind.Structured n) t (kind.Ordinal g) built v le is x m c = cc
+  fitting_start es k d (kind.Structured n) t (kind.Structured o) built (value.Structured of elements) le is x m c =
+      let own = c is in
       let same : o ≡ n = number_same o n m in
-      let its : c.0 ≡ t = same_Some c.0 t (sym c.1 ∙ (ap (λ i. bare_type_of u.types (Named i [])) same ∙ x.of_number)) in
-      subst (λ y. IsStartFor u.types y (constant_expr v)) its c.2
+      let its : own.0 ≡ t = same_Some own.0 t (sym own.1.0 ∙ (ap (λ i. bare_type_of u.types (Named i [])) same ∙ x.of_number)) in
+      subst (λ y. IsStartFor u.types y (constant_expr (value.Structured of elements))) its own.2
     where
       number_same : (a b : ℕ) → nat_eq a b ≡ true → a ≡ b
       number_same a b e = grind (arith, nat_tests)
-  fitting_start es k d (kind.Structured n) t (kind.Set g) v le x m c = cc
-  fitting_start es k d (kind.Structured n) t kind.EmptySet v le x m c = cc
-  fitting_start es k d (kind.Structured n) t kind.Text v le x m c = cc
-  fitting_start es k d (kind.Structured n) t kind.File v le x m c = cc
-  fitting_start es k d kind.EmptySet t given v le x m c = absurd x
-  fitting_start es k d kind.Text t given v le x m c = absurd x
-  fitting_start es k d kind.File t given v le x m c = absurd x
+  fitting_start es k d (kind.Structured n) t (kind.Structured o) built (value.Word z) le is x m c = absurd (c is)
+  fitting_start es k d (kind.Structured n) t (kind.Structured o) built (value.Text bytes) le is x m c = absurd (c is)
+  fitting_start es k d (kind.Structured n) t (kind.Structured o) built (value.Set ms) le is x m c = absurd (c is)
+  fitting_start es k d (kind.Structured n) t (kind.Set g) built v le is x m c = cc
+  fitting_start es k d (kind.Structured n) t kind.EmptySet built v le is x m c = cc
+  fitting_start es k d (kind.Structured n) t kind.Text built v le is x m c = cc
+  fitting_start es k d (kind.Structured n) t kind.File built v le is x m c = cc
+  fitting_start es k d kind.EmptySet t given built v le is x m c = absurd x
+  fitting_start es k d kind.Text t given built v le is x m c = absurd x
+  fitting_start es k d kind.File t given built v le is x m c = absurd x
 
   -- what the unit holds of a type with a constant that is built
   begun_wrote : InitialStatesAreSound → (line : ℕ) (b : Block) (w : Written) (v : ComponentValue) (c : ConstantForm) → c.built ≡ true → Settles u b w → initial_state_judged (scopes_of w.block) (asked_by w.kind) v ≡ Accepts c → may_begin c.kind w.kind ≡ true
@@ -163,8 +167,8 @@ module _ (u : TypedUnit) where
         let i : ℕ = length w.block.types in
         let y = s.holds under ext free x in
         let le : i ≤ length u.types = prefix_length w.block.types u.types ext.types in
-        let constant = sound (scopes_of w.block) (asked_by w.kind) v c e (within u w.block.own.enclosing) (type_values u) (holds_agrees u i w.block (s.grows.opens under) le y.block).1 built in
-        let start = fitting_start w.block.own.enclosing i (denoter_of w.denoter) w.kind y.denotes.0 c.kind c.value le y.denotes.1 m constant in
+        let constant = sound (scopes_of w.block) (asked_by w.kind) v c e (within u w.block.own.enclosing) (type_values u) (holds_agrees u i w.block (s.grows.opens under) le y.block).1 in
+        let start = fitting_start w.block.own.enclosing i (denoter_of w.denoter) w.kind y.denotes.0 c.kind c.built c.value le built y.denotes.1 m constant in
         record {
           block = holds_more u i (suc i) w.block (omega arith) y.block;
           denotes = (

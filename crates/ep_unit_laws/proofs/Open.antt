@@ -26,7 +26,7 @@ pub record IsNumbered (es : List Enclosing) (count level number : ℕ) : Type 0 
   pub below : number < count
 
 abbrev pub IsNumberedAs : List Enclosing → ℕ → Declared → Declaration → Type 0
-IsNumberedAs es count d (declaration.Constant k v) = ⊤
+IsNumberedAs es count d (declaration.Constant k v deep) = ⊤
 IsNumberedAs es count d (declaration.«Type» of h nodes) = ⊤
 IsNumberedAs es count d (declaration.Variable of k) = ⊤
 IsNumberedAs es count d (declaration.Own of k guarded) = ⊤
@@ -134,7 +134,7 @@ numbered_more : (es : List Enclosing) (few many level number : ℕ) → few ≤ 
 numbered_more es few many level number le x = record { level_is = x.level_is; above = x.above; below = omega (arith, le, x.below) }
 
 numbered_as_more : (es : List Enclosing) (few many : ℕ) (d : Declared) (what : Declaration) → few ≤ many → IsNumberedAs es few d what → IsNumberedAs es many d what
-numbered_as_more es few many d (declaration.Constant k v) le x = tt
+numbered_as_more es few many d (declaration.Constant k v deep) le x = tt
 numbered_as_more es few many d (declaration.«Type» of h nodes) le x = tt
 numbered_as_more es few many d (declaration.Variable of k) le x = tt
 numbered_as_more es few many d (declaration.Own of k guarded) le x = tt

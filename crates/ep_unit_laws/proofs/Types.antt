@@ -36,7 +36,7 @@ use Rattle.ep_scope.specs.declared.rule.TheConstants as rule
 use Rattle.ep_scope.specs.declared.thing.Declaration.{Declaration}
 use Rattle.ep_scope.specs.declared.thing.Declaration.TheVariants as declaration
 use Rattle.ep_scope.specs.declared.thing.Declared.{Declared}
-use Rattle.ep_check_expr.specs.Agreement.{IsConstantOf}
+use Rattle.ep_check_expr.specs.Agreement.{IsConstantIf, IsConstantOf}
 use Rattle.ep_check_expr.specs.Constants.{bound_judged}
 use Rattle.ep_check_expr.specs.Hosts.{typed_host}
 use Rattle.ep_check_expr.specs.Judgements.{Accepts, Breaks}
@@ -51,7 +51,7 @@ use Rattle.ep_unit_laws.proofs.Constants.{ListsWithin, enumerated_counts, enumer
 use Rattle.ep_unit_laws.proofs.Denoting.{Denotes, DenotesKind, IsSmall, denotes_enumeration, denotes_more, denotes_required, denotes_subrange, full_type, kind_more, kind_named, kind_valid}
 use Rattle.ep_unit_laws.proofs.Agreeing.{holds_agrees, within}
 use Rattle.ep_typed.proofs.Forms.{enumeration_is, named_is, subrange_is}
-use Rattle.ep_unit_laws.proofs.Holds.{HasKindHere, HasTypeHere, Holds, HoldsDeclaration, Lists, ListsEnumeration, ListsKind, holds_more, host_denotes, known_listed, lists_kind_more, lists_more, lists_small, named_tree, required_lists}
+use Rattle.ep_unit_laws.proofs.Holds.{HasKindHere, HasTypeHere, Holds, HoldsDeclaration, Lists, ListsEnumeration, ListsKind, holds_more, host_denotes, known_listed, lists_kind_more, lists_more, lists_small, named_tree, required_lists, type_values}
 use Rattle.ep_unit_laws.proofs.Open.{IsOpen}
 use Rattle.ep_unit_laws.proofs.Leading.{Extends, Enters, Grows, bodies_refl, extends_before, grows_refl, grows_trans, head_in, length_push, prefix_last, prefix_length, prefix_more, prefix_refl, waits_some}
 use Rattle.ep_unit_laws.proofs.Meant.{HoldsMeant, meant_holds, meant_in_holds}
@@ -89,7 +89,7 @@ module _ (u : TypedUnit) where
         let t = held i x in
         ((t.denotes.0, subst (λ n. DenotesKind u.types i n k t.denotes.0) (sym (named_is d.number [])) t.denotes.1, t.denotes.2), t.lists);
   }
-  declared_names d (declaration.Constant k v) b held = tt
+  declared_names d (declaration.Constant k v deep) b held = tt
   declared_names d (declaration.Variable of k) b held = tt
   declared_names d (declaration.Own of k guarded) b held = tt
   declared_names d (declaration.Procedure ps) b held = tt
@@ -260,7 +260,7 @@ module _ (u : TypedUnit) where
   one_host kind.File l h e = cc
 
   -- a bound is of its host
-  bound_of_host : (h : Host) (v : Value) → IsConstantOf (kind.Ordinal h) v → IsTrue (is_of_host (typed_host h) (number_in v))
+  bound_of_host : (h : Host) (v : Value) → IsConstantOf (type_values u) u.types (kind.Ordinal h) v → IsTrue (is_of_host (typed_host h) (number_in v))
   bound_of_host h (value.Word z) s = s.1
   bound_of_host h (value.Text bytes) s = absurd s
   bound_of_host h (value.Set members) s = absurd s
@@ -309,8 +309,8 @@ module _ (u : TypedUnit) where
     holds = λ under ext free next x. absurd (waits_some b.waits line free);
   }
 
-  ordinal_constant : (k : Kind) (h : Host) (v : Value) → k ≡ kind.Ordinal h → IsConstantOf k v → IsConstantOf (kind.Ordinal h) v
-  ordinal_constant k h v e s = subst (λ x. IsConstantOf x v) e s
+  ordinal_constant : (built : Bool) (k : Kind) (h : Host) (v : Value) → k ≡ kind.Ordinal h → IsConstantIf built (type_values u) u.types k v → IsConstantOf (type_values u) u.types (kind.Ordinal h) v
+  ordinal_constant built k h v e s = subst (λ x. IsConstantIf built (type_values u) u.types x v) e s
 
   range_bounds : BoundsAreSound → BoundsAreKnown → (b : Block) (first second : Expression) (low high : ConstantForm) (h : Host) (a : Unit {0}) → bound_judged (scopes_of b) first ≡ Accepts low → bound_judged (scopes_of b) second ≡ Accepts high
       → common_host low.kind high.kind ≡ Accepts h → ordered low high ≡ Accepts a → AreBounds b h low high
@@ -320,10 +320,10 @@ module _ (u : TypedUnit) where
         hosts = hosts;
         order = λ built is yes. in_order built low high yes (subst (λ x. (if x then int_le (number_in low.value) (number_in high.value) else true) ≡ true) is (ordered_if _ a ordering));
         lists = λ i x. subst (ListsKind u i) hosts.left (known_listed u i b low.kind x (known (scopes_of b) first low e));
-        low_is = λ under i le x. bound_of_host h low.value (ordinal_constant low.kind h low.value hosts.left (sound (scopes_of b) first low e (within u b.own.enclosing) (holds_agrees u i b under le x)));
+        low_is = λ under i le x. bound_of_host h low.value (ordinal_constant low.built low.kind h low.value hosts.left (sound (scopes_of b) first low e (within u b.own.enclosing) (type_values u) (holds_agrees u i b under le x).1));
         high_is = λ under i le x.
             subst (λ g. IsTrue (is_of_host g (number_in high.value))) (host_same h hosts.other hosts.alike)
-            (bound_of_host hosts.other high.value (ordinal_constant high.kind hosts.other high.value hosts.right (sound (scopes_of b) second high f (within u b.own.enclosing) (holds_agrees u i b under le x))));
+            (bound_of_host hosts.other high.value (ordinal_constant high.built high.kind hosts.other high.value hosts.right (sound (scopes_of b) second high f (within u b.own.enclosing) (type_values u) (holds_agrees u i b under le x).1)));
       }
 
   pub range_writes : BoundsAreSound → BoundsAreKnown → (line : ℕ) (b : Block) (first second : Expression) (low high : ConstantForm) → bound_judged (scopes_of b) first ≡ Accepts low → bound_judged (scopes_of b) second ≡ Accepts high → Fits (Writes b) (range line b low high)

@@ -1,7 +1,7 @@
 //! The first node of an expression or a component value that is not built.
 
 ghost use Rattle.std.specs.Prelude.{◌≡◌, map};
-ghost use Rattle.ep_built.specs.Built.{all_are_built, lines_in, addend_belonging, multiplier_belonging, selector_belonging, first_in, component_value_unbuilt, constant_value_unbuilt, element_unbuilt, factor_unbuilt, argument_unbuilt, access_unbuilt, expression_unbuilt, label_unbuilt, simple_unbuilt, term_unbuilt, values_unbuilt};
+ghost use Rattle.ep_built.specs.Built.{all_are_built, lines_in, addend_belonging, multiplier_belonging, selector_belonging, first_in, component_value_unbuilt, element_unbuilt, factor_unbuilt, argument_unbuilt, access_unbuilt, expression_unbuilt, label_unbuilt, simple_unbuilt, term_unbuilt, values_unbuilt};
 
 use crate::built::{at_node, forms};
 use ep_base::Line;
@@ -216,13 +216,6 @@ pub(super) fn component_value(v: &ComponentValue) -> Option<Line>
         ComponentValue::Expression(e) => expression(e.get()),
         ComponentValue::Bracketed(_, inner) => values(inner.get()),
     }
-}
-
-/// Of the value of a constant definition, which is no structured value as a whole.
-pub(super) fn constant_value(v: &ComponentValue) -> Option<Line>
-    ensures { result ≡ constant_value_unbuilt v.now }
-{
-    forms::structured_line(v).or(component_value(v))
 }
 
 #[cycle(lines)]

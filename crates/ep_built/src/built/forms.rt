@@ -5,7 +5,7 @@ ghost use Rattle.std.specs.Prelude.{◌≡◌, map};
 ghost use Rattle.std.specs.List.{list_all};
 ghost use Rattle.std.specs.Option.{option_copied};
 ghost use Rattle.ep_tree.specs.Shapes.{bare};
-ghost use Rattle.ep_built.specs.Built.{built_component, built_program, built_import, built_type_name, built_heading, built_start, built_routine, built_type_definition, built_plain, built_formal_type, built_section, built_core, built_selector, built_variant_part, selector_form, is_component, behind_call, is_call, built_target, built_control, built_call, behind_arguments, built_statement, built_relation, built_adding, built_multiplying, is_character, built_factor, built_access, form_told, selector_belonging, structured_line, is_bare_text};
+ghost use Rattle.ep_built.specs.Built.{built_component, built_program, built_import, built_type_name, built_heading, built_start, built_routine, built_type_definition, built_plain, built_formal_type, built_section, built_core, built_selector, built_variant_part, selector_form, is_component, behind_call, is_call, built_target, built_control, built_call, behind_arguments, built_statement, built_relation, built_adding, built_multiplying, is_character, built_factor, built_access, form_told, selector_belonging, is_bare_text};
 ghost use Rattle.ep_tree.specs.declared.expression.ComponentValue.{out-ComponentValue};
 ghost use Rattle.ep_tree.specs.declared.expression.Factor.{out-Factor};
 ghost use Rattle.ep_tree.specs.declared.types.Core.{out-Core};
@@ -265,19 +265,6 @@ pub(super) fn access_is_built(name: &Name, selectors: &[Selector]) -> bool
     ensures { result ≡ built_access name.now (map form_told (map selector_belonging selectors.now)) }
 {
     are_components(behind_call(selectors)) && !names::is_later(name)
-}
-
-/// The line of a structured value that a whole component value is, with the name of its type or without.
-pub(super) fn structured_line(v: &ComponentValue) -> Option<Line>
-    ensures { result ≡ structured_line (out-ComponentValue v.now) }
-{
-    match v {
-        ComponentValue::Expression(e) => match bare(e.get())? {
-            Factor::Structured(line, _, _) => Some(*line),
-            _ => None,
-        },
-        ComponentValue::Bracketed(line, _) => Some(*line),
-    }
 }
 
 /// The factor of an expression that is nothing more.

@@ -3,7 +3,7 @@
 ghost use Rattle.std.specs.Prelude.{◌≡◌, map};
 ghost use Rattle.ep_built.specs.Built.{first_in, constant_unbuilt, type_unbuilt, variable_unbuilt, part_unbuilt, body_unbuilt, routine_unbuilt, section_unbuilt, heading_unbuilt, start_unbuilt};
 
-use crate::built::expressions::constant_value;
+use crate::built::expressions::component_value;
 use crate::built::statements::compound;
 use crate::built::types::type_denoter;
 use crate::built::{at_node, forms};
@@ -93,7 +93,7 @@ fn constants(all: &[ConstantDefinition]) -> Option<Line>
     ensures { result ≡ first_in (map constant_unbuilt all.now) }
 {
     for definition in all {
-        let line = constant_value(&definition.value);
+        let line = component_value(&definition.value);
         if line.is_some() {
             return line;
         }

@@ -84,7 +84,7 @@ module _ (depth : ℕ) (unit : List ℕ) (results : List FunctionResult) where
   declared_targets d (declaration.Variable of k) = refl
   declared_targets d (declaration.Own of k guarded) =
       fits_then Any (Targets false) (λ done. Accepts (record { receiver = Some (At (own_place depth d)); kind = k })) (unless_protected guarded) (fits_any (unless_protected guarded)) (λ a p. refl)
-  declared_targets d (declaration.Constant k v) = tt
+  declared_targets d (declaration.Constant k v deep) = tt
   declared_targets d (declaration.«Type» of h nodes) = tt
   declared_targets d (declaration.Procedure parameters) = tt
   declared_targets d (declaration.Function parameters of k) = function_targets d results

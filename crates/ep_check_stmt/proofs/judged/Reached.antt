@@ -98,7 +98,7 @@ function_reached callee k (Accepts t) = deep-plain (IsReached None) (λ form kin
 function_reached callee k (Breaks rules) = tt
 
 declared_reached : (depth : ℕ) (d : Declared) (what : Declaration) → Fits (IsReached (tags.declared_reached what)) (value_declared depth d what)
-declared_reached depth d (declaration.Constant k v) = tt
+declared_reached depth d (declaration.Constant k v deep) = tt
 declared_reached depth d (declaration.«Type» of h nodes) = tt
 declared_reached depth d (declaration.Variable of k) = (refl, refl)
 declared_reached depth d (declaration.Own of k guarded) = (refl, refl)
@@ -128,7 +128,7 @@ named_reached depth name Nothing = tt
 
 -- what is called is no variable
 declared_called : (depth : ℕ) (d : Declared) (what : Declaration) (gs : List Given) → Fits (IsReached None) (call_declared depth d what gs)
-declared_called depth d (declaration.Constant k v) gs = tt
+declared_called depth d (declaration.Constant k v deep) gs = tt
 declared_called depth d (declaration.«Type» of h nodes) gs = tt
 declared_called depth d (declaration.Variable of k) gs = tt
 declared_called depth d (declaration.Own of k guarded) gs = tt

@@ -90,7 +90,7 @@ module _ (c : Context) where
   declared_simple : (line : ℕ) (d : Declared) (what : Declaration) (arguments : List Argument) → Fits (IfForm IsSimple) (declared_called c line d what arguments)
   declared_simple line d (declaration.Procedure parameters) arguments = own_simple line d parameters arguments
   declared_simple line d (declaration.Function parameters of h) arguments = tt
-  declared_simple line d (declaration.Constant k v) arguments = tt
+  declared_simple line d (declaration.Constant k v deep) arguments = tt
   declared_simple line d (declaration.«Type» of h nodes) arguments = tt
   declared_simple line d (declaration.Variable of k) arguments = tt
   declared_simple line d (declaration.Own of k guarded) arguments = tt

@@ -210,7 +210,7 @@ module _ (declared : Declarations) (values : ValuesAreSound) (variables : Variab
     declared_fits d (declaration.Variable of k) x = variable_fits (tree.Variable d.unit d.number) k x.0
     declared_fits d (declaration.Own of k guarded) x =
         fits_then Any IsTarget (λ done. Accepts (record { receiver = Some (At (own_place depth d)); kind = k })) (unless_protected guarded) (fits_any (unless_protected guarded)) (λ a i. variable_fits (own_place depth d) k x.0)
-    declared_fits d (declaration.Constant k v) x = tt
+    declared_fits d (declaration.Constant k v deep) x = tt
     declared_fits d (declaration.«Type» of h nodes) x = tt
     declared_fits d (declaration.Procedure parameters) x = tt
     declared_fits d (declaration.Function parameters of h) x = function_fits unit d results there

@@ -23,7 +23,7 @@ use Rattle.ep_scope.specs.declared.kind.Kind.TheVariants as kind
 use Rattle.ep_scope.specs.declared.rule.TheConstants as rule
 use Rattle.ep_typed.specs.declared.unit.UnitVariable.{UnitVariable}
 use Rattle.ep_scope.specs.declared.structure.StructuredType.{StructuredType}
-use Rattle.ep_check_expr.specs.Agreement.{Agrees, IsConstantOf, TypeValues}
+use Rattle.ep_check_expr.specs.Agreement.{Agrees, IsConstantIf, TypeValues}
 use Rattle.ep_check_expr.specs.Constants.{label_judged}
 use Rattle.ep_check_expr.specs.Hosts.{typed_host}
 use Rattle.ep_check_expr.specs.Judgements.{Judged, Accepts, Breaks, when_accepted}
@@ -139,12 +139,15 @@ module _ (declared : Declarations) (labels : LabelsAreSound) (scopes : List Regi
   end_by g z false true e p = tt
   end_by g z built false e p = tt
 
-  fitting_fits : (k : Kind) (v : Value) (built : Bool) → IsConstantOf k v → Fits (IfForm IsEnd) (fitting h k v built)
+  fitting_fits : (k : Kind) (v : Value) (built : Bool) → IsConstantIf built agrees.0 declared.routine_types k v → Fits (IfForm IsEnd) (fitting h k v built)
   fitting_fits (kind.Ordinal g) (value.Word z) built p = end_by g z built (same_host h g) refl p.1
   fitting_fits (kind.Ordinal g) (value.Text bytes) built p = absurd p
   fitting_fits (kind.Ordinal g) (value.Set members) built p = absurd p
   fitting_fits (kind.Ordinal g) (value.Structured of es) built p = absurd p
-  fitting_fits (kind.Structured n) v built p = absurd p
+  fitting_fits (kind.Structured n) (value.Word z) built p = tt
+  fitting_fits (kind.Structured n) (value.Text bytes) built p = tt
+  fitting_fits (kind.Structured n) (value.Set members) built p = tt
+  fitting_fits (kind.Structured n) (value.Structured of es) built p = tt
   fitting_fits (kind.Set base) (value.Word z) built p = tt
   fitting_fits (kind.Set base) (value.Text bytes) built p = tt
   fitting_fits (kind.Set base) (value.Set members) built p = tt
@@ -166,7 +169,7 @@ module _ (declared : Declarations) (labels : LabelsAreSound) (scopes : List Regi
   end_fits e = go (label_judged scopes e) refl
     where
       go : (j : Judged ConstantForm) → label_judged scopes e ≡ j → Fits (IfForm IsEnd) (when_accepted (λ c. fitting h c.kind c.value c.built) j)
-      go (Accepts c) is = fitting_fits c.kind c.value c.built (labels scopes e c is declared agrees)
+      go (Accepts c) is = fitting_fits c.kind c.value c.built (labels scopes e c is declared agrees.0 agrees.1)
       go (Breaks rules) is = tt
 
   abbrev IsRangeOf : CaseRange → Type 0

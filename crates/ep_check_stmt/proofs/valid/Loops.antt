@@ -69,7 +69,7 @@ module _ (declared : Declarations) (scopes : List Region) (agrees : Agrees decla
   declared_fits : (locals : Locals) (d : Declared) (what : Declaration) → IsDeclaration declared agrees.0 (structures_of scopes) (depth_in scopes) d what → Fits IsVariable (declared_control locals (depth_in scopes) d what)
   declared_fits locals d (declaration.Variable of k) x = if_fits (declares_variable locals d.unit) (record { variable = tree.OfUnit d.unit d.number; kind = k }) (stored_fits (tree.Variable d.unit d.number) k x.0)
   declared_fits locals d (declaration.Own of k guarded) x = if_fits (declares_own locals (depth_in scopes) d) (record { variable = tree.OfRoutine (depth_in scopes - d.level) d.number; kind = k }) (stored_fits (own_place (depth_in scopes) d) k x.0)
-  declared_fits locals d (declaration.Constant k v) x = tt
+  declared_fits locals d (declaration.Constant k v deep) x = tt
   declared_fits locals d (declaration.«Type» of h nodes) x = tt
   declared_fits locals d (declaration.Procedure parameters) x = tt
   declared_fits locals d (declaration.Function parameters of h) x = tt

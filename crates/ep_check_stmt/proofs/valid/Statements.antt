@@ -297,7 +297,7 @@ module _ (declared : Declarations) (expressions : ExpressionsAreSound) (passed :
   declared_call_fits : (c : Context) → c.scopes ≡ scopes → (line : ℕ) (d : Declared) (what : Declaration) (arguments : List Argument) → IsDeclaration declared agrees.0 structures depth d what → Fits (IfForm (IsStmt declared)) (declared_called c line d what arguments)
   declared_call_fits c is line d (declaration.Procedure parameters) arguments x = own_fits c is line d parameters arguments x
   declared_call_fits c is line d (declaration.Function parameters of h) arguments x = tt
-  declared_call_fits c is line d (declaration.Constant k v) arguments x = tt
+  declared_call_fits c is line d (declaration.Constant k v deep) arguments x = tt
   declared_call_fits c is line d (declaration.«Type» of h nodes) arguments x = tt
   declared_call_fits c is line d (declaration.Variable of k) arguments x = tt
   declared_call_fits c is line d (declaration.Own of k guarded) arguments x = tt

@@ -2,8 +2,8 @@
 
 use ep_base::{Boxed, Bytes, Line, List, Name, NameRefusal};
 use ep_typed::{
-    Binary, Callee, CaseRange, Element, Elements, Print, TypedExpr, TypedPlace, TypedStmt, Unary,
-    WriteItem,
+    Binary, Callee, CaseRange, Element, Elements, Print, Shared, TypedExpr, TypedPlace, TypedStmt,
+    Unary, WriteItem,
 };
 use std::alloc::{AllocError, Global};
 
@@ -265,6 +265,7 @@ impl Builder {
 
     fn structured(&mut self, number: u32) -> Result<(), Unbuilt> {
         let elements = std::mem::replace(&mut self.elements, List::new(self.alloc));
+        let elements = Shared::new(self.alloc, elements)?;
         self.push(TypedExpr::Structured(number, elements))
     }
 
