@@ -4,7 +4,7 @@ use Rattle.std.proofs.lemmas.Option.{same_Some}
 use Rattle.std.specs.Prelude.{All, unwrap_or}
 use Rattle.ep_typed.specs.Denoters.{host_of, bare_type_of}
 use Rattle.ep_typed.specs.Trees as tree
-use Rattle.ep_typed.specs.Trees.{Denoter, Elements, Expr, Field, FieldValue, IndexedValue, Place, Read}
+use Rattle.ep_typed.specs.Trees.{Denoter, Elements, Expr, Field, FieldValue, IndexedValue, Place, Read, VariantValue}
 use Rattle.ep_typed.specs.TypeValues as type
 use Rattle.ep_typed.specs.TypeValues.{ComponentTypes, TypeValue, bare_of}
 use Rattle.ep_typed.specs.Valid as valid
@@ -20,9 +20,10 @@ use Rattle.ep_scope.specs.declared.structure.FieldType.{FieldType}
 use Rattle.ep_scope.specs.declared.structure.StructuredType.{StructuredType}
 use Rattle.ep_scope.specs.declared.structure.TagType.{TagType}
 use Rattle.ep_scope.specs.declared.structure.VariantStep.{VariantStep}
-use Rattle.ep_check_expr.specs.Agreement.{AreHeld, HasKind, HoldsStructure, IsAccessOf, IsFieldAt, IsFieldValue, IsFormOf, IsHost, IsOfType, IsPartValue, IsStoredIn, IsStructuredAt, IsStructuredValue, IsValueOf, IsValueOfKind, TypeValues}
-use Rattle.ep_check_expr.specs.ConstantAccesses.{element_known, field_known}
-use Rattle.ep_check_expr.specs.FieldDesignators.{component_taken, constant_part, part_taken, reached}
+use Rattle.ep_check_expr.specs.Agreement.{AreHeld, HasKind, HoldsStructure, IsAccessOf, IsFieldAt, IsFieldValue, IsFormOf, IsHost, IsOfType, IsPartValue, IsStoredIn, IsStructuredAt, IsStructuredValue, IsValueAlong, IsValueOf, IsValueOfKind, TypeValues}
+use Rattle.ep_check_expr.specs.ConstantAccesses.{element_known}
+use Rattle.ep_check_expr.specs.FieldDesignators.{component_taken, part_taken, reached, taken_along}
+use Rattle.ep_check_expr.specs.KnownFields.{field_known}
 use Rattle.ep_check_expr.specs.declared.folding.Folded.{Folded}
 use Rattle.ep_check_expr.proofs.ConstantAccesses.{element_known-fits, field_known-fits}
 use Rattle.ep_check_expr.specs.Hosts.{typed_host}
@@ -150,6 +151,21 @@ module _ (declared : Declarations) (types : TypeValues) (structures : List Struc
   field-form kind.Text whole number p = absurd p
   field-form kind.File whole number p = absurd p
 
+  -- a component of the value of a record
+  part-form : (x : Expr) (ts : ComponentTypes) → AreHeld types structures → IsExpr declared (valid.Structured (type.Record ts)) x → (k : Kind) (number : ℕ) (tag : Option TagType) → IsPartValue types tag number k ts
+      → IsFormOf declared types structures k (Some (component_taken tag number x))
+  part-form x ts held whole k number None p = field-form k x number (taken-value k p.0 (FieldValue x number) p.2 held (λ w q. (ts, p.0, whole, p.1, q)))
+  part-form x ts held whole k number (Some tag) p =
+      let own = type.next_component p.0 type.no_component in
+      field-form k (FieldValue x number) 0 (taken-value k p.0 (FieldValue (FieldValue x number) 0) p.2 held (λ w q. (own, p.0, (ts, type.Record own, whole, p.1, (refl, tt)), refl, q)))
+
+  -- a field of the variant to which steps lead from it
+  along-form : (x : Expr) (ts : ComponentTypes) → AreHeld types structures → IsExpr declared (valid.Structured (type.Record ts)) x → (k : Kind) (number : ℕ) (tag : Option TagType) (path : List VariantStep) → IsValueAlong (IsPartValue types tag number k) path ts
+      → IsFormOf declared types structures k (Some (component_taken tag number (taken_along path x)))
+  along-form x ts held whole k number tag [] p = part-form x ts held whole k number tag p
+  along-form x ts held whole k number tag (s ∷ path) p =
+      along-form (VariantValue x s.selection s.variant) p.1 held (ts, p.1, p.0.1, p.0.2, whole, p.0.4, p.2, refl, (p.0.0, p.0.3)) k number tag path p.3
+
   -- no component of it is a variable, since the value is none
   value-access : (of : TypeName) (whole : Access) (x component : Expr) → ((place : Place) → x ≡ Read place → ⊥) → IsAccessOf declared types whole (Some x) → IsAccessOf declared types (component_access of whole) (Some component)
   value-access of (access.Variable outer guarded) x component unread h = absurd (unread h.0 h.1)
@@ -192,45 +208,25 @@ module _ (declared : Declarations) (types : TypeValues) (structures : List Struc
           value-access a.component whole x y unread g,
         )
 
-    -- a component of the value of a record
-    part-form : (ts : ComponentTypes) → IsExpr declared (valid.Structured (type.Record ts)) x → (k : Kind) (number : ℕ) (tag : Option TagType) → IsPartValue types tag number k ts
-        → IsFormOf declared types structures k (Some (component_taken tag number x))
-    part-form ts whole k number None p = field-form k x number (taken-value k p.0 (FieldValue x number) p.2 v.1 (λ w q. (ts, p.0, whole, p.1, q)))
-    part-form ts whole k number (Some tag) p =
-        let own = type.next_component p.0 type.no_component in
-        field-form k (FieldValue x number) 0 (taken-value k p.0 (FieldValue (FieldValue x number) 0) p.2 v.1 (λ w q. (own, p.0, (ts, type.Record own, whole, p.1, (refl, tt)), refl, q)))
-
-    -- a field of it, which is not built in a variant
-    field-taken : (ts : ComponentTypes) → IsExpr declared (valid.Structured (type.Record ts)) x → (f : FieldType) → HasComponents f.kind → (path : List VariantStep) → IsFieldValue types path f ts
-        → IsFormOf declared types structures f.kind (part_taken path f.tag f.number x)
-    field-taken ts whole f some [] p = part-form ts whole f.kind f.number f.tag p
-    field-taken ts whole f some (s ∷ path) p = unbuilt-form f.kind some v.1.0 v.1.1
-
-    -- alike of a record that is written out
-    known-part : (ts : ComponentTypes) → IsExpr declared (valid.Structured (type.Record ts)) x → (f : FieldType) (number : ℕ) (es : Elements) → x ≡ tree.Structured number es → IsPartValue types f.tag f.number f.kind ts → (o : Option Expr)
-        → field_known f.kind es f.tag f.number ≡ o → IsFormOf declared types structures f.kind (Some (unwrap_or o (component_taken f.tag f.number x)))
-    known-part ts whole f number es is p None known = part-form ts whole f.kind f.number f.tag p
+    -- a field of the value of a record, and alike of a record that is written out, where it may be known
+    known-part : (ts : ComponentTypes) → IsExpr declared (valid.Structured (type.Record ts)) x → (f : FieldType) (number : ℕ) (es : Elements) → x ≡ tree.Structured number es → IsFieldValue types f ts → (o : Option Expr)
+        → field_known f es ≡ o → IsFormOf declared types structures f.kind (Some (unwrap_or o (part_taken f x)))
+    known-part ts whole f number es is p None known = along-form x ts v.1 whole f.kind f.number f.tag f.path p
     known-part ts whole f number es is p (Some y) known =
-        field_known-fits declared types structures f.kind ts es f.tag f.number y p v.1
+        field_known-fits declared types structures f ts es y p v.1
         (written_elements (type.Record ts) number es (subst (IsExpr declared (valid.Structured (type.Record ts))) is whole) (type.Record ts) refl) known
 
-    field-known : (ts : ComponentTypes) → IsExpr declared (valid.Structured (type.Record ts)) x → (f : FieldType) → HasComponents f.kind → (number : ℕ) (es : Elements) → x ≡ tree.Structured number es → (path : List VariantStep) → IsFieldValue types path f ts
-        → IsFormOf declared types structures f.kind (constant_part (field_known f.kind es f.tag f.number) path f.tag f.number x)
-    field-known ts whole f some number es is [] p = known-part ts whole f number es is p (field_known f.kind es f.tag f.number) refl
-    field-known ts whole f some number es is (s ∷ path) p = unbuilt-form f.kind some v.1.0 v.1.1
-
-    pub known-field : (fs : List FieldType) (place : ℕ) (f : FieldType) → slice_get fs place ≡ Some f → HoldsStructure types v.1.0 (made_so n (composition.Record fs)) → HasComponents f.kind → (number : ℕ) (es : Elements) → x ≡ tree.Structured number es
-        → IsFormOf declared types structures f.kind (constant_part (field_known f.kind es f.tag f.number) f.path f.tag f.number x)
-    known-field fs place f there h some number es is =
+    pub known-field : (fs : List FieldType) (place : ℕ) (f : FieldType) → slice_get fs place ≡ Some f → HoldsStructure types v.1.0 (made_so n (composition.Record fs)) → (number : ℕ) (es : Elements) → x ≡ tree.Structured number es
+        → IsFormOf declared types structures f.kind (Some (unwrap_or (field_known f es) (part_taken f x)))
+    known-field fs place f there h number es is =
         let made = h.value_made in
         let same : v.0.0 ≡ type.Record made.0 = one_type n v.0.0 h.type_value v.0.1 h.has_value ∙ made.1 in
         let whole : IsExpr declared (valid.Structured (type.Record made.0)) x = subst (λ t. IsExpr declared (valid.Structured t) x) same v.0.2 in
-        field-known made.0 whole f some number es is f.path (all_there (λ (g : FieldType). IsFieldValue types g.path g made.0) fs place f made.2 there)
+        known-part made.0 whole f number es is (all_there (λ (g : FieldType). IsFieldValue types g made.0) fs place f made.2 there) (field_known f es) refl
 
-    pub field-component : (fs : List FieldType) (number : ℕ) (f : FieldType) → slice_get fs number ≡ Some f → HoldsStructure types v.1.0 (made_so n (composition.Record fs)) → HasComponents f.kind
-        → IsFormOf declared types structures f.kind (part_taken f.path f.tag f.number x)
-    field-component fs number f there h some =
+    pub field-component : (fs : List FieldType) (number : ℕ) (f : FieldType) → slice_get fs number ≡ Some f → HoldsStructure types v.1.0 (made_so n (composition.Record fs)) → IsFormOf declared types structures f.kind (Some (part_taken f x))
+    field-component fs number f there h =
         let made = h.value_made in
         let same : v.0.0 ≡ type.Record made.0 = one_type n v.0.0 h.type_value v.0.1 h.has_value ∙ made.1 in
         let whole : IsExpr declared (valid.Structured (type.Record made.0)) x = subst (λ t. IsExpr declared (valid.Structured t) x) same v.0.2 in
-        field-taken made.0 whole f some f.path (all_there (λ (g : FieldType). IsFieldValue types g.path g made.0) fs number f made.2 there)
+        along-form x made.0 v.1 whole f.kind f.number f.tag f.path (all_there (λ (g : FieldType). IsFieldValue types g made.0) fs number f made.2 there)

@@ -1,5 +1,5 @@
 -- What is known of a component of a valid constant is a valid form of its kind.
-use Rattle.std.proofs.Common.{◌≡◌, ◌∙◌, ℕ, ℤ, Bool, true, false, IsTrue, List, [], ◌∷◌, Option, Some, None, refl, sym, ap, subst}
+use Rattle.std.proofs.Common.{◌≡◌, ◌∙◌, ℕ, ℤ, Bool, true, false, List, [], ◌∷◌, Option, Some, None, refl, sym, ap, subst, ◌++◌, map}
 use Rattle.std.proofs.lemmas.Option.{same_Some}
 use Rattle.std.proofs.lemmas.Slice.Eq.{bytes_eq-Decides}
 use Rattle.std.specs.Option.{option_and_then, option_or}
@@ -7,21 +7,26 @@ use Rattle.std.specs.Prelude.{if◌then◌else◌}
 use Rattle.std.specs.Str.{bytes_eq}
 use Rattle.ep_typed.specs.Hosts.{greatest, is_of_host, least}
 use Rattle.ep_typed.specs.Trees as tree
-use Rattle.ep_typed.specs.Trees.{AtField, AtIndex, AtRanges, Card, Constant, Elements, Expr, FieldValue, Function, IndexedValue, OnSets, One, Read, SameField, SetConstant, SetOf, Short, Step, Text, Two, next_element, no_element}
+use Rattle.ep_typed.specs.Trees.{AtField, AtIndex, AtRanges, Constant, Elements, Expr, SameField, SetConstant, Text, next_element, no_element}
 use Rattle.ep_typed.specs.TypeValues as type
-use Rattle.ep_typed.specs.TypeValues.{ComponentTypes, TypeValue, bare_of, type_among}
+use Rattle.ep_typed.specs.TypeValues.{ComponentTypes, TypeValue, bare_of}
 use Rattle.ep_typed.specs.Valid as valid
 use Rattle.ep_typed.specs.Valid.{AreElements, Declarations, IsExpr, IsStructured, IsTypeOfKind, LeadTo}
 use Rattle.ep_scope.specs.declared.kind.Kind.{Kind}
 use Rattle.ep_scope.specs.declared.kind.Kind.TheVariants as kind
 use Rattle.ep_scope.specs.declared.structure.StructuredType.{StructuredType}
+use Rattle.ep_scope.specs.declared.structure.FieldType.{FieldType}
 use Rattle.ep_scope.specs.declared.structure.TagType.{TagType}
-use Rattle.ep_check_expr.specs.Agreement.{AreHeld, IsFormOf, IsPartValue, IsValueOfKind, TypeValues}
-use Rattle.ep_check_expr.specs.ConstantAccesses.{are_of_host, constant_as, element_known, field_known, has_index, value_at, value_for, value_of_field}
+use Rattle.ep_scope.specs.declared.structure.VariantStep.{VariantStep}
+use Rattle.ep_check_expr.specs.Agreement.{AreHeld, IsFieldValue, IsFormOf, IsPartValue, IsValueAlong, IsValueOfKind, TypeValues}
+use Rattle.ep_check_expr.specs.ConstantAccesses.{are_of_host, constant_as, element_known, has_index, value_at, value_for, value_of_field}
 use Rattle.ep_check_expr.specs.Folding.{number_in}
 use Rattle.ep_check_expr.specs.Hosts.{typed_host}
+use Rattle.ep_check_expr.specs.KnownFields.{are_selected, field_known}
+use Rattle.ep_check_expr.specs.VariantSteps.{field_steps, part_steps, variant_step}
 use Rattle.ep_check_expr.specs.declared.folding.Folded.{Folded}
 use Rattle.ep_check_expr.specs.declared.folding.Folded.TheVariants.{Known, Varies, Errs}
+use Rattle.ep_check_expr.proofs.Leading.{Leads, step_leads}
 use Rattle.ep_check_expr.proofs.Betweens.{between_all}
 
 same_bytes : (a b : List ℕ) → bytes_eq a b ≡ true → a ≡ b
@@ -163,16 +168,27 @@ module _ (declared : Declarations) (types : TypeValues) (structures : List Struc
   element_known-fits k low high of es Varies y v held given e = cc
   element_known-fits k low high of es Errs y v held given e = cc
 
-  -- a field of a record, or its tag
-  pub field_known-fits : (k : Kind) (ts : ComponentTypes) (es : Elements) (tag : Option TagType) (number : ℕ) (y : Expr) → IsPartValue types tag number k ts → AreHeld types structures → AreElements declared (type.Record ts) es → field_known k es tag number ≡ Some y
-      → IsFormOf declared types structures k (Some y)
-  field_known-fits k ts es None number y p held given e =
-      form-if k p.0 (value_for es es (number ∷ [])) y p.2 held
-      (λ x f.
-      let g = for-given declared ts es es (number ∷ []) x given given f in
-      subst (λ t. IsGivenFor declared t x) (same_Some g.0 p.0 (sym g.1 ∙ p.1)) g.2) e
-  field_known-fits k ts es (Some tag) number y p held given e =
-      form-if k p.0 (value_for es es (number ∷ 0 ∷ [])) y p.2 held
-      (λ x f.
-      let g = for-given declared ts es es (number ∷ 0 ∷ []) x given given f in
-      subst (λ t. IsGivenFor declared t x) (leads_once ts (number ∷ 0 ∷ []) g.0 p.0 g.1 (type.next_component p.0 type.no_component, p.1, refl)) g.2) e
+  -- the steps to a field lead to a component with a type value of its kind
+  part-leads : (tag : Option TagType) (number : ℕ) (k : Kind) (ts : ComponentTypes) → IsPartValue types tag number k ts → Leads types ts k (part_steps tag number)
+  part-leads None number k ts p = (p.0, p.1, p.2)
+  part-leads (Some tag) number k ts p = (p.0, (type.next_component p.0 type.no_component, p.1, refl), p.2)
+
+  along-leads : (path : List VariantStep) (tag : Option TagType) (number : ℕ) (k : Kind) (ts : ComponentTypes) → IsValueAlong (IsPartValue types tag number k) path ts → Leads types ts k (map variant_step path ++ part_steps tag number)
+  along-leads [] tag number k ts p = part-leads tag number k ts p
+  along-leads (s ∷ path) tag number k ts p =
+      let l = along-leads path tag number k p.1 p.3 in
+      (l.0, step_leads ts p.1 (variant_step s) (map variant_step path ++ part_steps tag number) l.0 p.2 l.1, l.2)
+
+  -- a field of a record
+  pub field_known-fits : (f : FieldType) (ts : ComponentTypes) (es : Elements) (y : Expr) → IsFieldValue types f ts → AreHeld types structures → AreElements declared (type.Record ts) es → field_known f es ≡ Some y
+      → IsFormOf declared types structures f.kind (Some y)
+  field_known-fits f ts es y p held given e = chosen (are_selected es [] f.path) e
+    where
+      chosen : (b : Bool) → (if b then option_and_then (constant_as f.kind) (value_for es es (field_steps f)) else None) ≡ Some y → IsFormOf declared types structures f.kind (Some y)
+      chosen true h =
+          let l = along-leads f.path f.tag f.number f.kind ts p in
+          form-if f.kind l.0 (value_for es es (field_steps f)) y l.2 held
+          (λ x g.
+          let m = for-given declared ts es es (field_steps f) x given given g in
+          subst (λ t. IsGivenFor declared t x) (leads_once ts (field_steps f) m.0 l.0 m.1 l.1) m.2) h
+      chosen false h = cc

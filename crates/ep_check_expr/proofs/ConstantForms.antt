@@ -5,10 +5,10 @@ use Rattle.std.specs.Prelude.{⊤}
 use Rattle.ep_typed.specs.Hosts.{Host, is_of_host}
 use Rattle.ep_typed.specs.Hosts as host
 use Rattle.ep_typed.specs.Trees as tree
-use Rattle.ep_typed.specs.Trees.{Card, Constant, Elements, Expr, FieldValue, Function, IndexedValue, OnSets, One, Read, SetConstant, SetOf, Short, Step, Text, Two}
+use Rattle.ep_typed.specs.Trees.{Card, Constant, Elements, Expr, FieldValue, VariantValue, Function, IndexedValue, OnSets, One, Read, SetConstant, SetOf, Short, Step, Text, Two}
 use Rattle.ep_typed.specs.TypeValues.{TypeValue}
 use Rattle.ep_typed.specs.Valid as valid
-use Rattle.ep_typed.specs.Valid.{Declarations, IsExpr, IsStartFor, IsStructured, word_start, set_start}
+use Rattle.ep_typed.specs.Valid.{Declarations, IsExpr, IsStartFor, word_start, set_start}
 use Rattle.ep_typed.specs.Viewed.{constant_expr}
 use Rattle.ep_typed.specs.declared.unit.UnitType.{UnitType}
 use Rattle.ep_typed.specs.declared.value.Value.TheVariants as value
@@ -62,6 +62,7 @@ text_or_known P scopes for a k depth (Step down low high x y) other f g = g
 text_or_known P scopes for a k depth (Function callee given) other f g = g
 text_or_known P scopes for a k depth (IndexedValue array index) other f g = g
 text_or_known P scopes for a k depth (FieldValue whole number) other f g = g
+text_or_known P scopes for a k depth (VariantValue whole selection number) other f g = g
 text_or_known P scopes for a k depth (tree.Structured number es) other f g = absurd (other (number, es, refl))
 text_or_known P scopes for a k depth (SetConstant members) other f g = g
 text_or_known P scopes for a k depth (SetOf members) other f g = g
@@ -139,6 +140,7 @@ module _ (declared : Declarations) (types : TypeValues) (scopes : List Region) (
   file-fits a depth (Function callee given) s = absurd s
   file-fits a depth (IndexedValue array index) s = absurd s
   file-fits a depth (FieldValue whole number) s = absurd s
+  file-fits a depth (VariantValue whole selection number) s = absurd s
   file-fits a depth (tree.Structured number es) s = absurd s
   file-fits a depth (SetConstant members) s = absurd s
   file-fits a depth (SetOf members) s = absurd s

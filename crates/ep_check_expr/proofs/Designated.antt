@@ -2,7 +2,7 @@
 use Rattle.std.proofs.Common.{◌≡◌, ◌+◌, ℕ, nat_le, List, [], ◌∷◌, slice_get, Option, Some, None, refl, subst, sym}
 use Rattle.std.specs.Prelude.{All}
 use Rattle.ep_typed.specs.Trees as tree
-use Rattle.ep_typed.specs.Trees.{Elements, Place, Expr, Constant, Text, Read, One, Two, Short, Step, Function, IndexedValue, FieldValue, SetConstant, SetOf, OnSets, Card, Field}
+use Rattle.ep_typed.specs.Trees.{Elements, Place, Expr, Constant, Text, Read, One, Two, Short, Step, Function, IndexedValue, FieldValue, VariantValue, SetConstant, SetOf, OnSets, Card, Field}
 use Rattle.ep_typed.specs.Valid.{Declarations}
 use Rattle.ep_typed.specs.declared.unit.UnitType.{UnitType}
 use Rattle.ep_scope.specs.Fields.{field_number}
@@ -104,17 +104,17 @@ module _ (declared : Declarations) (types : TypeValues) (structures : List Struc
     value-access x unread access.Constant h field = tt
     value-access x unread access.Value h field = tt
 
-    value-field : (x : Expr) → part_form f x ≡ part_taken f.path f.tag f.number x → ((place : Place) → x ≡ Read place → ⊥) → IsStructuredValue declared types structures n x → (whole : Access) → IsAccessOf declared types whole (Some x) → IsFieldForm whole (Some x)
+    value-field : (x : Expr) → part_form f x ≡ part_taken f x → ((place : Place) → x ≡ Read place → ⊥) → IsStructuredValue declared types structures n x → (whole : Access) → IsAccessOf declared types whole (Some x) → IsFieldForm whole (Some x)
     value-field x is unread v whole g = (
-      subst (IsFormOf declared types structures f.kind) (sym is) (field-component declared types structures n x unread v fs number f there (in_view v.1.0 v.1.1) some-kind),
-      value-access x unread whole g (part_form f x),
+      subst (λ y. IsFormOf declared types structures f.kind (Some y)) (sym is) (field-component declared types structures n x unread v fs number f there (in_view v.1.0 v.1.1)),
+      value-access x unread whole g (Some (part_form f x)),
     )
 
     -- where it is written out
     written-field : (m : ℕ) (es : Elements) → IsStructuredValue declared types structures n (tree.Structured m es) → (whole : Access) → IsAccessOf declared types whole (Some (tree.Structured m es)) → IsFieldForm whole (Some (tree.Structured m es))
     written-field m es v whole g = (
-      known-field declared types structures n (tree.Structured m es) (λ place e. cc) v fs number f there (in_view v.1.0 v.1.1) some-kind m es refl,
-      value-access (tree.Structured m es) (λ place e. cc) whole g (part_form f (tree.Structured m es)),
+      known-field declared types structures n (tree.Structured m es) (λ place e. cc) v fs number f there (in_view v.1.0 v.1.1) m es refl,
+      value-access (tree.Structured m es) (λ place e. cc) whole g (Some (part_form f (tree.Structured m es))),
     )
 
     -- each way
@@ -124,6 +124,7 @@ module _ (declared : Declarations) (types : TypeValues) (structures : List Struc
     field-valid (Some (Function callee given)) g whole h = value-field (Function callee given) refl (λ place e. cc) g whole h
     field-valid (Some (IndexedValue array index)) g whole h = value-field (IndexedValue array index) refl (λ place e. cc) g whole h
     field-valid (Some (FieldValue inner k)) g whole h = value-field (FieldValue inner k) refl (λ place e. cc) g whole h
+    field-valid (Some (VariantValue inner selection k)) g whole h = value-field (VariantValue inner selection k) refl (λ place e. cc) g whole h
     field-valid (Some (tree.Structured m es)) g whole h = written-field m es g whole h
     field-valid (Some (Constant z)) g whole h = absurd g
     field-valid (Some (Text bytes)) g whole h = absurd g

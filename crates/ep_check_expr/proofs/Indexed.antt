@@ -2,7 +2,7 @@
 use Rattle.std.proofs.Common.{◌≡◌, true, ℕ, suc, max, nat_le, List, [], ◌∷◌, Option, Some, None, refl, subst, sym}
 use Rattle.std.specs.Prelude.{All, unwrap_or}
 use Rattle.ep_typed.specs.Trees as tree
-use Rattle.ep_typed.specs.Trees.{Elements, Place, Expr, Constant, Text, Read, One, Two, Short, Step, Function, IndexedValue, FieldValue, SetConstant, SetOf, OnSets, Card, Indexed}
+use Rattle.ep_typed.specs.Trees.{Elements, Place, Expr, Constant, Text, Read, One, Two, Short, Step, Function, IndexedValue, FieldValue, VariantValue, SetConstant, SetOf, OnSets, Card, Indexed}
 use Rattle.ep_typed.specs.Valid.{Declarations}
 use Rattle.ep_typed.specs.declared.unit.UnitType.{UnitType}
 use Rattle.ep_scope.specs.Scopes.{Region, structure_in}
@@ -93,6 +93,7 @@ module _ (declared : Declarations) (types : TypeValues) (structures : List Struc
     element-valid (Some (Function callee given)) i f g whole h = value-element (Function callee given) (λ j. refl) (λ place e. cc) i f g whole h
     element-valid (Some (IndexedValue array index)) i f g whole h = value-element (IndexedValue array index) (λ j. refl) (λ place e. cc) i f g whole h
     element-valid (Some (FieldValue inner number)) i f g whole h = value-element (FieldValue inner number) (λ j. refl) (λ place e. cc) i f g whole h
+    element-valid (Some (VariantValue inner selection number)) i f g whole h = value-element (VariantValue inner selection number) (λ j. refl) (λ place e. cc) i f g whole h
     element-valid (Some (tree.Structured number es)) i f g whole h = written-element number es i f g whole h
     element-valid (Some (Constant z)) i f g whole h = absurd f
     element-valid (Some (Text bytes)) i f g whole h = absurd f

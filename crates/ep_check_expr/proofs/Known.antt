@@ -8,7 +8,7 @@ use Rattle.ep_typed.specs.Operations.{Answer, Number, Fault, is_integer, decides
 use Rattle.ep_typed.specs.Sets.{member_limit}
 use Rattle.ep_typed.specs.SetOperations.{set_answer}
 use Rattle.ep_typed.specs.Trees as tree
-use Rattle.ep_typed.specs.Trees.{Expr, Constant, Text, Read, One, Two, Short, Step, Function, IndexedValue, FieldValue, SetConstant, SetOf, OnSets, Card, Designator, Single, Range, Designators, no_member, next_member}
+use Rattle.ep_typed.specs.Trees.{Expr, Constant, Text, Read, One, Two, Short, Step, Function, IndexedValue, FieldValue, VariantValue, SetConstant, SetOf, OnSets, Card, Designator, Single, Range, Designators, no_member, next_member}
 use Rattle.ep_typed.specs.Valid.{AreDesignators, Declarations, IsDesignator, IsExpr, IsUnary, IsBinary, IsOnSets}
 use Rattle.ep_typed.specs.Valid as valid
 use Rattle.ep_typed.specs.declared.operations.Unary.{Unary}
@@ -228,6 +228,7 @@ module _ (declared : Declarations) where
     known-of_kind (Function callee given) k x v f = cc
     known-of_kind (IndexedValue array index) k x v f = cc
     known-of_kind (FieldValue whole number) k x v f = cc
+    known-of_kind (VariantValue whole selection number) k x v f = cc
     known-of_kind (tree.Structured number es) k x v f = cc
     known-of_kind (SetConstant ms) k x v f = set-of_kind v.0 k ms x v.1 (v.2, v.3) f
     known-of_kind (SetOf ds) k x v f =

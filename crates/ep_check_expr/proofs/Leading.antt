@@ -23,8 +23,7 @@ use Rattle.ep_scope.specs.declared.structure.TagType.{TagType}
 use Rattle.ep_scope.specs.declared.structure.VariantStep.{VariantStep}
 use Rattle.ep_check_expr.specs.Agreement.{AreFields, Arrays, HasKind, HasStructure, IsAlong, IsFieldOf, IsListed, IsMadeOf, IsPartOf, IsValueOf, IsValueOfKind, Records, Structure, TypeValues}
 use Rattle.ep_check_expr.specs.Hosts.{typed_host}
-use Rattle.ep_check_expr.specs.ConstantAccesses.{part_steps}
-use Rattle.ep_check_expr.specs.StructuredValues.{field_steps}
+use Rattle.ep_check_expr.specs.VariantSteps.{field_steps, part_steps}
 use Rattle.ep_check_expr.proofs.Places.{made_so}
 
 -- from records with these components steps lead to a component with a type value of the kind
@@ -32,7 +31,7 @@ abbrev pub Leads : TypeValues → ComponentTypes → Kind → List ℕ → Type 
 Leads types ts k steps = (t : TypeValue) × LeadTo ts steps t × IsValueOfKind types k t
 
 -- one step before others
-step_leads : (ts us : ComponentTypes) (k : ℕ) (steps : List ℕ) (of : TypeValue) → type_among ts k ≡ Some (type.Record us) → LeadTo us steps of → LeadTo ts (k ∷ steps) of
+pub step_leads : (ts us : ComponentTypes) (k : ℕ) (steps : List ℕ) (of : TypeValue) → type_among ts k ≡ Some (type.Record us) → LeadTo us steps of → LeadTo ts (k ∷ steps) of
 step_leads ts us k [] of e h = absurd h
 step_leads ts us k (j ∷ more) of e h = (us, e, h)
 

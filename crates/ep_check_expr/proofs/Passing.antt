@@ -108,6 +108,7 @@ structured-expr declared types structures n (tree.Read place) f = structured-pla
 structured-expr declared types structures n (tree.Function callee given) f = f.0
 structured-expr declared types structures n (tree.IndexedValue array index) f = f.0
 structured-expr declared types structures n (tree.FieldValue whole number) f = f.0
+structured-expr declared types structures n (tree.VariantValue whole selection number) f = f.0
 structured-expr declared types structures n (tree.Structured number es) f = f.0
 structured-expr declared types structures n (tree.Constant z) f = absurd f
 structured-expr declared types structures n (tree.Text bytes) f = absurd f

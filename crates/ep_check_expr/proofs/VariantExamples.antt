@@ -1,6 +1,6 @@
 -- What the rules say of small expressions with tags and fields of variants.
 use Rattle.std.proofs.Common.{◌≡◌, pos, true, List, [], ◌∷◌, Some, None, refl, codes}
-use Rattle.ep_typed.specs.Trees.{Field, FieldValue, Function, Place, Read, Variable, Variant, no_actual}
+use Rattle.ep_typed.specs.Trees.{Field, FieldValue, VariantValue, Function, Place, Read, Variable, Variant, no_actual}
 use Rattle.ep_typed.specs.declared.denoter.RequiredType.TheVariants as simple
 use Rattle.ep_typed.specs.declared.interface.FormalMode.TheVariants as mode
 use Rattle.ep_typed.specs.declared.tree.Selection.{Selection}
@@ -75,8 +75,9 @@ tag_of_value : judged with_variants (bare (field (codes "w") (codes "k")))
     ≡ Accepts (record { form = Some (FieldValue (FieldValue (Function (of_program 2) no_actual) 1) 0); kind = kind.Ordinal color; depth = 3; access = access.Value })
 tag_of_value = simp (expression-judged, simple-judged, term-judged, name-judged, field-judged) refl
 
--- w.y, of a value, which has no code yet
-variant_of_value : judged with_variants (bare (field (codes "w") (codes "y"))) ≡ Accepts (record { form = None; kind = integer; depth = 3; access = access.Value })
+-- w.y, of a value
+variant_of_value : judged with_variants (bare (field (codes "w") (codes "y")))
+    ≡ Accepts (record { form = Some (FieldValue (VariantValue (Function (of_program 2) no_actual) by_color 0) 0); kind = integer; depth = 3; access = access.Value })
 variant_of_value = simp (expression-judged, simple-judged, term-judged, name-judged, field-judged) refl
 
 -- g(v.k): a tag is not given for a variable parameter, and this one has another type

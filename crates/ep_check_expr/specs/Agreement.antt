@@ -1,5 +1,5 @@
 -- Declarations that hold what scopes declare, under which typed forms are valid.
-use Rattle.std.specs.Prelude.{◌≡◌, ℕ, pos, Bool, true, All, List, [], ◌∷◌, ◌++◌, Option, Some, None, IsTrue, int_le, ⊤}
+use Rattle.std.specs.Prelude.{◌≡◌, ℕ, pos, Bool, true, All, List, [], ◌∷◌, ◌++◌, Option, Some, None, IsTrue, int_le, ⊤, ℤ}
 use Rattle.ep_typed.specs.Denoters.{ArrayParts, array_of, base_of, denoter_at, host_of, record_of, bare_type_of}
 use Rattle.ep_typed.specs.Hosts.{greatest, is_of_host, least}
 use Rattle.ep_typed.specs.Hosts as typed
@@ -7,13 +7,14 @@ use Rattle.ep_typed.specs.Operations.{maxint}
 use Rattle.ep_typed.specs.Sets.{IsSet, are_between}
 use Rattle.ep_typed.specs.Steps.{variant_number}
 use Rattle.ep_typed.specs.Trees as tree
-use Rattle.ep_typed.specs.Trees.{Denoter, Denoters, Named, Record, no_denoter, next_denoter, Callee, Place, Variable, Field, entire, Expr, Constant, Text, Read, One, Two, Short, Step, Function, IndexedValue, FieldValue, SetConstant, SetOf, OnSets, Card, Actual, actuals}
-use Rattle.ep_typed.specs.Valid.{Declarations, AreGiven, IsCallee, IsDenoter, IsFunction, IsOfKind, IsPlace, IsPlaceWhere, IsExpr, IsProcedure, IsSelection, IsSetOf, IsStartFor, IsStructured, IsTagged, IsTypeOf, IsVariableOf}
+use Rattle.ep_typed.specs.Trees.{Denoter, Denoters, Named, Record, no_denoter, next_denoter, Callee, Place, Variable, Field, entire, Expr, Constant, Text, Read, One, Two, Short, Step, Function, IndexedValue, FieldValue, VariantValue, SetConstant, SetOf, OnSets, Card, Actual, actuals}
+use Rattle.ep_typed.specs.Valid.{Declarations, AreGiven, IsCallee, IsDenoter, IsFunction, IsOfKind, IsPlace, IsPlaceWhere, IsExpr, IsProcedure, IsSelection, IsSetOf, IsStartFor, IsStructured, IsTagged, IsTypeOf, IsVariableOf, tag_type}
 use Rattle.ep_typed.specs.Valid as valid
 use Rattle.ep_typed.specs.Viewed.{constant_expr, denoter_of}
 use Rattle.ep_typed.specs.declared.interface.Formal.{Formal}
 use Rattle.ep_typed.specs.declared.interface.RoutineEntry.{RoutineEntry}
 use Rattle.ep_typed.specs.declared.interface.RoutineResult.{RoutineResult}
+use Rattle.ep_typed.specs.declared.tree.Selection.{Selection}
 use Rattle.ep_typed.specs.declared.unit.UnitType.{UnitType}
 use Rattle.ep_typed.specs.TypeValues.{ComponentTypes, TypeValue, bare_of, type_among}
 use Rattle.ep_typed.specs.TypeValues as type
@@ -74,6 +75,7 @@ IsFile (Step down low high x y) = ⊥
 IsFile (Function callee given) = ⊥
 IsFile (IndexedValue array index) = ⊥
 IsFile (FieldValue whole number) = ⊥
+IsFile (VariantValue whole selection number) = ⊥
 IsFile (tree.Structured number es) = ⊥
 IsFile (SetConstant members) = ⊥
 IsFile (SetOf members) = ⊥
@@ -130,6 +132,15 @@ HasKind types list d kind.File = ⊥
 
 -- ---- type values of structured types
 
+-- the components are those of a record whose variants a tag of an ordinal type selects so
+abbrev pub HasTagValue : Selection → ComponentTypes → Type 0
+HasTagValue s ts = (h : typed.Host) × (low high : ℤ) × IsTypeOf h (type.Ordinal low high) × (type_among ts s.tag ≡ Some (tag_type low high))
+
+-- this holds of the components of the variant to which these steps lead from a record with these components
+abbrev pub IsValueAlong : (ComponentTypes → Type 0) → List VariantStep → ComponentTypes → Type 0
+IsValueAlong Holds [] ts = Holds ts
+IsValueAlong Holds (s ∷ path) ts = HasTagValue s.selection ts × (inner : ComponentTypes) × (type_among ts (variant_number s.selection s.variant) ≡ Some (type.Record inner)) × IsValueAlong Holds path inner
+
 module _ (types : TypeValues) where
   -- the type value is one of the kind; none is of a string type or of a file type so far
   abbrev pub IsValueOfKind : Kind → TypeValue → Type 0
@@ -149,14 +160,13 @@ module _ (types : TypeValues) where
   IsPartValue None number k ts = (t : TypeValue) × (type_among ts number ≡ Some t) × IsValueOfKind k t
   IsPartValue (Some tag) number k ts = (t : TypeValue) × (type_among ts number ≡ Some (type.Record (type.next_component t type.no_component))) × IsValueOfKind k t
 
-  -- so is that of a field; of one that is in a variant nothing is asked, since it is not taken of a value
-  abbrev pub IsFieldValue : List VariantStep → FieldType → ComponentTypes → Type 0
-  IsFieldValue [] f ts = IsPartValue f.tag f.number f.kind ts
-  IsFieldValue (s ∷ path) f ts = ⊤
+  -- so is that of a field, in the variant to which its steps lead
+  abbrev pub IsFieldValue : FieldType → ComponentTypes → Type 0
+  IsFieldValue f ts = IsValueAlong (IsPartValue f.tag f.number f.kind) f.path ts
 
   -- the components are those of a record with these fields
   abbrev pub AreFieldValues : List FieldType → ComponentTypes → Type 0
-  AreFieldValues fs ts = All (λ f. IsFieldValue f.path f ts) fs
+  AreFieldValues fs ts = All (λ f. IsFieldValue f ts) fs
 
   -- the type value is made of those of the components
   abbrev pub IsValueMadeOf : Composition → TypeValue → Type 0
@@ -279,6 +289,7 @@ module _ (declared : Declarations) (types : TypeValues) (structures : List Struc
   IsStructuredForm n (Function callee given) = IsStructuredValue n (Function callee given)
   IsStructuredForm n (IndexedValue array index) = IsStructuredValue n (IndexedValue array index)
   IsStructuredForm n (FieldValue whole number) = IsStructuredValue n (FieldValue whole number)
+  IsStructuredForm n (VariantValue whole selection number) = IsStructuredValue n (VariantValue whole selection number)
   IsStructuredForm n (tree.Structured number es) = IsStructuredValue n (tree.Structured number es)
   IsStructuredForm n (SetConstant members) = ⊥
   IsStructuredForm n (SetOf members) = ⊥

@@ -10,7 +10,6 @@ use Rattle.ep_typed.specs.declared.tree.CaseRange.{CaseRange}
 use Rattle.ep_scope.specs.declared.kind.Host.{Host}
 use Rattle.ep_scope.specs.declared.kind.Kind.{Kind}
 use Rattle.ep_scope.specs.declared.kind.Kind.TheVariants as kind
-use Rattle.ep_scope.specs.declared.structure.TagType.{TagType}
 use Rattle.ep_check_expr.specs.Folding.{number_in}
 use Rattle.ep_check_expr.specs.Hosts.{typed_host}
 use Rattle.ep_check_expr.specs.declared.folding.Folded.{Folded}
@@ -19,11 +18,6 @@ use Rattle.ep_check_expr.specs.declared.folding.Folded.TheVariants.{Known, Varie
 -- whether the index is in one of the ranges
 abbrev pub has_index : List CaseRange → ℤ → Bool
 has_index ranges z = list_any (λ r. is_in r z) ranges
-
--- the steps from the record, or from the innermost variant, to a component; a tag is the one component of a record that has its number
-abbrev pub part_steps : Option TagType → ℕ → List ℕ
-part_steps None number = number ∷ []
-part_steps (Some tag) number = number ∷ 0 ∷ []
 
 -- ---- what is given
 
@@ -64,7 +58,3 @@ abbrev pub element_known : Kind → Elements → Folded → Option Expr
 element_known k es (Known x) = option_and_then (constant_as k) (value_at es (number_in x))
 element_known k es Varies = None
 element_known k es Errs = None
-
--- the component of a record that has this number, or its tag
-abbrev pub field_known : Kind → Elements → Option TagType → ℕ → Option Expr
-field_known k es tag number = option_and_then (constant_as k) (value_for es es (part_steps tag number))

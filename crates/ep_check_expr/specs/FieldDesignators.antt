@@ -1,6 +1,6 @@
 -- What the name of a field gives of a record (ISO 10206, 6.5.3.3).
-use Rattle.std.specs.Prelude.{ℕ, ◌+◌, nat_le, List, [], ◌∷◌, length, slice_get, Option, Some, None, if◌then◌else◌, unwrap_or}
-use Rattle.ep_typed.specs.Trees.{Expr, Field, FieldValue, Place, Read, Structured, Variant}
+use Rattle.std.specs.Prelude.{ℕ, ◌+◌, nat_le, List, [], ◌∷◌, length, slice_get, Option, Some, None, if◌then◌else◌, option_map, unwrap_or}
+use Rattle.ep_typed.specs.Trees.{Expr, Field, FieldValue, Place, Read, Structured, Variant, VariantValue}
 use Rattle.ep_scope.specs.Fields.{field_number}
 use Rattle.ep_scope.specs.Scopes.{Region, structure_in}
 use Rattle.ep_scope.specs.declared.kind.Kind.{Kind}
@@ -13,8 +13,8 @@ use Rattle.ep_scope.specs.declared.structure.Composition.TheVariants as composit
 use Rattle.ep_scope.specs.declared.structure.FieldType.{FieldType}
 use Rattle.ep_scope.specs.declared.structure.TagType.{TagType}
 use Rattle.ep_scope.specs.declared.structure.VariantStep.{VariantStep}
-use Rattle.ep_check_expr.specs.ConstantAccesses.{field_known}
 use Rattle.ep_check_expr.specs.Judgements.{Judged, Accepts, Breaks, Typed}
+use Rattle.ep_check_expr.specs.KnownFields.{field_known}
 use Rattle.ep_check_expr.specs.declared.access.Access.{Access}
 use Rattle.ep_check_expr.specs.declared.access.Access.TheVariants as access
 use Rattle.ep_check_expr.specs.declared.forms.TheConstants as limit
@@ -51,27 +51,25 @@ abbrev pub component_taken : Option TagType → ℕ → Expr → Expr
 component_taken None number whole = FieldValue whole number
 component_taken (Some tag) number whole = FieldValue (FieldValue whole number) 0
 
--- a field taken of a value (ISO 10206, 6.8.6.3); one that is in a variant has no code yet
-abbrev pub part_taken : List VariantStep → Option TagType → ℕ → Expr → Option Expr
-part_taken [] tag number whole = Some (component_taken tag number whole)
-part_taken (s ∷ path) tag number whole = None
+-- the variant to which these steps lead from a value
+abbrev pub taken_along : List VariantStep → Expr → Expr
+taken_along [] whole = whole
+taken_along (s ∷ path) whole = taken_along path (VariantValue whole s.selection s.variant)
 
--- alike of a constant, where it may be known (ISO 10206, 6.8.8.3)
-abbrev pub constant_part : Option Expr → List VariantStep → Option TagType → ℕ → Expr → Option Expr
-constant_part known [] tag number whole = Some (unwrap_or known (component_taken tag number whole))
-constant_part known (s ∷ path) tag number whole = None
+-- a field taken of a value (ISO 10206, 6.8.6.3)
+abbrev pub part_taken : FieldType → Expr → Expr
+part_taken f whole = component_taken f.tag f.number (taken_along f.path whole)
 
 -- A field is read of its place where the record is (ISO 10206, 6.5.3.3), and else taken of its value. A record that is written out is
--- a constant.
-abbrev pub part_form : FieldType → Expr → Option Expr
-part_form f (Read place) = Some (Read (reached f place))
-part_form f (Structured of es) = constant_part (field_known f.kind es f.tag f.number) f.path f.tag f.number (Structured of es)
-part_form f whole = part_taken f.path f.tag f.number whole
+-- a constant, whose fields may be known (6.8.8.3).
+abbrev pub part_form : FieldType → Expr → Expr
+part_form f (Read place) = Read (reached f place)
+part_form f (Structured of es) = unwrap_or (field_known f es) (part_taken f (Structured of es))
+part_form f whole = part_taken f whole
 
 -- a field, where the record is built
 abbrev pub field_form : FieldType → Option Expr → Option Expr
-field_form f None = None
-field_form f (Some x) = part_form f x
+field_form f form = option_map (part_form f) form
 
 -- a variable of this type, which may be a tag
 abbrev pub variable_access : TypeName → Protection → Option TagType → Access

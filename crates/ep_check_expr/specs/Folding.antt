@@ -4,7 +4,7 @@ use Rattle.ep_typed.specs.Operations.{Answer, Number, Fault, is_integer, decides
 use Rattle.ep_typed.specs.Printing as run
 use Rattle.ep_typed.specs.Sets.{union, with_number, with_numbers}
 use Rattle.ep_typed.specs.SetOperations.{set_answer}
-use Rattle.ep_typed.specs.Trees.{Expr, Constant, Text, Read, One, Two, Short, Step, Function, IndexedValue, FieldValue, Structured, SetConstant, SetOf, OnSets, Card, Designator, Single, Range, Designators, no_member, next_member}
+use Rattle.ep_typed.specs.Trees.{Expr, Constant, Text, Read, One, Two, Short, Step, Function, IndexedValue, FieldValue, VariantValue, Structured, SetConstant, SetOf, OnSets, Card, Designator, Single, Range, Designators, no_member, next_member}
 use Rattle.ep_typed.specs.declared.operations.ShortOperation.{ShortOperation}
 use Rattle.ep_check_expr.specs.declared.folding.Folded.{Folded}
 use Rattle.ep_check_expr.specs.declared.folding.Folded.TheVariants.{Known, Varies, Errs}
@@ -100,6 +100,7 @@ abbrev mutual
   folded (Function callee given) = Varies
   folded (IndexedValue array index) = Varies
   folded (FieldValue whole number) = Varies
+  folded (VariantValue whole selection number) = Varies
   folded (Structured number es) = Varies
   folded (SetConstant members) = Known (known.Members members)
   folded (SetOf members) = folded_members (Known (known.Members [])) members

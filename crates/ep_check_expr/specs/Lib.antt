@@ -11,6 +11,7 @@ pub mod Functions
 pub mod Hosts
 pub mod Indexing
 pub mod Judgements
+pub mod KnownFields
 pub mod Laws
 pub mod Names
 pub mod Operators
@@ -18,5 +19,6 @@ pub mod Origins
 pub mod SetFolding
 pub mod StructuredConstants
 pub mod StructuredValues
+pub mod VariantSteps
 pub mod Shapes
 pub mod Public

@@ -30,12 +30,13 @@ use Rattle.ep_scope.specs.declared.thing.Declaration.{Declaration}
 use Rattle.ep_scope.specs.declared.thing.Declaration.TheVariants as declaration
 use Rattle.ep_check_expr.specs.declared.access.Access.TheVariants as access
 use Rattle.ep_check_expr.specs.Arguments.{given_to}
-use Rattle.ep_check_expr.specs.ConstantAccesses.{has_index, part_steps}
+use Rattle.ep_check_expr.specs.ConstantAccesses.{has_index}
 use Rattle.ep_check_expr.specs.Constructors.{Label}
 use Rattle.ep_check_expr.specs.Folding.{folded, number_in}
 use Rattle.ep_check_expr.specs.Judgements.{Judged, Accepts, Breaks, Typed, when_accepted}
 use Rattle.ep_check_expr.specs.Names.{undeclared}
 use Rattle.ep_check_expr.specs.Operators.{are_compatible, map_both, within_depth}
+use Rattle.ep_check_expr.specs.VariantSteps.{field_steps, selected_variant}
 use Rattle.ep_check_expr.specs.declared.folding.Folded.{Folded}
 use Rattle.ep_check_expr.specs.declared.folding.Folded.TheVariants.{Known, Varies, Errs}
 
@@ -326,10 +327,6 @@ is_plain within f = is_at within f.path && not (is_tag f.tag)
 abbrev pub is_tag_at : VariantNumbers → FieldType → Bool
 is_tag_at within f = is_at within f.path && is_tag f.tag
 
--- the steps from the record to a field
-abbrev pub field_steps : FieldType → List ℕ
-field_steps f = map (λ s. variant_number s.selection s.variant) f.path ++ part_steps f.tag f.number
-
 -- the structured type that a field asks for
 abbrev pub asked_if : Option FieldType → Option ℕ
 asked_if None = None
@@ -373,18 +370,6 @@ same_given first k place r None = unfit
 same_given first k place r (Some f) = when_accepted (λ x. with_field r place 0 (same_if first f)) (component_given f.kind (of_kind k))
 
 -- ---- choices of variants (ISO 10206, 6.8.7.3)
-
--- the first variant that has a value among its labels
-abbrev pub labelled_variant : List (List CaseRange) → ℤ → Option ℕ
-labelled_variant labels z = position (λ ranges. has_index ranges z) labels
-
--- the variant that a value of a tag selects: that one, or else the one that completes them
-abbrev pub variant_if : Selection → Option ℕ → ℕ
-variant_if s None = length s.labels
-variant_if s (Some k) = k
-
-abbrev pub selected_variant : Selection → ℤ → ℕ
-selected_variant s z = variant_if s (labelled_variant s.labels z)
 
 -- what is gathered with a tag, and the variant that its value selects, where that is built
 pub record Choice : Type 0 where

@@ -5,6 +5,7 @@ ghost use Rattle.std.specs.Option.{option_map};
 ghost use Rattle.ep_typed.specs.Viewed.{expr_of};
 ghost use Rattle.ep_check_expr.specs.Answers.{AnswersJudged, choice_of, filled_of, typed_of};
 ghost use Rattle.ep_check_expr.specs.StructuredValues as spec;
+ghost use Rattle.ep_check_expr.specs.VariantSteps as variants;
 
 use crate::arguments::given_value;
 use crate::constant_accesses::has_index;
@@ -85,7 +86,7 @@ fn is_tag_value(tag: &TagType, constant: Option<i64>) -> bool
 
 /// The first variant that has a value among its labels.
 fn labelled_variant(labels: &[CaseRanges], value: i64) -> Option<usize>
-    ensures { result ≡ spec.labelled_variant labels.now value }
+    ensures { result ≡ variants.labelled_variant labels.now value }
 {
     labels
         .iter()
@@ -93,8 +94,8 @@ fn labelled_variant(labels: &[CaseRanges], value: i64) -> Option<usize>
 }
 
 /// The variant that a value of a tag selects: the first one that has it among its labels, or else the one that completes them.
-fn selected_variant(selection: &Selection, value: i64) -> usize
-    ensures { result ≡ spec.selected_variant selection.now value }
+pub(crate) fn selected_variant(selection: &Selection, value: i64) -> usize
+    ensures { result ≡ variants.selected_variant selection.now value }
 {
     let labels = selection.labels.items();
     match labelled_variant(labels, value) {

@@ -1,17 +1,20 @@
 //! What components of constants are, which are arrays or records (ISO 10206, 6.8.8).
 
-ghost use Rattle.std.specs.Prelude.{◌≡◌, IfOk, map};
+ghost use Rattle.std.specs.Prelude.{◌≡◌, ◌∷◌, ◌++◌, [], IfOk, map};
 ghost use Rattle.std.specs.Option.{option_and_then, option_map};
 ghost use Rattle.ep_typed.specs.Hosts as hosts;
 ghost use Rattle.ep_typed.specs.Trees.{elements};
 ghost use Rattle.ep_typed.specs.Viewed.{element_of, expr_of};
 ghost use Rattle.ep_check_expr.specs.ConstantAccesses as spec;
 ghost use Rattle.ep_check_expr.specs.Hosts.{typed_host};
+ghost use Rattle.ep_check_expr.specs.KnownFields as fields;
 
+use crate::chosen::selected_variant;
+use crate::filled::{field_steps, variant_number};
 use crate::folding::{Folded, number_in};
 use crate::forms::{greatest, least};
 use ep_base::{Bytes, List, NoMemory};
-use ep_scope::{Host, Kind, TagType};
+use ep_scope::{FieldType, Host, Kind, VariantStep};
 use ep_typed::{CaseRange, ComponentSteps, Element, TypedExpr};
 use std::alloc::Global;
 
@@ -22,16 +25,6 @@ pub(crate) fn has_index(ranges: &[CaseRange], index: i64) -> bool
     ranges
         .iter()
         .any(|range| range.low <= index && index <= range.high)
-}
-
-/// The steps to the component of this number, or to the tag that is the one component of a record with it.
-fn part_steps(alloc: Global, tag: &Option<TagType>, number: u32) -> Result<ComponentSteps, NoMemory>
-    ensures { IfOk result (λ steps. steps ≡ spec.part_steps tag.now number) }
-{
-    match tag {
-        None => List::from_slice(alloc, &[number]),
-        Some(_) => List::from_slice(alloc, &[number, 0]),
-    }
 }
 
 /// The value that the component of an array at an index is given by constant ranges: that of the last ones that have it.
@@ -161,17 +154,81 @@ pub(crate) fn element_known(
     }
 }
 
-/// The component of a record that has this number, or its tag.
+/// The steps to the tag of this number, behind these.
+fn tag_steps(alloc: Global, before: &[u32], tag: u32) -> Result<ComponentSteps, NoMemory>
+    ensures { IfOk result (λ steps. steps ≡ before.now ++ tag ∷ 0 ∷ []) }
+{
+    let mut steps = List::from_slice(alloc, before)?;
+    steps.push(tag)?;
+    steps.push(0)?;
+    Ok(steps)
+}
+
+/// The number that a constant of an ordinal type is.
+fn constant_number(x: &TypedExpr) -> Option<i64>
+    ensures { result ≡ fields.constant_number (expr_of x.now) }
+{
+    match x {
+        TypedExpr::Constant(value) => Some(*value),
+        _ => None,
+    }
+}
+
+/// The number that a tag is given, of what is given behind these steps.
+fn tag_given(
+    alloc: Global,
+    given: &[Element],
+    before: &[u32],
+    tag: u32,
+) -> Result<Option<i64>, NoMemory>
+    ensures { IfOk result (λ z. z ≡ fields.tag_given (elements (map element_of given.now)) before.now tag) }
+{
+    let steps = tag_steps(alloc, before, tag)?;
+    match value_for(given, steps.items()) {
+        None => Ok(None),
+        Some(x) => Ok(constant_number(x)),
+    }
+}
+
+/// Whether a value of a tag selects the variant.
+fn selects(step: &VariantStep, value: Option<i64>) -> bool
+    ensures { result ≡ fields.selects step.now value }
+{
+    match value {
+        None => false,
+        Some(value) => {
+            selected_variant(step.selection.get(), value) as u64 == u64::from(step.variant)
+        }
+    }
+}
+
+/// Whether each variant on the way is the one that is selected.
+fn are_selected(alloc: Global, given: &[Element], path: &[VariantStep]) -> Result<bool, NoMemory>
+    ensures { IfOk result (λ b. b ≡ fields.are_selected (elements (map element_of given.now)) [] path.now) }
+{
+    let mut before = List::new(alloc);
+    for step in path {
+        let value = tag_given(alloc, given, before.items(), step.selection.get().tag)?;
+        if !selects(step, value) {
+            return Ok(false);
+        }
+        before.push(variant_number(step)?)?;
+    }
+    Ok(true)
+}
+
+/// A field of a constant, where its variant is the one that is selected.
 pub(crate) fn field_known(
     alloc: Global,
-    kind: Kind,
+    field: &FieldType,
     given: &[Element],
-    tag: &Option<TagType>,
-    number: u32,
 ) -> Result<Option<TypedExpr>, NoMemory>
     ensures { IfOk result (λ form. option_map expr_of form
-        ≡ spec.field_known kind (elements (map element_of given.now)) tag.now number) }
+        ≡ fields.field_known field.now (elements (map element_of given.now))) }
 {
-    let steps = part_steps(alloc, tag, number)?;
-    constant_if(alloc, kind, value_for(given, steps.items()))
+    if !are_selected(alloc, given, field.path.items())? {
+        return Ok(None);
+    }
+    let steps = field_steps(alloc, field)?;
+    constant_if(alloc, field.kind, value_for(given, steps.items()))
 }

@@ -106,40 +106,54 @@ fn component_taken(
     }
 }
 
-/// A field taken of a value; one that is in a variant has no code yet.
+/// The variant to which these steps lead from the value of a record.
+fn taken_along(
+    alloc: Global,
+    path: &[VariantStep],
+    whole: Boxed<TypedExpr>,
+) -> Result<Boxed<TypedExpr>, NoMemory>
+    ensures { IfOk result (λ x. expr_of x ≡ spec.taken_along path.now (expr_of whole)) }
+{
+    let mut value = whole;
+    for step in path {
+        let selection = copied_selection(alloc, step.selection.get())?;
+        value = Boxed::new(
+            alloc,
+            TypedExpr::VariantValue(value, selection, step.variant),
+        )?;
+    }
+    Ok(value)
+}
+
+/// A field taken of a value.
 fn part_taken(
     alloc: Global,
     field: &FieldType,
     whole: Boxed<TypedExpr>,
-) -> Result<Option<Boxed<TypedExpr>>, NoMemory>
-    ensures { IfOk result (λ x.
-        option_map expr_of x ≡ part_taken field.now.path field.now.tag field.now.number (expr_of whole)) }
+) -> Result<Boxed<TypedExpr>, NoMemory>
+    ensures { IfOk result (λ x. expr_of x ≡ part_taken field.now (expr_of whole)) }
 {
-    if !field.path.items().is_empty() {
-        return Ok(None);
-    }
-    let taken = component_taken(alloc, &field.tag, field.number, whole)?;
-    Ok(Some(taken))
+    let within = taken_along(alloc, field.path.items(), whole)?;
+    component_taken(alloc, &field.tag, field.number, within)
 }
 
-/// A field of a constant, where it may be known; one that is in a variant has no code yet.
+/// A field of a constant, where it may be known.
 fn constant_part(
     alloc: Global,
     field: &FieldType,
     number: u32,
     given: Shared<Elements>,
-) -> Result<Option<Boxed<TypedExpr>>, NoMemory>
-    ensures { IfOk result (λ x. option_map expr_of x
+) -> Result<Boxed<TypedExpr>, NoMemory>
+    ensures { IfOk result (λ x. expr_of x
         ≡ part_form field.now (Structured number (elements (map element_of given)))) }
 {
-    if field.path.items().is_empty() {
-        let items = given.get().items();
-        if let Some(form) = field_known(alloc, field.kind, items, &field.tag, field.number)? {
-            return Ok(Some(Boxed::new(alloc, form)?));
+    match field_known(alloc, field, given.get().items())? {
+        Some(form) => Boxed::new(alloc, form),
+        None => {
+            let whole = Boxed::new(alloc, TypedExpr::Structured(number, given))?;
+            part_taken(alloc, field, whole)
         }
     }
-    let whole = Boxed::new(alloc, TypedExpr::Structured(number, given))?;
-    part_taken(alloc, field, whole)
 }
 
 /// A field, read of its place where the record is, and else taken of its value.
@@ -147,13 +161,13 @@ fn part_form(
     alloc: Global,
     field: &FieldType,
     whole: Boxed<TypedExpr>,
-) -> Result<Option<Boxed<TypedExpr>>, NoMemory>
-    ensures { IfOk result (λ x. option_map expr_of x ≡ part_form field.now (expr_of whole)) }
+) -> Result<Boxed<TypedExpr>, NoMemory>
+    ensures { IfOk result (λ x. expr_of x ≡ part_form field.now (expr_of whole)) }
 {
     match whole.into_inner() {
         TypedExpr::Read(place) => {
             let place = reached(alloc, field, Boxed::new(alloc, place)?)?;
-            Ok(Some(Boxed::new(alloc, TypedExpr::Read(place))?))
+            Boxed::new(alloc, TypedExpr::Read(place))
         }
         TypedExpr::Structured(number, given) => constant_part(alloc, field, number, given),
         value => part_taken(alloc, field, Boxed::new(alloc, value)?),
@@ -169,7 +183,7 @@ fn field_form(
     ensures { IfOk result (λ x. option_map expr_of x ≡ field_form field.now (option_map expr_of whole)) }
 {
     match whole {
-        Some(whole) => part_form(alloc, field, whole),
+        Some(whole) => Ok(Some(part_form(alloc, field, whole)?)),
         None => Ok(None),
     }
 }

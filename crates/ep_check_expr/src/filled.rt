@@ -6,11 +6,12 @@ ghost use Rattle.std.specs.List.{list_any};
 ghost use Rattle.std.specs.Option.{option_map};
 ghost use Rattle.ep_tree.specs.Shapes.{as_identifier};
 ghost use Rattle.ep_tree.specs.declared.expression.Label.{out-Label};
-ghost use Rattle.ep_typed.specs.Steps as typed;
 ghost use Rattle.ep_typed.specs.Viewed.{element_of, expr_of};
 ghost use Rattle.ep_check_expr.specs.Answers.{AnswersJudged, AnswersTyped, filled_of, typed_of};
 ghost use Rattle.ep_check_expr.specs.Expressions.{labelled};
 ghost use Rattle.ep_check_expr.specs.StructuredValues as spec;
+ghost use Rattle.ep_check_expr.specs.VariantSteps as variants;
+ghost use Rattle.ep_check_expr.specs.VariantSteps.{variant_step};
 ghost use Rattle.ep_check_expr.specs.StructuredValues.{filled, fields_filled, label_place, label_places, same_filled};
 
 use crate::access::Access;
@@ -113,8 +114,8 @@ pub(crate) fn asked_first(fields: &[FieldType], places: &[usize]) -> Option<u32>
 }
 
 /// The number of the component that is the variant to which a step leads, if 32 bits hold it.
-fn variant_number(step: &VariantStep) -> Result<u32, NoMemory>
-    ensures { IfOk result (λ number. number ≡ typed.variant_number step.now.selection step.now.variant) }
+pub(crate) fn variant_number(step: &VariantStep) -> Result<u32, NoMemory>
+    ensures { IfOk result (λ number. number ≡ variant_step step.now) }
 {
     let tag = step.selection.get().tag;
     match tag
@@ -129,7 +130,7 @@ fn variant_number(step: &VariantStep) -> Result<u32, NoMemory>
 /// The steps through variants.
 fn variant_steps(alloc: Global, path: &[VariantStep]) -> Result<ComponentSteps, NoMemory>
     ensures { IfOk result (λ steps.
-        steps ≡ map (λ s. typed.variant_number s.selection s.variant) path.now) }
+        steps ≡ map variant_step path.now) }
 {
     let mut steps = List::new(alloc);
     for step in path {
@@ -140,7 +141,7 @@ fn variant_steps(alloc: Global, path: &[VariantStep]) -> Result<ComponentSteps, 
 
 /// The steps from a record to a field.
 pub fn field_steps(alloc: Global, field: &FieldType) -> Result<ComponentSteps, NoMemory>
-    ensures { IfOk result (λ steps. steps ≡ spec.field_steps field.now) }
+    ensures { IfOk result (λ steps. steps ≡ variants.field_steps field.now) }
 {
     let mut steps = variant_steps(alloc, field.path.items())?;
     steps.push(field.number)?;
@@ -157,7 +158,7 @@ pub(crate) fn field_form(
     value: Option<Boxed<TypedExpr>>,
 ) -> Result<Option<Element>, NoMemory>
     ensures { IfOk result (λ e. option_map (λ x. x ∷ []) (option_map element_of e)
-        ≡ option_map (spec.first_form (spec.field_steps field.now)) (option_map expr_of value)) }
+        ≡ option_map (spec.first_form (variants.field_steps field.now)) (option_map expr_of value)) }
 {
     let Some(value) = value else {
         return Ok(None);

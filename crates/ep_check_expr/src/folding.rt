@@ -49,6 +49,7 @@ pub fn folded_form(alloc: Global, e: &TypedExpr) -> Result<Folded, NoMemory>
         TypedExpr::Function(_, _) => Ok(Folded::Varies),
         TypedExpr::IndexedValue(_, _) => Ok(Folded::Varies),
         TypedExpr::FieldValue(_, _) => Ok(Folded::Varies),
+        TypedExpr::VariantValue(_, _, _) => Ok(Folded::Varies),
         TypedExpr::Structured(_, _) => Ok(Folded::Varies),
         TypedExpr::Unary(operation, operand) => {
             let operand = folded_form(alloc, operand.get())?;

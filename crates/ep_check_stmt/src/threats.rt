@@ -272,6 +272,7 @@ pub(crate) fn expr_threatens(x: &TypedExpr, routines: &[UnitRoutine], variable: 
                 || expr_threatens(index.get(), routines, variable)
         }
         TypedExpr::FieldValue(whole, _) => expr_threatens(whole.get(), routines, variable),
+        TypedExpr::VariantValue(whole, _, _) => expr_threatens(whole.get(), routines, variable),
         TypedExpr::Set(designators) => members_threaten(designators.items(), routines, variable),
         TypedExpr::OnSets(_, left, right) => {
             expr_threatens(left.get(), routines, variable)

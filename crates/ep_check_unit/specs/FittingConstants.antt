@@ -20,7 +20,7 @@ use Rattle.ep_scope.specs.declared.structure.Composition.TheVariants as composit
 use Rattle.ep_scope.specs.declared.structure.FieldType.{FieldType}
 use Rattle.ep_check_expr.specs.ConstantAccesses.{value_of_field}
 use Rattle.ep_check_expr.specs.Judgements.{Judged, Accepts, Breaks}
-use Rattle.ep_check_expr.specs.StructuredValues.{field_steps}
+use Rattle.ep_check_expr.specs.VariantSteps.{field_steps}
 use Rattle.ep_check_expr.specs.declared.constants.ConstantForm.{ConstantForm}
 use Rattle.ep_check_unit.specs.OrdinalTypes.{ordinal_value, value_of}
 

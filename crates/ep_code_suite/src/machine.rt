@@ -525,7 +525,10 @@ Push:2 Push:0 TArr Make:0 Slot:0 Load Push:1 Index Halt=|budget|11=13\n\
 Push:0 Push:2 TRec:2 Make:0 Slot:0 Load Field:1=|error 1 at 7|15\n\
 Push:2 Push:0 TArr Make:0 Slot:0 Load Field:0=|broken at 6|11\n\
 Push:0 Push:2 TRec:2 Make:0 Slot:0 Load Push:0 Index=|broken at 7|14\n\
-Push:0 Push:2 TRec:2 Make:0 Slot:0 Load Field:2=|broken at 6|13";
+Push:0 Push:2 TRec:2 Make:0 Slot:0 Load Field:2=|broken at 6|13\n\
+Unit:-1:1 Push:0 TRec:1 Make:0 Slot:0 Load Defined Form Put Return=0|normal|15\n\
+Unit:-1:1 Push:0 TRec:1 Make:0 Slot:0 Field:0 Push:5 Store Slot:0 Load Defined Form Put Return=1|normal|19\n\
+Push:0 Push:2 TRec:2 Make:0 Slot:0 Load Defined=|broken at 6|13";
 
 /// Sets and what is made of them. No member is less than 0 or greater than 255.
 const SETS: &str = "\

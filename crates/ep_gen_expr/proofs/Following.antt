@@ -34,8 +34,8 @@ use Rattle.ep_typed.specs.Denoters.{bare_type_of}
 use Rattle.ep_typed.specs.Steps.{Component, Computation, bind, give, spend, component, component_number, type_at, own_variable, has_ended, variant_number}
 use Rattle.ep_typed.specs.Steps as meaning
 use Rattle.ep_typed.specs.Trees as tree
-use Rattle.ep_typed.specs.Trees.{Element, AtIndex, AtField, SameField, AtRanges, Elements, no_element, next_element, Callee, Place, Variable, Own, Standard, Indexed, Field, Variant, Expr, Constant, Text, Read, One, Two, Short, Step, Function, IndexedValue, FieldValue, SetConstant, SetOf, OnSets, Card, Designator, Single, Range, Designators, no_member, next_member, Actual, Evaluated, Accessed, Actuals, no_actual, next_actual}
-use Rattle.ep_typed.specs.Valid.{Declarations, Kind, Ordinal, Bytes, Structured, Set, IsUnary, IsBinary, IsTypeOfKind, IsExpr, IsElement, AreElements, AreDesignators, AreGiven, IsDesignator, IsDeclaredUp, Level, variables_at, variables_up}
+use Rattle.ep_typed.specs.Trees.{Element, AtIndex, AtField, SameField, AtRanges, Elements, no_element, next_element, Callee, Place, Variable, Own, Standard, Indexed, Field, Variant, Expr, Constant, Text, Read, One, Two, Short, Step, Function, IndexedValue, FieldValue, VariantValue, SetConstant, SetOf, OnSets, Card, Designator, Single, Range, Designators, no_member, next_member, Actual, Evaluated, Accessed, Actuals, no_actual, next_actual}
+use Rattle.ep_typed.specs.Valid.{Declarations, Kind, Ordinal, Bytes, Structured, Set, IsUnary, IsBinary, IsTypeOfKind, IsExpr, IsElement, AreElements, AreDesignators, AreGiven, IsDesignator, IsDeclaredUp, Level, variables_at, variables_up, tag_type}
 use Rattle.ep_typed.specs.declared.interface.Formal.{Formal}
 use Rattle.ep_typed.specs.declared.interface.RoutineEntry.{RoutineEntry}
 use Rattle.ep_typed.specs.declared.unit.UnitType.{UnitType}
@@ -51,7 +51,7 @@ use Rattle.ep_typed.specs.declared.unit.UnitVariable.{UnitVariable}
 use Rattle.ep_gen_code.specs.Credit.{least_credit}
 use Rattle.ep_gen_code.specs.Referring.{AreReferred, IsFillReferred, IsSwapReferred}
 use Rattle.ep_gen_expr.specs.Following.{HasPlaceType, IsValidPlace}
-use Rattle.ep_gen_expr.specs.ExprCode.{IsPlaceCode, IsExprCode, IsElementCode, AreElementsCode, begin_code, end_code, IsActualCode, AreActualsCode, IsDesignatorCode, AreDesignatorsCode, one_code, set_code, two_code, keep_code, step_code, variant_code, reach_code, first_code, ranges_code}
+use Rattle.ep_gen_expr.specs.ExprCode.{IsPlaceCode, IsExprCode, IsElementCode, AreElementsCode, begin_code, end_code, IsActualCode, AreActualsCode, IsDesignatorCode, AreDesignatorsCode, one_code, set_code, two_code, keep_code, step_code, variant_code, reach_code, first_code, ranges_code, bad_place, variant_part_code}
 use Rattle.ep_gen_code.specs.Instructions.{reference, instr, push, bare, members_code}
 use Rattle.ep_gen_expr.proofs.Answering.{Evaluates, IsFollowed, IsPlaceFollowed}
 use Rattle.ep_gen_expr.proofs.Arguments.{Fits, fits, IsArgumentFollowed, AreArgumentsFollowed, value_follows, accessed_follows, none_follows, next_follows}
@@ -60,7 +60,8 @@ use Rattle.ep_gen_code.proofs.Constants.{set_follows, word_follows}
 use Rattle.ep_gen_expr.proofs.ShortCircuit.{kept_follows}
 use Rattle.ep_gen_expr.proofs.OneOperand.{UnaryFollows, unary_follows}
 use Rattle.ep_gen_code.proofs.Placed.{code_front, code_back, text_at, variable_at}
-use Rattle.ep_gen_expr.proofs.VariantMoves.{active_follows, bad_place, tag_record}
+use Rattle.ep_gen_expr.proofs.VariantMoves.{active_follows}
+use Rattle.ep_gen_expr.proofs.VariantValues.{variant_value_follows}
 use Rattle.ep_gen_expr.proofs.Stays.{variant_length}
 use Rattle.ep_gen_expr.proofs.PlaceTypes.{IsArrayWhere, IsRecordWhere, IsVariantWhere, valid_place, typed_place, kind_place, variable_type}
 use Rattle.ep_gen_expr.proofs.Sets.{IsDesignatorFollowed, AreDesignatorsFollowed, card_follows, constructor_follows, next_member_follows, no_member_follows, on_sets_follows, range_follows, single_follows}
@@ -229,13 +230,13 @@ module _ {declared : Declarations} {G : Image} {untouched : Slots} {Here : Facts
         kept_follows ps p references call steady_call g unit line room n (at + length xs) (at + length xs + length ks + 2) end operation y ys second refl refl inside stands z of_z longer after below d le (unit_in-same G routine ∙ unit_is)))
 
     -- the variant of a record, by the record and the tests of its tag
-    variant_follows : (n : ℕ) (s : Selection) (k : ℕ) (ts : ComponentTypes) (t : TypeValue) (low high : ℤ) → type_among ts s.tag ≡ Some (tag_record low high) → type_among ts (variant_number s k) ≡ Some t → (q : Place) (line at : ℕ) (xs : List Instr)
+    variant_follows : (n : ℕ) (s : Selection) (k : ℕ) (ts : ComponentTypes) (t : TypeValue) (low high : ℤ) → type_among ts s.tag ≡ Some (tag_type low high) → type_among ts (variant_number s k) ≡ Some t → (q : Place) (line at : ℕ) (xs : List Instr)
         → IsPlaceFollowed declared G untouched Here p call g unit n (type.Record ts) q line at xs
         → CodeStands G ps p references (at + length xs) (variant_code line (at + length xs) s k)
         → at + length xs + length (variant_code line (at + length xs) s k) < p.instructions.own
         → IsPlaceFollowed declared G untouched Here p call g unit n t (Variant q s k) line at (xs ++ variant_code line (at + length xs) s k)
     variant_follows n s k ts t low high has_tag has_variant q line at xs follows has inside injection memory below d le unit_is =
-        let ends : at + length (xs ++ variant_code line (at + length xs) s k) ≡ bad_place (at + length xs) s + 3 = omega (arith, length-append xs (variant_code line (at + length xs) s k), variant_length line (at + length xs) s k) in
+        let ends : at + length (xs ++ variant_code line (at + length xs) s k) ≡ bad_place (at + length xs + 7) s + 3 = omega (arith, length-append xs (variant_code line (at + length xs) s k), variant_length line (at + length xs) s k) in
         fragment_bind_place (λ a. steady_active call steady_call g unit line a s k) (follows injection memory below d le unit_is) (λ a b longer after grown routine spot described.
         fragment_to (ap (λ m. p.instructions.before + m) (sym ends))
         (active_follows declared G untouched Here ps p references call g unit room line (at + length xs) k s ts t low high has_tag has_variant has inside n longer after below a b spot described (unit_in-same G routine ∙ unit_is) d le))
@@ -357,6 +358,14 @@ module _ {declared : Declarations} {G : Image} {untouched : Slots} {Here : Facts
             (field_value_follows ps p references call steady_call g unit line n kind ts k of among_types of_kind x at xs
             (expression_follows (Structured (type.Record ts)) x is_x line at xs x_code (code_front G ps p references at xs (field ∷ []) all) (omega (arith, ends, inside)))
             (code_back G ps p references at xs (field ∷ []) all))
+        expression_follows kind (VariantValue x s k) (ts, inner, low, high, is_x, has_tag, has_variant, is_kind, (h, of_host)) line at code (xs, x_code, is) stands inside =
+            let rest : List Instr = variant_part_code line (at + length xs) s k in
+            let all : CodeStands G ps p references at (xs ++ rest) = subst (λ c. CodeStands G ps p references at c) is stands in
+            let ends : length code ≡ length xs + length rest = omega (arith, ap length is, length-append xs rest) in
+            followed_as n kind (Structured (type.Record inner)) (VariantValue x s k) line at code (xs ++ rest) is_kind is
+            (variant_value_follows declared G untouched Here ps p references call steady_call g unit room n line k s ts inner low high has_tag has_variant h of_host x at xs
+            (expression_follows (Structured (type.Record ts)) x is_x line at xs x_code (code_front G ps p references at xs rest all) (omega (arith, ends, inside)))
+            (code_back G ps p references at xs rest all) (omega (arith, ends, inside)))
         expression_follows kind (SetConstant ms) (h, is_kind, is_set, of_host) line at code is stands inside =
             followed_as n kind (Set h) (SetConstant ms) line at code (bare line op.SET_NONE ∷ members_code line ms) is_kind is
             (λ injection memory below d le unit_is.

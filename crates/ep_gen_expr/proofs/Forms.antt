@@ -3,7 +3,7 @@ use Rattle.std.proofs.Common.{◌≡◌, ℕ, ℤ, pos, ◌+◌, ◌<◌, ◌-�
 use Rattle.ep_object.specs.declared.code.Instr.{Instr}
 use Rattle.ep_object.specs.declared.code.Reference.{Reference}
 use Rattle.ep_typed.specs.Operations.{last_char}
-use Rattle.ep_typed.specs.Trees.{Place, Variable, Own, Standard, Indexed, Field, Variant, Expr, Constant, Text, Read, One, Two, Short, Step, IndexedValue, FieldValue}
+use Rattle.ep_typed.specs.Trees.{Place, Variable, Own, Standard, Indexed, Field, Variant, Expr, Constant, Text, Read, One, Two, Short, Step, IndexedValue, FieldValue, VariantValue}
 use Rattle.ep_typed.specs.declared.operations.Unary.{Unary}
 use Rattle.ep_typed.specs.declared.operations.Unary.TheVariants as unary
 use Rattle.ep_typed.specs.declared.operations.Binary.{Binary}
@@ -11,7 +11,7 @@ use Rattle.ep_typed.specs.declared.operations.ShortOperation.{ShortOperation}
 use Rattle.ep_typed.specs.declared.operations.ShortOperation.TheVariants as short
 use Rattle.ep_typed.specs.declared.tree.Selection.{Selection}
 use Rattle.ep_typed.specs.declared.tree.StandardFile.{StandardFile}
-use Rattle.ep_gen_expr.specs.ExprCode.{IsPlaceCode, IsExprCode, standard_code, one_code, two_code, keep_code, count_code, step_code, variant_code}
+use Rattle.ep_gen_expr.specs.ExprCode.{IsPlaceCode, IsExprCode, standard_code, one_code, two_code, keep_code, count_code, step_code, variant_code, variant_part_code}
 use Rattle.ep_gen_code.specs.Instructions.{instr, reference, push, bare}
 use Rattle.ep_gen_code.specs.Growth.{IsNowhere, Grows}
 use Rattle.ep_gen_expr.specs.Growth.{NumbersText, NumbersReference, KeepsOperand, AppendsPlace, AppendsExpr}
@@ -103,6 +103,11 @@ appends_indexed_value {a = a} array index p q r =
 pub appends_field_value : {a b c : Code} (x : Expr) (number : ℕ) → AppendsExpr a b x → Grows b c (instr op.FIELD (pos number) 0 b.line ∷ []) → AppendsExpr a c (FieldValue x number)
 appends_field_value {a = a} x number p q =
     whole_expr (FieldValue x number) (p.code ++ instr op.FIELD (pos number) 0 a.line ∷ []) (p.code, first_part x p q, refl) (grows_at (λ line. instr op.FIELD (pos number) 0 line ∷ []) p.grows q)
+
+pub appends_variant_value : {a b c : Code} (x : Expr) (s : Selection) (number : ℕ) → AppendsExpr a b x → Grows b c (variant_part_code b.line (length b.instructions) s number) → AppendsExpr a c (VariantValue x s number)
+appends_variant_value {a = a} {b = b} {c = c} x s number p q =
+    whole_expr (VariantValue x s number) (p.code ++ variant_part_code a.line (length a.instructions + length p.code) s number) (p.code, first_part x p q, refl)
+    (subst (λ n. Grows a c (p.code ++ variant_part_code a.line n s number)) (grows_length p.grows) (grows_at (λ line. variant_part_code line (length b.instructions) s number) p.grows q))
 
 -- what gives an operand twice, the upper one negated
 pub grows_twice : {a b c : Code} → Grows a b (bare a.line op.DUP ∷ []) → Grows b c (bare b.line op.NOT ∷ []) → Grows a c (keep_code a.line short.OrElse)
@@ -197,4 +202,4 @@ numbers_old_reference a r k there = record { there = there; grows = grows_none a
 
 pub ruleset numbers = (numbers_old_text, numbers_old_reference)
 
-pub ruleset forms = (appends_variable, appends_own, appends_standard, appends_indexed, appends_field, appends_variant, appends_constant, appends_text, appends_read, appends_one, appends_two, appends_step, appends_indexed_value, appends_field_value)
+pub ruleset forms = (appends_variable, appends_own, appends_standard, appends_indexed, appends_field, appends_variant, appends_constant, appends_text, appends_read, appends_one, appends_two, appends_step, appends_indexed_value, appends_field_value, appends_variant_value)

@@ -25,4 +25,6 @@ pub mod Stepping
 pub mod ValueParts
 pub mod RangeForms
 pub mod RangeMoves
+pub mod Selecting
 pub mod VariantMoves
+pub mod VariantValues

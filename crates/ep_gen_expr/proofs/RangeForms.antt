@@ -7,7 +7,7 @@ use Rattle.ep_typed.specs.declared.run_error.TheConstants as run_error
 use Rattle.ep_typed.specs.declared.tree.CaseRange.{CaseRange}
 use Rattle.ep_typed.specs.declared.tree.Selection.{Selection}
 use Rattle.ep_gen_code.specs.Instructions.{bare, push, instr}
-use Rattle.ep_gen_expr.specs.ExprCode.{test_code, tests_code, labels_code, labels_count, tag_code, rest_code, ends_code, variant_code}
+use Rattle.ep_gen_expr.specs.ExprCode.{test_code, tests_code, bad_place, labels_code, labels_count, tag_code, tag_part_code, rest_code, ends_code, selecting_code, variant_code, variant_part_code}
 use Rattle.ep_gen_code.specs.Growth.{Grows}
 use Rattle.ep_gen_code.specs.Jumps.{IsNextPlace}
 use Rattle.ep_gen_code.specs.declared.code.Code.{Code}
@@ -86,18 +86,34 @@ pub grows_tag : {a b c d e f g h : Code} (bad tag : ℕ) → Grows a b (bare a.l
 grows_tag bad tag p q r s t u v =
     grows_at (λ line. bare line op.LOAD ∷ []) (grows_at (λ line. instr op.JUMP_FALSE (pos bad) 0 line ∷ []) (grows_at (λ line. bare line op.DEFINED ∷ []) (grows_at (λ line. bare line op.DUP ∷ []) (grows_at (λ line. instr op.FIELD (pos 0) 0 line ∷ []) (grows_at (λ line. instr op.FIELD (pos tag) 0 line ∷ []) p q) r) s) t) u) v
 
--- the whole, of which these are the parts
-pub grows_variant : {a b c d e f g : Code} (s : Selection) (number bad : ℕ) → bad ≡ length a.instructions + 7 + 6 * labels_count s.labels + 1
-    → Grows a b (tag_code a.line bad s.tag) → Grows b c (labels_code b.line (bad + 1) bad number 0 (length b.instructions) s.labels) → Grows c d (rest_code c.line (bad + 1) bad s number ∷ []) → Grows d e (instr op.FAIL (pos run_error.INACTIVE_VARIANT) 0 d.line ∷ []) → Grows e f (bare e.line op.DROP ∷ [])
-    → Grows f g (instr op.FIELD (pos (variant_number s number)) 0 f.line ∷ []) → Grows a g (variant_code a.line (length a.instructions) s number)
-grows_variant {a = a} {b = b} {c = c} {g = g} s number bad is p q r t u v =
-    let at_labels : length b.instructions ≡ length a.instructions + 7 = grows_length p in
+-- what takes the one of a value
+pub grows_tag_part : {a b c d e f g : Code} (bad tag : ℕ) → Grows a b (bare a.line op.DUP ∷ []) → Grows b c (instr op.FIELD (pos tag) 0 b.line ∷ []) → Grows c d (bare c.line op.DUP ∷ []) → Grows d e (bare d.line op.DEFINED ∷ [])
+    → Grows e f (instr op.JUMP_FALSE (pos bad) 0 e.line ∷ []) → Grows f g (instr op.FIELD (pos 0) 0 f.line ∷ []) → Grows a g (tag_part_code a.line bad tag)
+grows_tag_part bad tag p q r s t u =
+    grows_at (λ line. instr op.FIELD (pos 0) 0 line ∷ []) (grows_at (λ line. instr op.JUMP_FALSE (pos bad) 0 line ∷ []) (grows_at (λ line. bare line op.DEFINED ∷ []) (grows_at (λ line. bare line op.DUP ∷ []) (grows_at (λ line. instr op.FIELD (pos tag) 0 line ∷ []) p q) r) s) t) u
+
+-- what is done with it, of which these are the parts
+pub grows_selecting : {b c d e f g : Code} (s : Selection) (number bad : ℕ) → bad ≡ bad_place (length b.instructions) s
+    → Grows b c (labels_code b.line (bad + 1) bad number 0 (length b.instructions) s.labels) → Grows c d (rest_code c.line (bad + 1) bad s number ∷ []) → Grows d e (instr op.FAIL (pos run_error.INACTIVE_VARIANT) 0 d.line ∷ []) → Grows e f (bare e.line op.DROP ∷ [])
+    → Grows f g (instr op.FIELD (pos (variant_number s number)) 0 f.line ∷ []) → Grows b g (selecting_code b.line (length b.instructions) s number)
+grows_selecting {b = b} {c = c} {g = g} s number bad is q r t u v =
     let ends : Grows c g (rest_code c.line (bad + 1) bad s number ∷ ends_code c.line s number) =
     grows_at (λ line. instr op.FIELD (pos (variant_number s number)) 0 line ∷ []) (grows_at (λ line. bare line op.DROP ∷ []) (grows_at (λ line. instr op.FAIL (pos run_error.INACTIVE_VARIANT) 0 line ∷ []) r t) u) v
     in
-    let behind : Grows b g (labels_code b.line (bad + 1) bad number 0 (length b.instructions) s.labels ++ rest_code b.line (bad + 1) bad s number ∷ ends_code b.line s number) = grows_at (λ line. rest_code line (bad + 1) bad s number ∷ ends_code line s number) q ends in
-    let all : Grows a g (tag_code a.line bad s.tag ++ (labels_code a.line (bad + 1) bad number 0 (length b.instructions) s.labels ++ rest_code a.line (bad + 1) bad s number ∷ ends_code a.line s number)) =
-    grows_at (λ line. labels_code line (bad + 1) bad number 0 (length b.instructions) s.labels ++ rest_code line (bad + 1) bad s number ∷ ends_code line s number) p behind
-    in
-    subst (λ n. Grows a g (tag_code a.line n s.tag ++ (labels_code a.line (n + 1) n number 0 (length a.instructions + 7) s.labels ++ rest_code a.line (n + 1) n s number ∷ ends_code a.line s number))) is
-    (subst (λ n. Grows a g (tag_code a.line bad s.tag ++ (labels_code a.line (bad + 1) bad number 0 n s.labels ++ rest_code a.line (bad + 1) bad s number ∷ ends_code a.line s number))) at_labels all)
+    let all : Grows b g (labels_code b.line (bad + 1) bad number 0 (length b.instructions) s.labels ++ rest_code b.line (bad + 1) bad s number ∷ ends_code b.line s number) = grows_at (λ line. rest_code line (bad + 1) bad s number ∷ ends_code line s number) q ends in
+    subst (λ n. Grows b g (labels_code b.line (n + 1) n number 0 (length b.instructions) s.labels ++ rest_code b.line (n + 1) n s number ∷ ends_code b.line s number)) is all
+
+-- the whole, of a variable and of a value
+pub grows_variant : {a b g : Code} (s : Selection) (number bad : ℕ) → bad ≡ bad_place (length a.instructions + 7) s
+    → Grows a b (tag_code a.line bad s.tag) → Grows b g (selecting_code b.line (length b.instructions) s number) → Grows a g (variant_code a.line (length a.instructions) s number)
+grows_variant {a = a} {b = b} {g = g} s number bad is p q =
+    let at_labels : length b.instructions ≡ length a.instructions + 7 = grows_length p in
+    let all : Grows a g (tag_code a.line bad s.tag ++ selecting_code a.line (length b.instructions) s number) = grows_at (λ line. selecting_code line (length b.instructions) s number) p q in
+    subst (λ n. Grows a g (tag_code a.line n s.tag ++ selecting_code a.line (length a.instructions + 7) s number)) is (subst (λ n. Grows a g (tag_code a.line bad s.tag ++ selecting_code a.line n s number)) at_labels all)
+
+pub grows_variant_part : {a b g : Code} (s : Selection) (number bad : ℕ) → bad ≡ bad_place (length a.instructions + 6) s
+    → Grows a b (tag_part_code a.line bad s.tag) → Grows b g (selecting_code b.line (length b.instructions) s number) → Grows a g (variant_part_code a.line (length a.instructions) s number)
+grows_variant_part {a = a} {b = b} {g = g} s number bad is p q =
+    let at_labels : length b.instructions ≡ length a.instructions + 6 = grows_length p in
+    let all : Grows a g (tag_part_code a.line bad s.tag ++ selecting_code a.line (length b.instructions) s number) = grows_at (λ line. selecting_code line (length b.instructions) s number) p q in
+    subst (λ n. Grows a g (tag_part_code a.line n s.tag ++ selecting_code a.line (length a.instructions + 6) s number)) is (subst (λ n. Grows a g (tag_part_code a.line bad s.tag ++ selecting_code a.line n s number)) at_labels all)

@@ -4,7 +4,7 @@ use Rattle.std.specs.Prelude.{if◌then◌else◌}
 use Rattle.ep_outside.specs.Known.{IsPrefix}
 use Rattle.ep_object.specs.declared.code.Instr.{Instr}
 use Rattle.ep_object.specs.declared.code.Reference.{Reference}
-use Rattle.ep_typed.specs.Trees.{Structured, Element, AtIndex, AtField, SameField, AtRanges, Elements, no_element, next_element, Place, Variable, Own, Standard, Indexed, Field, Variant, Expr, Constant, Text, Read, One, Two, Short, Step, Function, IndexedValue, FieldValue, SetConstant, SetOf, OnSets, Card, Designator, Single, Range, Designators, no_member, next_member, Actual, Evaluated, Accessed, Actuals, no_actual, next_actual}
+use Rattle.ep_typed.specs.Trees.{Structured, Element, AtIndex, AtField, SameField, AtRanges, Elements, no_element, next_element, Place, Variable, Own, Standard, Indexed, Field, Variant, Expr, Constant, Text, Read, One, Two, Short, Step, Function, IndexedValue, FieldValue, VariantValue, SetConstant, SetOf, OnSets, Card, Designator, Single, Range, Designators, no_member, next_member, Actual, Evaluated, Accessed, Actuals, no_actual, next_actual}
 use Rattle.ep_typed.specs.declared.operations.Unary.{Unary}
 use Rattle.ep_typed.specs.declared.operations.Unary.TheVariants as unary
 use Rattle.ep_typed.specs.declared.operations.ShortOperation.{ShortOperation}
@@ -13,7 +13,7 @@ use Rattle.ep_typed.specs.Nodes.{place_nodes, expr_nodes, actual_nodes, actuals_
 use Rattle.ep_typed.specs.Steps.{is_number}
 use Rattle.ep_typed.specs.declared.tree.CaseRange.{CaseRange}
 use Rattle.ep_typed.specs.declared.tree.Selection.{Selection}
-use Rattle.ep_gen_expr.specs.ExprCode.{first_code, first_index, range_code, ranges_code, IsElementCode, AreElementsCode, end_code, IsPlaceCode, IsExprCode, IsActualCode, AreActualsCode, IsDesignatorCode, AreDesignatorsCode, one_code, set_code, two_code, keep_code, step_code, test_code, tests_code, labels_code, labels_count, tag_code, rest_code, ends_code, variant_code, steps_code, reach_code, same_code}
+use Rattle.ep_gen_expr.specs.ExprCode.{first_code, first_index, range_code, ranges_code, IsElementCode, AreElementsCode, end_code, IsPlaceCode, IsExprCode, IsActualCode, AreActualsCode, IsDesignatorCode, AreDesignatorsCode, one_code, set_code, two_code, keep_code, step_code, test_code, tests_code, bad_place, labels_code, labels_count, tag_code, tag_part_code, rest_code, ends_code, selecting_code, variant_code, variant_part_code, steps_code, reach_code, same_code}
 use Rattle.ep_gen_code.specs.Instructions.{instr, reference, members_code, bare}
 use Rattle.ep_gen_code.specs.declared.references.TheConstants as routine
 use Rattle.ep_gen_code.proofs.Pushed.{get_later}
@@ -43,6 +43,7 @@ module _ (ts us : List (List ℕ)) (rs ss : List Reference) (line : ℕ) (a : Is
     expr_code_stays at (Function callee given) is h = (h.0, h.1, actuals_code_stays at given h.0 h.2, get_later h.1 (reference callee.unit callee.number) b h.3, h.4)
     expr_code_stays at (IndexedValue x y) is h = (h.0, h.1, expr_code_stays at x h.0 h.2, expr_code_stays (at + length h.0) y h.1 h.3, h.4)
     expr_code_stays at (FieldValue x number) is h = (h.0, expr_code_stays at x h.0 h.1, h.2)
+    expr_code_stays at (VariantValue x selection number) is h = (h.0, expr_code_stays at x h.0 h.1, h.2)
     expr_code_stays at (SetConstant ms) is h = h
     expr_code_stays at (SetOf ds) is h = (h.0, designators_code_stays (at + 1) ds h.0 h.1, h.2)
     expr_code_stays at (OnSets operation x y) is h = (h.0, h.1, expr_code_stays at x h.0 h.2, expr_code_stays (at + length h.0) y h.1 h.3, h.4)
@@ -115,16 +116,25 @@ labels_three : (labels : List (List CaseRange)) → labels_nodes labels ≡ 3 * 
 labels_three [] = refl
 labels_three (ranges ∷ more) = omega (arith, labels_three more)
 
--- how many those of a variant are
+-- how many those behind the value of a tag are
+pub selecting_length : (line at : ℕ) (s : Selection) (number : ℕ) → length (selecting_code line at s number) ≡ 4 + 6 * labels_count s.labels
+selecting_length line at s number =
+    let ls = labels_code line (bad_place at s + 1) (bad_place at s) number 0 at s.labels in
+    let last = rest_code line (bad_place at s + 1) (bad_place at s) s number ∷ ends_code line s number in
+    omega (arith, length-append ls last, labels_length line (bad_place at s + 1) (bad_place at s) number 0 at s.labels)
+
+-- and those of a variant
 pub variant_length : (line at : ℕ) (s : Selection) (number : ℕ) → length (variant_code line at s number) ≡ 11 + 6 * labels_count s.labels
-variant_length line at s number =
-    let bad = at + 7 + 6 * labels_count s.labels + 1 in
-    let ls = labels_code line (bad + 1) bad number 0 (at + 7) s.labels in
-    let last = rest_code line (bad + 1) bad s number ∷ ends_code line s number in
-    omega (arith, length-append (tag_code line bad s.tag) (ls ++ last), length-append ls last, labels_length line (bad + 1) bad number 0 (at + 7) s.labels)
+variant_length line at s number = omega (arith, length-append (tag_code line (bad_place (at + 7) s) s.tag) (selecting_code line (at + 7) s number), selecting_length line (at + 7) s number)
+
+pub variant_part_length : (line at : ℕ) (s : Selection) (number : ℕ) → length (variant_part_code line at s number) ≡ 10 + 6 * labels_count s.labels
+variant_part_length line at s number = omega (arith, length-append (tag_part_code line (bad_place (at + 6) s) s.tag) (selecting_code line (at + 6) s number), selecting_length line (at + 6) s number)
 
 variant_short : (xs : List Instr) (line at : ℕ) (s : Selection) (number : ℕ) (is : List Instr) → is ≡ xs ++ variant_code line at s number → (k : ℕ) → length xs ≤ 32 * k → length is ≤ 32 * (1 + k + labels_nodes s.labels)
 variant_short xs line at s number is e k p = omega (arith, ap length e, length-append xs (variant_code line at s number), variant_length line at s number, labels_three s.labels, p)
+
+variant_part_short : (xs : List Instr) (line at : ℕ) (s : Selection) (number : ℕ) (is : List Instr) → is ≡ xs ++ variant_part_code line at s number → (k : ℕ) → length xs + 8 ≤ 32 * k → length is + 8 ≤ 32 * (1 + k + labels_nodes s.labels)
+variant_part_short xs line at s number is e k p = omega (arith, ap length e, length-append xs (variant_part_code line at s number), variant_part_length line at s number, labels_three s.labels, p)
 
 -- two instructions for each member
 members_short : (line : ℕ) (ms : List ℕ) → length (members_code line ms) ≡ 2 * length ms
@@ -188,6 +198,7 @@ module _ (ts : List (List ℕ)) (rs : List Reference) (line : ℕ) where
         omega (arith, ap length h.4, length-append h.0 (h.1 ++ set_code line operation ∷ []), length-append h.1 (set_code line operation ∷ []), expr_code_short at x h.0 h.2, expr_code_short (at + length h.0) y h.1 h.3)
     expr_code_short at (Card x) is h = omega (arith, ap length h.2, length-append h.0 (bare line op.CARD ∷ []), expr_code_short at x h.0 h.1)
     expr_code_short at (FieldValue x number) is h = omega (arith, ap length h.2, length-append h.0 (instr op.FIELD (pos number) 0 line ∷ []), expr_code_short at x h.0 h.1)
+    expr_code_short at (VariantValue x selection number) is h = variant_part_short h.0 line (at + length h.0) selection number is h.2 (expr_nodes x) (expr_code_short at x h.0 h.1)
     expr_code_short at (Structured number es) is h =
         omega (arith, ap length h.2, length-append h.0 (end_code line), elements_code_short (at + 4) es h.0 h.1)
 

@@ -51,7 +51,7 @@ module _ {declared : Declarations} {G : Image} {untouched : Slots} {Here : Facts
       fragment_less {n = suc n} (omega arith) (record { by = λ s matches here. follows_read {e = λ x. d + 8 + weight_of x} (point injection memory place operands) (λ s. part_of r k) s (reads s matches here) (omega (arith, enough)) (λ x. omega (arith, enough)) })
 
   -- `Field`, where the record is on top
-  field_taken : (place : ℕ) (below : List Operand) (kind : Kind) (ts : ComponentTypes) (r : Result) (o : Operand) (k : ℕ) (of : TypeValue) → type_among ts k ≡ Some of → IsTypeOfKind kind of
+  pub field_taken : (place : ℕ) (below : List Operand) (kind : Kind) (ts : ComponentTypes) (r : Result) (o : Operand) (k : ℕ) (of : TypeValue) → type_among ts k ≡ Some of → IsTypeOfKind kind of
       → slice_get G.instructions place ≡ Some (instr op.FIELD (pos k) 0 line)
       → (injection : Injection) (memory : Memory) → IsStructure (type.Record ts) r injection memory o → (d : ℕ) → unit_in G memory.frames ≡ unit
       → Evaluates declared G untouched Here n injection memory place (o ∷ below) (part call g unit line r k) (place + 1) kind below (d + 8 + weight_of r) (d + 8)

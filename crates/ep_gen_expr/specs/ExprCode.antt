@@ -7,7 +7,7 @@ use Rattle.ep_object.specs.declared.code.Instr.{Instr}
 use Rattle.ep_object.specs.declared.code.Reference.{Reference}
 use Rattle.ep_typed.specs.Operations.{last_char}
 use Rattle.ep_typed.specs.Steps.{is_number, variant_number}
-use Rattle.ep_typed.specs.Trees.{Place, Variable, Own, Standard, Indexed, Field, Variant, Expr, Constant, Text, Read, One, Two, Short, Step, Function, IndexedValue, FieldValue, SetConstant, SetOf, OnSets, Card, Structured, Element, AtIndex, AtField, SameField, AtRanges, Elements, no_element, next_element, Designator, Single, Range, Designators, no_member, next_member, Actual, Evaluated, Accessed, Actuals, no_actual, next_actual}
+use Rattle.ep_typed.specs.Trees.{Place, Variable, Own, Standard, Indexed, Field, Variant, Expr, Constant, Text, Read, One, Two, Short, Step, Function, IndexedValue, FieldValue, VariantValue, SetConstant, SetOf, OnSets, Card, Structured, Element, AtIndex, AtField, SameField, AtRanges, Elements, no_element, next_element, Designator, Single, Range, Designators, no_member, next_member, Actual, Evaluated, Accessed, Actuals, no_actual, next_actual}
 use Rattle.ep_typed.specs.declared.operations.Unary.{Unary}
 use Rattle.ep_typed.specs.declared.operations.Unary.TheVariants as unary
 use Rattle.ep_typed.specs.declared.operations.Binary.{Binary}
@@ -99,6 +99,10 @@ abbrev pub labels_count : List (List CaseRange) → ℕ
 labels_count [] = 0
 labels_count (ranges ∷ more) = length ranges + labels_count more
 
+-- where the error of the tests of all labels stands, which begin at this place
+abbrev pub bad_place : ℕ → Selection → ℕ
+bad_place at s = at + 6 * labels_count s.labels + 1
+
 module _ (line : ℕ) where
   -- With the value of a selector on top: on to one place where the range has it, and else on behind this code, which begins at
   -- another place.
@@ -130,11 +134,24 @@ module _ (line : ℕ) where
   abbrev pub ends_code : Selection → (number : ℕ) → List Instr
   ends_code s number = instr op.FAIL (pos run_error.INACTIVE_VARIANT) 0 line ∷ bare line op.DROP ∷ instr op.FIELD (pos (variant_number s number)) 0 line ∷ []
 
-  -- With a record on top, from this place on: its variant with this number, where that is selected (ISO 10206, 6.5.3.3).
+  -- With the value of the tag above a record, from this place on: the tests of all labels, and the variant with this number.
+  abbrev pub selecting_code : ℕ → Selection → ℕ → List Instr
+  selecting_code at s number =
+      labels_code (bad_place at s + 1) (bad_place at s) number 0 at s.labels ++ rest_code (bad_place at s + 1) (bad_place at s) s number ∷ ends_code s number
+
+  -- With the place of a record on top, from this place on: its variant with this number, where that is selected (ISO 10206,
+  -- 6.5.3.3).
   abbrev pub variant_code : ℕ → Selection → ℕ → List Instr
-  variant_code at s number =
-      let bad = at + 7 + 6 * labels_count s.labels + 1 in
-      tag_code bad s.tag ++ (labels_code (bad + 1) bad number 0 (at + 7) s.labels ++ rest_code (bad + 1) bad s number ∷ ends_code s number)
+  variant_code at s number = tag_code (bad_place (at + 7) s) s.tag ++ selecting_code (at + 7) s number
+
+  -- With the value of a record on top: the value of its tag, or on to another place where that is undefined.
+  abbrev pub tag_part_code : (bad tag : ℕ) → List Instr
+  tag_part_code bad tag =
+      bare line op.DUP ∷ instr op.FIELD (pos tag) 0 line ∷ bare line op.DUP ∷ bare line op.DEFINED ∷ instr op.JUMP_FALSE (pos bad) 0 line ∷ instr op.FIELD (pos 0) 0 line ∷ []
+
+  -- its variant with this number, alike
+  abbrev pub variant_part_code : ℕ → Selection → ℕ → List Instr
+  variant_part_code at s number = tag_part_code (bad_place (at + 6) s) s.tag ++ selecting_code (at + 6) s number
 
 -- Before the components of a structured value of the type with this number: the type, a variable of it without a name, and its
 -- place above its number.
@@ -210,6 +227,7 @@ module _ (texts : List (List ℕ)) (references : List Reference) (line : ℕ) wh
     -- (6.8.6.3).
     IsExprCode at (IndexedValue x y) is = (xs ys : List Instr) × IsExprCode at x xs × IsExprCode (at + length xs) y ys × (is ≡ xs ++ (ys ++ bare line op.INDEX ∷ []))
     IsExprCode at (FieldValue x number) is = (xs : List Instr) × IsExprCode at x xs × (is ≡ xs ++ instr op.FIELD (pos number) 0 line ∷ [])
+    IsExprCode at (VariantValue x selection number) is = (xs : List Instr) × IsExprCode at x xs × (is ≡ xs ++ variant_part_code line (at + length xs) selection number)
     IsExprCode at (SetConstant ms) is = is ≡ bare line op.SET_NONE ∷ members_code line ms
     -- A set constructor (ISO 10206, 6.8.7.4): the empty set, to which each member designator adds what it gives.
     IsExprCode at (SetOf ds) is = (xs : List Instr) × AreDesignatorsCode (at + 1) ds xs × (is ≡ bare line op.SET_NONE ∷ xs)

@@ -2,7 +2,7 @@
 
 ghost use Rattle.std.specs.Prelude.{OnOk, map};
 ghost use Rattle.ep_typed.specs.Trees as tree;
-ghost use Rattle.ep_typed.specs.Trees.{entire, AtField, AtIndex, AtRanges, Card, Constant, Field, FieldValue, Function, Indexed, IndexedValue, One, OnSets, Own, Range, Read, SameField, SetConstant, SetOf, Short, Single, Step, Structured, Text, Two, Variable, Variant};
+ghost use Rattle.ep_typed.specs.Trees.{entire, AtField, AtIndex, AtRanges, Card, Constant, Field, FieldValue, Function, Indexed, IndexedValue, One, OnSets, Own, Range, Read, SameField, SetConstant, SetOf, Short, Single, Step, Structured, Text, Two, Variable, Variant, VariantValue};
 ghost use Rattle.ep_typed.specs.Viewed.{actual_of, callee_of, designator_of, element_of, entire_of, expr_of, place_of};
 ghost use Rattle.ep_gen_expr.specs.Growth.{AppendsActual, AppendsActuals, AppendsDesignator, AppendsElement, AppendsElements, AppendsExpr, AppendsPlace};
 
@@ -12,7 +12,7 @@ use crate::structured::{
     begin_structured, end_structured, fill_ranges, reach_field, reach_first, same_field,
 };
 use crate::tables::{reference_number, text_number};
-use crate::variants::active_code;
+use crate::variants::{active_code, active_part_code};
 use ep_base::{Name, NoMemory};
 use ep_gen_code::{Code, emit, land, next_place};
 use ep_object::op;
@@ -139,6 +139,9 @@ pub fn expression_code(alloc: Global, e: &TypedExpr, code: &mut Code) -> Result<
         }
         TypedExpr::FieldValue(whole, number) => {
             field_value_code(alloc, whole.get(), *number, code)
+        }
+        TypedExpr::VariantValue(whole, selection, number) => {
+            variant_value_code(alloc, whole.get(), selection, *number, code)
         }
         TypedExpr::SetConstant(members) => set_constant_code(members.items(), code),
         TypedExpr::Set(members) => constructor_code(alloc, members.items(), code),
@@ -306,6 +309,22 @@ fn field_value_code(
 {
     expression_code(alloc, whole, code)?;
     emit(code, op::FIELD, number as i64, 0)
+}
+
+/// Appends the code of the variant with this number of a record that a function gives (ISO 10206, 6.8.6.3).
+#[cycle(expression)]
+#[tactic(auto, using(crate::proofs::Forms::forms))]
+fn variant_value_code(
+    alloc: Global,
+    whole: &TypedExpr,
+    selection: &Selection,
+    number: u32,
+    code: &mut Code,
+) -> Result<(), NoMemory>
+    ensures { OnOk result (AppendsExpr code.old code.new (VariantValue (expr_of whole.now) selection.now number)) }
+{
+    expression_code(alloc, whole, code)?;
+    active_part_code(selection, number, code)
 }
 
 /// Appends the code of a constant that is a set: the empty set, to which each member is added.

@@ -3,9 +3,9 @@
 //! The value of the tag is tried with the labels of all variants in order. Each test takes as many instructions as any other,
 //! so the places behind them are known before the first one.
 
-ghost use Rattle.std.specs.Prelude.{◌≡◌, ◌&&◌, if◌then◌else◌, length, IfOk, OnOk};
+ghost use Rattle.std.specs.Prelude.{◌≡◌, ◌&&◌, ◌+◌, ◌-◌, ◌^◌, ◌<◌, if◌then◌else◌, length, IfOk, OnOk};
 ghost use Rattle.ep_typed.specs.Steps.{is_number};
-ghost use Rattle.ep_gen_expr.specs.ExprCode.{labels_code, labels_count, tag_code, variant_code};
+ghost use Rattle.ep_gen_expr.specs.ExprCode.{bad_place, labels_code, labels_count, selecting_code, tag_code, tag_part_code, variant_code, variant_part_code};
 ghost use Rattle.ep_gen_code.specs.Growth.{Grows};
 
 use crate::ranges::{TEST_LENGTH, tests_code};
@@ -14,8 +14,11 @@ use ep_gen_code::{Code, emit, next_place, place_number};
 use ep_object::op;
 use ep_typed::{CaseRanges, Selection, run_error};
 
-/// The instructions that take the value of a tag.
-const TAG_LENGTH: u64 = 7;
+/// The instructions that take the value of a tag of a variable.
+const TAG_LENGTH: u32 = 7;
+
+/// Those that take the one of a tag of a value.
+const TAG_PART_LENGTH: u32 = 6;
 
 /// Appends the code of the variant with this number of a record, whose place is on top.
 pub(crate) fn active_code(
@@ -26,11 +29,42 @@ pub(crate) fn active_code(
     ensures { OnOk result (Grows code.old code.new
         (variant_code code.old.line (length code.old.instructions) selection.now number)) }
 {
+    let bad = bad_place(selection, TAG_LENGTH, code)?;
+    tag_code(selection.tag, bad, code)?;
+    selecting_code(selection, number, code)
+}
+
+/// Appends the code of the variant with this number of a record, whose value is on top.
+pub(crate) fn active_part_code(
+    selection: &Selection,
+    number: u32,
+    code: &mut Code,
+) -> Result<(), NoMemory>
+    ensures { OnOk result (Grows code.old code.new
+        (variant_part_code code.old.line (length code.old.instructions) selection.now number)) }
+{
+    let bad = bad_place(selection, TAG_PART_LENGTH, code)?;
+    tag_part_code(selection.tag, bad, code)?;
+    selecting_code(selection, number, code)
+}
+
+/// Where the error of the tests of the labels will stand, which begin behind so many instructions.
+fn bad_place(selection: &Selection, lead: u32, code: &Code) -> Result<u32, NoMemory>
+    ensures { IfOk result (λ bad. (bad ≡ bad_place (length code.now.instructions + lead) selection.now)
+        × (bad < 2 ^ 32 - 1)) }
+{
     let start = next_place(code)?;
     let count = labels_count(selection.labels.items())?;
-    let bad = place_number(start as u64 + TAG_LENGTH + TEST_LENGTH * count as u64 + 1)?;
+    place_number(start as u64 + lead as u64 + TEST_LENGTH * count as u64 + 1)
+}
+
+/// Appends the tests of the labels, with the value of a tag above a record, and the record's variant with this number.
+fn selecting_code(selection: &Selection, number: u32, code: &mut Code) -> Result<(), NoMemory>
+    ensures { OnOk result (Grows code.old code.new
+        (selecting_code code.old.line (length code.old.instructions) selection.now number)) }
+{
+    let bad = bad_place(selection, 0, code)?;
     let good = bad + 1;
-    tag_code(selection.tag, bad, code)?;
     labels_code(good, bad, number, selection.labels.items(), code)?;
     let rest = one_of(completes(selection, number), good, bad);
     emit(code, op::JUMP, rest as i64, 0)?;
@@ -83,6 +117,19 @@ fn tag_code(tag: u32, bad: u32, code: &mut Code) -> Result<(), NoMemory>
     emit(code, op::DEFINED, 0, 0)?;
     emit(code, op::JUMP_FALSE, bad as i64, 0)?;
     emit(code, op::LOAD, 0, 0)
+}
+
+/// Appends the code that takes the value of the tag of a record, whose value is on top, and leads to a place where the tag is
+/// undefined.
+fn tag_part_code(tag: u32, bad: u32, code: &mut Code) -> Result<(), NoMemory>
+    ensures { OnOk result (Grows code.old code.new (tag_part_code code.old.line bad tag)) }
+{
+    emit(code, op::DUP, 0, 0)?;
+    emit(code, op::FIELD, tag as i64, 0)?;
+    emit(code, op::DUP, 0, 0)?;
+    emit(code, op::DEFINED, 0, 0)?;
+    emit(code, op::JUMP_FALSE, bad as i64, 0)?;
+    emit(code, op::FIELD, 0, 0)
 }
 
 /// Appends the tests of the labels of all variants: those of the variant with this number lead to one place, and those of the

@@ -9,7 +9,7 @@ use Rattle.ep_gen_expr.proofs.PlaceTypes.{IsTypedPlace, among_bare, bare_instanc
 use Rattle.ep_gen_code.proofs.Placed.{code_front, code_back, instr_at, jump_has, jump_false_has}
 use Rattle.ep_gen_expr.proofs.RangeMoves.{tests_follow, true_ordinal}
 use Rattle.ep_gen_expr.proofs.Stays.{tests_length}
-use Rattle.ep_gen_expr.proofs.VariantMoves.{follows_found, tag_record}
+use Rattle.ep_gen_expr.proofs.VariantMoves.{follows_found}
 use Rattle.ep_gen_unit.specs.StmtCode.{IsAssignCode}
 use Rattle.ep_gen_unit.specs.TagCode.{IsTriedCode, IsChangeCode, IsTakenCode, clear_code, clears_code, none_before, none_now, number_code, number_length, rest_number, selected_code, selected_length, selection_length, selections_code, selections_length, variants_code}
 use Rattle.ep_gen_unit.proofs.Parts.{code_stands-parts, Moves, ExpressionsFollow, PlacesFollow, statement_credit}
@@ -59,7 +59,7 @@ use Rattle.ep_typed.specs.Trees.{Denoter, Denoters, Expr, Place, Read, Record, T
 use Rattle.ep_typed.specs.TypeValues as type
 use Rattle.ep_typed.specs.TypeValues.{ComponentTypes, TypeValue, bare_each, bare_of, is_within, size_of, type_among}
 use Rattle.ep_typed.specs.Valid as kind
-use Rattle.ep_typed.specs.Valid.{AreTyped, Declarations, HasRange, IsExpr, IsPlace, IsTagged, IsTagging, IsTyped, IsTypeValue, next_typed, none_typed}
+use Rattle.ep_typed.specs.Valid.{AreTyped, Declarations, HasRange, IsExpr, IsPlace, IsTagged, IsTagging, IsTyped, IsTypeValue, next_typed, none_typed, tag_type}
 use Rattle.ep_typed.specs.declared.operations.Binary.TheVariants as binary
 use Rattle.ep_typed.specs.declared.run_error.TheConstants as run_error
 use Rattle.ep_typed.specs.declared.tree.CaseRange.{CaseRange}
@@ -359,14 +359,14 @@ module _ (declared : Declarations) (G : Image) (untouched : Slots) (Here : Facts
     -- ---- the value is tried
 
     tried_moves : (line at : ℕ) (c : Tagging) (s : Selection) (ts : ComponentTypes) (r : Component) (b : PlaceOf) (is : List Instr) → IsPlace declared host.Integer (entire c.value) → IsTriedCode texts references line at c s is → CodeStands G ps p references at is → at + length is < p.instructions.own
-        → type_among ts s.tag ≡ Some (tag_record c.low c.high)
+        → type_among ts s.tag ≡ Some (tag_type c.low c.high)
         → (injection : Injection) (memory : Memory) (below : List Operand) (d : ℕ) → statement_credit ≤ d → unit_in G memory.frames ≡ unit → IsSpot injection memory.types r b → IsLike memory.types b.type_number (type.Record ts)
         → Fragment declared G Here n (point injection memory (p.instructions.before + at) (operand.Place b ∷ below)) (tag_tested call n unit line c r s) (p.instructions.before + (at + length is)) (λ v. Inside untouched injection memory (PlaceOnTop (type.Ordinal c.low c.high) (operand.Place b ∷ below) v)) d (λ v. d + 8)
     tried_moves line at c s ts r b is value code stands_is inside has_tag injection memory below d enough home spot described =
         row_waits {d1 = d - 1} (dup_place G (p.instructions.before + at) line below b stands.0) (omega (arith, enough))
         (fragment_from {place = p.instructions.before + (at + 1)} (omega arith)
-        (fragment_bind_place {type = tag_record c.low c.high} {e = λ a. d - 1 + 8} (λ t. steady_bind (steady_selected call steady_call n unit line t 0) (λ v. steady_bind (steady_eval call steady_call n unit line (Read (entire c.value))) (λ z. steady_checked v z)))
-        (fragment_to {to2 = p.instructions.before + (at + 2)} (omega arith) (component_moves line (at + 1) s.tag ts (tag_record c.low c.high) r b has_tag (instr_at G (omega arith) stands.1.0) injection memory (operand.Place b ∷ below) (d - 1) (omega (arith, enough)) home spot described)) (λ t its v1 m1 grown1 routine1 spot1 described1.
+        (fragment_bind_place {type = tag_type c.low c.high} {e = λ a. d - 1 + 8} (λ t. steady_bind (steady_selected call steady_call n unit line t 0) (λ v. steady_bind (steady_eval call steady_call n unit line (Read (entire c.value))) (λ z. steady_checked v z)))
+        (fragment_to {to2 = p.instructions.before + (at + 2)} (omega arith) (component_moves line (at + 1) s.tag ts (tag_type c.low c.high) r b has_tag (instr_at G (omega arith) stands.1.0) injection memory (operand.Place b ∷ below) (d - 1) (omega (arith, enough)) home spot described)) (λ t its v1 m1 grown1 routine1 spot1 described1.
         fragment_bind_place {type = type.Ordinal c.low c.high} {e = λ a. d - 1 + 8 + 8} (λ v. steady_bind (steady_eval call steady_call n unit line (Read (entire c.value))) (λ z. steady_checked v z))
         (fragment_to {to2 = p.instructions.before + (at + 3)} (omega arith) (component_moves line (at + 2) 0 (type.next_component (type.Ordinal c.low c.high) type.no_component) (type.Ordinal c.low c.high) t its refl (instr_at G (omega arith) stands.1.1.0) v1 m1 (operand.Place b ∷ below) (d - 1 + 8) (omega (arith, enough)) (unit_in-same G routine1 ∙ home) spot1 described1)) (λ v q v2 m2 grown2 routine2 spot2 described2.
         fragment_bind_number {host = host.Integer} {e = λ x. d - 1 + 8 + 8 + 8 + weight_of x} (λ z. steady_checked v z)
@@ -487,12 +487,12 @@ module _ (declared : Declarations) (G : Image) (untouched : Slots) (Here : Facts
     -- ---- the tag gets the value
 
     taken_moves : (line at : ℕ) (c : Tagging) (s : Selection) (ts : ComponentTypes) (r : Component) (b : PlaceOf) (is : List Instr) → IsPlace declared host.Integer (entire c.value) → IsTakenCode texts references line at c s is → CodeStands G ps p references at is → at + length is < p.instructions.own
-        → type_among ts s.tag ≡ Some (tag_record c.low c.high)
+        → type_among ts s.tag ≡ Some (tag_type c.low c.high)
         → (injection : Injection) (memory : Memory) (below : List Operand) (d : ℕ) → statement_credit ≤ d → unit_in G memory.frames ≡ unit → IsSpot injection memory.types r b → IsLike memory.types b.type_number (type.Record ts)
         → Fragment declared G Here n (point injection memory (p.instructions.before + at) (operand.Place b ∷ below)) (sets_tag call n unit line c r s) (p.instructions.before + (at + length is)) (λ a. Inside untouched injection memory (Bare below a)) d (λ a. d)
     taken_moves line at c s ts r b is value code stands_is inside has_tag injection memory below d enough home spot described =
-        fragment_bind_place {type = tag_record c.low c.high} {e = λ a. d + 8} (λ t. steady_bind (steady_selected call steady_call n unit line t 0) (λ v. steady_bind (steady_eval call steady_call n unit line (Read (entire c.value))) (λ z. steady_assign call steady_call n unit line v z)))
-        (fragment_to {to2 = p.instructions.before + (at + 1)} (omega arith) (component_moves line at s.tag ts (tag_record c.low c.high) r b has_tag stands.0 injection memory below d (omega (arith, enough)) home spot described)) (λ t its v1 m1 grown1 routine1 spot1 described1.
+        fragment_bind_place {type = tag_type c.low c.high} {e = λ a. d + 8} (λ t. steady_bind (steady_selected call steady_call n unit line t 0) (λ v. steady_bind (steady_eval call steady_call n unit line (Read (entire c.value))) (λ z. steady_assign call steady_call n unit line v z)))
+        (fragment_to {to2 = p.instructions.before + (at + 1)} (omega arith) (component_moves line at s.tag ts (tag_type c.low c.high) r b has_tag stands.0 injection memory below d (omega (arith, enough)) home spot described)) (λ t its v1 m1 grown1 routine1 spot1 described1.
         fragment_bind_place {type = type.Ordinal c.low c.high} {e = λ a. d + 8 + 8} (λ v. steady_bind (steady_eval call steady_call n unit line (Read (entire c.value))) (λ z. steady_assign call steady_call n unit line v z))
         (fragment_to {to2 = p.instructions.before + (at + 2)} (omega arith) (component_moves line (at + 1) 0 (type.next_component (type.Ordinal c.low c.high) type.no_component) (type.Ordinal c.low c.high) t its refl (instr_at G (omega arith) stands.1.0) v1 m1 below (d + 8) (omega (arith, enough)) (unit_in-same G routine1 ∙ home) spot1 described1)) (λ v q v2 m2 grown2 routine2 spot2 described2.
         fragment_bind_number {host = host.Integer} {e = λ x. d + 8 + 8 + 8 + weight_of x} (λ z. steady_assign call steady_call n unit line v z)
@@ -518,7 +518,7 @@ module _ (declared : Declarations) (G : Image) (untouched : Slots) (Here : Facts
 pub record IsTagRecord (c : Tagging) (s : Selection) (t : TypeValue) : Type 0 where
   pub types_of : ComponentTypes
   pub is : bare_of t ≡ type.Record types_of
-  pub tag : type_among types_of s.tag ≡ Some (tag_record c.low c.high)
+  pub tag : type_among types_of s.tag ≡ Some (tag_type c.low c.high)
   pub variants : (i : ℕ) → i < variants_count s → (u : TypeValue) × (type_among types_of (variant_number s i) ≡ Some u) × IsTypeValue u
 
 -- each component of a record has a type value

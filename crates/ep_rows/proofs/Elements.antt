@@ -1,7 +1,7 @@
 -- Components of the values of arrays, for the rows on them.
 use Rattle.std.proofs.Common.{◌≡◌, ℕ, ℤ, ◌+◌, ◌<◌, List, [], ◌∷◌, Option, Some, length, slice_get, refl, ap, arith}
 use Rattle.std.proofs.lemmas.Bool.{lt-leb}
-use Rattle.ep_frames.specs.Stacks.{value_under_word, word_top}
+use Rattle.ep_frames.specs.Stacks.{value_top, value_under_word, word_top}
 use Rattle.ep_object.specs.Effects.{Breaks, light}
 use Rattle.ep_object.specs.Operands.{Operand, Word, Place, Text, Value, Set}
 use Rattle.ep_object.specs.Parts.{element_of, part_at, value_element}
@@ -39,3 +39,16 @@ under_word (Place p ∷ st) z n ws e f = cc
 under_word (Text bytes ∷ st) z n ws e f = cc
 under_word (Value m us ∷ st) z n ws e f = cc
 under_word (Set ms ∷ st) z n ws e f = cc
+
+-- a value on top
+pub on_value : (st : List Operand) (n : ℕ) (ws : List ℤ) → Some (n, ws) ≡ value_top st → (rest : List Operand) × (st ≡ Value n ws ∷ rest)
+on_value [] n ws e = cc
+on_value (Value m xs ∷ st) n ws e =
+    let pair : ◌≡◌ {A = ℕ × List ℤ} (n, ws) (m, xs) = cc in
+    let number : n ≡ m = ap (λ p. p.0) pair in
+    let words : ws ≡ xs = ap (λ p. p.1) pair in
+    (st, cc)
+on_value (Word z ∷ st) n ws e = cc
+on_value (Place p ∷ st) n ws e = cc
+on_value (Text bytes ∷ st) n ws e = cc
+on_value (Set ms ∷ st) n ws e = cc

@@ -2,10 +2,11 @@
 
 ghost use Rattle.std.specs.Prelude.{◌≡◌, ◌<◌, ◌+◌, ◌*◌, ◌∷◌, suc, if◌then◌else◌, leb, ℕ, ℤ, List, IfSome, MatchOption, Some, length, pos};
 ghost use Rattle.ep_frames.specs.Stacks.{value_top, value_under_word};
-ghost use Rattle.ep_object.specs.Effects.{Fails, having, weighing};
+ghost use Rattle.ep_object.specs.Effects.{Continues, Fails, having, weighing};
 ghost use Rattle.ep_object.specs.Operands.{Operand, Value, Word};
-ghost use Rattle.ep_object.specs.Parts.{field_any_row, index_any_row, part_at, value_element, value_field};
+ghost use Rattle.ep_object.specs.Parts.{defined_any_row, field_any_row, index_any_row, one_word, part_at, value_element, value_field};
 ghost use Rattle.ep_object.specs.Places.{loaded};
+ghost use Rattle.ep_object.specs.WordRows.{bit};
 ghost use Rattle.ep_rows.specs.Steps.{IsDone, IsStep};
 ghost use Rattle.ep_typed.specs.declared.run_error.TheConstants as run_error;
 ghost use Rattle.ep_rows.specs.Taken.{IsThere, OnThere, element_told, found_told, part_told, weight_of};
@@ -271,5 +272,38 @@ pub fn element(
         AtIndex::Broken => Step::Broken,
         AtIndex::Outside => outside(size, limit, ticks),
         AtIndex::There(found) => leave_indexed(found, size, limit, ticks, stack),
+    }
+}
+
+/// The one word of a value of the type of this number, where values of that have one.
+fn one_word(types: &[TypeEntry], type_number: u32, words: &[i64]) -> Option<i64>
+    ensures { result ≡ one_word types.now type_number words.now }
+{
+    let entry = types.get(type_number as usize)?;
+    if entry.size != 1 {
+        return None;
+    }
+    words.first().copied()
+}
+
+/// Whether it is defined takes the place of the value on top.
+fn tell(is_defined: bool, stack: &mut Stack) -> Step
+    ensures { (n : ℕ) (ws : List ℤ) (st : List Operand) → stack.old ≡ Value n ws ∷ st
+        → IsStep (Continues (Word (bit is_defined) ∷ st)) result stack.new }
+{
+    stack.pop();
+    words::push_word(stack, if is_defined { 1 } else { 0 })
+}
+
+/// Whether the variable or the value of one word on top is defined.
+pub fn defined(types: &[TypeEntry], memory: &Memory, stack: &mut Stack) -> Step
+    ensures { IsStep (defined_any_row types.now memory.now.segments stack.old) result stack.new }
+{
+    let Some((type_number, words)) = stack.value_top() else {
+        return places::defined(types, memory, stack);
+    };
+    match one_word(types, type_number, words) {
+        Some(word) => tell(word > i64::MIN, stack),
+        None => Step::Broken,
     }
 }

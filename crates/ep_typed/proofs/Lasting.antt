@@ -3,7 +3,7 @@ use Rattle.std.proofs.Common.{◌≡◌, ℕ, ℤ, pos, negsuc, zero, suc, ◌+�
 use Rattle.std.specs.Prelude.{if◌then◌else◌}
 use Rattle.ep_typed.specs.Controls.{in_order, next_value, has_more, others}
 use Rattle.ep_typed.specs.Denoters.{definition_of, required_type, subrange_type, enumeration_type, array_type, set_type}
-use Rattle.ep_typed.specs.Meaning.{clears, clears_all, tag_tested, selected_by, selected_now, is_another, changes_variant, sets_tag, assigns_tag, looks, argument, arguments, extended, collected, first_located, located, reached, given, taken, gives, gives_all, members_found, one_result, weights_of, results_given, initialized, takes_by, takes_all, elaborate, elaborate_each, answered, indexed, selected, selecting, selects, chosen, active, part, place, eval, write_piece, write_wide, write_item, write_items, assign, turns, turns_until, assigns, undefines, turns_to, counts, takes_least, member_turn, names, exec, exec_all, elaborated, elaborated_where, make, make_all, make_own, make_all_own, start_of, starts_of, routine_in, type_in, line_where, activation, runs_routine, routine_does, type_does, handler_of, read, assign_living, tried, exec_arms, exec_other, begins, begins_where}
+use Rattle.ep_typed.specs.Meaning.{clears, clears_all, tag_tested, selected_by, selected_now, is_another, changes_variant, sets_tag, assigns_tag, looks, argument, arguments, extended, collected, first_located, located, reached, given, taken, gives, gives_all, members_found, one_result, weights_of, results_given, initialized, takes_by, takes_all, elaborate, elaborate_each, answered, indexed, selected, selecting, selects, chosen, active, part, chosen_part, active_part, place, eval, write_piece, write_wide, write_item, write_items, assign, turns, turns_until, assigns, undefines, turns_to, counts, takes_least, member_turn, names, exec, exec_all, elaborated, elaborated_where, make, make_all, make_own, make_all_own, start_of, starts_of, routine_in, type_in, line_where, activation, runs_routine, routine_does, type_does, handler_of, read, assign_living, tried, exec_arms, exec_other, begins, begins_where}
 use Rattle.ep_typed.specs.Nameless.{begins_nameless, fills, fills_all, newest_nameless, range_count}
 use Rattle.ep_typed.specs.Operations.{Answer, Number, Fault, is_same, is_true, decides, is_in}
 use Rattle.ep_typed.specs.Printing.{Result, number_of, members_of, plain_text, wide_text, piece_events}
@@ -16,7 +16,7 @@ use Rattle.ep_typed.specs.Steps.{Value as ValueOf}
 use Rattle.ep_typed.specs.SetOperations.{set_answer}
 use Rattle.ep_typed.specs.Sets.{least_member, with_number, with_numbers}
 use Rattle.ep_typed.specs.Results.{misfit, result_of, start_from, suits, unresulting, value_of, weight_of}
-use Rattle.ep_typed.specs.Trees.{Array, Enumeration, Subrange, Named, Record, Set, Required, Denoter, Denoters, no_denoter, next_denoter, Callee, Place, Variable, Own, Standard, Indexed, Field, Variant, Expr, Constant, Text, Read, One, Two, Short, Step, Function, IndexedValue, FieldValue, SetOf, OnSets, Card, Designator, Single, Range, Designators, no_member, next_member, Actual, Evaluated, Accessed, Actuals, no_actual, next_actual, Item, Plain, Wide, Stmt, Stmts, Empty, Compound, Assign, Tagging, AssignTag, If, While, Repeat, Control, For, MemberControl, ForIn, With, Procedure, Halt, Write, none, next, Case, Arms, no_arm, next_arm, Other, no_other, otherwise_do, Entire, OfUnit, OfRoutine, entire, SetConstant, Initial, Structured, Element, AtIndex, AtField, SameField, AtRanges, Elements, no_element, next_element}
+use Rattle.ep_typed.specs.Trees.{Array, Enumeration, Subrange, Named, Record, Set, Required, Denoter, Denoters, no_denoter, next_denoter, Callee, Place, Variable, Own, Standard, Indexed, Field, Variant, Expr, Constant, Text, Read, One, Two, Short, Step, Function, IndexedValue, FieldValue, VariantValue, SetOf, OnSets, Card, Designator, Single, Range, Designators, no_member, next_member, Actual, Evaluated, Accessed, Actuals, no_actual, next_actual, Item, Plain, Wide, Stmt, Stmts, Empty, Compound, Assign, Tagging, AssignTag, If, While, Repeat, Control, For, MemberControl, ForIn, With, Procedure, Halt, Write, none, next, Case, Arms, no_arm, next_arm, Other, no_other, otherwise_do, Entire, OfUnit, OfRoutine, entire, SetConstant, Initial, Structured, Element, AtIndex, AtField, SameField, AtRanges, Elements, no_element, next_element}
 use Rattle.ep_typed.specs.Routines.{made_variables, made_by_unit}
 use Rattle.ep_typed.specs.Viewed.{denoter_of, stmt_of}
 use Rattle.ep_typed.specs.declared.interface.Formal.{Formal}
@@ -211,6 +211,14 @@ module _ (call other : Handler) (lasts : IsLastingHandler call other) (g j : ℕ
   lasting_chosen : (line : ℕ) (c : Component) (s : Selection) (k i : ℕ) → Lasting (chosen call g unit line c s k i) (chosen other (g + j) unit line c s k i)
   lasting_chosen line c s k i = lasting_if (is_number i k) (lasting_selected line c (variant_number s k)) (lasting_stop (Error run_error.INACTIVE_VARIANT unit line))
 
+  lasting_chosen_part : (line : ℕ) (r : Result) (s : Selection) (k i : ℕ) → Lasting (chosen_part call g unit line r s k i) (chosen_part other (g + j) unit line r s k i)
+  lasting_chosen_part line r s k i = lasting_if (is_number i k) (lasting_part line r (variant_number s k)) (lasting_stop (Error run_error.INACTIVE_VARIANT unit line))
+
+  lasting_active_part : (line : ℕ) (r : Result) (s : Selection) (k : ℕ) → Lasting (active_part call g unit line r s k) (active_part other (g + j) unit line r s k)
+  lasting_active_part line r s k =
+      lasting_spend (suc (weight_of r)) (lasting_bind (lasting_part line r s.tag) (λ t. lasting_bind (lasting_bind (lasting_fetch _ _) (λ z. lasting_spend (suc (weight_of z)) (lasting_give z))) (λ z.
+      lasting_selects call other g (g + j) unit s (number_of z) (lasting_chosen_part line r s k) (lasting_stop (Error run_error.INACTIVE_VARIANT unit line)))))
+
   lasting_active : (line : ℕ) (c : Component) (s : Selection) (k : ℕ) → Lasting (active call g unit line c s k) (active other (g + j) unit line c s k)
   lasting_active line c s k = lasting_using _ c.allocation (lasting_bind (lasting_fetch _ _) (λ r. lasting_selects call other g (g + j) unit s (number_of r) (lasting_chosen line c s k) (lasting_stop (Error run_error.INACTIVE_VARIANT unit line))))
 
@@ -267,6 +275,7 @@ module _ (call other : Handler) (lasts : IsLastingHandler call other) (g j : ℕ
         lasting_bind (lasting_arguments line given) (λ xs. lasting_bind (lasts.routine unit line callee xs) lasting_one_result)
     lasting_eval line (IndexedValue x y) = lasting_bind (lasting_eval line x) (λ a. lasting_bind (lasting_eval line y) (λ b. lasting_bind (lasting_fetch _ _) (λ k. lasting_part line a k)))
     lasting_eval line (FieldValue x number) = lasting_bind (lasting_eval line x) (λ a. lasting_part line a number)
+    lasting_eval line (VariantValue x selection number) = lasting_bind (lasting_eval line x) (λ a. lasting_active_part line a selection number)
     lasting_eval line (SetConstant ms) = lasting_spend (suc set_size) (lasting_give (result.Members ms))
     lasting_eval line (SetOf ds) = lasting_spend 1 (lasting_bind (lasting_collected line [] ds) (λ ms. lasting_give (result.Members ms)))
     lasting_eval line (OnSets operation x y) = lasting_bind (lasting_eval line x) (λ a. lasting_bind (lasting_eval line y) (λ b. lasting_spend 1 (lasting_give (set_answer operation a b))))

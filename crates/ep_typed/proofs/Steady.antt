@@ -6,7 +6,7 @@ use Rattle.ep_outside.specs.Known.{IsPrefix}
 use Rattle.ep_typed.specs.Controls.{in_order, next_value, has_more, others}
 use Rattle.ep_typed.specs.Denoters.{definition_of, required_type, subrange_type, enumeration_type, array_type, set_type}
 use Rattle.ep_typed.specs.Events.{Trace}
-use Rattle.ep_typed.specs.Meaning.{clears, clears_all, tag_tested, selected_by, selected_now, is_another, changes_variant, sets_tag, assigns_tag, looks, argument, arguments, extended, collected, first_located, located, reached, given_living, given, taken, gives, gives_all, members_found, one_result, weights_of, result_at, results_given, initialized, takes_by, takes_all, elaborate, elaborate_each, answered, indexed, selected, selecting, selects, chosen, active, part, place, eval, write_piece, write_wide, write_item, write_items, assign, turns, turns_until, assigns, undefines, turns_to, counts, takes_least, member_turn, names, exec, exec_all, elaborated, elaborated_where, make, make_all, make_own, make_all_own, start_of, starts_of, routine_in, type_in, line_where, activation, runs_routine, routine_does, type_does, handler_of, read, assign_living, tried, exec_arms, exec_other, begins, begins_where}
+use Rattle.ep_typed.specs.Meaning.{clears, clears_all, tag_tested, selected_by, selected_now, is_another, changes_variant, sets_tag, assigns_tag, looks, argument, arguments, extended, collected, first_located, located, reached, given_living, given, taken, gives, gives_all, members_found, one_result, weights_of, result_at, results_given, initialized, takes_by, takes_all, elaborate, elaborate_each, answered, indexed, selected, selecting, selects, chosen, active, part, tag_read, chosen_part, active_part, place, eval, write_piece, write_wide, write_item, write_items, assign, turns, turns_until, assigns, undefines, turns_to, counts, takes_least, member_turn, names, exec, exec_all, elaborated, elaborated_where, make, make_all, make_own, make_all_own, start_of, starts_of, routine_in, type_in, line_where, activation, runs_routine, routine_does, type_does, handler_of, read, assign_living, tried, exec_arms, exec_other, begins, begins_where}
 use Rattle.ep_typed.specs.Nameless.{all_assigned, assigned_from, begins_nameless, fills, fills_all, made_nameless, newest_nameless, range_assigned, range_count, takes_nameless, with_depth}
 use Rattle.ep_typed.specs.Operations.{Answer, Number, Fault, is_same, is_true, decides, is_in}
 use Rattle.ep_typed.specs.Printing.{Result, number_of, members_of, plain_text, wide_text, piece_events}
@@ -19,7 +19,7 @@ use Rattle.ep_typed.specs.Steps.{Value as ValueOf}
 use Rattle.ep_typed.specs.SetOperations.{set_answer}
 use Rattle.ep_typed.specs.Sets.{least_member, with_number, with_numbers}
 use Rattle.ep_typed.specs.Results.{misfit, result_of, start_from, suits, unresulting, value_of, weight_of}
-use Rattle.ep_typed.specs.Trees.{Array, Enumeration, Subrange, Named, Record, Set, Required, Denoter, Denoters, no_denoter, next_denoter, Callee, Place, Variable, Own, Standard, Indexed, Field, Variant, Expr, Constant, Text, Read, One, Two, Short, Step, Function, IndexedValue, FieldValue, SetOf, OnSets, Card, Designator, Single, Range, Designators, no_member, next_member, Actual, Evaluated, Accessed, Actuals, no_actual, next_actual, Item, Plain, Wide, Stmt, Stmts, Empty, Compound, Assign, Tagging, AssignTag, If, While, Repeat, Control, For, MemberControl, ForIn, With, Procedure, Halt, Write, none, next, Case, Arms, no_arm, next_arm, Other, no_other, otherwise_do, Entire, OfUnit, OfRoutine, entire, SetConstant, Initial, Structured, Element, AtIndex, AtField, SameField, AtRanges, Elements, no_element, next_element}
+use Rattle.ep_typed.specs.Trees.{Array, Enumeration, Subrange, Named, Record, Set, Required, Denoter, Denoters, no_denoter, next_denoter, Callee, Place, Variable, Own, Standard, Indexed, Field, Variant, Expr, Constant, Text, Read, One, Two, Short, Step, Function, IndexedValue, FieldValue, VariantValue, SetOf, OnSets, Card, Designator, Single, Range, Designators, no_member, next_member, Actual, Evaluated, Accessed, Actuals, no_actual, next_actual, Item, Plain, Wide, Stmt, Stmts, Empty, Compound, Assign, Tagging, AssignTag, If, While, Repeat, Control, For, MemberControl, ForIn, With, Procedure, Halt, Write, none, next, Case, Arms, no_arm, next_arm, Other, no_other, otherwise_do, Entire, OfUnit, OfRoutine, entire, SetConstant, Initial, Structured, Element, AtIndex, AtField, SameField, AtRanges, Elements, no_element, next_element}
 use Rattle.ep_typed.specs.Routines.{made_variables, made_by_unit}
 use Rattle.ep_typed.specs.Viewed.{denoter_of, stmt_of}
 use Rattle.ep_typed.specs.declared.interface.Formal.{Formal}
@@ -265,6 +265,19 @@ module _ (call : Handler) (steady : IsSteadyHandler call) (g : ℕ) (unit : List
   pub steady_chosen : (line : ℕ) (c : Component) (s : Selection) (k j : ℕ) → Steady (chosen call g unit line c s k j)
   steady_chosen line c s k j = steady_if (is_number j k) (steady_selected line c (variant_number s k)) (steady_stop (Error run_error.INACTIVE_VARIANT unit line))
 
+  steady_chosen_part : (line : ℕ) (r : Result) (s : Selection) (k j : ℕ) → Steady (chosen_part call g unit line r s k j)
+  steady_chosen_part line r s k j = steady_if (is_number j k) (steady_part line r (variant_number s k)) (steady_stop (Error run_error.INACTIVE_VARIANT unit line))
+
+  pub steady_tag_read : (line : ℕ) (t : Result) → Steady (tag_read call g unit line t)
+  steady_tag_read line t = steady_bind (steady_fetch _ _) (λ z. steady_spend (suc (weight_of z)) (steady_give z))
+
+  pub steady_selecting_part : (line : ℕ) (r : Result) (s : Selection) (k : ℕ) (z : Result) → Steady (selects call g unit s (number_of z) (chosen_part call g unit line r s k) (stop (Error run_error.INACTIVE_VARIANT unit line)))
+  steady_selecting_part line r s k z = steady_selects call g unit s (number_of z) (steady_chosen_part line r s k) (steady_stop (Error run_error.INACTIVE_VARIANT unit line))
+
+  pub steady_active_part : (line : ℕ) (r : Result) (s : Selection) (k : ℕ) → Steady (active_part call g unit line r s k)
+  steady_active_part line r s k =
+      steady_spend (suc (weight_of r)) (steady_bind (steady_part line r s.tag) (λ t. steady_bind (steady_tag_read line t) (steady_selecting_part line r s k)))
+
   pub steady_active : (line : ℕ) (c : Component) (s : Selection) (k : ℕ) → Steady (active call g unit line c s k)
   steady_active line c s k = steady_using _ c.allocation (steady_bind (steady_fetch _ _) (λ r. steady_selects call g unit s (number_of r) (steady_chosen line c s k) (steady_stop (Error run_error.INACTIVE_VARIANT unit line))))
 
@@ -324,6 +337,7 @@ module _ (call : Handler) (steady : IsSteadyHandler call) (g : ℕ) (unit : List
     steady_eval line (Function callee given) = steady_bind (steady_arguments line given) (λ xs. steady_bind (steady.routine unit line callee xs) steady_one_result)
     steady_eval line (IndexedValue x y) = steady_bind (steady_eval line x) (λ a. steady_bind (steady_eval line y) (λ b. steady_bind (steady_fetch _ _) (λ k. steady_part line a k)))
     steady_eval line (FieldValue x number) = steady_bind (steady_eval line x) (λ a. steady_part line a number)
+    steady_eval line (VariantValue x selection number) = steady_bind (steady_eval line x) (λ a. steady_active_part line a selection number)
     steady_eval line (SetConstant ms) = steady_spend (suc set_size) (steady_give (result.Members ms))
     steady_eval line (SetOf ds) = steady_spend 1 (steady_bind (steady_collected line [] ds) (λ ms. steady_give (result.Members ms)))
     steady_eval line (OnSets operation x y) = steady_bind (steady_eval line x) (λ a. steady_bind (steady_eval line y) (λ b. steady_spend 1 (steady_give (set_answer operation a b))))

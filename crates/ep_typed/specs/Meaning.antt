@@ -5,7 +5,7 @@ use Rattle.ep_typed.specs.Calls.{Argument, Value, Handler, activation_words, in_
 use Rattle.ep_typed.specs.Calls as argument_is
 use Rattle.ep_typed.specs.Controls.{in_order, next_value, has_more, others}
 use Rattle.ep_typed.specs.Denoters.{required_type, subrange_type, enumeration_type, array_type, set_type, definition_of}
-use Rattle.ep_typed.specs.Trees.{Denoter, Required, Named, Subrange, Enumeration, Array, Record, Denoters, no_denoter, next_denoter, Set, Initial, Callee, Place, Variable, Own, Standard, Indexed, Field, Variant, Expr, Constant, Text, Read, One, Two, Short, Step, Function, IndexedValue, FieldValue, SetOf, OnSets, Card, Designator, Single, Range, Designators, no_member, next_member, Actual, Evaluated, Accessed, Actuals, no_actual, next_actual, Item, Plain, Wide, Stmt, Stmts, Empty, Compound, Assign, Tagging, AssignTag, If, While, Repeat, Control, For, MemberControl, ForIn, With, Procedure, Halt, Write, none, next, Case, Arms, no_arm, next_arm, Other, no_other, otherwise_do, Entire, OfUnit, OfRoutine, entire, SetConstant, Structured, Element, AtIndex, AtField, SameField, AtRanges, Elements, no_element, next_element}
+use Rattle.ep_typed.specs.Trees.{Denoter, Required, Named, Subrange, Enumeration, Array, Record, Denoters, no_denoter, next_denoter, Set, Initial, Callee, Place, Variable, Own, Standard, Indexed, Field, Variant, Expr, Constant, Text, Read, One, Two, Short, Step, Function, IndexedValue, FieldValue, VariantValue, SetOf, OnSets, Card, Designator, Single, Range, Designators, no_member, next_member, Actual, Evaluated, Accessed, Actuals, no_actual, next_actual, Item, Plain, Wide, Stmt, Stmts, Empty, Compound, Assign, Tagging, AssignTag, If, While, Repeat, Control, For, MemberControl, ForIn, With, Procedure, Halt, Write, none, next, Case, Arms, no_arm, next_arm, Other, no_other, otherwise_do, Entire, OfUnit, OfRoutine, entire, SetConstant, Structured, Element, AtIndex, AtField, SameField, AtRanges, Elements, no_element, next_element}
 use Rattle.ep_typed.specs.Routines.{made_variables, made_by_unit}
 use Rattle.ep_typed.specs.Viewed.{denoter_of, stmt_of}
 use Rattle.ep_typed.specs.Steps.{Call, Normal, Halted, Error, Undefined, Outcome, Computation, give, cut, stop, bind, spend, change, fetch, fetch_or, with_events, assigned, type_at, whole, Component, component, component_number, is_number, tag_of, variant_number, with_type, allocate, allocate_own, own_variable, newest_assigned, with_bound, with_own_bound, standard_file, first_state, using, is_within, size_of, variants_count}
@@ -94,6 +94,21 @@ module _ (call : Handler) (g : ℕ) (unit : List ℕ) where
   abbrev pub part_indexed : ℕ → Result → ℤ → Computation Result
   part_indexed line r z = bind (fetch (Error run_error.INDEX unit line) (λ s. part_at r z)) (λ k. part line r k)
 
+  -- the value of a tag, by its record, whose one component it is: an error of variants where it is undefined
+  abbrev pub tag_read : ℕ → Result → Computation Result
+  tag_read line t = bind (fetch (Error run_error.INACTIVE_VARIANT unit line) (λ s. part_of t 0)) (λ z. spend (suc (weight_of z)) (give z))
+
+  -- the variant of a result with this number, where it is the one that is selected, and else an error
+  abbrev pub chosen_part : ℕ → Result → Selection → ℕ → ℕ → Computation Result
+  chosen_part line r s k j = if is_number j k then part line r (variant_number s k) else stop (Error run_error.INACTIVE_VARIANT unit line)
+
+  -- The one with this number: what the result weighs is spent, and an error comes where its tag is undefined, or selects another
+  -- variant or none.
+  abbrev pub active_part : ℕ → Result → Selection → ℕ → Computation Result
+  active_part line r s k =
+      spend (suc (weight_of r)) (bind (part line r s.tag) (λ t. bind (tag_read line t) (λ z.
+      selects s (number_of z) (chosen_part line r s k) (stop (Error run_error.INACTIVE_VARIANT unit line)))))
+
   -- what a call of a function gives, which has one result; what is none has no meaning
   abbrev pub one_result : List Result → Computation Result
   one_result [] = cut
@@ -156,6 +171,7 @@ module _ (call : Handler) (g : ℕ) (unit : List ℕ) where
     eval line (Function callee given) = bind (arguments line given) (λ xs. bind (call.routine unit line callee xs) one_result)
     eval line (IndexedValue x y) = bind (eval line x) (λ a. bind (eval line y) (λ b. part_indexed line a (number_of b)))
     eval line (FieldValue x number) = bind (eval line x) (λ a. part line a number)
+    eval line (VariantValue x selection number) = bind (eval line x) (λ a. active_part line a selection number)
     -- a constant that is a set spends as many steps besides as it has words
     eval line (SetConstant ms) = spend (suc set_size) (give (result.Members ms))
     -- a set constructor spends its step when it is begun

@@ -1,6 +1,6 @@
 -- How many typed nodes a unit has: its expressions, places, statements, ranges of `case` statements, of variants, of structured values, of places in variants and of assignments to tags, steps to components of structured values, imports, routines, formals, variables, denoters, bounds and values. An expression that is a constant or a text counts one, and its value one more; that of a set one more for each member. So do the values of constants.
 use Rattle.std.specs.Prelude.{ℕ, ◌+◌, ◌*◌, List, [], ◌∷◌, length, map, sum, Option, Some, None}
-use Rattle.ep_typed.specs.Trees.{Place, Variable, Own, Standard, Indexed, Field, Variant, Expr, Constant, Text, Read, One, Two, Short, Step, Function, IndexedValue, FieldValue, SetOf, OnSets, Card, Designator, Single, Range, Designators, no_member, next_member, Actual, Evaluated, Accessed, Actuals, no_actual, next_actual, Item, Plain, Wide, Stmt, Stmts, Empty, Compound, Assign, AssignTag, If, While, Repeat, For, ForIn, With, Procedure, Case, Halt, Write, none, next, Arm, Arms, no_arm, next_arm, Other, no_other, otherwise_do, entire, SetConstant, Structured, Element, AtIndex, AtField, SameField, AtRanges, Elements, no_element, next_element, elements}
+use Rattle.ep_typed.specs.Trees.{Place, Variable, Own, Standard, Indexed, Field, Variant, Expr, Constant, Text, Read, One, Two, Short, Step, Function, IndexedValue, FieldValue, VariantValue, SetOf, OnSets, Card, Designator, Single, Range, Designators, no_member, next_member, Actual, Evaluated, Accessed, Actuals, no_actual, next_actual, Item, Plain, Wide, Stmt, Stmts, Empty, Compound, Assign, AssignTag, If, While, Repeat, For, ForIn, With, Procedure, Case, Halt, Write, none, next, Arm, Arms, no_arm, next_arm, Other, no_other, otherwise_do, entire, SetConstant, Structured, Element, AtIndex, AtField, SameField, AtRanges, Elements, no_element, next_element, elements}
 use Rattle.ep_typed.specs.Viewed.{element_of, expr_of, stmt_of}
 use Rattle.ep_typed.specs.declared.denoter.Denoter.{Denoter}
 use Rattle.ep_typed.specs.declared.denoter.Denoter.TheOpen as denoter
@@ -51,6 +51,7 @@ abbrev mutual
   expr_nodes (Function callee given) = 1 + actuals_nodes given
   expr_nodes (IndexedValue array index) = 1 + expr_nodes array + expr_nodes index
   expr_nodes (FieldValue whole number) = 1 + expr_nodes whole
+  expr_nodes (VariantValue whole selection number) = 1 + expr_nodes whole + labels_nodes selection.labels
   expr_nodes (SetConstant ms) = 2 + length ms
   expr_nodes (SetOf ds) = 1 + designators_nodes ds
   expr_nodes (OnSets operation x y) = 1 + expr_nodes x + expr_nodes y

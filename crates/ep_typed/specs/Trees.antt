@@ -53,6 +53,8 @@ mutual
     IndexedValue : (array index : Expr) → Expr
     -- the component with this number of a record that a function gives (ISO 10206, 6.8.6.3)
     FieldValue : (whole : Expr) (number : ℕ) → Expr
+    -- the variant with this number of a record that a function gives, as the record of its fields (ISO 10206, 6.8.6.3)
+    VariantValue : (whole : Expr) (selection : Selection) (number : ℕ) → Expr
     -- a constant that is a set, by its members in rising order
     SetConstant : (members : List ℕ) → Expr
     -- a set constructor, by its member designators (ISO 10206, 6.8.7.4)

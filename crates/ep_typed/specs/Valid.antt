@@ -9,7 +9,7 @@ use Rattle.ep_typed.specs.Results.{has_base_for}
 use Rattle.ep_typed.specs.Sets.{IsSet, are_between, is_ordinal}
 use Rattle.ep_typed.specs.Steps.{is_within, variant_number, variants_count}
 use Rattle.ep_typed.specs.Trees as tree
-use Rattle.ep_typed.specs.Trees.{Fixed, Denoter, Required, Named, Subrange, Enumeration, Array, Record, Denoters, no_denoter, next_denoter, Initial, Callee, Place, Variable, Own, Standard, Indexed, Field, Variant, Expr, Constant, Text, Read, One, Two, Short, Step, Function, IndexedValue, FieldValue, SetOf, OnSets, Card, Designator, Single, Range, Designators, no_member, next_member, Actual, Evaluated, Accessed, Actuals, no_actual, next_actual, Item, Plain, Wide, Stmt, Stmts, Empty, Compound, Assign, Tagging, AssignTag, If, While, Repeat, Control, For, MemberControl, ForIn, With, Procedure, Halt, Write, none, next, Case, Arms, no_arm, next_arm, Other, no_other, otherwise_do, Entire, OfUnit, OfRoutine, entire, SetConstant, Element, AtIndex, AtField, SameField, AtRanges, Elements, no_element, next_element}
+use Rattle.ep_typed.specs.Trees.{Fixed, Denoter, Required, Named, Subrange, Enumeration, Array, Record, Denoters, no_denoter, next_denoter, Initial, Callee, Place, Variable, Own, Standard, Indexed, Field, Variant, Expr, Constant, Text, Read, One, Two, Short, Step, Function, IndexedValue, FieldValue, VariantValue, SetOf, OnSets, Card, Designator, Single, Range, Designators, no_member, next_member, Actual, Evaluated, Accessed, Actuals, no_actual, next_actual, Item, Plain, Wide, Stmt, Stmts, Empty, Compound, Assign, Tagging, AssignTag, If, While, Repeat, Control, For, MemberControl, ForIn, With, Procedure, Halt, Write, none, next, Case, Arms, no_arm, next_arm, Other, no_other, otherwise_do, Entire, OfUnit, OfRoutine, entire, SetConstant, Element, AtIndex, AtField, SameField, AtRanges, Elements, no_element, next_element}
 pub use Rattle.ep_typed.specs.Routines.{heading_of, formal_variable, variables_of, unit_variables}
 use Rattle.ep_typed.specs.Routines.{first_with, made_by_unit}
 use Rattle.ep_typed.specs.Viewed.{denoter_of, stmt_of}
@@ -303,6 +303,10 @@ pub record IsDenoter (types : List UnitType) (d : Denoter) : Type 0 where
   pub has_type : type_of types d ≡ Some type_value
   pub typed : IsTyped types d type_value
 
+-- the type value of the record of a tag with these bounds
+abbrev pub tag_type : ℤ → ℤ → TypeValue
+tag_type low high = type.Record (type.next_component (type.Ordinal low high) type.no_component)
+
 module _ (declared : Declarations) where
   -- the first value of a range is not above the last one, and both are of the host
   abbrev pub IsRange : Host → CaseRange → Type 0
@@ -354,6 +358,10 @@ module _ (declared : Declarations) where
     -- a structured value of an array or record type of the unit in whose code it stands
     IsExpr kind (tree.Structured of es) =
         (d : IsDenoter declared.routine_types (Named of [])) × (kind ≡ Structured (bare_of d.type_value)) × IsStructured (bare_of d.type_value) × AreElements (bare_of d.type_value) es
+    -- the record has the tag where the variants are selected by it, of an ordinal type
+    IsExpr kind (VariantValue x selection number) =
+        (ts inner : ComponentTypes) × (low high : ℤ) × IsExpr (Structured (type.Record ts)) x × (type_among ts selection.tag ≡ Some (tag_type low high)) × (type_among ts (variant_number selection number) ≡ Some (type.Record inner)) × (kind ≡ Structured (type.Record inner))
+        × ((h : Host) × IsTypeOf h (type.Ordinal low high))
     IsExpr kind (FieldValue x number) = (ts : ComponentTypes) × (of : TypeValue) × IsExpr (Structured (type.Record ts)) x × (type_among ts number ≡ Some of) × IsTypeOfKind kind of
 
     -- what a component of the type is given is of a kind that it may have

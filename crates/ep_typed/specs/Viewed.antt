@@ -62,6 +62,7 @@ expr_step (expr.Step down low high value count) = tree.Step down low high value 
 expr_step (expr.Function callee given) = tree.Function (callee_of callee) (tree.actuals given)
 expr_step (expr.IndexedValue array index) = tree.IndexedValue array index
 expr_step (expr.FieldValue whole number) = tree.FieldValue whole number
+expr_step (expr.VariantValue whole selection number) = tree.VariantValue whole selection number
 expr_step (expr.SetConstant members) = tree.SetConstant members
 expr_step (expr.Set members) = tree.SetOf (tree.designators members)
 expr_step (expr.OnSets operation left right) = tree.OnSets operation left right

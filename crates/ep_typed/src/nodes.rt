@@ -466,6 +466,9 @@ fn expression(x: &TypedExpr) -> u64
                 .saturating_add(1)
         }
         TypedExpr::FieldValue(whole, _) => expression(whole.get()).saturating_add(1),
+        TypedExpr::VariantValue(whole, selection, _) => expression(whole.get())
+            .saturating_add(labels(selection.labels.items()))
+            .saturating_add(1),
         TypedExpr::SetConstant(members) => (members.items().len() as u64).saturating_add(2),
         TypedExpr::Set(members) => designators(members.items()).saturating_add(1),
         TypedExpr::OnSets(_, left, right) => {

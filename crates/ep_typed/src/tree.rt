@@ -118,6 +118,8 @@ pub enum TypedExpr {
     IndexedValue(Boxed<TypedExpr>, Boxed<TypedExpr>),
     /// The component of a record that a function gives, by its number (ISO 10206, 6.8.6.3).
     FieldValue(Boxed<TypedExpr>, u32),
+    /// The variant with this number of a record that a function gives, which is selected so (ISO 10206, 6.8.6.3).
+    VariantValue(Boxed<TypedExpr>, Selection, u32),
     /// A constant that is a set, by the ordinal numbers of its members in rising order.
     SetConstant(Bytes),
     /// A set constructor (ISO 10206, 6.8.7.4).

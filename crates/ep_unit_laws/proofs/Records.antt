@@ -219,7 +219,7 @@ module _ (u : TypedUnit) where
 
     pub own_valued : i ≤ length u.types → AreFieldValues (type_values u) (own_fields 0 fs) Ts
     own_valued le =
-        each_own (λ f. IsFieldValue (type_values u) f.path f Ts) 0 fs
+        each_own (λ f. IsFieldValue (type_values u) f Ts) 0 fs
         (λ k f e. let y = at k f e in (y.has.1.0, y.type_there, kind_valued u.types (type_values u) (λ n. refl) i (denoter_of f.denoter) f.kind y.has.1.0 le (lists_kind_small u i f.kind y.has.0) y.has.1.1))
 
   -- ---- a list without a variant part

@@ -13,7 +13,7 @@ use Rattle.ep_typed.specs.Hosts.{is_of_host}
 use Rattle.ep_typed.specs.Steps.{variant_number, variants_count}
 use Rattle.ep_typed.specs.Trees as tree
 use Rattle.ep_typed.specs.TypeValues as type
-use Rattle.ep_typed.specs.TypeValues.{ComponentTypes, next_component, no_component, type_among}
+use Rattle.ep_typed.specs.TypeValues.{ComponentTypes, TypeValue, next_component, no_component, type_among}
 use Rattle.ep_typed.specs.Valid.{AreApart, Declarations, IsSelection, IsTypeOf, labels_joined}
 use Rattle.ep_typed.specs.Viewed as viewed
 use Rattle.ep_typed.specs.Viewed.{denoter_of, denoter_step, field_step, part_step, selector_step, variant_part_step, variant_step}
@@ -30,7 +30,7 @@ use Rattle.ep_scope.specs.declared.kind.Host.{Host}
 use Rattle.ep_scope.specs.declared.kind.Kind.TheVariants as kind
 use Rattle.ep_scope.specs.declared.rule.TheConstants as rule
 use Rattle.ep_scope.specs.declared.structure.FieldType.{FieldType}
-use Rattle.ep_check_expr.specs.Agreement.{IsFieldOf, IsFieldValue, Selects}
+use Rattle.ep_check_expr.specs.Agreement.{AreFieldValues, HasTagValue, IsFieldOf, IsFieldValue, Selects}
 use Rattle.ep_check_expr.specs.Hosts.{typed_host}
 use Rattle.ep_check_expr.specs.Judgements.{Accepts, Breaks, when_accepted}
 use Rattle.ep_check_stmt.proofs.judged.Fits.{Any, Fits, fits_any, fits_then, fits_weaker}
@@ -296,6 +296,21 @@ module _ (u : TypedUnit) where
   variants_denoted i (d ∷ ds) [] x = absurd x
   variants_denoted i (d ∷ ds) (fs ∷ more) x = (variant_bare i d fs x.0, variants_denoted i ds more x.1)
 
+  -- the type value of one by its number, and those of its fields
+  record VariantValues (i : ℕ) (ts : ComponentTypes) (k : ℕ) (fs : List FieldType) : Type 0 where
+    inner : ComponentTypes
+    among : type_among ts k ≡ Some (type.Record inner)
+    values : i ≤ length u.types → AreFieldValues (type_values u) fs inner
+
+  variant_values_at : (i : ℕ) (ds : List tree.Denoter) (lists : List (List FieldType)) (x : VariantsHeld i ds lists) (k : ℕ) (fs : List FieldType) → slice_get lists k ≡ Some fs → VariantValues i (variant_types i ds lists x) k fs
+  unfolding variant_types
+  variant_values_at i ds [] x k fs e = cc
+  variant_values_at i [] (gs ∷ more) x k fs e = absurd x
+  variant_values_at i (d ∷ ds) (gs ∷ more) x zero fs e =
+      let is : gs ≡ fs = cc in
+      record { inner = x.0.list.types; among = refl; values = λ le. subst (λ hs. AreFieldValues (type_values u) hs x.0.list.types) is (x.0.list.values le) }
+  variant_values_at i (d ∷ ds) (gs ∷ more) x (suc k) fs e = let y = variant_values_at i ds more x.1 k fs e in record { inner = y.inner; among = y.among; values = y.values }
+
   -- ---- variants one after another
 
   record Gathers (b : Block) (f : Fielded) (t : Tag) (g : Gathered) : Type 0 where
@@ -486,12 +501,19 @@ module _ (u : TypedUnit) where
     tag_held : IsFieldOf (type_values u) u.types Ds (tag_field S t)
     tag_held = (denoter_of t.denoter, tag_there, denoter_holds u i (denoter_of t.denoter) t.of (kind.Ordinal t.values.host) le tag.lists tag.here, refl, tag_selects)
 
-    tag_valued : IsFieldValue (type_values u) [] (tag_field S t) Ts
+    tag_valued : IsFieldValue (type_values u) (tag_field S t) Ts
     tag_valued = (
       tag.here.0,
       ap (type_among Ts) {x = length f.fields} {y = length f.fields + 0} (omega arith) ∙ type_behind u i f.fields own More 0,
       kind_valued u.types (type_values u) (λ n. refl) i (denoter_of t.denoter) (kind.Ordinal t.values.host) tag.here.0 le (lists_kind_small u i (kind.Ordinal t.values.host) tag.lists) tag.here.1,
     )
+
+    has_tag_value : HasTagValue S Ts
+    unfolding tag_valued
+    has_tag_value = (TagHost, t.values.low, t.values.high, of_host, tag_valued.1 ∙ ap (λ b. Some (type.Record (next_component b no_component))) tag.bounds)
+
+    variant_valued : (k : ℕ) (of : TypeValue) → type_among (variant_types i (variants_in g) g.lists variants) k ≡ Some of → type_among Ts (variant_number S k) ≡ Some of
+    variant_valued k of e = ap (type_among Ts) {x = suc (length f.fields + k)} {y = length f.fields + suc k} (omega arith) ∙ (type_behind u i f.fields own More (suc k) ∙ e)
 
     -- the fields of a variant
     inside_held : (k : ℕ) (fs : List FieldType) → slice_get g.lists k ≡ Some fs → All (IsFieldOf (type_values u) u.types Ds) (map (inside S k) fs)
@@ -504,10 +526,10 @@ module _ (u : TypedUnit) where
         let v = variant_at i (variants_in g) g.lists variants k fs e in
         each_mapped (λ x. ListsKind u i x.kind) (λ x. ListsKind u i x.kind) (inside S k) fs (λ x h. h) v.list.lists
 
-    inside_valued : (k : ℕ) (fs : List FieldType) → slice_get g.lists k ≡ Some fs → All (λ x. IsFieldValue (type_values u) x.path x Ts) (map (inside S k) fs)
+    inside_valued : (k : ℕ) (fs : List FieldType) → slice_get g.lists k ≡ Some fs → All (λ x. IsFieldValue (type_values u) x Ts) (map (inside S k) fs)
     inside_valued k fs e =
-        let v = variant_at i (variants_in g) g.lists variants k fs e in
-        each_mapped (λ x. ListsKind u i x.kind) (λ x. IsFieldValue (type_values u) x.path x Ts) (inside S k) fs (λ x h. tt) v.list.lists
+        let v = variant_values_at i (variants_in g) g.lists variants k fs e in
+        each_mapped (λ x. IsFieldValue (type_values u) x v.inner) (λ x. IsFieldValue (type_values u) x Ts) (inside S k) fs (λ x h. (has_tag_value, v.inner, variant_valued k (type.Record v.inner) v.among, h)) (v.values le)
 
     variant_list_held : (all : List FieldType) → AreAll S t f.fields g.lists all → ListHeld u i (tree.denoters (viewed.components_of (field_part f.fields (Some (variant_part t g))))) all
     variant_list_held all are =
@@ -517,7 +539,7 @@ module _ (u : TypedUnit) where
           denoted = denoted;
           lists = each_all (λ x. ListsKind u i x.kind) S t f.fields g.lists all are (own_listed u i f.fields own Behind More) tag.lists inside_listed;
           fields = λ few. each_all (IsFieldOf (type_values u) u.types Ds) S t f.fields g.lists all are (own_held u i f.fields own Behind More le) tag_held inside_held;
-          values = λ few. each_all (λ x. IsFieldValue (type_values u) x.path x Ts) S t f.fields g.lists all are (own_valued u i f.fields own Behind More le) tag_valued inside_valued;
+          values = λ few. each_all (λ x. IsFieldValue (type_values u) x Ts) S t f.fields g.lists all are (own_valued u i f.fields own Behind More le) tag_valued inside_valued;
         })
 
   variant_lists : (b : Block) (f : Fielded) (t : Tag) (g : Gathered) → Gathers b f t g → (all : List FieldType) → AreAll (selection_of (length f.fields) g) t f.fields g.lists all → Lists u b (variant_listing f t g all)

@@ -120,6 +120,7 @@ module _ (declared : Declarations) (values : ValuesAreSound) (variables : Variab
   read_fits (kind.Ordinal h) (Some (tree.Function callee given)) f = tt
   read_fits (kind.Ordinal h) (Some (tree.IndexedValue array index)) f = tt
   read_fits (kind.Ordinal h) (Some (tree.FieldValue whole number)) f = tt
+  read_fits (kind.Ordinal h) (Some (tree.VariantValue whole selection number)) f = tt
   read_fits (kind.Ordinal h) (Some (tree.Structured number es)) f = tt
   read_fits (kind.Ordinal h) (Some (tree.SetConstant members)) f = tt
   read_fits (kind.Ordinal h) (Some (tree.SetOf members)) f = tt
@@ -130,6 +131,7 @@ module _ (declared : Declarations) (values : ValuesAreSound) (variables : Variab
   read_fits (kind.Structured n) (Some (tree.Function callee given)) f = tt
   read_fits (kind.Structured n) (Some (tree.IndexedValue array index)) f = tt
   read_fits (kind.Structured n) (Some (tree.FieldValue whole number)) f = tt
+  read_fits (kind.Structured n) (Some (tree.VariantValue whole selection number)) f = tt
   read_fits (kind.Structured n) (Some (tree.Structured number es)) f = tt
   read_fits (kind.Structured n) (Some (tree.Constant z)) f = tt
   read_fits (kind.Structured n) (Some (tree.Text bytes)) f = tt
@@ -152,6 +154,7 @@ module _ (declared : Declarations) (values : ValuesAreSound) (variables : Variab
   read_fits (kind.Set h) (Some (tree.Function callee given)) f = tt
   read_fits (kind.Set h) (Some (tree.IndexedValue array index)) f = tt
   read_fits (kind.Set h) (Some (tree.FieldValue whole number)) f = tt
+  read_fits (kind.Set h) (Some (tree.VariantValue whole selection number)) f = tt
   read_fits (kind.Set h) (Some (tree.Structured number es)) f = tt
   read_fits (kind.Set h) (Some (tree.SetConstant members)) f = tt
   read_fits (kind.Set h) (Some (tree.SetOf members)) f = tt

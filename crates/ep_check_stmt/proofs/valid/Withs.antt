@@ -134,6 +134,7 @@ module _ (declared : Declarations) (types : TypeValues) (structures : List Struc
         read_place n (Some (tree.Function callee given)) f = tt
         read_place n (Some (tree.IndexedValue array index)) f = tt
         read_place n (Some (tree.FieldValue whole number)) f = tt
+        read_place n (Some (tree.VariantValue whole selection number)) f = tt
         read_place n (Some (tree.Structured number es)) f = tt
         read_place n (Some (tree.Constant z)) f = tt
         read_place n (Some (tree.Text bytes)) f = tt

@@ -1,7 +1,7 @@
 -- What `Field` and `Index` lead to on the value of a record or an array, where the machine matches.
 use Rattle.std.proofs.Common.{◌≡◌, ℕ, ℤ, pos, zero, suc, ◌+◌, ◌*◌, ◌<◌, ◌≤◌, Option, Some, None, List, [], ◌∷◌, length, option_map, slice_get, true, refl, sym, ap, ◌∙◌, subst, arith}
 use Rattle.std.proofs.lemmas.Option.{same_Some}
-use Rattle.std.specs.Prelude.{cond, int_lt}
+use Rattle.std.specs.Prelude.{cond, int_lt, is_some}
 use Rattle.ep_object.specs.Effects.{Work}
 use Rattle.ep_object.specs.Follows.{Facts, Inside, IsStructure, OnTop}
 use Rattle.ep_object.specs.Matching.{AreBare, HasAt, Injection, IsBare, Matches, Memory, OrdinalAt, SetAt, Part, Slots, at, part_among, part_of}
@@ -12,6 +12,7 @@ use Rattle.ep_object.specs.Sets.{set_size}
 use Rattle.ep_object.specs.Runs.{Outcome, after, outcome, unit_in}
 use Rattle.ep_object.specs.State.{Error, Running, State, Stopped, TypeTable, undefined}
 use Rattle.ep_object.specs.Table.{on_operands}
+use Rattle.ep_object.specs.WordRows.{bit}
 use Rattle.ep_object.specs.declared.code.Image.{Image}
 use Rattle.ep_object.specs.declared.code.Instr.{Instr}
 use Rattle.ep_object.specs.declared.state.RecordPart.{RecordPart}
@@ -40,7 +41,7 @@ use Rattle.ep_typed.specs.Hosts.{Host}
 use Rattle.ep_typed.specs.TypeValues as type
 use Rattle.ep_typed.specs.TypeValues.{ComponentTypes, TypeValue, bare_of, component_type, size_of, type_among}
 use Rattle.ep_typed.specs.Valid as kind
-use Rattle.ep_typed.specs.Valid.{Declarations, IsStructured, IsTypeOf, IsTypeOfKind, Kind}
+use Rattle.ep_typed.specs.Valid.{Declarations, IsStructured, IsTypeOf, IsTypeOfKind, Kind, tag_type}
 use Rattle.ep_object.specs.declared.op.TheConstants as op
 use Rattle.ep_typed.specs.declared.run_error.TheConstants as run_error
 
@@ -245,6 +246,30 @@ module _ (declared : Declarations) (G : Image) (place line : ℕ) (below : List 
       ∙ rw (parts.1, entered.is) (ap (λ n. working G i (at place (operand.Value v.type_number v.words ∷ below) memory trace) (row.part_at memory.types v.words n entered.entered.type_number below)) entered.offset
       ∙ ap (λ x. working G i (at place (x ∷ below) memory trace) (row.part_at memory.types v.words part.offset entered.entered.type_number below)) (sym v.is))))
       s matches known
+
+  -- `Defined`, of the record of a tag: whether the tag has a value
+  pub defined_part : (low high : ℤ) (r : Result) (o : Operand) → IsStructure (tag_type low high) r injection memory o → slice_get G.instructions place ≡ Some (instr op.DEFINED (pos 0) 0 line)
+      → (trace : Trace) → outcome G (at place (o ∷ below) memory trace) ≡ record { weight = 0; to = Running 0 (at (place + 1) (operand.Word (bit (is_some (meaning_of.part_of r 0))) ∷ below) memory trace) }
+  defined_part low high r o v has trace = go (component_of v.value 0) refl (v.holds).0
+    where
+      tells : (w : ℤ) → slice_get v.words 0 ≡ Some w → outcome G (at place (o ∷ below) memory trace) ≡ record { weight = 0; to = Running 0 (at (place + 1) (operand.Word (bit (int_lt undefined w)) ∷ below) memory trace) }
+      tells w there =
+          ap (λ x. outcome G (at place (x ∷ below) memory trace)) v.is
+          ∙ (outcome_at G (instr op.DEFINED (pos 0) 0 line) place (operand.Value v.type_number v.words ∷ below) memory trace has ∙ rw ((v.described).1, there) refl)
+
+      given : (c : Value) → component_of v.value 0 ≡ c → meaning_of.part_of r 0 ≡ option_map Number (word_of c)
+      given c is = ap (λ x. meaning_of.part_of x 0) v.is_structure ∙ ap (λ x. option_map Number (word_of x)) is
+
+      go : (c : Value) → component_of v.value 0 ≡ c → OrdinalAt low high c (slice_get v.words 0)
+          → outcome G (at place (o ∷ below) memory trace) ≡ record { weight = 0; to = Running 0 (at (place + 1) (operand.Word (bit (is_some (meaning_of.part_of r 0))) ∷ below) memory trace) }
+      go Undefined is word = let none : meaning_of.part_of r 0 ≡ None = given Undefined is in tells undefined word.is ∙ rw none refl
+      go (meaning.Components of) is word = absurd word.is
+      go (meaning.Members ms) is word = absurd word.is
+      go (meaning.Word w) is word =
+          let there = word.is in
+          let found : int_lt undefined w ≡ true = word_defined low high w word.low_fits there.1 in
+          let some : meaning_of.part_of r 0 ≡ Some (Number w) = given (meaning.Word w) is in
+          tells w there.0 ∙ rw (some, found) refl
 
   module _ (low high : ℤ) (of : TypeValue) (r : Result) (o : Operand) (v : IsStructure (type.Array low high of) r injection memory o) (z : ℤ) (has : slice_get G.instructions place ≡ Some (instr op.INDEX (pos 0) 0 line)) where
     component_entry : (e : TypeEntry) × (slice_get memory.types (v.described).0 ≡ Some e) × (e.size ≡ size_of of)

@@ -1,5 +1,5 @@
 -- What the rows on texts lead to.
-use Rattle.std.proofs.Common.{◌≡◌, ℕ, ℤ, pos, negsuc, zero, suc, ◌+◌, ◌<◌, true, IsTrue, List, [], ◌∷◌, length, Some, slice_get, refl, ap, ◌∙◌, arith, take, zero-add}
+use Rattle.std.proofs.Common.{◌≡◌, ℕ, ℤ, pos, negsuc, zero, suc, ◌+◌, ◌*◌, ◌<◌, true, IsTrue, List, [], ◌∷◌, length, Some, slice_get, refl, ap, ◌∙◌, arith, take, zero-add}
 use Rattle.std.proofs.lemmas.Bool.{lt-ltb}
 use Rattle.std.specs.Prelude.{ltb}
 use Rattle.std.proofs.lemmas.Bool.Decides.{nat_tests}
@@ -112,6 +112,10 @@ module _ (G : Image) (place line : ℕ) (below : List Operand) where
   -- a place is there twice
   pub dup_place : (q : Place) → slice_get G.instructions place ≡ Some (instr op.DUP (pos 0) 0 line) → RowPushes G place (operand.Place q ∷ below) 0 (operand.Place q ∷ operand.Place q ∷ below)
   dup_place q has memory trace = outcome_at G (instr op.DUP (pos 0) 0 line) place (operand.Place q ∷ below) memory trace has
+
+  -- a value of an array or a record is there twice
+  pub dup_value : (n : ℕ) (ws : List ℤ) → slice_get G.instructions place ≡ Some (instr op.DUP (pos 0) 0 line) → RowPushes G place (operand.Value n ws ∷ below) (3 * length ws) (operand.Value n ws ∷ operand.Value n ws ∷ below)
+  dup_value n ws has memory trace = outcome_at G (instr op.DUP (pos 0) 0 line) place (operand.Value n ws ∷ below) memory trace has
 
   -- a number is there twice
   pub dup_pushes : (z : ℤ) → slice_get G.instructions place ≡ Some (instr op.DUP (pos 0) 0 line) → RowPushes G place (Word z ∷ below) 0 (Word z ∷ Word z ∷ below)

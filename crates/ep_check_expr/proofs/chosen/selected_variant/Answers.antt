@@ -1,6 +1,6 @@
 use Rattle.std.proofs.Common.{◌≡◌, ◌∙◌, Some, None, length, ap, sym, w64}
 use Rattle.std.proofs.lemmas.Int.{to_z-of_z}
-use Rattle.ep_check_expr.specs.StructuredValues as spec
+use Rattle.ep_check_expr.specs.VariantSteps as spec
 use Rattle.ep_check_expr.proofs.chosen.selected_variant.Goals as goal
 
 pub returns-in-Some : goal.returns-in-Some

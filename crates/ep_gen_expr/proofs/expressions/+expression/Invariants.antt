@@ -48,6 +48,9 @@ decreases-indexed_value_code l = 4 * max (size-TypedExpr l.array.now) (size-Type
 abbrev pub decreases-field_value_code : goal.decreases-field_value_code
 decreases-field_value_code l = 4 * size-TypedExpr l.whole.now + 1
 
+abbrev pub decreases-variant_value_code : goal.decreases-variant_value_code
+decreases-variant_value_code l = 4 * size-TypedExpr l.whole.now + 1
+
 abbrev pub decreases-actuals_code : goal.decreases-actuals_code
 decreases-actuals_code l = 4 * goal.size-actuals_code l + 1
 
