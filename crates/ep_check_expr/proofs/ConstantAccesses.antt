@@ -7,7 +7,7 @@ use Rattle.std.specs.Prelude.{if◌then◌else◌}
 use Rattle.std.specs.Str.{bytes_eq}
 use Rattle.ep_typed.specs.Hosts.{greatest, is_of_host, least}
 use Rattle.ep_typed.specs.Trees as tree
-use Rattle.ep_typed.specs.Trees.{AtField, AtIndex, AtRanges, Constant, Elements, Expr, SameField, SetConstant, Text, next_element, no_element}
+use Rattle.ep_typed.specs.Trees.{AtField, AtIndex, AtIndexes, AtRanges, Constant, Elements, Expr, SameField, SetConstant, Text, next_element, no_element}
 use Rattle.ep_typed.specs.TypeValues as type
 use Rattle.ep_typed.specs.TypeValues.{ComponentTypes, TypeValue, bare_of}
 use Rattle.ep_typed.specs.Valid as valid
@@ -79,6 +79,7 @@ module _ (declared : Declarations) where
   at-given low high of (next_element (AtIndex i y) more) z x es e = at-given low high of more z x es.1 e
   at-given low high of (next_element (AtField steps y) more) z x es e = at-given low high of more z x es.1 e
   at-given low high of (next_element (SameField from to) more) z x es e = at-given low high of more z x es.1 e
+  at-given low high of (next_element (AtIndexes ds y) more) z x es e = at-given low high of more z x es.1 e
   at-given low high of (next_element (AtRanges ranges y) more) z x es e = later (value_at more z) (has_index ranges z) (at-given low high of more z x es.1) e
     where
       later : (o : Option Expr) (b : Bool) → (o ≡ Some x → IsGivenFor of x) → option_or o (if b then Some y else None) ≡ Some x → IsGivenFor of x
@@ -94,6 +95,7 @@ module _ (declared : Declarations) where
   of_field-given ts (next_element (AtIndex i y) more) steps x es e = of_field-given ts more steps x es.1 e
   of_field-given ts (next_element (AtRanges ranges y) more) steps x es e = of_field-given ts more steps x es.1 e
   of_field-given ts (next_element (SameField from to) more) steps x es e = of_field-given ts more steps x es.1 e
+  of_field-given ts (next_element (AtIndexes ds y) more) steps x es e = of_field-given ts more steps x es.1 e
   of_field-given ts (next_element (AtField own y) more) steps x es e = chosen (bytes_eq own steps) refl (of_field-given ts more steps x es.1) e
     where
       chosen : (b : Bool) → bytes_eq own steps ≡ b → (value_of_field more steps ≡ Some x → IsGivenAt ts steps x) → (if b then Some y else value_of_field more steps) ≡ Some x → IsGivenAt ts steps x
@@ -121,6 +123,7 @@ module _ (declared : Declarations) where
   for-given ts all no_element steps x whole es e = cc
   for-given ts all (next_element (AtIndex i y) more) steps x whole es e = for-given ts all more steps x whole es.1 e
   for-given ts all (next_element (AtRanges ranges y) more) steps x whole es e = for-given ts all more steps x whole es.1 e
+  for-given ts all (next_element (AtIndexes ds y) more) steps x whole es e = for-given ts all more steps x whole es.1 e
   for-given ts all (next_element (AtField own y) more) steps x whole es e = chosen (bytes_eq own steps) refl (for-given ts all more steps x whole es.1) e
     where
       chosen : (b : Bool) → bytes_eq own steps ≡ b → (value_for all more steps ≡ Some x → IsGivenAt ts steps x) → (if b then Some y else value_for all more steps) ≡ Some x → IsGivenAt ts steps x

@@ -20,7 +20,7 @@ use Rattle.ep_check_expr.proofs.SameHost.{host_same}
 use Rattle.ep_check_expr.proofs.Sound.{Fits, compatible-form, form-host, within_depth-fits}
 
 -- one designator more
-more_designators : (declared : Declarations) (h : hosts.Host) (ds : List Designator) (d : Designator) → AreDesignators declared h (designators ds) → IsDesignator declared h d → AreDesignators declared h (designators (ds ++ d ∷ []))
+pub more_designators : (declared : Declarations) (h : hosts.Host) (ds : List Designator) (d : Designator) → AreDesignators declared h (designators ds) → IsDesignator declared h d → AreDesignators declared h (designators (ds ++ d ∷ []))
 more_designators declared h [] d p q = (q, tt)
 more_designators declared h (e ∷ ds) d p q = (p.0, more_designators declared h ds d p.1 q)
 

@@ -1,5 +1,5 @@
 -- A valid form that is constant, an array or a record too, may begin each type of its kind.
-use Rattle.std.proofs.Common.{◌≡◌, ◌∙◌, ℕ, ℤ, pos, negsuc, arith, Bool, true, false, IsTrue, List, [], ◌∷◌, map, Option, Some, None, Ok, Err, refl, sym, ap, subst}
+use Rattle.std.proofs.Common.{◌≡◌, ◌∙◌, ℕ, ℤ, pos, negsuc, arith, Bool, true, false, IsTrue, List, [], ◌∷◌, ◌++◌, map, Option, Some, None, Ok, Err, refl, sym, ap, subst}
 use Rattle.std.proofs.lemmas.Bool.Decides.{nat_tests}
 use Rattle.std.proofs.lemmas.List.Elements.{All-cons, All-nil}
 use Rattle.std.proofs.lemmas.Option.{same_Some}
@@ -7,7 +7,7 @@ use Rattle.std.specs.Prelude.{All, ⊤, int_le, ◌&&◌, if◌then◌else◌}
 use Rattle.ep_typed.proofs.Typed.{typed_bare}
 use Rattle.ep_typed.specs.Hosts.{Host}
 use Rattle.ep_typed.specs.Trees as tree
-use Rattle.ep_typed.specs.Trees.{Expr, Text, AtIndex, AtField, SameField, AtRanges, Elements, no_element, next_element, elements, Named}
+use Rattle.ep_typed.specs.Trees.{Expr, Text, AtIndex, AtField, SameField, AtRanges, AtIndexes, Elements, no_element, next_element, elements, no_member, next_member, Named}
 use Rattle.ep_typed.specs.TypeValues as type
 use Rattle.ep_typed.specs.TypeValues.{ComponentTypes, TypeValue, bare_of}
 use Rattle.ep_typed.specs.Valid as valid
@@ -25,7 +25,7 @@ use Rattle.ep_scope.specs.declared.structure.Composition.{Composition}
 use Rattle.ep_scope.specs.declared.structure.Composition.TheVariants as composition
 use Rattle.ep_check_expr.specs.Agreement.{AgreesBy, TypeValues, structures_of}
 use Rattle.ep_check_expr.specs.Folding.{folded, number_in}
-use Rattle.ep_check_expr.specs.StructuredConstants.{Constancy, array_in, constancy, element_constancy, elements_constancy, index_constancy, form_in, index_range, known_constancy, of_both, of_one, value_in, value_known}
+use Rattle.ep_check_expr.specs.StructuredConstants.{Constancy, alone, array_in, constancy, element_constancy, elements_constancy, index_constancy, form_in, index_range, known_constancy, of_both, of_one, value_in, value_known}
 use Rattle.ep_check_expr.specs.declared.folding.Folded.{Folded}
 use Rattle.ep_check_expr.specs.declared.folding.Folded.TheVariants.{Known, Varies, Errs}
 use Rattle.ep_check_expr.specs.declared.folding.KnownValue.{KnownValue}
@@ -94,6 +94,16 @@ module _ (list : List UnitType) where
   -- what one is given, before whatever else
   abbrev IsGiven : TypeValue → Element → Type 0
   IsGiven t x = (more : Elements) → AreStartsFor list t more → AreStartsFor list t (next_element (element_of x) more)
+
+  -- where one is
+  abbrev IsGivenIf : TypeValue → Option Element → Type 0
+  IsGivenIf t None = ⊤
+  IsGivenIf t (Some x) = IsGiven t x
+
+  -- one, where there is one, before whatever else
+  given-first : (t : TypeValue) (x : Option Element) (xs : List Element) → IsGivenIf t x → AreGiven t xs → AreGiven t (alone x ++ xs)
+  given-first t None xs p q = q
+  given-first t (Some x) xs p q = p (elements (map element_of xs)) q
 
   -- a value that is known
   known-starts : (k : valid.Kind) (t : TypeValue) (y : KnownValue) → OfKind k y → IsTypeOfKind k t → IsStartFor list t (constant_expr (value_known y))
@@ -194,27 +204,32 @@ module _ (declared : Declarations) (types : TypeValues) (scopes : List Region) (
     constancy-starts x k t v f e s = folded-starts list k t (folded x) v (λ y q. known-of_kind declared x k y f q) e s
 
     -- what a component is given
-    element-starts : (o : Option ArrayType) (t : TypeValue) (d : tree.Element) (x : Element) → IsBounded o t → IsElement declared t d → element_constancy scopes o d ≡ Ok x → IsGiven list t x
+    element-starts : (o : Option ArrayType) (t : TypeValue) (d : tree.Element) (x : Option Element) → IsBounded o t → IsElement declared t d → element_constancy scopes o d ≡ Ok x → IsGivenIf list t x
     element-starts o (type.Array low high of) (AtIndex i y) x bounds f e =
-        let p = of_both-constant (λ rs v. element.AtRanges rs (form_in v)) (index_constancy o (folded i)) (constancy scopes y) x e in
-        subst (IsGiven list (type.Array low high of)) p.gives
+        let p = of_both-constant (λ rs v. Some (element.AtRanges rs (form_in v))) (index_constancy o (folded i)) (constancy scopes y) x e in
+        subst (IsGivenIf list (type.Array low high of)) p.gives
         (ranges-start low high f.0.0 of p.left p.right f.0.1 (indexes-within low high of o (folded i) p.left bounds p.left_is) (constancy-starts y f.1.0 of p.right f.1.2 p.right_is f.1.1))
     element-starts o (type.Array low high of) (AtRanges ranges y) x bounds f e =
-        let p = of_both-constant (λ rs v. element.AtRanges rs (form_in v)) (Ok ranges) (constancy scopes y) x e in
-        subst (IsGiven list (type.Array low high of)) p.gives
+        let p = of_both-constant (λ rs v. Some (element.AtRanges rs (form_in v))) (Ok ranges) (constancy scopes y) x e in
+        subst (IsGivenIf list (type.Array low high of)) p.gives
         (ranges-start low high f.0.0 of p.left p.right f.0.1 (subst (AreWithin low high) (same_Ok ranges p.left p.left_is) (f.1, f.2)) (constancy-starts y f.3.0 of p.right f.3.2 p.right_is f.3.1))
+    element-starts o (type.Array low high of) (AtIndexes no_member y) x bounds f e =
+        let p = of_one-constant (λ v. None) (constancy scopes y) x e in
+        subst (IsGivenIf list (type.Array low high of)) p.gives tt
+    element-starts o (type.Array low high of) (AtIndexes (next_member d ds) y) x bounds f e = cc
     element-starts o (type.Array low high of) (AtField steps y) x bounds f e = absurd f
     element-starts o (type.Array low high of) (SameField from to) x bounds f e = absurd f
     element-starts o (type.Record ts) (AtField steps y) x bounds f e =
-        let p = of_one-constant (λ v. element.AtField steps (form_in v)) (constancy scopes y) x e in
-        subst (IsGiven list (type.Record ts)) p.gives
+        let p = of_one-constant (λ v. Some (element.AtField steps (form_in v))) (constancy scopes y) x e in
+        subst (IsGivenIf list (type.Record ts)) p.gives
         (λ more rest. subst (λ d. AreStartsFor list (type.Record ts) (next_element d more)) (sym (field_is steps p.part))
         (valid.field_given ts steps f.1.0 (constant_expr (value_in p.part)) more f.1.1 (constancy-starts y f.0 f.1.0 p.part f.2 p.is f.1.2) rest))
     element-starts o (type.Record ts) (SameField from to) x bounds f e =
-        subst (IsGiven list (type.Record ts)) (same_Ok (element.SameField from to) x e)
+        subst (IsGivenIf list (type.Record ts)) (same_Ok (Some (element.SameField from to)) x e)
         (λ more rest. subst (λ d. AreStartsFor list (type.Record ts) (next_element d more)) (sym (same_is from to)) (valid.same_given ts from to f.0 more f.1 f.2 rest))
     element-starts o (type.Record ts) (AtIndex i y) x bounds f e = absurd f
     element-starts o (type.Record ts) (AtRanges ranges y) x bounds f e = absurd f
+    element-starts o (type.Record ts) (AtIndexes ds y) x bounds f e = absurd f
     element-starts o (type.Ordinal low high) d x bounds f e = absurd f
     element-starts o type.Text d x bounds f e = absurd f
     element-starts o (type.Set low high) d x bounds f e = absurd f
@@ -224,5 +239,5 @@ module _ (declared : Declarations) (types : TypeValues) (scopes : List Region) (
     elements-start : (o : Option ArrayType) (t : TypeValue) (es : Elements) (xs : List Element) → IsBounded o t → AreElements declared t es → elements_constancy scopes o es ≡ Ok xs → AreGiven list t xs
     elements-start o t no_element xs bounds f e = subst (AreGiven list t) (same_Ok [] xs e) (valid.none_given t)
     elements-start o t (next_element d more) xs bounds f e =
-        let p = of_both-constant (λ y ys. y ∷ ys) (element_constancy scopes o d) (elements_constancy scopes o more) xs e in
-        subst (AreGiven list t) p.gives (element-starts o t d p.left bounds f.0 p.left_is (elements (map element_of p.right)) (elements-start o t more p.right bounds f.1 p.right_is))
+        let p = of_both-constant (λ y ys. alone y ++ ys) (element_constancy scopes o d) (elements_constancy scopes o more) xs e in
+        subst (AreGiven list t) p.gives (given-first list t p.left p.right (element-starts o t d p.left bounds f.0 p.left_is) (elements-start o t more p.right bounds f.1 p.right_is))

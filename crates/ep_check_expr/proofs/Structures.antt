@@ -5,11 +5,11 @@ use Rattle.std.proofs.lemmas.Bool.Decides.{nat_tests}
 use Rattle.std.specs.Prelude.{All, ⊤, if◌then◌else◌}
 use Rattle.std.specs.List.{list_any}
 use Rattle.std.specs.Option.{option_map}
-use Rattle.ep_typed.specs.Trees.{AtIndex, Element, Expr, elements}
+use Rattle.ep_typed.specs.Trees.{AtIndex, Designator, Element, Expr, Range, Single, designators, elements}
 use Rattle.ep_typed.specs.Trees as tree
 use Rattle.ep_typed.specs.TypeValues.{ComponentTypes, TypeValue, bare_of, type_among}
 use Rattle.ep_typed.specs.TypeValues as type
-use Rattle.ep_typed.specs.Valid.{AreElements, Declarations, IsElement, IsRangeWithin, IsExpr, IsSetOf, IsStructured, IsTypeOf, IsTypeOfKind, LeadToKind}
+use Rattle.ep_typed.specs.Valid.{AreDesignators, AreElements, Declarations, IsDesignator, IsElement, IsRangeWithin, IsExpr, IsSetOf, IsStructured, IsTypeOf, IsTypeOfKind, LeadToKind}
 use Rattle.ep_typed.specs.Valid as valid
 use Rattle.ep_typed.specs.declared.tree.CaseRange.{CaseRange}
 use Rattle.ep_scope.specs.Scopes.{Region, depth_in, structure_in}
@@ -26,11 +26,12 @@ use Rattle.ep_check_expr.specs.Agreement.{AgreesBy, IsFormOf, IsListed, IsValueO
 use Rattle.ep_check_expr.specs.Constructors.{Label}
 use Rattle.ep_check_expr.specs.Hosts.{typed_host}
 use Rattle.ep_check_expr.specs.Judgements.{Judged, Accepts, Breaks, Typed, when_accepted}
-use Rattle.ep_check_expr.specs.Operators.{are_compatible}
+use Rattle.ep_check_expr.specs.Operators.{are_compatible, map_both}
 use Rattle.ep_check_expr.specs.declared.access.Access.TheVariants as access
 use Rattle.ep_check_expr.specs.declared.forms.TheConstants as limit
-use Rattle.ep_check_expr.specs.StructuredValues.{Arranged, Choice, Chosen, Components, Filled, Index, IndexLabels, Labelled, Many, One, Ranges, Valued, VariantNumbers, Written, WrittenRow, all_arranged, all_given, alone_labels, are_given, arranged, array_begun, array_element, array_elements, array_judged, asked_by, asked_first, bounded_index, choice, choice_at, choice_by, chosen_filled, chosen_within, completes, component_given, composed, constant_in, fields_element, fields_filled, filled, filled_from, first_form, first_given, given_by, given_then, index_form, index_judged, is_arranged, is_same_kind, is_named, is_tag_value, joined_ranges, label_places, labelled_element, labels_judged, many_labels, named_element, next_written, no_ranges, no_written, nothing_filled, of_kind, part_filled, range_labelled, ranges_form, ranges_labelled, ranging, record_element, record_elements, record_judged, row_filled, row_of, same_filled, same_form, same_given, same_if, second_index, structure_judged, structured, tag_constant, tag_filled, tag_given, tag_place, tag_valued, unfit, values_filled, with_elements, with_field, with_index, with_labels, with_range, with_ranges, with_span, within_bounds}
+use Rattle.ep_check_expr.specs.StructuredValues.{empty_if, Arranged, Choice, Chosen, Components, Filled, Index, IndexLabels, Labelled, Many, One, Ranges, Valued, VariantNumbers, Written, WrittenRow, all_arranged, all_given, alone_labels, are_given, arranged, array_begun, array_element, array_elements, array_judged, asked_by, asked_first, bounded_index, choice, choice_at, choice_by, chosen_filled, chosen_within, completes, component_given, composed, constant_in, fields_element, fields_filled, filled, filled_from, first_form, first_given, given_by, given_then, index_form, index_judged, is_arranged, is_same_kind, is_named, is_tag_value, joined_ranges, label_places, labelled_element, labels_judged, many_labels, named_element, next_written, no_ranges, no_written, nothing_filled, of_kind, part_filled, range_labelled, ranges_form, ranges_given, ranges_labelled, ranging, record_element, record_elements, record_judged, row_filled, row_of, same_filled, same_form, same_given, same_if, second_index, structure_judged, structured, tag_constant, tag_filled, tag_given, tag_place, tag_valued, unfit, values_filled, with_elements, with_field, with_index, with_label, with_labels, with_range, with_ranges, with_span, within_bounds}
 use Rattle.ep_check_expr.specs.VariantSteps.{field_steps}
+use Rattle.ep_check_expr.proofs.Constructed.{more_designators}
 use Rattle.ep_check_expr.proofs.Labels.{labels-weaker}
 use Rattle.ep_check_expr.proofs.Rows.{and_first, and_second}
 use Rattle.ep_check_expr.proofs.Keeping.{AreComponents, AreLabels, AreWritten, IsHigh, IsRow, IsValued, IsValuedIf, IsWritten, Satisfies, any-satisfies, if-satisfies, then-satisfies, weaker-satisfies}
@@ -140,8 +141,17 @@ module _ (declared : Declarations) (types : TypeValues) (structures : List Struc
     AreWithin None = ⊤
     AreWithin (Some rs) = All (IsRangeWithin a.low a.high) rs
 
+    -- labels are designators of indexes
+    abbrev AreIndexed : Option (List Designator) → Type 0
+    AreIndexed None = ⊤
+    AreIndexed (Some ds) = AreDesignators declared (typed_host a.index) (designators ds)
+
+    abbrev IsIndexed : Option Designator → Type 0
+    IsIndexed None = ⊤
+    IsIndexed (Some d) = IsDesignator declared (typed_host a.index) d
+
     abbrev IsRanges : Ranges → Type 0
-    IsRanges r = AreWithin r.ranges
+    IsRanges r = AreWithin r.ranges × AreIndexed r.designators
 
     one-within : (r : CaseRange) → IsRangeWithin a.low a.high r → All (IsRangeWithin a.low a.high) (r ∷ [])
     one-within r p = All-cons (IsRangeWithin a.low a.high) r [] p (All-nil (IsRangeWithin a.low a.high))
@@ -164,11 +174,28 @@ module _ (declared : Declarations) (types : TypeValues) (structures : List Struc
     span-within (Some rs) (Some x) None p i j = tt
     span-within (Some rs) (Some x) (Some y) p i j = All-append (IsRangeWithin a.low a.high) rs (ranging x y) p (ranging-within x y i.0 j.1)
 
+    one-indexed : (ds : Option (List Designator)) (d : Option Designator) → AreIndexed ds → IsIndexed d → AreIndexed (map_both (λ es e. es ++ e ∷ []) ds d)
+    one-indexed None d p q = tt
+    one-indexed (Some ds) None p q = tt
+    one-indexed (Some ds) (Some d) p q = more_designators declared (typed_host a.index) ds d p q
+
+    single-indexed : (x : Option Expr) → IfForm (IsExpr declared (valid.Ordinal (typed_host a.index))) x → IsIndexed (option_map Single x)
+    single-indexed None p = tt
+    single-indexed (Some x) p = p
+
+    range-indexed : (x y : Option Expr) → IfForm (IsExpr declared (valid.Ordinal (typed_host a.index))) x → IfForm (IsExpr declared (valid.Ordinal (typed_host a.index))) y → IsIndexed (map_both Range x y)
+    range-indexed None y p q = tt
+    range-indexed (Some x) None p q = tt
+    range-indexed (Some x) (Some y) p q = (p, q)
+
+    label-fits : (r : Ranges) (x y : Option ℤ) (d : Option Designator) (depth : ℕ) → IsRanges r → IsWithin x → IsWithin y → IsIndexed d → IsRanges (with_label r x y d depth)
+    label-fits r x y d depth p i j q = (span-within r.ranges x y p.0 i j, one-indexed r.designators d p.1 q)
+
     second-fits : (r : Ranges) (x : Index) (high : Option (Judged Typed)) → IsRanges r → IsIndex x → IsHigh Form high → Satisfies IsRanges (second_index a r x high)
-    second-fits r x None p i h = span-within r.ranges x.constant x.constant p i.1 i.1
+    second-fits r x None p i h = label-fits r x.constant x.constant (option_map Single x.form) x.depth p i.1 i.1 (single-indexed x.form i.0)
     second-fits r x (Some high) p i h =
         then-satisfies IsIndex IsRanges (λ y. Accepts (with_range r x y)) (when_accepted (index_judged a) high) (then-satisfies Form IsIndex (index_judged a) high h index-fits)
-        (λ y j. span-within r.ranges x.constant y.constant p i.1 j.1)
+        (λ y j. label-fits r x.constant y.constant (map_both Range x.form y.form) (max x.depth y.depth) p i.1 j.1 (range-indexed x.form y.form i.0 j.0))
 
     ranges-fit : (ls : List Label) (r : Ranges) → AreLabels Form ls → IsRanges r → Satisfies IsRanges (ranges_labelled a ls r)
     ranges-fit [] r h p = p
@@ -185,11 +212,16 @@ module _ (declared : Declarations) (types : TypeValues) (structures : List Struc
     index_element (Some x) None p q = tt
     index_element (Some x) (Some y) p q = (((typed_host a.index, index, p), q), tt)
 
-    ranges_built : (rs : Option (List CaseRange)) (v : Option Expr) → AreWithin rs → IfForm (IsGiven of) v → AreBuilt declared whole (ranges_form rs v)
-    ranges_built None v w g = tt
-    ranges_built (Some rs) None w g = tt
-    ranges_built (Some []) (Some v) w g = tt
-    ranges_built (Some (r ∷ rs)) (Some v) w g = (((typed_host a.index, index), tt, w, g), tt)
+    constant_built : (rs : List CaseRange) (v : Option Expr) → All (IsRangeWithin a.low a.high) rs → IfForm (IsGiven of) v → AreBuilt declared whole (option_map (ranges_given rs) v)
+    constant_built rs None w g = tt
+    constant_built [] (Some v) w g = (((typed_host a.index, index, tt), g), tt)
+    constant_built (r ∷ rs) (Some v) w g = (((typed_host a.index, index), tt, w, g), tt)
+
+    ranges_built : (rs : Option (List CaseRange)) (ds : Option (List Designator)) (v : Option Expr) → AreWithin rs → AreIndexed ds → IfForm (IsGiven of) v → AreBuilt declared whole (ranges_form rs ds v)
+    ranges_built (Some rs) ds v w i g = constant_built rs v w g
+    ranges_built None None v w i g = tt
+    ranges_built None (Some ds) None w i g = tt
+    ranges_built None (Some ds) (Some v) w i g = (((typed_host a.index, index, i), g), tt)
 
     value-given : (make : ℕ → Option Expr → Arranged) → ((depth : ℕ) (x : Option Expr) → IfForm (IsGiven of) x → IsArranged (make depth x)) → (value : Valued) → IsValued Form value → Satisfies IsArranged (given_then a make value)
     value-given make h value p =
@@ -197,7 +229,7 @@ module _ (declared : Declarations) (types : TypeValues) (structures : List Struc
         (λ v f. then-satisfies (IfForm (IsGiven of)) IsArranged (λ x. Accepts (make v.depth x)) (component_given a.kind v) (given-component a.kind of component v f) (λ x q. h v.depth x q))
 
     ranges-given : (x : Ranges) (r : Arranged) → IsRanges x → IsArranged r → (value : Valued) → IsValued Form value → Satisfies IsArranged (given_then a (with_ranges r x) value)
-    ranges-given x r w p value q = value-given (with_ranges r x) (λ depth v g. built_append declared whole r.elements (ranges_form x.ranges v) p (ranges_built x.ranges v w g)) value q
+    ranges-given x r w p value q = value-given (with_ranges r x) (λ depth v g. built_append declared whole r.elements (ranges_form x.ranges x.designators v) p (ranges_built x.ranges x.designators v w.0 w.1 g)) value q
 
     -- what the labels of an element are
     abbrev AreIndexLabels : IndexLabels → Type 0
@@ -205,7 +237,7 @@ module _ (declared : Declarations) (types : TypeValues) (structures : List Struc
     AreIndexLabels (Many x) = IsRanges x
 
     many-fit : (ls : List Label) → AreLabels Form ls → Satisfies AreIndexLabels (many_labels a ls)
-    many-fit ls h = then-satisfies IsRanges AreIndexLabels (λ x. Accepts (Many x)) (ranges_labelled a ls no_ranges) (ranges-fit ls no_ranges h (All-nil (IsRangeWithin a.low a.high))) (λ x w. w)
+    many-fit ls h = then-satisfies IsRanges AreIndexLabels (λ x. Accepts (Many x)) (ranges_labelled a ls no_ranges) (ranges-fit ls no_ranges h (All-nil (IsRangeWithin a.low a.high), tt)) (λ x w. w)
 
     alone-fit : (l : Label) (high : Option (Judged Typed)) → AreLabels Form (l ∷ []) → Satisfies AreIndexLabels (alone_labels a l high)
     alone-fit l None h =
@@ -238,7 +270,7 @@ module _ (declared : Declarations) (types : TypeValues) (structures : List Struc
 
     begun-fits : (o : Option Valued) → IsValuedIf Form o → Satisfies IsArranged (array_begun a o)
     begun-fits None h = tt
-    begun-fits (Some value) h = value-given (all_arranged a) (λ depth v g. built_append declared whole (Some []) (ranges_form (Some (record { low = a.low; high = a.high } ∷ [])) v) tt (ranges_built (Some (record { low = a.low; high = a.high } ∷ [])) v all-within g)) value h
+    begun-fits (Some value) h = value-given (all_arranged a) (λ depth v g. built_append declared whole (Some []) (option_map (ranges_given (record { low = a.low; high = a.high } ∷ [])) v) tt (constant_built (record { low = a.low; high = a.high } ∷ []) v all-within g)) value h
 
     pub array-parts : (c : Components) → AreComponents Form c → Satisfies IsArranged (when_accepted (array_elements a c.elements) (array_begun a c.otherwise))
     array-parts c h = then-satisfies IsArranged IsArranged (array_elements a c.elements) (array_begun a c.otherwise) (begun-fits c.otherwise h.1) (λ r p. elements-fit c.elements r h.0 p)
@@ -297,12 +329,21 @@ module _ (declared : Declarations) (types : TypeValues) (structures : List Struc
     same_component kind.Text l t u e p q = cc
     same_component kind.File l t u e p q = cc
 
+    -- the empty set
+    empty-element : (steps : List ℕ) (l : Kind) → Leads types ts l steps → AreBuilt declared (type.Record ts) (empty_if l steps)
+    empty-element steps (kind.Ordinal h) d = tt
+    empty-element steps (kind.Structured n) d = tt
+    empty-element steps (kind.Set h) d = ((valid.Set (typed_host h), (d.0, d.1, (let q = d.2 in q.1)), (typed_host h, refl, tt)), tt)
+    empty-element steps kind.EmptySet d = tt
+    empty-element steps kind.Text d = tt
+    empty-element steps kind.File d = tt
+
     same-element : (first f : FieldType) → IsComponent first → IsComponent f → AreBuilt declared (type.Record ts) (same_if first f)
     same-element first f c d = go (is_same_kind first.kind f.kind) refl
       where
-        go : (b : Bool) → is_same_kind first.kind f.kind ≡ b → AreBuilt declared (type.Record ts) (if b then Some (same_form (field_steps first) (field_steps f)) else None)
+        go : (b : Bool) → is_same_kind first.kind f.kind ≡ b → AreBuilt declared (type.Record ts) (if b then Some (same_form (field_steps first) (field_steps f)) else empty_if f.kind (field_steps f))
         go true e = let s = same_component first.kind f.kind c.0 d.0 e c.2 d.2 in ((s.0, (c.0, c.1, s.1), (d.0, d.1, s.2)), tt)
-        go false e = tt
+        go false e = empty-element (field_steps f) f.kind d
 
     same-fits : (first : FieldType) (k : Kind) (place : ℕ) (r : Filled) (o : Option FieldType) → slice_get fs place ≡ o → IsComponent first → IsFilled r → Satisfies IsFilled (same_given first k place r o)
     same-fits first k place r None e c p = tt

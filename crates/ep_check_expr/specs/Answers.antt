@@ -41,7 +41,7 @@ abbrev pub index_of : Index → structured.Index
 index_of i = record { form = option_map expr_of i.form; depth = i.depth; constant = i.constant }
 
 abbrev pub ranges_of : Ranges → structured.Ranges
-ranges_of r = record { ranges = r.ranges; depth = r.depth }
+ranges_of r = record { ranges = r.ranges; designators = option_map (map designator_of) r.designators; depth = r.depth }
 
 abbrev pub labels_of : IndexLabels → structured.IndexLabels
 labels_of (labels.One index) = structured.One (index_of index)

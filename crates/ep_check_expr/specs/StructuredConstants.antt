@@ -1,7 +1,7 @@
 -- What a typed form is as a constant that may be an array or a record (ISO 10206, 6.6, 6.8.2 and 6.8.7): its components are such constants.
 use Rattle.std.specs.Prelude.{ℕ, ℤ, int_le, ◌&&◌, List, [], ◌∷◌, ◌++◌, Option, Some, None, Result, Ok, Err, if◌then◌else◌}
 use Rattle.ep_typed.specs.Trees as tree
-use Rattle.ep_typed.specs.Trees.{Expr, AtIndex, AtField, SameField, AtRanges, Elements, no_element, next_element}
+use Rattle.ep_typed.specs.Trees.{Expr, AtIndex, AtField, SameField, AtRanges, AtIndexes, Elements, no_element, next_element, no_member, next_member}
 use Rattle.ep_typed.specs.declared.tree.CaseRange.{CaseRange}
 use Rattle.ep_typed.specs.declared.tree.Element.{Element}
 use Rattle.ep_typed.specs.declared.tree.Element.TheVariants as element
@@ -87,12 +87,16 @@ index_constancy of Varies = Err reason.Varies
 index_constancy of Errs = Err reason.Errs
 
 -- the components in ranges and the value of all of them
-abbrev pub ranges_given : Constancy (List CaseRange) → Constancy ConstantValue → Constancy Element
-ranges_given ranges v = of_both (λ rs x. element.AtRanges rs (form_in x)) ranges v
+abbrev pub ranges_given : Constancy (List CaseRange) → Constancy ConstantValue → Constancy (Option Element)
+ranges_given ranges v = of_both (λ rs x. Some (element.AtRanges rs (form_in x))) ranges v
+
+-- no component, which is given nothing
+abbrev pub none_given : Constancy ConstantValue → Constancy (Option Element)
+none_given v = of_one (λ x. None) v
 
 -- the component of a record and its value
-abbrev pub field_given : List ℕ → Constancy ConstantValue → Constancy Element
-field_given steps v = of_one (λ x. element.AtField steps (form_in x)) v
+abbrev pub field_given : List ℕ → Constancy ConstantValue → Constancy (Option Element)
+field_given steps v = of_one (λ x. Some (element.AtField steps (form_in x))) v
 
 -- an array or a record
 abbrev pub structured : ℕ → Constancy (List Element) → Constancy ConstantValue
@@ -102,13 +106,18 @@ structured n es = of_one (λ xs. constant.Structured n xs) es
 abbrev pub joined : Constancy (List Element) → Constancy (List Element) → Constancy (List Element)
 joined before more = of_both (◌++◌) before more
 
--- elements behind one
-abbrev pub with_first : Constancy Element → Constancy (List Element) → Constancy (List Element)
-with_first first more = of_both (λ x xs. x ∷ xs) first more
+-- an element alone, where there is one
+abbrev pub alone : Option Element → List Element
+alone None = []
+alone (Some x) = x ∷ []
 
--- elements with one more
-abbrev pub with_last : Constancy (List Element) → Constancy Element → Constancy (List Element)
-with_last before last = of_both (λ xs x. xs ++ x ∷ []) before last
+-- elements behind one, where there is one
+abbrev pub with_first : Constancy (Option Element) → Constancy (List Element) → Constancy (List Element)
+with_first first more = of_both (λ x xs. alone x ++ xs) first more
+
+-- elements with one more, where there is one
+abbrev pub with_last : Constancy (List Element) → Constancy (Option Element) → Constancy (List Element)
+with_last before last = of_both (λ xs x. xs ++ alone x) before last
 
 module _ (scopes : List Region) where
   abbrev mutual
@@ -117,12 +126,14 @@ module _ (scopes : List Region) where
     constancy (tree.Structured n es) = structured n (elements_constancy (array_in (structure_in scopes n)) es)
     constancy x = known_constancy (folded x)
 
-    -- what a component is given, of a value of this array type or of a record
-    pub element_constancy : Option ArrayType → tree.Element → Constancy Element
+    -- What a component is given, of a value of this array type or of a record. Where none is, its value is constant all the same; indexes that are given by designators vary.
+    pub element_constancy : Option ArrayType → tree.Element → Constancy (Option Element)
     element_constancy of (AtIndex x y) = ranges_given (index_constancy of (folded x)) (constancy y)
     element_constancy of (AtRanges ranges y) = ranges_given (Ok ranges) (constancy y)
     element_constancy of (AtField steps y) = field_given steps (constancy y)
-    element_constancy of (SameField from to) = Ok (element.SameField from to)
+    element_constancy of (SameField from to) = Ok (Some (element.SameField from to))
+    element_constancy of (AtIndexes no_member y) = none_given (constancy y)
+    element_constancy of (AtIndexes (next_member d more) y) = Err reason.Varies
 
     -- what components are given
     pub elements_constancy : Option ArrayType → Elements → Constancy (List Element)

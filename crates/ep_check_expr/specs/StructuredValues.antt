@@ -1,5 +1,5 @@
 -- The rules of structured values (ISO 10206, 6.8.7): each component is given a value of its type, a field exactly once, and so is each component of an array where all indexes are constant.
-use Rattle.std.specs.Prelude.{ℕ, ℤ, ◌==◌, suc, pos, ◌+ℤ◌, max, int_le, nat_eq, Bool, true, false, ◌&&◌, ◌||◌, not, List, [], ◌∷◌, ◌++◌, length, map, position, slice_get, Option, Some, None, if◌then◌else◌}
+use Rattle.std.specs.Prelude.{ℕ, ℤ, ◌==◌, suc, pos, ◌+ℤ◌, max, int_le, nat_eq, Bool, true, false, ◌&&◌, ◌||◌, not, List, [], ◌∷◌, ◌++◌, map, position, slice_get, Option, Some, None, if◌then◌else◌}
 use Rattle.std.specs.List.{list_all, list_any}
 use Rattle.std.specs.Option.{option_map}
 use Rattle.std.specs.Str.{bytes_eq}
@@ -7,10 +7,8 @@ use Rattle.ep_tree.specs.Shapes.{as_identifier, when_none}
 use Rattle.ep_tree.specs.declared.expression.Expression.{Expression}
 use Rattle.ep_tree.specs.declared.expression.Label.{Label as LabelTree, out-Label}
 use Rattle.ep_typed.specs.Operations.{is_apart}
-use Rattle.ep_typed.specs.Steps.{variant_number}
-use Rattle.ep_typed.specs.Trees.{AtField, AtIndex, AtRanges, Element, Expr, SameField, Structured, elements}
+use Rattle.ep_typed.specs.Trees.{AtField, AtIndex, AtIndexes, AtRanges, Designator, Element, Expr, Range, SameField, SetOf, Single, Structured, designators, elements, no_member}
 use Rattle.ep_typed.specs.declared.tree.CaseRange.{CaseRange}
-use Rattle.ep_typed.specs.declared.tree.Selection.{Selection}
 use Rattle.ep_scope.specs.Fields.{field_number}
 use Rattle.ep_scope.specs.Kinds.{same_host}
 use Rattle.ep_scope.specs.Scopes.{Meant, Declares, FieldOf, Nothing, Region, Requires, meant, meant_in, structure_in}
@@ -134,13 +132,14 @@ single_label ls = None
 
 -- ---- ranges of indexes
 
--- the ranges of the labels of an element, where all are constant, and how deep the deepest index is
+-- the ranges of the labels of an element, where all are constant, the labels as designators, in order, where all are built, and how deep the deepest index is
 pub record Ranges : Type 0 where
   pub ranges : Option (List CaseRange)
+  pub designators : Option (List Designator)
   pub depth : ℕ
 
 abbrev pub no_ranges : Ranges
-no_ranges = record { ranges = Some []; depth = 0 }
+no_ranges = record { ranges = Some []; designators = Some []; depth = 0 }
 
 -- the indexes from one to another; none, where the first is above the last
 abbrev pub ranging : ℤ → ℤ → List CaseRange
@@ -153,13 +152,27 @@ joined_ranges before more = map_both (λ xs ys. xs ++ ys) before more
 abbrev pub with_span : Option (List CaseRange) → Option ℤ → Option ℤ → Option (List CaseRange)
 with_span before low high = joined_ranges before (map_both ranging low high)
 
+-- with a label more: from one index to another, where both are constant, and its designator, where that is built
+abbrev pub with_label : Ranges → Option ℤ → Option ℤ → Option Designator → ℕ → Ranges
+with_label r low high d depth =
+    record {
+      ranges = with_span r.ranges low high;
+      designators = map_both (λ ds e. ds ++ e ∷ []) r.designators d;
+      depth = max r.depth depth;
+    }
+
+-- with one index
+abbrev pub with_single : Ranges → Index → Ranges
+with_single r x = with_label r x.constant x.constant (option_map Single x.form) x.depth
+
+-- with the indexes from one to another
 abbrev pub with_range : Ranges → Index → Index → Ranges
-with_range r x y = record { ranges = with_span r.ranges x.constant y.constant; depth = max r.depth (max x.depth y.depth) }
+with_range r x y = with_label r x.constant y.constant (map_both Range x.form y.form) (max x.depth y.depth)
 
 module _ (a : ArrayType) where
   -- a label after others: an index, or those from one to another
   abbrev pub second_index : Ranges → Index → Option (Judged Typed) → Judged Ranges
-  second_index r x None = Accepts (with_range r x x)
+  second_index r x None = Accepts (with_single r x)
   second_index r x (Some high) = when_accepted (λ y. Accepts (with_range r x y)) (when_accepted (index_judged a) high)
 
   abbrev pub range_labelled : Label → Ranges → Judged Ranges
@@ -190,20 +203,25 @@ with_index r x depth value =
       indexes = with_span r.indexes x.constant x.constant;
     }
 
--- the components in ranges, of which there is one, and their value
-abbrev pub ranges_given : List CaseRange → Expr → Option (List Element)
-ranges_given [] v = None
-ranges_given (r ∷ rs) v = Some (AtRanges (r ∷ rs) v ∷ [])
+-- the components in constant ranges and their value; where there are none, it is evaluated all the same
+abbrev pub ranges_given : List CaseRange → Expr → List Element
+ranges_given [] v = AtIndexes no_member v ∷ []
+ranges_given (r ∷ rs) v = AtRanges (r ∷ rs) v ∷ []
 
-abbrev pub ranges_form : Option (List CaseRange) → Option Expr → Option (List Element)
-ranges_form (Some rs) (Some v) = ranges_given rs v
-ranges_form _ _ = None
+-- the components at the indexes that designators give, and their value
+abbrev pub indexes_given : List Designator → Expr → List Element
+indexes_given ds v = AtIndexes (designators ds) v ∷ []
 
--- with the components in ranges, which are given a value; ranges that are not constant have no code yet
+-- the components at labels and their value: in ranges, where all are constant
+abbrev pub ranges_form : Option (List CaseRange) → Option (List Designator) → Option Expr → Option (List Element)
+ranges_form (Some rs) ds v = option_map (ranges_given rs) v
+ranges_form None ds v = map_both indexes_given ds v
+
+-- with the components in ranges, which are given a value
 abbrev pub with_ranges : Arranged → Ranges → ℕ → Option Expr → Arranged
 with_ranges r x depth value =
     record {
-      elements = with_elements r.elements (ranges_form x.ranges value);
+      elements = with_elements r.elements (ranges_form x.ranges x.designators value);
       depth = max r.depth (max x.depth depth);
       indexes = joined_ranges r.indexes x.ranges;
     }
@@ -222,7 +240,7 @@ abbrev pub nothing_arranged : Arranged
 nothing_arranged = record { elements = Some []; depth = 0; indexes = Some [] }
 
 abbrev pub all_arranged : ArrayType → ℕ → Option Expr → Arranged
-all_arranged a depth value = record { elements = with_elements (Some []) (ranges_form (Some (record { low = a.low; high = a.high } ∷ [])) value); depth = depth; indexes = Some [] }
+all_arranged a depth value = record { elements = with_elements (Some []) (option_map (ranges_given (record { low = a.low; high = a.high } ∷ [])) value); depth = depth; indexes = Some [] }
 
 -- no index is in two ranges
 abbrev pub are_apart : List CaseRange → Bool
@@ -361,9 +379,14 @@ is_same_kind (kind.Structured m) (kind.Structured n) = m == n
 is_same_kind (kind.Set h) (kind.Set g) = same_host h g
 is_same_kind _ _ = false
 
--- what a further field is given: what the first one has, where that is of its kind; `[]` for sets over different hosts has no code yet
+-- the empty set, for a field that is a set
+abbrev pub empty_if : Kind → List ℕ → Option (List Element)
+empty_if (kind.Set h) steps = Some (first_form steps (SetOf no_member))
+empty_if _ steps = None
+
+-- What a further field is given: what the first one has, where that is of its kind. Else both are sets over different hosts, and the value is `[]`, which is one over each host.
 abbrev pub same_if : FieldType → FieldType → Option (List Element)
-same_if first f = if is_same_kind first.kind f.kind then Some (same_form (field_steps first) (field_steps f)) else None
+same_if first f = if is_same_kind first.kind f.kind then Some (same_form (field_steps first) (field_steps f)) else empty_if f.kind (field_steps f)
 
 abbrev pub same_given : FieldType → Kind → ℕ → Filled → Option FieldType → Judged Filled
 same_given first k place r None = unfit

@@ -4,20 +4,23 @@ ghost use Rattle.std.specs.Prelude.{◌≡◌, ◌++◌, ◌∷◌, [], IfOk, ma
 ghost use Rattle.std.specs.Option.{option_map};
 ghost use Rattle.std.specs.List.{list_all};
 ghost use Rattle.ep_typed.specs.Operations.{is_apart};
-ghost use Rattle.ep_typed.specs.Viewed.{element_of, expr_of};
+ghost use Rattle.ep_typed.specs.Viewed.{designator_of, element_of, expr_of};
 ghost use Rattle.ep_check_expr.specs.Answers.{AnswersJudged, AnswersTyped, arranged_of, index_of, labels_of, ranges_of, typed_of};
 ghost use Rattle.ep_check_expr.specs.StructuredValues as spec;
-ghost use Rattle.ep_check_expr.specs.StructuredValues.{arranged, component_given, with_index, with_range, with_ranges};
+ghost use Rattle.ep_check_expr.specs.StructuredValues.{arranged, component_given, with_index, with_label, with_range, with_ranges, with_single};
 
 use crate::arguments::given_value;
 use crate::constant_accesses::has_index;
+use crate::constructors::with_designator;
 use crate::folding::{Folded, folded_form, number_in};
 use crate::forms::{Refusal, Typed};
 use crate::operators::are_compatible;
 use crate::structured::{added, structured};
 use ep_base::{Boxed, List, NoMemory};
 use ep_scope::{ArrayType, Kind, rule};
-use ep_typed::{CaseRange, CaseRanges, Element, Elements, TypedExpr};
+use ep_typed::{
+    CaseRange, CaseRanges, Element, Elements, MemberDesignator, MemberDesignators, TypedExpr,
+};
 use std::alloc::Global;
 
 /// An index of an array: its form, where it is built, how deep it is, and its ordinal number where it is constant.
@@ -97,10 +100,13 @@ pub(crate) fn taken_index(alloc: Global, of: ArrayType, value: Typed) -> Result<
     })
 }
 
-/// The ranges of the labels of an element, where all are constant, and how deep the deepest index is.
+/// The ranges of the labels of an element, where all are constant, the labels as designators, where all are built, and how
+/// deep the deepest index is.
 pub(crate) struct Ranges {
     /// The ranges.
     pub(crate) ranges: Option<CaseRanges>,
+    /// The designators.
+    pub(crate) designators: Option<MemberDesignators>,
     /// The depth.
     pub(crate) depth: u32,
 }
@@ -109,6 +115,7 @@ impl Drop for Ranges {
     fn drop(self) {
         let Ranges {
             ranges: _,
+            designators: _,
             depth: _,
         } = self;
     }
@@ -141,25 +148,68 @@ impl Ranges {
     {
         Ranges {
             ranges: Some(List::new(alloc)),
+            designators: Some(List::new(alloc)),
             depth: 0,
         }
     }
 
-    /// The ranges alone.
-    fn into_ranges(self) -> Option<CaseRanges>
-        ensures { result ≡ self.ranges }
+    /// The ranges and the designators.
+    fn into_parts(self) -> (Option<CaseRanges>, Option<MemberDesignators>)
+        ensures { result ≡ (self.ranges, self.designators) }
     {
-        let Ranges { ranges, depth: _ } = self;
-        ranges
+        let Ranges {
+            ranges,
+            designators,
+            depth: _,
+        } = self;
+        (ranges, designators)
+    }
+
+    /// With a label more: from one index to another, where both are constant, and its designator, where that is built.
+    fn with_label(
+        self,
+        low: Option<i64>,
+        high: Option<i64>,
+        designator: Option<MemberDesignator>,
+        depth: u32,
+    ) -> Result<Ranges, NoMemory>
+        ensures { IfOk result (λ now. ranges_of now
+            ≡ with_label (ranges_of self) low high (option_map designator_of designator) depth) }
+    {
+        let depth = self.depth.max(depth);
+        let (ranges, designators) = self.into_parts();
+        let designators = with_designator(designators, designator)?;
+        let ranges = with_span(ranges, low, high)?;
+        Ok(Ranges {
+            ranges,
+            designators,
+            depth,
+        })
+    }
+
+    /// With one index.
+    pub(crate) fn with_single(self, index: Index) -> Result<Ranges, NoMemory>
+        ensures { IfOk result (λ now. ranges_of now ≡ with_single (ranges_of self) (index_of index)) }
+    {
+        let (number, depth) = (index.constant, index.depth);
+        let designator = match index.into_form() {
+            None => None,
+            Some(form) => Some(MemberDesignator::Single(form)),
+        };
+        self.with_label(number, number, designator, depth)
     }
 
     /// With the indexes from one to another.
-    pub(crate) fn with(self, first: &Index, last: &Index) -> Result<Ranges, NoMemory>
-        ensures { IfOk result (λ now. ranges_of now ≡ with_range (ranges_of self) (index_of first.now) (index_of last.now)) }
+    pub(crate) fn with_range(self, first: Index, last: Index) -> Result<Ranges, NoMemory>
+        ensures { IfOk result (λ now. ranges_of now ≡ with_range (ranges_of self) (index_of first) (index_of last)) }
     {
-        let depth = self.depth.max(first.depth.max(last.depth));
-        let ranges = with_span(self.into_ranges(), first.constant, last.constant)?;
-        Ok(Ranges { ranges, depth })
+        let (low, high) = (first.constant, last.constant);
+        let depth = first.depth.max(last.depth);
+        let designator = match (first.into_form(), last.into_form()) {
+            (Some(first), Some(last)) => Some(MemberDesignator::Range(first, last)),
+            _ => None,
+        };
+        self.with_label(low, high, designator, depth)
     }
 }
 
@@ -184,6 +234,7 @@ impl IndexLabels {
     /// What is gathered of elements, with the components at these labels, which are given a value.
     pub(crate) fn given(
         self,
+        alloc: Global,
         of: ArrayType,
         before: Arranged,
         value: Typed,
@@ -193,7 +244,7 @@ impl IndexLabels {
     {
         match self {
             IndexLabels::One(index) => before.with_index(of, index, value),
-            IndexLabels::Many(ranges) => before.with_ranges(of, ranges, value),
+            IndexLabels::Many(ranges) => before.with_ranges(alloc, of, ranges, value),
         }
     }
 }
@@ -244,17 +295,33 @@ fn joined_if(
     Ok(Some(joined(ranges, more.items())?))
 }
 
-/// The components in ranges, of which there is one, and their value, where both are built.
-fn ranges_form(ranges: Option<CaseRanges>, value: Option<Boxed<TypedExpr>>) -> Option<Element>
-    ensures { option_map (λ e. e ∷ []) (option_map element_of result) ≡ spec.ranges_form ranges (option_map expr_of value) }
+/// The components in constant ranges and their value. Where there are none, it is evaluated all the same.
+fn ranges_given(alloc: Global, ranges: CaseRanges, value: Boxed<TypedExpr>) -> Element
+    ensures { element_of result ∷ [] ≡ spec.ranges_given ranges (expr_of value) }
 {
-    let (Some(ranges), Some(value)) = (ranges, value) else {
+    if ranges.items().is_empty() {
+        Element::AtIndexes(List::new(alloc), value)
+    } else {
+        Element::AtRanges(ranges, value)
+    }
+}
+
+/// The components at labels and their value, where all of it is built: in ranges, where all are constant.
+fn ranges_form(alloc: Global, ranges: Ranges, value: Option<Boxed<TypedExpr>>) -> Option<Element>
+    ensures { option_map (λ e. e ∷ []) (option_map element_of result)
+        ≡ spec.ranges_form ranges.ranges (option_map (map designator_of) ranges.designators) (option_map expr_of value) }
+{
+    let Some(value) = value else {
         return None;
     };
-    if ranges.items().is_empty() {
-        return None;
+    let (ranges, designators) = ranges.into_parts();
+    match ranges {
+        Some(ranges) => Some(ranges_given(alloc, ranges, value)),
+        None => match designators {
+            Some(designators) => Some(Element::AtIndexes(designators, value)),
+            None => None,
+        },
     }
-    Some(Element::AtRanges(ranges, value))
 }
 
 /// The component at an index and its value, where both are built.
@@ -291,7 +358,10 @@ impl Arranged {
             low: of.low,
             high: of.high,
         })?;
-        let element = ranges_form(Some(ranges), value);
+        let element = match value {
+            None => None,
+            Some(value) => Some(ranges_given(alloc, ranges, value)),
+        };
         Ok(Arranged {
             elements: added(Some(List::new(alloc)), element)?,
             depth,
@@ -329,7 +399,13 @@ impl Arranged {
     }
 
     /// With the components in ranges, which are given a value.
-    fn with_ranges(self, of: ArrayType, ranges: Ranges, value: Typed) -> Result<Arranged, Refusal>
+    fn with_ranges(
+        self,
+        alloc: Global,
+        of: ArrayType,
+        ranges: Ranges,
+        value: Typed,
+    ) -> Result<Arranged, Refusal>
         ensures { AnswersJudged arranged_of result
             (spec.given_by of (with_ranges (arranged_of self) (ranges_of ranges)) (typed_of value)) }
     {
@@ -337,7 +413,7 @@ impl Arranged {
         let value = given_value(of.kind, value)?;
         let (elements, indexes) = self.into_parts();
         let indexes = joined_if(indexes, &ranges.ranges)?;
-        let elements = added(elements, ranges_form(ranges.into_ranges(), value))?;
+        let elements = added(elements, ranges_form(alloc, ranges, value))?;
         Ok(Arranged {
             elements,
             depth,

@@ -57,7 +57,7 @@ fn set_kind(host: Option<Host>) -> Kind
 }
 
 /// The designators with one more at the end, where all are built.
-fn added(
+pub(crate) fn with_designator(
     list: Option<MemberDesignators>,
     one: Option<MemberDesignator>,
 ) -> Result<Option<MemberDesignators>, NoMemory>
@@ -115,7 +115,7 @@ impl Members {
             return Err(Refusal::Rule(rule::OPERANDS));
         }
         let depth = self.depth.max(depth);
-        let designators = added(self.into_designators(), designator)?;
+        let designators = with_designator(self.into_designators(), designator)?;
         Ok(Members {
             designators,
             host: Some(host),

@@ -197,7 +197,7 @@ fn with_element(
         Element::Labelled(_, labels, value) => {
             let labels = index_labels(alloc, of, labels.items(), scopes)?;
             let value = typed_value(alloc, value, asked_by(of.kind), scopes)?;
-            labels.given(of, before, value)
+            labels.given(alloc, of, before, value)
         }
         Element::Variant(_, _, _, _) => Err(Refusal::Rule(rule::STRUCTURED_VALUE)),
     }
@@ -275,10 +275,10 @@ fn with_range(
 {
     let low = array_index(alloc, of, label.low.get(), scopes)?;
     match &label.high {
-        None => Ok(before.with(&low, &low)?),
+        None => Ok(before.with_single(low)?),
         Some(last) => {
             let high = array_index(alloc, of, last.get(), scopes)?;
-            Ok(before.with(&low, &high)?)
+            Ok(before.with_range(low, high)?)
         }
     }
 }

@@ -179,12 +179,25 @@ fn is_same_kind(one: Kind, other: Kind) -> bool
     }
 }
 
-/// A field that is given what another one has, where that is of its kind.
+/// The empty set for a field that is a set, which is one over each host.
+fn empty_if(alloc: Global, field: &FieldType) -> Result<Option<Element>, NoMemory>
+    ensures { IfOk result (λ e. option_map (λ x. x ∷ []) (option_map element_of e)
+        ≡ spec.empty_if field.now.kind (variants.field_steps field.now)) }
+{
+    let Kind::Set(_) = field.kind else {
+        return Ok(None);
+    };
+    let steps = field_steps(alloc, field)?;
+    let empty = Boxed::new(alloc, TypedExpr::Set(List::new(alloc)))?;
+    Ok(Some(Element::AtField(steps, empty)))
+}
+
+/// A field that is given what another one has, where that is of its kind, and else the empty set.
 fn same_if(alloc: Global, first: &FieldType, field: &FieldType) -> Result<Option<Element>, NoMemory>
     ensures { IfOk result (λ e. option_map (λ x. x ∷ []) (option_map element_of e) ≡ spec.same_if first.now field.now) }
 {
     if !is_same_kind(first.kind, field.kind) {
-        return Ok(None);
+        return empty_if(alloc, field);
     }
     let from = field_steps(alloc, first)?;
     let to = field_steps(alloc, field)?;

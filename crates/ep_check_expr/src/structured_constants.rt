@@ -1,6 +1,6 @@
 //! What typed forms are as constants that may be arrays or records (ISO 10206, 6.6, 6.8.2 and 6.8.7).
 
-ghost use Rattle.std.specs.Prelude.{◌≡◌, [], IfOk, Ok, map};
+ghost use Rattle.std.specs.Prelude.{◌≡◌, [], IfOk, Ok, Some, map};
 ghost use Rattle.ep_scope.specs.Scopes.{structure_in};
 ghost use Rattle.ep_typed.specs.Trees as tree;
 ghost use Rattle.ep_typed.specs.Viewed.{element_of, expr_of};
@@ -92,14 +92,15 @@ fn elements(
     Ok(found)
 }
 
-/// What a component is given, of a value of this array type or of a record.
+/// What a component is given, of a value of this array type or of a record; none, where no component is. Indexes that
+/// designators give vary.
 #[cycle(constancies)]
 fn element(
     alloc: Global,
     of: Option<ArrayType>,
     e: &Element,
     scopes: &View<'_>,
-) -> Result<Result<Element, NoConstant>, NoMemory>
+) -> Result<Result<Option<Element>, NoConstant>, NoMemory>
     ensures { IfOk result (λ c. c ≡ spec.element_constancy scopes.now of (element_of e.now)) }
 {
     match e {
@@ -117,6 +118,13 @@ fn element(
             field_given(alloc, steps.items(), value)
         }
         Element::SameField(from, to) => same_given(alloc, from.items(), to.items()),
+        Element::AtIndexes(indexes, value) => {
+            if indexes.items().is_empty() {
+                Ok(none_given(constancy(alloc, value.get(), scopes)?))
+            } else {
+                Ok(Err(NoConstant::Varies))
+            }
+        }
     }
 }
 
@@ -194,17 +202,27 @@ fn ranges_given(
     alloc: Global,
     ranges: Result<CaseRanges, NoConstant>,
     value: Result<ConstantValue, NoConstant>,
-) -> Result<Result<Element, NoConstant>, NoMemory>
+) -> Result<Result<Option<Element>, NoConstant>, NoMemory>
     ensures { IfOk result (λ c. c ≡ spec.ranges_given ranges value) }
 {
     match (ranges, value) {
         (Ok(ranges), Ok(value)) => {
             let value = Boxed::new(alloc, value.into_form())?;
-            Ok(Ok(Element::AtRanges(ranges, value)))
+            Ok(Ok(Some(Element::AtRanges(ranges, value))))
         }
         (Ok(_), Err(why)) => Ok(Err(why)),
         (Err(why), Ok(_)) => Ok(Err(why)),
         (Err(why), Err(other)) => Ok(Err(either(why, other))),
+    }
+}
+
+/// No component, whose value is constant all the same.
+fn none_given(value: Result<ConstantValue, NoConstant>) -> Result<Option<Element>, NoConstant>
+    ensures { result ≡ spec.none_given value }
+{
+    match value {
+        Ok(_) => Ok(None),
+        Err(why) => Err(why),
     }
 }
 
@@ -213,14 +231,14 @@ fn field_given(
     alloc: Global,
     steps: &[u32],
     value: Result<ConstantValue, NoConstant>,
-) -> Result<Result<Element, NoConstant>, NoMemory>
+) -> Result<Result<Option<Element>, NoConstant>, NoMemory>
     ensures { IfOk result (λ c. c ≡ spec.field_given steps.now value) }
 {
     match value {
         Ok(value) => {
             let steps = List::from_slice(alloc, steps)?;
             let value = Boxed::new(alloc, value.into_form())?;
-            Ok(Ok(Element::AtField(steps, value)))
+            Ok(Ok(Some(Element::AtField(steps, value))))
         }
         Err(why) => Ok(Err(why)),
     }
@@ -231,12 +249,12 @@ fn same_given(
     alloc: Global,
     from: &[u32],
     to: &[u32],
-) -> Result<Result<Element, NoConstant>, NoMemory>
-    ensures { IfOk result (λ c. c ≡ Ok (element.SameField from.now to.now)) }
+) -> Result<Result<Option<Element>, NoConstant>, NoMemory>
+    ensures { IfOk result (λ c. c ≡ Ok (Some (element.SameField from.now to.now))) }
 {
     let from = List::from_slice(alloc, from)?;
     let to = List::from_slice(alloc, to)?;
-    Ok(Ok(Element::SameField(from, to)))
+    Ok(Ok(Some(Element::SameField(from, to))))
 }
 
 /// A value of the array or record type of this number.
@@ -256,16 +274,18 @@ fn structured(
     }
 }
 
-/// What components are given, with one more.
+/// What components are given, with one more, where there is one.
 fn with_last(
     before: Result<Elements, NoConstant>,
-    last: Result<Element, NoConstant>,
+    last: Result<Option<Element>, NoConstant>,
 ) -> Result<Result<Elements, NoConstant>, NoMemory>
     ensures { IfOk result (λ c. c ≡ spec.with_last before last) }
 {
     match (before, last) {
         (Ok(mut before), Ok(last)) => {
-            before.push(last)?;
+            if let Some(last) = last {
+                before.push(last)?;
+            }
             Ok(Ok(before))
         }
         (Ok(_), Err(why)) => Ok(Err(why)),

@@ -8,7 +8,7 @@ use Rattle.ep_tree.specs.declared.statement.Statement.TheOpen.{Statement-F, Arm-
 use Rattle.ep_tree.specs.declared.statement.Statement.{Statement, fold-Statement}
 use Rattle.ep_tree.specs.declared.statement.Arm.{Arm, fold-Arm}
 use Rattle.ep_tree.specs.declared.statement.Compound.{Compound, fold-Compound}
-use Rattle.ep_typed.specs.Trees.{Structured, Element, AtIndex, AtField, SameField, AtRanges, Elements, no_element, next_element, Entire, OfUnit, OfRoutine, entire, Place, Variable, Own, Standard, Indexed, Field, Variant, Expr, Constant, Text, Read, One, Two, Short, Step, Function, IndexedValue, FieldValue, VariantValue, Actual, Evaluated, Accessed, Actuals, no_actual, next_actual, Item, Plain, Wide, Stmt, Stmts, Empty, Assign, AssignTag, If, While, Repeat, For, ForIn, With, Procedure, Case, Halt, Write, none, next, Arms, no_arm, next_arm, Other, no_other, otherwise_do, SetOf, OnSets, Card, Designator, Single, Range, Designators, no_member, next_member, SetConstant}
+use Rattle.ep_typed.specs.Trees.{Structured, Element, AtIndex, AtField, SameField, AtRanges, AtIndexes, Elements, no_element, next_element, Entire, OfUnit, OfRoutine, entire, Place, Variable, Own, Standard, Indexed, Field, Variant, Expr, Constant, Text, Read, One, Two, Short, Step, Function, IndexedValue, FieldValue, VariantValue, Actual, Evaluated, Accessed, Actuals, no_actual, next_actual, Item, Plain, Wide, Stmt, Stmts, Empty, Assign, AssignTag, If, While, Repeat, For, ForIn, With, Procedure, Case, Halt, Write, none, next, Arms, no_arm, next_arm, Other, no_other, otherwise_do, SetOf, OnSets, Card, Designator, Single, Range, Designators, no_member, next_member, SetConstant}
 use Rattle.ep_typed.specs.Trees as tree
 use Rattle.ep_typed.specs.declared.interface.Formal.{Formal}
 use Rattle.ep_typed.specs.declared.interface.FormalMode.{FormalMode}
@@ -61,6 +61,7 @@ module _ (formals_of : List ℕ → ℕ → List Formal) (variable : Entire) whe
     element_threatens (AtField steps x) = expr_threatens x
     element_threatens (SameField from to) = false
     element_threatens (AtRanges ranges x) = expr_threatens x
+    element_threatens (AtIndexes ds x) = members_threaten ds || expr_threatens x
 
     pub elements_threaten : Elements → Bool
     elements_threaten no_element = false

@@ -299,6 +299,10 @@ fn element_threatens(e: &Element, routines: &[UnitRoutine], variable: Entire<'_>
         Element::AtField(_, value) => expr_threatens(value.get(), routines, variable),
         Element::SameField(_, _) => false,
         Element::AtRanges(_, value) => expr_threatens(value.get(), routines, variable),
+        Element::AtIndexes(indexes, value) => {
+            members_threaten(indexes.items(), routines, variable)
+                || expr_threatens(value.get(), routines, variable)
+        }
     }
 }
 

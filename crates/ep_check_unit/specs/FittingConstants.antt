@@ -4,7 +4,7 @@ use Rattle.std.specs.List.{list_all}
 use Rattle.std.specs.Str.{bytes_eq}
 use Rattle.ep_typed.specs.Denoters.{found_of}
 use Rattle.ep_typed.specs.Trees as tree
-use Rattle.ep_typed.specs.Trees.{AtField, AtIndex, AtRanges, Constant, Elements, Expr, SameField, SetConstant, elements, next_element, no_element}
+use Rattle.ep_typed.specs.Trees.{AtField, AtIndex, AtIndexes, AtRanges, Constant, Elements, Expr, SameField, SetConstant, elements, next_element, no_element}
 use Rattle.ep_typed.specs.TypeValues as type
 use Rattle.ep_typed.specs.TypeValues.{TypeValue}
 use Rattle.ep_typed.specs.Viewed.{element_of}
@@ -82,6 +82,7 @@ module _ (types : List UnitType) (scopes : List Region) where
     pub element_is_in : Option Composition → Elements → tree.Element → Bool
     element_is_in of all (AtIndex i x) = is_in (element_type of) x
     element_is_in of all (AtRanges ranges x) = is_in (element_type of) x
+    element_is_in of all (AtIndexes ds x) = is_in (element_type of) x
     element_is_in of all (AtField steps x) = is_in (field_type of steps) x
     element_is_in of all (SameField from to) = is_plain_in types (field_type of to) (value_of_field all from)
 

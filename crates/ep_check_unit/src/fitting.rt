@@ -177,6 +177,9 @@ fn are_in(
             Element::AtRanges(_, value) => {
                 is_in(alloc, types, scopes, element_type(of), value.get())?
             }
+            Element::AtIndexes(_, value) => {
+                is_in(alloc, types, scopes, element_type(of), value.get())?
+            }
             Element::AtField(steps, value) => {
                 let of = field_type(alloc, of, steps.items())?;
                 is_in(alloc, types, scopes, of, value.get())?

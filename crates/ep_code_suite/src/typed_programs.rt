@@ -38,7 +38,7 @@ const EXPRESSIONS: &[Trees] = &[
             (op::MOD, 0, 0, 3),
         ],
         0,
-        2,
+        4,
     ),
     // chr(65)
     (
@@ -50,7 +50,7 @@ const EXPRESSIONS: &[Trees] = &[
             (op::CHECK, run_error::SUCCESSOR as i64, 0, 3),
         ],
         0,
-        2,
+        4,
     ),
     // pred of a char, two back
     (
@@ -64,42 +64,42 @@ const EXPRESSIONS: &[Trees] = &[
             (op::STEP, 0, 0, 3),
         ],
         0,
-        2,
+        4,
     ),
     // one variable < another one
     (
         &[
-            Step::Variable(4),
+            Step::Variable(6),
             Step::Variable(0),
             Step::Two(Binary::Less),
         ],
         &[
-            (op::UNIT, 2, 0, 3),
+            (op::UNIT, 4, 0, 3),
             (op::LOAD, 0, 0, 3),
-            (op::UNIT, 3, 0, 3),
+            (op::UNIT, 5, 0, 3),
             (op::LOAD, 0, 0, 3),
             (op::CMP, 2, 0, 3),
         ],
         0,
-        4,
+        6,
     ),
     // a field of a component of the array that a function gives
     (
         &[
-            Step::Function(5),
+            Step::Function(7),
             Step::Constant(5),
             Step::Indexed,
             Step::Field(1),
         ],
         &[
-            (op::CALL, 2, 0, 3),
+            (op::CALL, 4, 0, 3),
             (op::JUMP, 2, 0, 3),
             (op::PUSH, 5, 0, 3),
             (op::INDEX, 0, 0, 3),
             (op::FIELD, 1, 0, 3),
         ],
         0,
-        3,
+        5,
     ),
     // D[1: 5; 2: 6], where D is the type of number 2
     (
@@ -113,7 +113,7 @@ const EXPRESSIONS: &[Trees] = &[
             Step::Structured(2),
         ],
         &[
-            (op::CALL, 4, 0, 3),
+            (op::CALL, 6, 0, 3),
             (op::NEW, 0, 0, 3),
             (op::DUP, 0, 0, 3),
             (op::DEREF, 0, 0, 3),
@@ -132,7 +132,7 @@ const EXPRESSIONS: &[Trees] = &[
             (op::DISPOSE, 0, 0, 3),
         ],
         0,
-        2,
+        4,
     ),
     // D[1, 3..5: 7], where D is the type of number 2
     (
@@ -142,7 +142,7 @@ const EXPRESSIONS: &[Trees] = &[
             Step::Structured(2),
         ],
         &[
-            (op::CALL, 4, 0, 3),
+            (op::CALL, 6, 0, 3),
             (op::NEW, 0, 0, 3),
             (op::DUP, 0, 0, 3),
             (op::DEREF, 0, 0, 3),
@@ -166,13 +166,81 @@ const EXPRESSIONS: &[Trees] = &[
             (op::DISPOSE, 0, 0, 3),
         ],
         0,
-        2,
+        4,
+    ),
+    // D[i, j..k: 7], where D is the type of number 2, with 2, 3 and 4 for the indexes
+    (
+        &[
+            Step::Constant(2),
+            Step::Constant(3),
+            Step::Constant(4),
+            Step::Constant(7),
+            Step::AtIndexes,
+            Step::Structured(2),
+        ],
+        &[
+            (op::CALL, 6, 0, 3),
+            (op::NEW, 0, 0, 3),
+            (op::DUP, 0, 0, 3),
+            (op::DEREF, 0, 0, 3),
+            (op::PUSH, 2, 0, 3),
+            (op::DUP, 0, 0, 3),
+            (op::CALL, 2, 0, 3),
+            (op::INDEX, 0, 0, 3),
+            (op::DROP, 0, 0, 3),
+            (op::INDEX, 0, 0, 3),
+            (op::DROP, 0, 0, 3),
+            (op::PUSH, 3, 0, 3),
+            (op::PUSH, 4, 0, 3),
+            (op::CALL, 2, 0, 3),
+            (op::INDEX, 0, 0, 3),
+            (op::DROP, 0, 0, 3),
+            (op::INDEX, 0, 0, 3),
+            (op::DROP, 0, 0, 3),
+            (op::PUSH, 7, 0, 3),
+            (op::DUP, 0, 0, 3),
+            (op::CALL, 3, 0, 3),
+            (op::JUMP_FALSE, 27, 0, 3),
+            (op::INDEX, 0, 0, 3),
+            (op::CALL, 0, 0, 3),
+            (op::STORE, 0, 0, 3),
+            (op::CALL, 1, 0, 3),
+            (op::JUMP, 34, 0, 3),
+            (op::DROP, 0, 0, 3),
+            (op::DROP, 0, 0, 3),
+            (op::DROP, 0, 0, 3),
+            (op::DROP, 0, 0, 3),
+            (op::DROP, 0, 0, 3),
+            (op::DROP, 0, 0, 3),
+            (op::DROP, 0, 0, 3),
+            (op::DUP, 0, 0, 3),
+            (op::CALL, 3, 0, 3),
+            (op::JUMP_FALSE, 42, 0, 3),
+            (op::INDEX, 0, 0, 3),
+            (op::CALL, 0, 0, 3),
+            (op::STORE, 0, 0, 3),
+            (op::CALL, 1, 0, 3),
+            (op::JUMP, 49, 0, 3),
+            (op::DROP, 0, 0, 3),
+            (op::DROP, 0, 0, 3),
+            (op::DROP, 0, 0, 3),
+            (op::DROP, 0, 0, 3),
+            (op::DROP, 0, 0, 3),
+            (op::DROP, 0, 0, 3),
+            (op::DROP, 0, 0, 3),
+            (op::DROP, 0, 0, 3),
+            (op::LOAD, 0, 0, 3),
+            (op::CALL, 0, 0, 3),
+            (op::DISPOSE, 0, 0, 3),
+        ],
+        0,
+        4,
     ),
     // R[a: 7], where R is the type of number 0 and a its second field
     (
         &[Step::Constant(7), Step::AtField(&[1]), Step::Structured(0)],
         &[
-            (op::CALL, 2, 0, 3),
+            (op::CALL, 4, 0, 3),
             (op::NEW, 0, 0, 3),
             (op::DUP, 0, 0, 3),
             (op::DEREF, 0, 0, 3),
@@ -185,7 +253,7 @@ const EXPRESSIONS: &[Trees] = &[
             (op::DISPOSE, 0, 0, 3),
         ],
         0,
-        2,
+        4,
     ),
     // Q[a, b: 7; case k: 1 of [d: 8]], where Q is the type of number 1, a its second field and b its first, and k is at
     // steps 2 and 0, and d the first field of a variant that is component 4
@@ -201,7 +269,7 @@ const EXPRESSIONS: &[Trees] = &[
             Step::Structured(1),
         ],
         &[
-            (op::CALL, 3, 0, 3),
+            (op::CALL, 5, 0, 3),
             (op::NEW, 0, 0, 3),
             (op::DUP, 0, 0, 3),
             (op::DEREF, 0, 0, 3),
@@ -231,13 +299,13 @@ const EXPRESSIONS: &[Trees] = &[
             (op::DISPOSE, 0, 0, 3),
         ],
         0,
-        2,
+        4,
     ),
     // with two steps on both sides
     (
         &[Step::SameField(&[2, 0], &[4, 1]), Step::Structured(1)],
         &[
-            (op::CALL, 3, 0, 3),
+            (op::CALL, 5, 0, 3),
             (op::NEW, 0, 0, 3),
             (op::DUP, 0, 0, 3),
             (op::DEREF, 0, 0, 3),
@@ -255,14 +323,14 @@ const EXPRESSIONS: &[Trees] = &[
             (op::DISPOSE, 0, 0, 3),
         ],
         0,
-        2,
+        4,
     ),
     // the same text twice
     (
         &[Step::Text(b"ab"), Step::Text(b"ab")],
         &[(op::TEXT, 0, 0, 3), (op::TEXT, 0, 0, 3)],
         1,
-        2,
+        4,
     ),
 ];
 
@@ -270,14 +338,14 @@ const EXPRESSIONS: &[Trees] = &[
 const STATEMENTS: &[Trees] = &[
     // x := 7
     (
-        &[Step::Constant(7), Step::Assign(4, 5)],
+        &[Step::Constant(7), Step::Assign(4, 6)],
         &[
-            (op::UNIT, 2, 0, 4),
+            (op::UNIT, 4, 0, 4),
             (op::PUSH, 7, 0, 4),
             (op::STORE, 0, 0, 4),
         ],
         0,
-        3,
+        5,
     ),
     // if true then halt else halt, on lines 4, 5 and 6
     (
@@ -290,7 +358,7 @@ const STATEMENTS: &[Trees] = &[
             (op::HALT, 0, 0, 6),
         ],
         0,
-        2,
+        4,
     ),
     // if true then halt
     (
@@ -302,7 +370,7 @@ const STATEMENTS: &[Trees] = &[
             (op::JUMP, 4, 0, 4),
         ],
         0,
-        2,
+        4,
     ),
     // begin halt; while false do halt end
     (
@@ -321,19 +389,19 @@ const STATEMENTS: &[Trees] = &[
             (op::JUMP, 1, 0, 5),
         ],
         0,
-        2,
+        4,
     ),
     // the same procedure twice
     (
-        &[Step::Procedure(4, 5), Step::Procedure(5, 5)],
+        &[Step::Procedure(4, 7), Step::Procedure(5, 7)],
         &[
-            (op::CALL, 2, 0, 4),
+            (op::CALL, 4, 0, 4),
             (op::JUMP, 2, 0, 4),
-            (op::CALL, 2, 0, 5),
+            (op::CALL, 4, 0, 5),
             (op::JUMP, 4, 0, 5),
         ],
         0,
-        3,
+        5,
     ),
     // writeln
     (
@@ -345,7 +413,7 @@ const STATEMENTS: &[Trees] = &[
             (op::PUT, 0, 0, 4),
         ],
         0,
-        2,
+        4,
     ),
 ];
 
@@ -364,7 +432,7 @@ const WRITES: &[Trees] = &[
             (op::PUT, 0, 0, 4),
         ],
         0,
-        2,
+        4,
     ),
     (
         &[
@@ -379,7 +447,7 @@ const WRITES: &[Trees] = &[
             (op::PUT, 0, 0, 4),
         ],
         0,
-        2,
+        4,
     ),
     (
         &[
@@ -394,7 +462,7 @@ const WRITES: &[Trees] = &[
             (op::PUT, 0, 0, 4),
         ],
         0,
-        2,
+        4,
     ),
     (
         &[
@@ -408,7 +476,7 @@ const WRITES: &[Trees] = &[
             (op::PUT, 0, 0, 4),
         ],
         1,
-        2,
+        4,
     ),
     (
         &[
@@ -425,7 +493,7 @@ const WRITES: &[Trees] = &[
             (op::PUT, 0, 0, 4),
         ],
         0,
-        2,
+        4,
     ),
     (
         &[
@@ -443,7 +511,7 @@ const WRITES: &[Trees] = &[
             (op::PUT, 0, 0, 4),
         ],
         0,
-        2,
+        4,
     ),
     (
         &[
@@ -460,7 +528,7 @@ const WRITES: &[Trees] = &[
             (op::PUT, 0, 0, 4),
         ],
         0,
-        2,
+        4,
     ),
     (
         &[
@@ -477,7 +545,7 @@ const WRITES: &[Trees] = &[
             (op::PUT, 0, 0, 4),
         ],
         0,
-        2,
+        4,
     ),
 ];
 
@@ -623,15 +691,15 @@ fn program(alloc: Global) -> Result<Unit, Unbuilt> {
     unit_of(alloc, types, variables, statements)
 }
 
-/// The code of that program, with that of the two routines that structured values call and of its type behind it.
+/// The code of that program, with that of the routines that structured values call and of its type behind it.
 const PROGRAM: &[Row] = &[
-    (op::CALL, 2, 0, 1),
+    (op::CALL, 4, 0, 1),
     (op::MAKE, 0, 0, 1),
     (op::PUSH, 0, 0, 2),
     (op::PUSH, 9, 0, 2),
     (op::T_ORD, 0, 0, 2),
     (op::MAKE, 1, 0, 2),
-    (op::UNIT, 3, 0, 4),
+    (op::UNIT, 5, 0, 4),
     (op::PUSH, 7, 0, 4),
     (op::STORE, 0, 0, 4),
     (op::RETURN, 0, 0, 0),
@@ -660,6 +728,31 @@ const PROGRAM: &[Row] = &[
     (op::JUMP, 17, 0, 0),
     (op::DROP, 0, 0, 0),
     (op::RETURN, 0, 0, 0),
+    (op::ARG, 0, 0, 0),
+    (op::BIND, 0, 0, 0),
+    (op::PEEK, 1, 0, 0),
+    (op::PEEK, 2, 0, 0),
+    (op::SLOT, 0, 0, 0),
+    (op::SLOT, 0, 0, 0),
+    (op::PEEK, 2, 0, 0),
+    (op::SLOT, 0, 0, 0),
+    (op::PEEK, 1, 0, 0),
+    (op::RETURN, 0, 0, 0),
+    (op::ARG, 2, 0, 0),
+    (op::BIND, 0, 0, 0),
+    (op::SLOT, 0, 0, 0),
+    (op::ARG, 3, 0, 0),
+    (op::SLOT, 0, 0, 0),
+    (op::PEEK, 0, 0, 0),
+    (op::PEEK, 0, 0, 0),
+    (op::PEEK, 1, 0, 0),
+    (op::ARG, 4, 0, 0),
+    (op::SLOT, 0, 0, 0),
+    (op::PEEK, 0, 0, 0),
+    (op::PEEK, 0, 0, 0),
+    (op::PEEK, 1, 0, 0),
+    (op::CMP, 4, 0, 0),
+    (op::RETURN, 0, 0, 0),
     (op::PUSH, 0, 0, 1),
     (op::PUSH, 9, 0, 1),
     (op::T_ORD, 0, 0, 1),
@@ -667,17 +760,24 @@ const PROGRAM: &[Row] = &[
 ];
 
 /// Whether an object has this code, its start at 0, its stop at 10, the routine that leaves two operands in
-/// the other order at 11, the one that gives the value of a component to others at 14, and the routine of its type at 35.
+/// the other order at 11, those that give values to components of arrays at 14, 35 and 45, and the routine of its type at 60.
 fn is_program(object: &Object) -> bool {
-    let [start, stop, swap, fill, digit] = object.routines.items() else {
+    let [start, stop, swap, fill, range, spread, digit] = object.routines.items() else {
         return false;
     };
     let first = start.entry == 0 && stop.entry == 10 && swap.entry == 11;
-    let entries = first && fill.entry == 14 && digit.entry == 35;
-    let arguments = swap.arguments == 2 && fill.arguments == 4 && fill.slots == 1;
+    let arrays = fill.entry == 14 && range.entry == 35 && spread.entry == 45;
+    let entries = first && arrays && digit.entry == 60;
+    let moves = swap.arguments == 2 && fill.arguments == 4 && fill.slots == 1;
+    let shuffles = range.arguments == 3 && spread.arguments == 5 && spread.slots == 1;
     let numbers = object.start == 0 && object.stop == 1 && object.unit_slots == 2;
-    let references = object.references.items().len() == 4;
-    entries && arguments && numbers && references && are(object.instructions.items(), PROGRAM)
+    let references = object.references.items().len() == 6;
+    entries
+        && moves
+        && shuffles
+        && numbers
+        && references
+        && are(object.instructions.items(), PROGRAM)
 }
 
 #[test]
@@ -764,6 +864,31 @@ const STARTED: &[Row] = &[
     (op::ADD, 0, 0, 0),
     (op::JUMP, 25, 0, 0),
     (op::DROP, 0, 0, 0),
+    (op::RETURN, 0, 0, 0),
+    (op::ARG, 0, 0, 0),
+    (op::BIND, 0, 0, 0),
+    (op::PEEK, 1, 0, 0),
+    (op::PEEK, 2, 0, 0),
+    (op::SLOT, 0, 0, 0),
+    (op::SLOT, 0, 0, 0),
+    (op::PEEK, 2, 0, 0),
+    (op::SLOT, 0, 0, 0),
+    (op::PEEK, 1, 0, 0),
+    (op::RETURN, 0, 0, 0),
+    (op::ARG, 2, 0, 0),
+    (op::BIND, 0, 0, 0),
+    (op::SLOT, 0, 0, 0),
+    (op::ARG, 3, 0, 0),
+    (op::SLOT, 0, 0, 0),
+    (op::PEEK, 0, 0, 0),
+    (op::PEEK, 0, 0, 0),
+    (op::PEEK, 1, 0, 0),
+    (op::ARG, 4, 0, 0),
+    (op::SLOT, 0, 0, 0),
+    (op::PEEK, 0, 0, 0),
+    (op::PEEK, 0, 0, 0),
+    (op::PEEK, 1, 0, 0),
+    (op::CMP, 4, 0, 0),
     (op::RETURN, 0, 0, 0),
 ];
 

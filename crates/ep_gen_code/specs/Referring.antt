@@ -2,7 +2,7 @@
 use Rattle.std.specs.Prelude.{◌≡◌, ℕ, ◌+◌, ◌<◌, List, length, Some, slice_get}
 use Rattle.ep_gen_code.specs.Instructions.{reference}
 use Rattle.ep_gen_code.specs.declared.references.TheConstants as routine
-use Rattle.ep_object.specs.Promises.{fill_routine, swap_routine, type_routine}
+use Rattle.ep_object.specs.Promises.{fill_routine, range_routine, spread_routine, swap_routine, type_routine}
 use Rattle.ep_object.specs.declared.code.Reference.{Reference}
 use Rattle.ep_typed.specs.Valid.{Declarations}
 use Rattle.ep_typed.specs.declared.unit.UnitType.{UnitType}
@@ -23,3 +23,17 @@ IsSwapReferred declared unit references = slice_get references routine.SWAP ≡ 
 -- and one to the routine that gives the value of a component of an array to others
 abbrev pub IsFillReferred : Declarations → List ℕ → List Reference → Type 0
 IsFillReferred declared unit references = slice_get references routine.FILL ≡ Some (reference unit (fill_routine (length (declared.routines unit))))
+
+-- to the one that leaves the indexes of a range
+abbrev pub IsRangeReferred : Declarations → List ℕ → List Reference → Type 0
+IsRangeReferred declared unit references = slice_get references routine.RANGE ≡ Some (reference unit (range_routine (length (declared.routines unit))))
+
+-- to the one that leaves what components are given by
+abbrev pub IsSpreadReferred : Declarations → List ℕ → List Reference → Type 0
+IsSpreadReferred declared unit references = slice_get references routine.SPREAD ≡ Some (reference unit (spread_routine (length (declared.routines unit))))
+
+-- to all of those that give values to components of arrays
+pub record AreArraysReferred (declared : Declarations) (unit : List ℕ) (references : List Reference) : Type 0 where
+  pub fill : IsFillReferred declared unit references
+  pub range : IsRangeReferred declared unit references
+  pub spread : IsSpreadReferred declared unit references

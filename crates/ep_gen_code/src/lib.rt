@@ -10,4 +10,4 @@ mod references;
 
 pub use code::{Code, NO_LINE, emit};
 pub use jumps::{field_number, land, leave_hole, next_place, place_number};
-pub use references::{FILL, SWAP, type_reference};
+pub use references::{FILL, RANGE, SPREAD, SWAP, type_reference};

@@ -17,8 +17,14 @@ pub const SWAP: u32 = 0;
 /// The reference to the routine that gives the value of a component of an array to others.
 pub const FILL: u32 = 1;
 
+/// The reference to the routine that leaves the indexes of a range, and what tests them.
+pub const RANGE: u32 = 2;
+
+/// The reference to the routine that leaves what the components with the indexes of a range are given by.
+pub const SPREAD: u32 = 3;
+
 /// The first of the references to the routines that elaborate types.
-const TYPES: u32 = 2;
+const TYPES: u32 = 4;
 
 /// The reference to the routine that elaborates the type with this number.
 pub fn type_reference(number: u32) -> i64
@@ -28,8 +34,8 @@ pub fn type_reference(number: u32) -> i64
 }
 
 /// The first references of a unit, to routines that stand in this order behind those of the unit, its start and its stop: the
-/// one that leaves two operands in the other order, the one that gives the value of a component of an array to others, and those
-/// that elaborate the unit's types.
+/// one that leaves two operands in the other order, those that give values to components of arrays, and those that elaborate the
+/// unit's types.
 pub fn first_references(alloc: Global, unit: &Unit) -> Result<References, NoMemory>
     ensures row { IfOk result (λ references. references ≡ in_row unit.now.name (swap_routine (length unit.now.routines)) (type_reference (length unit.now.types))) }
     ensures small { IfOk result (λ references. IsTable references) }

@@ -55,7 +55,7 @@ use Rattle.ep_typed.specs.declared.run_error.TheConstants as run_error
 use Rattle.ep_typed.specs.declared.tree.CaseRange.{CaseRange}
 
 -- facts that last where memory grows with some slots untouched hold where it has grown with all of them untouched
-holds_grown : {untouched : Slots} {Here : Facts} {injection longer : Injection} {s t : meaning.State} {memory after : Memory} → Lasts untouched Here
+pub holds_grown : {untouched : Slots} {Here : Facts} {injection longer : Injection} {s t : meaning.State} {memory after : Memory} → Lasts untouched Here
     → HasGrown every_slot injection s memory longer t after → Here injection s memory → Here longer t after
 holds_grown {injection = injection} {longer = longer} {s = s} {t = t} {memory = memory} {after = after} lasts since here =
     lasts.by injection longer s t memory after (record { grown = grown_fewer among_every since.grown; routine = same_routine-fewer among_every since.routine; own = since.own; calls = since.calls }) here
@@ -141,14 +141,14 @@ module _ (declared : Declarations) (G : Image) (untouched : Slots) (Here : Facts
   IsFirst a f below c injection memory operands = PlaceOnTop of below c injection memory operands × (c ≡ component a f)
 
   -- what `Store` leads to
-  record Stored (injection : Injection) (memory : Memory) (a : Component) (f : ℕ) (r : Result) (below : List Operand) (place : ℕ) (t : meaning.State) (l : State) : Type 0 where
-    lands : Lands declared G Here place (Inside untouched injection memory (Bare below tt)) t l
-    living : has_ended a.allocation t ≡ false
-    has : value_at (component a f) t ≡ value_of r
-    suited : suits (Some of) r ≡ true
+  pub record Stored (injection : Injection) (memory : Memory) (a : Component) (f : ℕ) (r : Result) (below : List Operand) (place : ℕ) (t : meaning.State) (l : State) : Type 0 where
+    pub lands : Lands declared G Here place (Inside untouched injection memory (Bare below tt)) t l
+    pub living : has_ended a.allocation t ≡ false
+    pub has : value_at (component a f) t ≡ value_of r
+    pub suited : suits (Some of) r ≡ true
 
   -- it is given the value, which suits it then
-  first_given : (a : Component) (f : ℕ) (q : PlaceOf) (below : List Operand) (r : Result) (o : Operand) (place : ℕ) → slice_get G.instructions place ≡ Some (bare line op.STORE)
+  pub first_given : (a : Component) (f : ℕ) (q : PlaceOf) (below : List Operand) (r : Result) (o : Operand) (place : ℕ) → slice_get G.instructions place ≡ Some (bare line op.STORE)
       → (injection : Injection) (memory : Memory) → IsValueOf injection memory k r o → unit_in G memory.frames ≡ unit → IsSpot injection memory.types (component a f) q → IsLike memory.types q.type_number of
       → (s : meaning.State) → Matches declared G injection s memory → Here injection s memory → (d : ℕ)
       → Follows (λ l. IsNotLeft memory.frames l.frames) G n (standing place (o ∷ operand.Place q ∷ below) memory s.trace) s (given call g unit line (component a f) r) (λ u. Stored injection memory a f r below (place + 1)) (d + 1 + weight_of r) (λ u. d)

@@ -1,5 +1,5 @@
 -- The machine follows the meaning of an expression through the code of the expression.
-use Rattle.std.proofs.Common.{◌≡◌, ℕ, ℤ, pos, zero, suc, Option, None, ◌+◌, ◌<◌, ◌≤◌, Bool, List, [], ◌∷◌, ◌++◌, length, Some, slice_get, refl, sym, ap, ◌∙◌, subst, arith, append_assoc, length-append, true, false}
+use Rattle.std.proofs.Common.{◌≡◌, ℕ, ℤ, pos, zero, suc, Option, None, ◌+◌, ◌*◌, ◌<◌, ◌≤◌, Bool, IsTrue, List, [], ◌∷◌, ◌++◌, length, Some, slice_get, refl, sym, ap, ◌∙◌, subst, arith, append_assoc, length-append, true, false}
 use Rattle.std.specs.Bool.{⊤}
 use Rattle.ep_object.specs.Activations.{KnowsNames}
 use Rattle.ep_object.specs.Follows.{point, Facts, Lasts, Fragment, SameRoutine, Operands, OnTop, PlaceOnTop, Inside}
@@ -8,7 +8,7 @@ use Rattle.ep_object.specs.Matching.{at as standing}
 use Rattle.ep_object.specs.Operands.{Operand}
 use Rattle.ep_object.specs.Operands as operand
 use Rattle.ep_object.specs.Placing.{Placement, CodeStands}
-use Rattle.ep_object.specs.Promises.{Passing, ByValue, ByReference, ArePassed, CallsAreKept, FillStands, ResultsOnTop, RoutineKeeps, SwapStands, credit_of}
+use Rattle.ep_object.specs.Promises.{Passing, ByValue, ByReference, ArePassed, CallsAreKept, ArrayRoutinesStand, ResultsOnTop, RoutineKeeps, SwapStands, credit_of}
 use Rattle.ep_object.specs.Scene.{Scene, TextStands, VariableStands}
 use Rattle.ep_object.specs.Runs.{unit_in}
 use Rattle.ep_object.specs.declared.code.Image.{Image}
@@ -27,14 +27,15 @@ use Rattle.ep_typed.specs.Calls.{Handler}
 use Rattle.ep_typed.proofs.Steady.{steady_bind, steady_if, steady_spend, steady_give, steady_answered, steady_eval, steady_read, steady_active, steady_indexed, steady_selected}
 use Rattle.ep_typed.specs.Meaning.{eval, arguments, place}
 use Rattle.ep_typed.specs.Results.{weight_of}
-use Rattle.ep_typed.specs.Operations.{decides}
+use Rattle.ep_typed.specs.Nodes.{designators_count}
+use Rattle.ep_typed.specs.Operations.{decides, is_integer}
 use Rattle.ep_typed.specs.Printing.{Result, number_of}
 use Rattle.ep_typed.specs.Printing as result
 use Rattle.ep_typed.specs.Denoters.{bare_type_of}
 use Rattle.ep_typed.specs.Steps.{Component, Computation, bind, give, spend, component, component_number, type_at, own_variable, has_ended, variant_number}
 use Rattle.ep_typed.specs.Steps as meaning
 use Rattle.ep_typed.specs.Trees as tree
-use Rattle.ep_typed.specs.Trees.{Element, AtIndex, AtField, SameField, AtRanges, Elements, no_element, next_element, Callee, Place, Variable, Own, Standard, Indexed, Field, Variant, Expr, Constant, Text, Read, One, Two, Short, Step, Function, IndexedValue, FieldValue, VariantValue, SetConstant, SetOf, OnSets, Card, Designator, Single, Range, Designators, no_member, next_member, Actual, Evaluated, Accessed, Actuals, no_actual, next_actual}
+use Rattle.ep_typed.specs.Trees.{Element, AtIndex, AtField, SameField, AtRanges, AtIndexes, Elements, no_element, next_element, Callee, Place, Variable, Own, Standard, Indexed, Field, Variant, Expr, Constant, Text, Read, One, Two, Short, Step, Function, IndexedValue, FieldValue, VariantValue, SetConstant, SetOf, OnSets, Card, Designator, Single, Range, Designators, no_member, next_member, Actual, Evaluated, Accessed, Actuals, no_actual, next_actual}
 use Rattle.ep_typed.specs.Valid.{Declarations, Kind, Ordinal, Bytes, Structured, Set, IsUnary, IsBinary, IsTypeOfKind, IsExpr, IsElement, AreElements, AreDesignators, AreGiven, IsDesignator, IsDeclaredUp, Level, variables_at, variables_up, tag_type}
 use Rattle.ep_typed.specs.declared.interface.Formal.{Formal}
 use Rattle.ep_typed.specs.declared.interface.RoutineEntry.{RoutineEntry}
@@ -49,9 +50,9 @@ use Rattle.ep_typed.specs.TypeValues as type
 use Rattle.ep_typed.specs.declared.tree.Selection.{Selection}
 use Rattle.ep_typed.specs.declared.unit.UnitVariable.{UnitVariable}
 use Rattle.ep_gen_code.specs.Credit.{least_credit}
-use Rattle.ep_gen_code.specs.Referring.{AreReferred, IsFillReferred, IsSwapReferred}
+use Rattle.ep_gen_code.specs.Referring.{AreReferred, AreArraysReferred, IsSwapReferred}
 use Rattle.ep_gen_expr.specs.Following.{HasPlaceType, IsValidPlace}
-use Rattle.ep_gen_expr.specs.ExprCode.{IsPlaceCode, IsExprCode, IsElementCode, AreElementsCode, begin_code, end_code, IsActualCode, AreActualsCode, IsDesignatorCode, AreDesignatorsCode, one_code, set_code, two_code, keep_code, step_code, variant_code, reach_code, first_code, ranges_code, bad_place, variant_part_code}
+use Rattle.ep_gen_expr.specs.ExprCode.{IsPlaceCode, IsExprCode, IsElementCode, AreElementsCode, IsRangeCode, AreIndexesCode, spreads_code, tested_code, begin_code, end_code, IsActualCode, AreActualsCode, IsDesignatorCode, AreDesignatorsCode, one_code, set_code, two_code, keep_code, step_code, variant_code, reach_code, first_code, ranges_code, bad_place, variant_part_code}
 use Rattle.ep_gen_code.specs.Instructions.{reference, instr, push, bare, members_code}
 use Rattle.ep_gen_expr.proofs.Answering.{Evaluates, IsFollowed, IsPlaceFollowed}
 use Rattle.ep_gen_expr.proofs.Arguments.{Fits, fits, IsArgumentFollowed, AreArgumentsFollowed, value_follows, accessed_follows, none_follows, next_follows}
@@ -59,7 +60,7 @@ use Rattle.ep_gen_expr.proofs.Calls.{passed_then, function_follows}
 use Rattle.ep_gen_code.proofs.Constants.{set_follows, word_follows}
 use Rattle.ep_gen_expr.proofs.ShortCircuit.{kept_follows}
 use Rattle.ep_gen_expr.proofs.OneOperand.{UnaryFollows, unary_follows}
-use Rattle.ep_gen_code.proofs.Placed.{code_front, code_back, text_at, variable_at}
+use Rattle.ep_gen_code.proofs.Placed.{code_front, code_back, instr_at, text_at, variable_at}
 use Rattle.ep_gen_expr.proofs.VariantMoves.{active_follows}
 use Rattle.ep_gen_expr.proofs.VariantValues.{variant_value_follows}
 use Rattle.ep_gen_expr.proofs.Stays.{variant_length}
@@ -69,6 +70,8 @@ use Rattle.ep_gen_expr.proofs.Stepping.{step_follows}
 use Rattle.ep_gen_expr.proofs.WholeStructures.{named_within, structured_follows}
 use Rattle.ep_gen_expr.proofs.Components.{loaded_follows, selected_follows}
 use Rattle.ep_gen_expr.proofs.FilledRanges.{at_ranges_follow}
+use Rattle.ep_gen_expr.proofs.GivenRanges.{AreRangesFollowed, IsRangeFollowed, all_given, at_indexes_follow, pair_follows, single_follows as alone_follows, value_alone}
+use Rattle.ep_gen_expr.proofs.Stays.{spreads_length}
 use Rattle.ep_gen_expr.proofs.SameFields.{same_field_follows}
 use Rattle.ep_gen_expr.proofs.StructuredValues.{AreElementsFollowed, IsElementFollowed, at_field_follows, at_index_follows, next_element_follows, no_element_follows}
 use Rattle.ep_gen_expr.proofs.TwoOperands.{BinaryFollows, binary_follows}
@@ -241,7 +244,7 @@ module _ {declared : Declarations} {G : Image} {untouched : Slots} {Here : Facts
         fragment_to (ap (λ m. p.instructions.before + m) (sym ends))
         (active_follows declared G untouched Here ps p references call g unit room line (at + length xs) k s ts t low high has_tag has_variant has inside n longer after below a b spot described (unit_in-same G routine ∙ unit_is) d le))
 
-    module _ (lasts : Lasts untouched Here) (among : AreAmong untouched (kept_slots declared G)) (n : ℕ) (kept : CallsAreKept declared G ps call n) (unit_is : unit ≡ declared.routine_unit) (referred : AreReferred declared unit declared.routine_types references) (swap_referred : IsSwapReferred declared unit references) (fill_referred : IsFillReferred declared unit references) where
+    module _ (lasts : Lasts untouched Here) (among : AreAmong untouched (kept_slots declared G)) (n : ℕ) (kept : CallsAreKept declared G ps call n) (unit_is : unit ≡ declared.routine_unit) (referred : AreReferred declared unit declared.routine_types references) (swap_referred : IsSwapReferred declared unit references) (arrays_referred : AreArraysReferred declared unit references) where
       mutual
         -- What the machine does from the code of a place follows the meaning of the place.
         pub place_follows : (q : Place) → IsValidPlace declared q → (t : TypeValue) → HasPlaceType declared q t → (line at : ℕ) (code : List Instr) → IsPlaceCode texts references line at q code → CodeStands G ps p references at code → at + length code < p.instructions.own → IsPlaceFollowed declared G untouched Here p call g unit n t q line at code
@@ -379,7 +382,7 @@ module _ {declared : Declarations} {G : Image} {untouched : Slots} {Here : Facts
             let here : CodeStands G ps p references (at + 4) (xs ++ end_code line) = subst (λ i. CodeStands G ps p references i (xs ++ end_code line)) {x = at + 1 + 1 + 1 + 1} {y = at + 4} (omega arith) all.1.1.1.1 in
             followed_as n kind (Structured (bare_of d.type_value)) (tree.Structured number es) line at code (begin_code line number ++ (xs ++ end_code line)) is_kind is
             (structured_follows declared G untouched Here lasts among ps p references call steady_call n kept g unit line declared.routine_types types_are referred swap_referred number d.type_value d.typed structured es at xs
-            (elements_follow (kept.swaps unit some) (kept.fills unit some) (bare_of d.type_value) es are line (at + 4) xs es_code (code_front G ps p references (at + 4) xs (end_code line) here) (omega (arith, ends, inside))) all)
+            (elements_follow (kept.swaps unit some) (kept.of_arrays unit some) (bare_of d.type_value) es are line (at + 4) xs es_code (code_front G ps p references (at + 4) xs (end_code line) here) (omega (arith, ends, inside))) all)
         expression_follows kind (SetOf ds) (h, is_kind, are) line at code (xs, members, is) stands inside =
             let none : Instr = bare line op.SET_NONE in
             let all : CodeStands G ps p references at (none ∷ xs) = subst (λ c. CodeStands G ps p references at c) is stands in
@@ -407,27 +410,46 @@ module _ {declared : Declarations} {G : Image} {untouched : Slots} {Here : Facts
             (expression_follows (Set h) x is_x line at xs x_code (code_front G ps p references at xs (card ∷ []) all) (omega (arith, ends, inside))) last.0)
 
         -- What a component of a structured value is given, where the unit has the routines that it calls.
-        element_follows : SwapStands G ps unit (length (declared.routines unit)) → FillStands G ps unit (length (declared.routines unit)) → (t : TypeValue) (e : Element) → IsElement declared t e → (line at : ℕ) (is : List Instr) → IsElementCode texts references line at e is → CodeStands G ps p references at is → at + length is < p.instructions.own
+        element_follows : SwapStands G ps unit (length (declared.routines unit)) → ArrayRoutinesStand G ps unit (length (declared.routines unit)) → (t : TypeValue) (e : Element) → IsElement declared t e → (line at : ℕ) (is : List Instr) → IsElementCode texts references line at e is → CodeStands G ps p references at is → at + length is < p.instructions.own
             → IsElementFollowed declared G untouched Here lasts ps p references call steady_call g unit line n t e at is
-        element_follows swap fill (type.Ordinal low high) e valid line at code is stands inside = absurd valid
-        element_follows swap fill type.Text e valid line at code is stands inside = absurd valid
-        element_follows swap fill (type.Set low high) e valid line at code is stands inside = absurd valid
-        element_follows swap fill (type.Initial of start) e valid line at code is stands inside = absurd valid
-        element_follows swap fill (type.Array low high of) (AtField steps x) valid line at code is stands inside = absurd valid
-        element_follows swap fill (type.Array low high of) (SameField from to) valid line at code is stands inside = absurd valid
-        element_follows swap fill (type.Record ts) (AtIndex x y) valid line at code is stands inside = absurd valid
-        element_follows swap fill (type.Record ts) (AtRanges ranges x) valid line at code is stands inside = absurd valid
-        element_follows swap fill (type.Array low high of) (AtRanges [] x) (bounds, some, within, its) line at code is stands inside = absurd some
-        element_follows swap fill (type.Array low high of) (AtRanges (r ∷ more) x) ((h, bounds), some, within, (k, of_kind, is_x)) line at code (xs, x_code, is) stands inside =
+        element_follows swap arrays (type.Ordinal low high) e valid line at code is stands inside = absurd valid
+        element_follows swap arrays type.Text e valid line at code is stands inside = absurd valid
+        element_follows swap arrays (type.Set low high) e valid line at code is stands inside = absurd valid
+        element_follows swap arrays (type.Initial of start) e valid line at code is stands inside = absurd valid
+        element_follows swap arrays (type.Array low high of) (AtField steps x) valid line at code is stands inside = absurd valid
+        element_follows swap arrays (type.Array low high of) (SameField from to) valid line at code is stands inside = absurd valid
+        element_follows swap arrays (type.Record ts) (AtIndex x y) valid line at code is stands inside = absurd valid
+        element_follows swap arrays (type.Record ts) (AtRanges ranges x) valid line at code is stands inside = absurd valid
+        element_follows swap arrays (type.Record ts) (AtIndexes ds x) valid line at code is stands inside = absurd valid
+        element_follows swap arrays (type.Array low high of) (AtIndexes ds x) ((h, bounds, are), (k, of_kind, is_x)) line at code (xs, ys, ds_code, x_code, is) stands inside =
+            let here : ℕ = at + length xs + length ys in
+            let count : ℕ = designators_count ds in
+            let spreads : List Instr = spreads_code line here count in
+            let last : List Instr = bare line op.DROP ∷ [] in
+            let all : CodeStands G ps p references at (xs ++ (ys ++ (spreads ++ last))) = subst (λ c. CodeStands G ps p references at c) is stands in
+            let long = spreads_length line here count in
+            let ends : length code ≡ length xs + length ys + 15 * count + 1 = omega (arith, ap length is, length-append xs (ys ++ (spreads ++ last)), length-append ys (spreads ++ last), length-append spreads last, long) in
+            let behind : CodeStands G ps p references (at + length xs) (ys ++ (spreads ++ last)) = code_back G ps p references at xs (ys ++ (spreads ++ last)) all in
+            let rest : CodeStands G ps p references here (spreads ++ last) = code_back G ps p references (at + length xs) ys (spreads ++ last) behind in
+            let drop = code_back G ps p references here spreads last rest in
+            at_indexes_follow declared G untouched Here lasts ps p references call steady_call g unit line n room swap swap_referred arrays arrays_referred low high bounds.3 bounds.4 of k of_kind ds x at (here + 15 * count) code
+            (all_given declared G untouched Here lasts ps p references call steady_call g unit line n room swap swap_referred arrays arrays_referred low high bounds.3 bounds.4 of k of_kind ds (eval call g unit line x) (steady_eval call steady_call g unit line x) at here xs
+            (ranges_follow swap arrays low high bounds.3 bounds.4 of k of_kind h ds are line at xs ds_code (code_front G ps p references at xs (ys ++ (spreads ++ last)) all) (omega (arith, ends, inside)))
+            (value_alone declared G untouched Here lasts ps p references call steady_call g unit line n room swap swap_referred arrays arrays_referred low high bounds.3 bounds.4 of k of_kind x (at + length xs) ys
+            (expression_follows k x is_x line (at + length xs) ys x_code (code_front G ps p references (at + length xs) ys (spreads ++ last) behind) (omega (arith, ends, inside))))
+            (code_front G ps p references here spreads last rest) (omega (arith, ends, inside)))
+            (instr_at G (omega (arith, long)) drop.0) (omega (arith, ends))
+        element_follows swap arrays (type.Array low high of) (AtRanges [] x) (bounds, some, within, its) line at code is stands inside = absurd some
+        element_follows swap arrays (type.Array low high of) (AtRanges (r ∷ more) x) ((h, bounds), some, within, (k, of_kind, is_x)) line at code (xs, x_code, is) stands inside =
             let first : List Instr = first_code line (r ∷ more) in
             let behind : List Instr = bare line op.STORE ∷ ranges_code line r.low (r ∷ more) in
             let all : CodeStands G ps p references at (first ++ (xs ++ behind)) = subst (λ c. CodeStands G ps p references at c) is stands in
             let ends : length code ≡ 3 + length xs + length behind = omega (arith, ap length is, length-append first (xs ++ behind), length-append xs behind) in
             let here : CodeStands G ps p references (at + 3) (xs ++ behind) = code_back G ps p references at first (xs ++ behind) all in
             subst (λ c. IsElementFollowed declared G untouched Here lasts ps p references call steady_call g unit line n (type.Array low high of) (AtRanges (r ∷ more) x) at c) (sym is)
-            (at_ranges_follow declared G untouched Here lasts ps p references call steady_call g unit line n fill fill_referred low high bounds.3 bounds.4 of k of_kind r more within x at xs
+            (at_ranges_follow declared G untouched Here lasts ps p references call steady_call g unit line n arrays.fill arrays_referred.fill low high bounds.3 bounds.4 of k of_kind r more within x at xs
             (expression_follows k x is_x line (at + 3) xs x_code (code_front G ps p references (at + 3) xs behind here) (omega (arith, ends, inside))) all)
-        element_follows swap fill (type.Array low high of) (AtIndex x y) ((h, index_of, is_x), (k, of_kind, is_y)) line at code (xs, ys, x_code, y_code, is) stands inside =
+        element_follows swap arrays (type.Array low high of) (AtIndex x y) ((h, index_of, is_x), (k, of_kind, is_y)) line at code (xs, ys, x_code, y_code, is) stands inside =
             let store : List Instr = bare line op.STORE ∷ [] in
             let behind : List Instr = bare line op.INDEX ∷ (ys ++ store) in
             let all : CodeStands G ps p references at (bare line op.DUP ∷ (xs ++ behind)) = subst (λ c. CodeStands G ps p references at c) is stands in
@@ -437,7 +459,7 @@ module _ {declared : Declarations} {G : Image} {untouched : Slots} {Here : Facts
             (at_index_follows declared G untouched Here lasts ps p references call steady_call g unit line n low high of h k x y of_kind at xs ys
             (expression_follows (Ordinal h) x is_x line (at + 1) xs x_code (code_front G ps p references (at + 1) xs behind all.1) (omega (arith, ends, inside)))
             (expression_follows k y is_y line (at + 1 + length xs + 1) ys y_code (code_front G ps p references (at + 1 + length xs + 1) ys store rest.1) (omega (arith, ends, inside))) all)
-        element_follows swap fill (type.Record ts) (AtField steps x) (k, (of, leads, of_kind), is_x) line at code (xs, x_code, is) stands inside =
+        element_follows swap arrays (type.Record ts) (AtField steps x) (k, (of, leads, of_kind), is_x) line at code (xs, x_code, is) stands inside =
             let store : List Instr = bare line op.STORE ∷ [] in
             let reach : List Instr = reach_code line steps in
             let all : CodeStands G ps p references at (reach ++ (xs ++ store)) = subst (λ c. CodeStands G ps p references at c) is stands in
@@ -446,20 +468,55 @@ module _ {declared : Declarations} {G : Image} {untouched : Slots} {Here : Facts
             subst (λ c. IsElementFollowed declared G untouched Here lasts ps p references call steady_call g unit line n (type.Record ts) (AtField steps x) at c) (sym is)
             (at_field_follows declared G untouched Here lasts ps p references call steady_call g unit line n ts of k steps x leads of_kind at xs
             (expression_follows k x is_x line (at + length reach) xs x_code (code_front G ps p references (at + length reach) xs store here) (omega (arith, ends, inside))) all)
-        element_follows swap fill (type.Record ts) (SameField from to) (k, source, goal) line at code is stands inside =
+        element_follows swap arrays (type.Record ts) (SameField from to) (k, source, goal) line at code is stands inside =
             subst (λ c. IsElementFollowed declared G untouched Here lasts ps p references call steady_call g unit line n (type.Record ts) (SameField from to) at c) (sym is)
             (same_field_follows declared G untouched Here lasts ps p references call steady_call g unit line n swap swap_referred ts from to k source goal at (subst (λ c. CodeStands G ps p references at c) is stands))
 
+        -- The indexes of ranges, in order.
+        ranges_follow : SwapStands G ps unit (length (declared.routines unit)) → (arrays : ArrayRoutinesStand G ps unit (length (declared.routines unit))) → (low high : ℤ) → IsTrue (is_integer low) → IsTrue (is_integer high) → (of : TypeValue) (k : Kind) → IsTypeOfKind k of
+            → (h : Host) (ds : Designators) → AreDesignators declared h ds → (line at : ℕ) (is : List Instr) → AreIndexesCode texts references line at ds is → CodeStands G ps p references at is → at + length is < p.instructions.own
+            → AreRangesFollowed declared G untouched Here p call g unit line n low high of ds at is
+        ranges_follow swap arrays low high small large of k of_kind h no_member are line at is code stands inside = code
+        ranges_follow swap arrays low high small large of k of_kind h (next_member d more) (valid, others) line at is (xs, ys, d_code, more_code, parts) stands inside =
+            let all : CodeStands G ps p references at (xs ++ ys) = subst (λ c. CodeStands G ps p references at c) parts stands in
+            let ends : length is ≡ length xs + length ys = omega (arith, ap length parts, length-append xs ys) in (
+              xs,
+              ys,
+              span_follows swap arrays low high small large of k of_kind h d valid line at xs d_code (code_front G ps p references at xs ys all) (omega (arith, ends, inside)),
+              ranges_follow swap arrays low high small large of k of_kind h more others line (at + length xs) ys more_code (code_back G ps p references at xs ys all) (omega (arith, ends, inside)),
+              parts,
+            )
+
+        -- The indexes of one.
+        span_follows : SwapStands G ps unit (length (declared.routines unit)) → (arrays : ArrayRoutinesStand G ps unit (length (declared.routines unit))) → (low high : ℤ) → IsTrue (is_integer low) → IsTrue (is_integer high) → (of : TypeValue) (k : Kind) → IsTypeOfKind k of
+            → (h : Host) (d : Designator) → IsDesignator declared h d → (line at : ℕ) (is : List Instr) → IsRangeCode texts references line at d is → CodeStands G ps p references at is → at + length is < p.instructions.own
+            → IsRangeFollowed declared G untouched Here p call g unit line n low high of d at is
+        span_follows swap arrays low high small large of k of_kind h (Single x) is_x line at code (xs, x_code, is) stands inside =
+            let last : List Instr = bare line op.DUP ∷ tested_code line in
+            let all : CodeStands G ps p references at (xs ++ last) = subst (λ c. CodeStands G ps p references at c) is stands in
+            let ends : length code ≡ length xs + length last = omega (arith, ap length is, length-append xs last) in
+            subst (λ c. IsRangeFollowed declared G untouched Here p call g unit line n low high of (Single x) at c) (sym is)
+            (alone_follows declared G untouched Here lasts ps p references call steady_call g unit line n room swap swap_referred arrays arrays_referred low high small large of k of_kind h x at xs
+            (expression_follows (Ordinal h) x is_x line at xs x_code (code_front G ps p references at xs last all) (omega (arith, ends, inside))) all)
+        span_follows swap arrays low high small large of k of_kind h (Range x y) (is_x, is_y) line at code (xs, ys, x_code, y_code, is) stands inside =
+            let last : List Instr = tested_code line in
+            let all : CodeStands G ps p references at (xs ++ (ys ++ last)) = subst (λ c. CodeStands G ps p references at c) is stands in
+            let ends : length code ≡ length xs + length ys + length last = omega (arith, ap length is, length-append xs (ys ++ last), length-append ys last) in
+            subst (λ c. IsRangeFollowed declared G untouched Here p call g unit line n low high of (Range x y) at c) (sym is)
+            (pair_follows declared G untouched Here lasts ps p references call steady_call g unit line n room swap swap_referred arrays arrays_referred low high small large of k of_kind h x y at xs ys
+            (expression_follows (Ordinal h) x is_x line at xs x_code (code_front G ps p references at xs (ys ++ last) all) (omega (arith, ends, inside)))
+            (expression_follows (Ordinal h) y is_y line (at + length xs) ys y_code (code_front G ps p references (at + length xs) ys last (code_back G ps p references at xs (ys ++ last) all)) (omega (arith, ends, inside))) all)
+
         -- What components are given, in order.
-        elements_follow : SwapStands G ps unit (length (declared.routines unit)) → FillStands G ps unit (length (declared.routines unit)) → (t : TypeValue) (es : Elements) → AreElements declared t es → (line at : ℕ) (is : List Instr) → AreElementsCode texts references line at es is → CodeStands G ps p references at is → at + length is < p.instructions.own
+        elements_follow : SwapStands G ps unit (length (declared.routines unit)) → ArrayRoutinesStand G ps unit (length (declared.routines unit)) → (t : TypeValue) (es : Elements) → AreElements declared t es → (line at : ℕ) (is : List Instr) → AreElementsCode texts references line at es is → CodeStands G ps p references at is → at + length is < p.instructions.own
             → AreElementsFollowed declared G untouched Here lasts ps p references call steady_call g unit line n t es at is
-        elements_follow swap fill t no_element valid line at is code stands inside = no_element_follows declared G untouched Here lasts ps p references call steady_call g unit line n t at is code
-        elements_follow swap fill t (next_element e es) (valid, others) line at is (xs, ys, e_code, es_code, parts) stands inside =
+        elements_follow swap arrays t no_element valid line at is code stands inside = no_element_follows declared G untouched Here lasts ps p references call steady_call g unit line n t at is code
+        elements_follow swap arrays t (next_element e es) (valid, others) line at is (xs, ys, e_code, es_code, parts) stands inside =
             let all : CodeStands G ps p references at (xs ++ ys) = subst (λ c. CodeStands G ps p references at c) parts stands in
             let ends : length is ≡ length xs + length ys = omega (arith, ap length parts, length-append xs ys) in
             next_element_follows declared G untouched Here lasts ps p references call steady_call g unit line n t e es at xs ys is parts
-            (element_follows swap fill t e valid line at xs e_code (code_front G ps p references at xs ys all) (omega (arith, ends, inside)))
-            (elements_follow swap fill t es others line (at + length xs) ys es_code (code_back G ps p references at xs ys all) (omega (arith, ends, inside)))
+            (element_follows swap arrays t e valid line at xs e_code (code_front G ps p references at xs ys all) (omega (arith, ends, inside)))
+            (elements_follow swap arrays t es others line (at + length xs) ys es_code (code_back G ps p references at xs ys all) (omega (arith, ends, inside)))
 
         -- a member designator
         designator_follows : (h : Host) (d : Designator) → IsDesignator declared h d → (line at : ℕ) (is : List Instr) → IsDesignatorCode texts references line at d is → CodeStands G ps p references at is → at + length is < p.instructions.own

@@ -5,6 +5,7 @@ pub mod ShortCircuit
 pub mod ActualForms
 pub mod SetForms
 pub mod StructuredForms
+pub mod RangeIndexes
 pub mod MemberForms
 pub mod Sets
 pub mod Nameless
@@ -12,6 +13,7 @@ pub mod Components
 pub mod StructuredValues
 pub mod SameFields
 pub mod FilledRanges
+pub mod GivenRanges
 pub mod WholeStructures
 pub mod PlaceTypes
 pub mod Arguments

@@ -43,7 +43,7 @@ use Rattle.ep_typed.specs.Valid.{Declarations, IsTypeOfKind, Kind, LeadToKind}
 module _ (declared : Declarations) (G : Image) (untouched : Slots) (Here : Facts) (lasts : Lasts untouched Here) (ps : List Placement) (p : Placement) (references : List Reference) (call : Handler) (steady_call : IsSteadyHandler call) (g : ℕ) (unit : List ℕ) (line n : ℕ)
     (swap : SwapStands G ps unit (length (declared.routines unit))) (swap_referred : IsSwapReferred declared unit references) where
   -- Two operands change places, for which the depth counts.
-  swapped_follows : {A : Type 0} {c : Computation A} {to : ℕ} {P : A → After} {e : A → ℕ} (place : ℕ) → CallsAt G place swap.routine 0 line → (injection : Injection) (memory : Memory) (x y : Operand) (below : List Operand) (d : ℕ) → Steady c
+  pub swapped_follows : {A : Type 0} {c : Computation A} {to : ℕ} {P : A → After} {e : A → ℕ} (place : ℕ) → CallsAt G place swap.routine 0 line → (injection : Injection) (memory : Memory) (x y : Operand) (below : List Operand) (d : ℕ) → Steady c
       → Fragment declared G Here n (point injection memory (place + 1) (x ∷ y ∷ below)) c to P d e
       → Fragment declared G Here n (point injection memory place (y ∷ x ∷ below)) (bind (change with_depth) (λ _. c)) to P (swap_ticks x y + d) e
   swapped_follows place calls injection memory x y below d steady then =

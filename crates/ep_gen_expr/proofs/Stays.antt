@@ -1,19 +1,19 @@
 -- Code stays code when the tables grow, and is short.
-use Rattle.std.proofs.Common.{◌≡◌, ℕ, ℤ, pos, suc, ◌+◌, ◌*◌, ◌≤◌, Bool, true, false, List, [], ◌∷◌, ◌++◌, length, refl, ap, arith, length-append}
+use Rattle.std.proofs.Common.{◌≡◌, ℕ, ℤ, pos, zero, suc, ◌+◌, ◌*◌, ◌≤◌, Bool, true, false, List, [], ◌∷◌, ◌++◌, length, refl, sym, ap, ◌∙◌, append_assoc, arith, length-append}
 use Rattle.std.specs.Prelude.{if◌then◌else◌}
 use Rattle.ep_outside.specs.Known.{IsPrefix}
 use Rattle.ep_object.specs.declared.code.Instr.{Instr}
 use Rattle.ep_object.specs.declared.code.Reference.{Reference}
-use Rattle.ep_typed.specs.Trees.{Structured, Element, AtIndex, AtField, SameField, AtRanges, Elements, no_element, next_element, Place, Variable, Own, Standard, Indexed, Field, Variant, Expr, Constant, Text, Read, One, Two, Short, Step, Function, IndexedValue, FieldValue, VariantValue, SetConstant, SetOf, OnSets, Card, Designator, Single, Range, Designators, no_member, next_member, Actual, Evaluated, Accessed, Actuals, no_actual, next_actual}
+use Rattle.ep_typed.specs.Trees.{Structured, Element, AtIndex, AtField, SameField, AtRanges, AtIndexes, Elements, no_element, next_element, Place, Variable, Own, Standard, Indexed, Field, Variant, Expr, Constant, Text, Read, One, Two, Short, Step, Function, IndexedValue, FieldValue, VariantValue, SetConstant, SetOf, OnSets, Card, Designator, Single, Range, Designators, no_member, next_member, Actual, Evaluated, Accessed, Actuals, no_actual, next_actual}
 use Rattle.ep_typed.specs.declared.operations.Unary.{Unary}
 use Rattle.ep_typed.specs.declared.operations.Unary.TheVariants as unary
 use Rattle.ep_typed.specs.declared.operations.ShortOperation.{ShortOperation}
 use Rattle.ep_typed.specs.declared.operations.ShortOperation.TheVariants as short
-use Rattle.ep_typed.specs.Nodes.{place_nodes, expr_nodes, actual_nodes, actuals_nodes, element_nodes, elements_nodes, designator_nodes, designators_nodes, labels_nodes}
+use Rattle.ep_typed.specs.Nodes.{place_nodes, expr_nodes, actual_nodes, actuals_nodes, element_nodes, elements_nodes, designator_nodes, designators_count, designators_nodes, labels_nodes}
 use Rattle.ep_typed.specs.Steps.{is_number}
 use Rattle.ep_typed.specs.declared.tree.CaseRange.{CaseRange}
 use Rattle.ep_typed.specs.declared.tree.Selection.{Selection}
-use Rattle.ep_gen_expr.specs.ExprCode.{first_code, first_index, range_code, ranges_code, IsElementCode, AreElementsCode, end_code, IsPlaceCode, IsExprCode, IsActualCode, AreActualsCode, IsDesignatorCode, AreDesignatorsCode, one_code, set_code, two_code, keep_code, step_code, test_code, tests_code, bad_place, labels_code, labels_count, tag_code, tag_part_code, rest_code, ends_code, selecting_code, variant_code, variant_part_code, steps_code, reach_code, same_code}
+use Rattle.ep_gen_expr.specs.ExprCode.{first_code, first_index, range_code, ranges_code, IsElementCode, AreElementsCode, IsRangeCode, AreIndexesCode, spread_code, spread_length, spreads_code, tested_code, end_code, IsPlaceCode, IsExprCode, IsActualCode, AreActualsCode, IsDesignatorCode, AreDesignatorsCode, one_code, set_code, two_code, keep_code, step_code, test_code, tests_code, bad_place, labels_code, labels_count, tag_code, tag_part_code, rest_code, ends_code, selecting_code, variant_code, variant_part_code, steps_code, reach_code, same_code}
 use Rattle.ep_gen_code.specs.Instructions.{instr, reference, members_code, bare}
 use Rattle.ep_gen_code.specs.declared.references.TheConstants as routine
 use Rattle.ep_gen_code.proofs.Pushed.{get_later}
@@ -56,6 +56,16 @@ module _ (ts us : List (List ℕ)) (rs ss : List Reference) (line : ℕ) (a : Is
     element_code_stays at (AtField steps x) is h = (h.0, expr_code_stays (at + length (reach_code line steps)) x h.0 h.1, h.2)
     element_code_stays at (SameField from to) is h = h
     element_code_stays at (AtRanges ranges x) is h = (h.0, expr_code_stays (at + length (first_code line ranges)) x h.0 h.1, h.2)
+    element_code_stays at (AtIndexes ds x) is h = (h.0, h.1, indexes_code_stays at ds h.0 h.2, expr_code_stays (at + length h.0) x h.1 h.3, h.4)
+
+    -- that of the indexes of ranges
+    pub range_code_stays : (at : ℕ) (d : Designator) (is : List Instr) → IsRangeCode ts rs line at d is → IsRangeCode us ss line at d is
+    range_code_stays at (Single x) is h = (h.0, expr_code_stays at x h.0 h.1, h.2)
+    range_code_stays at (Range x y) is h = (h.0, h.1, expr_code_stays at x h.0 h.2, expr_code_stays (at + length h.0) y h.1 h.3, h.4)
+
+    pub indexes_code_stays : (at : ℕ) (ds : Designators) (is : List Instr) → AreIndexesCode ts rs line at ds is → AreIndexesCode us ss line at ds is
+    indexes_code_stays at no_member is h = h
+    indexes_code_stays at (next_member d more) is h = (h.0, h.1, range_code_stays at d h.0 h.2, indexes_code_stays (at + length h.0) more h.1 h.3, h.4)
 
     pub elements_code_stays : (at : ℕ) (es : Elements) (is : List Instr) → AreElementsCode ts rs line at es is → AreElementsCode us ss line at es is
     elements_code_stays at no_element is h = h
@@ -157,6 +167,15 @@ ranges_length : (line : ℕ) (from : ℤ) (rs : List CaseRange) → length (rang
 ranges_length line from [] = refl
 ranges_length line from (r ∷ rs) = omega (arith, length-append (range_code line from r) (ranges_code line from rs), ranges_length line from rs)
 
+-- fifteen for each range whose components get a value
+pub spreads_length : (line at n : ℕ) → length (spreads_code line at n) ≡ 15 * n
+spreads_length line at zero = refl
+spreads_length line at (suc n) = let before = spreads_length line at n in omega (arith, length-append (spreads_code line at n) (spread_code line (at + spread_length * n)), before)
+
+-- indexes that are tested are short, with the instructions that give a value to their components
+range_short : (xs rest is : List Instr) → is ≡ xs ++ rest → (k : ℕ) → length xs ≤ 32 * k → length rest ≤ 6 → length is + 15 ≤ 32 * (1 + k)
+range_short xs rest is e k p few = omega (arith, ap length e, length-append xs rest, p, few)
+
 -- a call behind code that is short, and one more instruction
 call_short : (xs : List Instr) (i j : Instr) (is : List Instr) → is ≡ xs ++ i ∷ j ∷ [] → (k : ℕ) → length xs ≤ 32 * k → length is + 8 ≤ 32 * (1 + k)
 call_short xs i j is e k p = omega (arith, ap length e, length-append xs (i ∷ j ∷ []), p)
@@ -212,6 +231,22 @@ module _ (ts : List (List ℕ)) (rs : List Reference) (line : ℕ) where
     element_code_short at (AtRanges ranges x) is h =
         let fills : List Instr = ranges_code line (first_index ranges) ranges in
         omega (arith, ap length h.2, length-append h.0 (bare line op.STORE ∷ fills), ranges_length line (first_index ranges) ranges, expr_code_short (at + length (first_code line ranges)) x h.0 h.1)
+    element_code_short at (AtIndexes ds x) is h =
+        let n : ℕ = designators_count ds in
+        let spreads : List Instr = spreads_code line (at + length h.0 + length h.1) n in
+        omega (arith, ap length h.4, length-append h.0 (h.1 ++ (spreads ++ bare line op.DROP ∷ [])), length-append h.1 (spreads ++ bare line op.DROP ∷ []), length-append spreads (bare line op.DROP ∷ []), spreads_length line (at + length h.0 + length h.1) n, indexes_code_short at ds h.0 h.2, expr_code_short (at + length h.0) x h.1 h.3)
+
+    -- that of the indexes of ranges, with the instructions that give a value to their components
+    pub range_code_short : (at : ℕ) (d : Designator) (is : List Instr) → IsRangeCode ts rs line at d is → length is + 15 ≤ 32 * (1 + designator_nodes d)
+    range_code_short at (Single x) is h = range_short h.0 (bare line op.DUP ∷ tested_code line) is h.2 (expr_nodes x) (omega (arith, expr_code_short at x h.0 h.1)) (omega arith)
+    range_code_short at (Range x y) is h =
+        range_short (h.0 ++ h.1) (tested_code line) is (h.4 ∙ sym (append_assoc h.0 h.1 (tested_code line))) (expr_nodes x + expr_nodes y)
+        (omega (arith, length-append h.0 h.1, expr_code_short at x h.0 h.2, expr_code_short (at + length h.0) y h.1 h.3)) (omega arith)
+
+    pub indexes_code_short : (at : ℕ) (ds : Designators) (is : List Instr) → AreIndexesCode ts rs line at ds is → length is + 15 * designators_count ds ≤ 32 * (designators_count ds + designators_nodes ds)
+    indexes_code_short at no_member is h = omega (arith, ap length h)
+    indexes_code_short at (next_member d more) is h =
+        let others = indexes_code_short (at + length h.0) more h.1 h.3 in omega (arith, ap length h.4, length-append h.0 h.1, range_code_short at d h.0 h.2, others)
 
     pub elements_code_short : (at : ℕ) (es : Elements) (is : List Instr) → AreElementsCode ts rs line at es is → length is ≤ 32 * elements_nodes es
     elements_code_short at no_element is h = omega (arith, ap length h)

@@ -1,13 +1,14 @@
 -- Which instructions are the code of an expression or a place, under given tables of texts and references. Jumps name
 -- places of the object, so the code of an expression depends on where it begins, and so does that of a place, since an index
 -- is an expression.
-use Rattle.std.specs.Prelude.{◌≡◌, ℕ, ℤ, pos, suc, ◌+◌, ◌*◌, Bool, true, false, ◌&&◌, if◌then◌else◌, List, [], ◌∷◌, ◌++◌, length, Some, slice_get}
+use Rattle.std.specs.Prelude.{◌≡◌, ℕ, ℤ, pos, zero, suc, ◌+◌, ◌*◌, Bool, true, false, ◌&&◌, if◌then◌else◌, List, [], ◌∷◌, ◌++◌, length, Some, slice_get}
 pub use Rattle.ep_object.specs.Table.{instr}
 use Rattle.ep_object.specs.declared.code.Instr.{Instr}
 use Rattle.ep_object.specs.declared.code.Reference.{Reference}
+use Rattle.ep_typed.specs.Nodes.{designators_count}
 use Rattle.ep_typed.specs.Operations.{last_char}
 use Rattle.ep_typed.specs.Steps.{is_number, variant_number}
-use Rattle.ep_typed.specs.Trees.{Place, Variable, Own, Standard, Indexed, Field, Variant, Expr, Constant, Text, Read, One, Two, Short, Step, Function, IndexedValue, FieldValue, VariantValue, SetConstant, SetOf, OnSets, Card, Structured, Element, AtIndex, AtField, SameField, AtRanges, Elements, no_element, next_element, Designator, Single, Range, Designators, no_member, next_member, Actual, Evaluated, Accessed, Actuals, no_actual, next_actual}
+use Rattle.ep_typed.specs.Trees.{Place, Variable, Own, Standard, Indexed, Field, Variant, Expr, Constant, Text, Read, One, Two, Short, Step, Function, IndexedValue, FieldValue, VariantValue, SetConstant, SetOf, OnSets, Card, Structured, Element, AtIndex, AtField, SameField, AtRanges, AtIndexes, Elements, no_element, next_element, Designator, Single, Range, Designators, no_member, next_member, Actual, Evaluated, Accessed, Actuals, no_actual, next_actual}
 use Rattle.ep_typed.specs.declared.operations.Unary.{Unary}
 use Rattle.ep_typed.specs.declared.operations.Unary.TheVariants as unary
 use Rattle.ep_typed.specs.declared.operations.Binary.{Binary}
@@ -195,6 +196,35 @@ abbrev pub ranges_code : ℕ → ℤ → List CaseRange → List Instr
 ranges_code line from [] = []
 ranges_code line from (r ∷ more) = range_code line from r ++ ranges_code line from more
 
+-- With the place of an array and two indexes on top, both are tested, and stay below the place.
+abbrev pub tested_code : ℕ → List Instr
+tested_code line = instr op.CALL (pos routine.RANGE) 0 line ∷ bare line op.INDEX ∷ bare line op.DROP ∷ bare line op.INDEX ∷ bare line op.DROP ∷ []
+
+-- as many `Drop`s
+abbrev pub drops_code : ℕ → ℕ → List Instr
+drops_code line zero = []
+drops_code line (suc n) = drops_code line n ++ bare line op.DROP ∷ []
+
+-- The component with the first index of a range gets the value on top, and then all with its indexes have what that has.
+abbrev pub given_code : ℕ → List Instr
+given_code line = bare line op.INDEX ∷ instr op.CALL (pos routine.SWAP) 0 line ∷ bare line op.STORE ∷ instr op.CALL (pos routine.FILL) 0 line ∷ []
+
+-- so many instructions are those below
+abbrev pub spread_length : ℕ
+spread_length = 15
+
+-- With two indexes, the place of an array and a value on top, the components with the indexes of that range get the value, if there
+-- are any; the place and the value stay. The code begins at this place.
+abbrev pub spread_code : ℕ → ℕ → List Instr
+spread_code line at =
+    bare line op.DUP ∷ instr op.CALL (pos routine.SPREAD) 0 line ∷ instr op.JUMP_FALSE (pos (at + 8)) 0 line
+    ∷ (given_code line ++ instr op.JUMP (pos (at + spread_length)) 0 line ∷ drops_code line 7)
+
+-- so with as many ranges
+abbrev pub spreads_code : ℕ → ℕ → ℕ → List Instr
+spreads_code line at zero = []
+spreads_code line at (suc n) = spreads_code line at n ++ spread_code line (at + spread_length * n)
+
 module _ (texts : List (List ℕ)) (references : List Reference) (line : ℕ) where
   abbrev mutual
     -- The code of a place that begins at this place of the object, whose instructions have this line. An indexed variable (ISO
@@ -247,6 +277,21 @@ module _ (texts : List (List ℕ)) (references : List Reference) (line : ℕ) wh
     IsElementCode at (SameField from to) is = is ≡ same_code line from to
     IsElementCode at (AtRanges ranges x) is =
         (xs : List Instr) × IsExprCode (at + length (first_code line ranges)) x xs × (is ≡ first_code line ranges ++ (xs ++ bare line op.STORE ∷ ranges_code line (first_index ranges) ranges))
+    -- the indexes, then the value, which the components are given that they lead to, and which goes then
+    IsElementCode at (AtIndexes ds x) is =
+        (xs ys : List Instr) × AreIndexesCode at ds xs × IsExprCode (at + length xs) x ys
+        × (is ≡ xs ++ (ys ++ (spreads_code line (at + length xs + length ys) (designators_count ds) ++ bare line op.DROP ∷ [])))
+
+    -- the code of the indexes of a range, of which one alone is there twice
+    pub IsRangeCode : ℕ → Designator → List Instr → Type 0
+    IsRangeCode at (Single x) is = (xs : List Instr) × IsExprCode at x xs × (is ≡ xs ++ bare line op.DUP ∷ tested_code line)
+    IsRangeCode at (Range x y) is = (xs ys : List Instr) × IsExprCode at x xs × IsExprCode (at + length xs) y ys × (is ≡ xs ++ (ys ++ tested_code line))
+
+    -- of those of ranges, in order
+    pub AreIndexesCode : ℕ → Designators → List Instr → Type 0
+    AreIndexesCode at no_member is = is ≡ []
+    AreIndexesCode at (next_member d more) is =
+        (xs ys : List Instr) × IsRangeCode at d xs × AreIndexesCode (at + length xs) more ys × (is ≡ xs ++ ys)
 
     -- in order
     pub AreElementsCode : ℕ → Elements → List Instr → Type 0

@@ -1,7 +1,7 @@
 -- The machine follows expressions and places: wherever their code stands in an image, it does what they mean.
 use Rattle.std.specs.Prelude.{◌≡◌, ℕ, ℤ, ◌+◌, ◌<◌, ◌≤◌, List, length, Some, slice_get, ⊤}
 use Rattle.ep_gen_code.specs.Credit.{least_credit}
-use Rattle.ep_gen_code.specs.Referring.{AreReferred, IsFillReferred, IsSwapReferred}
+use Rattle.ep_gen_code.specs.Referring.{AreReferred, AreArraysReferred, IsSwapReferred}
 use Rattle.ep_gen_expr.specs.ExprCode.{IsPlaceCode, IsExprCode}
 use Rattle.ep_object.specs.Activations.{MatchesNames}
 use Rattle.ep_object.specs.Follows.{point, Since, Fragment, Inside, Operands, OnTop, PlaceOnTop}
@@ -56,7 +56,7 @@ PlacesAreFollowed =
     → (call : Handler) → IsSteadyHandler call → (turns : ℕ) (unit : List ℕ) (q : Place) → IsValidPlace declared q → (t : TypeValue) → HasPlaceType declared q t
     → (line at : ℕ) (code : List Instr) → IsPlaceCode texts references line at q code → CodeStands G ps p references at code → at + length code < p.instructions.own → p.instructions.before + p.instructions.own ≤ length G.instructions
     → (untouched : Slots) → AreAmong untouched (kept_slots declared G) → (n : ℕ) → CallsAreKept declared G ps call n
-    → unit ≡ declared.routine_unit → AreReferred declared unit declared.routine_types references → IsSwapReferred declared unit references → IsFillReferred declared unit references
+    → unit ≡ declared.routine_unit → AreReferred declared unit declared.routine_types references → IsSwapReferred declared unit references → AreArraysReferred declared unit references
     → IsFollowedThrough declared G p unit untouched n at code (place call turns unit line q) (PlaceOnTop t) (λ a. 8)
 
 -- Wherever the code of an expression that is valid under the declarations stands in an image with a scene, with more code
@@ -69,5 +69,5 @@ ExpressionsAreFollowed =
     → (call : Handler) → IsSteadyHandler call → (turns : ℕ) (unit : List ℕ) (kind : Kind) (x : Expr) → IsExpr declared kind x
     → (line at : ℕ) (code : List Instr) → IsExprCode texts references line at x code → CodeStands G ps p references at code → at + length code < p.instructions.own → p.instructions.before + p.instructions.own ≤ length G.instructions
     → (untouched : Slots) → AreAmong untouched (kept_slots declared G) → (n : ℕ) → CallsAreKept declared G ps call n
-    → unit ≡ declared.routine_unit → AreReferred declared unit declared.routine_types references → IsSwapReferred declared unit references → IsFillReferred declared unit references
+    → unit ≡ declared.routine_unit → AreReferred declared unit declared.routine_types references → IsSwapReferred declared unit references → AreArraysReferred declared unit references
     → IsFollowedThrough declared G p unit untouched n at code (eval call turns unit line x) (OnTop kind) (λ r. 8 + weight_of r)

@@ -2,10 +2,10 @@
 use Rattle.std.specs.Prelude.{◌≡◌, ℕ, ◌*◌, ◌+◌, ◌≤◌, List, [], ◌∷◌, ◌++◌, Some, length, slice_get}
 use Rattle.ep_object.specs.declared.code.Instr.{Instr}
 use Rattle.ep_object.specs.declared.code.Reference.{Reference}
-use Rattle.ep_typed.specs.Trees.{Element, Elements, Place, Expr, Actual, Actuals, Designator}
+use Rattle.ep_typed.specs.Trees.{Element, Elements, Place, Expr, Actual, Actuals, Designator, Designators}
 use Rattle.ep_gen_code.specs.Instructions.{bare}
 use Rattle.ep_gen_code.specs.Growth.{Grows}
-use Rattle.ep_gen_expr.specs.ExprCode.{IsElementCode, AreElementsCode, keep_code, IsPlaceCode, IsExprCode, IsActualCode, AreActualsCode, IsDesignatorCode}
+use Rattle.ep_gen_expr.specs.ExprCode.{IsElementCode, AreElementsCode, AreIndexesCode, IsRangeCode, keep_code, IsPlaceCode, IsExprCode, IsActualCode, AreActualsCode, IsDesignatorCode}
 use Rattle.ep_typed.specs.declared.operations.ShortOperation.{ShortOperation}
 use Rattle.ep_object.specs.declared.op.TheConstants as op
 use Rattle.ep_typed.specs.Nodes.{place_nodes, expr_nodes}
@@ -58,6 +58,18 @@ pub record AppendsDesignator (old new : Code) (d : Designator) : Type 0 where
 pub record AppendsElement (old new : Code) (e : Element) : Type 0 where
   pub code : List Instr
   pub is_code : IsElementCode new.texts new.references old.line (length old.instructions) e code
+  pub grows : Grows old new code
+
+-- the code of the indexes of a range is appended
+pub record AppendsRange (old new : Code) (d : Designator) : Type 0 where
+  pub code : List Instr
+  pub is_code : IsRangeCode new.texts new.references old.line (length old.instructions) d code
+  pub grows : Grows old new code
+
+-- that of those of ranges is appended
+pub record AppendsIndexes (old new : Code) (ds : Designators) : Type 0 where
+  pub code : List Instr
+  pub is_code : AreIndexesCode new.texts new.references old.line (length old.instructions) ds code
   pub grows : Grows old new code
 
 -- the code of what components are given is appended

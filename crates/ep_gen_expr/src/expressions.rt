@@ -2,14 +2,15 @@
 
 ghost use Rattle.std.specs.Prelude.{OnOk, map};
 ghost use Rattle.ep_typed.specs.Trees as tree;
-ghost use Rattle.ep_typed.specs.Trees.{entire, AtField, AtIndex, AtRanges, Card, Constant, Field, FieldValue, Function, Indexed, IndexedValue, One, OnSets, Own, Range, Read, SameField, SetConstant, SetOf, Short, Single, Step, Structured, Text, Two, Variable, Variant, VariantValue};
+ghost use Rattle.ep_typed.specs.Trees.{entire, AtField, AtIndex, AtIndexes, AtRanges, Card, Constant, Field, FieldValue, Function, Indexed, IndexedValue, One, OnSets, Own, Range, Read, SameField, SetConstant, SetOf, Short, Single, Step, Structured, Text, Two, Variable, Variant, VariantValue};
 ghost use Rattle.ep_typed.specs.Viewed.{actual_of, callee_of, designator_of, element_of, entire_of, expr_of, place_of};
-ghost use Rattle.ep_gen_expr.specs.Growth.{AppendsActual, AppendsActuals, AppendsDesignator, AppendsElement, AppendsElements, AppendsExpr, AppendsPlace};
+ghost use Rattle.ep_gen_expr.specs.Growth.{AppendsActual, AppendsActuals, AppendsDesignator, AppendsElement, AppendsElements, AppendsExpr, AppendsIndexes, AppendsPlace, AppendsRange};
 
 use crate::operations::{apply_binary, apply_on_sets, apply_step, apply_unary, keep_operand};
 use crate::standard::standard_code;
 use crate::structured::{
     begin_structured, end_structured, fill_ranges, reach_field, reach_first, same_field,
+    spread_values, test_range,
 };
 use crate::tables::{reference_number, text_number};
 use crate::variants::{active_code, active_part_code};
@@ -484,6 +485,9 @@ fn element_code(alloc: Global, element: &Element, code: &mut Code) -> Result<(),
         Element::AtRanges(ranges, value) => {
             at_ranges_code(alloc, ranges.items(), value.get(), code)
         }
+        Element::AtIndexes(indexes, value) => {
+            at_indexes_code(alloc, indexes.items(), value.get(), code)
+        }
     }
 }
 
@@ -541,4 +545,78 @@ fn same_field_code(from: &[u32], to: &[u32], code: &mut Code) -> Result<(), NoMe
     ensures { OnOk result (AppendsElement code.old code.new (SameField from.now to.now)) }
 {
     same_field(from, to, code)
+}
+
+/// Appends the code of what the components of an array are given at indexes that are worked out.
+#[cycle(expression)]
+fn at_indexes_code(
+    alloc: Global,
+    indexes: &[MemberDesignator],
+    value: &TypedExpr,
+    code: &mut Code,
+) -> Result<(), NoMemory>
+    ensures { OnOk result (AppendsElement code.old code.new (AtIndexes (tree.designators (map designator_of indexes.now)) (expr_of value.now))) }
+{
+    indexes_code(alloc, indexes, code)?;
+    expression_code(alloc, value, code)?;
+    spread_values(indexes.len(), code)?;
+    emit(code, op::DROP, 0, 0)
+}
+
+/// Appends the code of the indexes of ranges, in order, which leaves them below the array on top.
+#[cycle(expression)]
+fn indexes_code(
+    alloc: Global,
+    indexes: &[MemberDesignator],
+    code: &mut Code,
+) -> Result<(), NoMemory>
+    ensures { OnOk result (AppendsIndexes code.old code.new (tree.designators (map designator_of indexes.now))) }
+{
+    for range in indexes {
+        index_range_code(alloc, range, code)?;
+    }
+    Ok(())
+}
+
+/// Appends the code of the indexes of a range.
+#[cycle(expression)]
+fn index_range_code(
+    alloc: Global,
+    range: &MemberDesignator,
+    code: &mut Code,
+) -> Result<(), NoMemory>
+    ensures { OnOk result (AppendsRange code.old code.new (designator_of range.now)) }
+{
+    match range {
+        MemberDesignator::Single(index) => index_alone_code(alloc, index.get(), code),
+        MemberDesignator::Range(first, last) => {
+            index_pair_code(alloc, first.get(), last.get(), code)
+        }
+    }
+}
+
+/// Appends the code of an index alone, which is both the first and the last one of a range.
+#[cycle(expression)]
+fn index_alone_code(alloc: Global, index: &TypedExpr, code: &mut Code) -> Result<(), NoMemory>
+    ensures { OnOk result (AppendsRange code.old code.new (Single (expr_of index.now))) }
+{
+    expression_code(alloc, index, code)?;
+    emit(code, op::DUP, 0, 0)?;
+    test_range(code)
+}
+
+/// Appends the code of the first and the last index of a range.
+#[cycle(expression)]
+#[tactic(auto, using(crate::proofs::RangeIndexes::appends_pair))]
+fn index_pair_code(
+    alloc: Global,
+    first: &TypedExpr,
+    last: &TypedExpr,
+    code: &mut Code,
+) -> Result<(), NoMemory>
+    ensures { OnOk result (AppendsRange code.old code.new (Range (expr_of first.now) (expr_of last.now))) }
+{
+    expression_code(alloc, first, code)?;
+    expression_code(alloc, last, code)?;
+    test_range(code)
 }

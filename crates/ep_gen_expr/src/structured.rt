@@ -1,11 +1,11 @@
 //! What stands before, between and after the components of structured values.
 
-ghost use Rattle.std.specs.Prelude.{◌≡◌, OnOk};
+ghost use Rattle.std.specs.Prelude.{◌≡◌, OnOk, length};
 ghost use Rattle.ep_gen_code.specs.Growth.{Grows};
-ghost use Rattle.ep_gen_expr.specs.ExprCode.{begin_code, end_code, first_code, first_index, range_code, ranges_code, reach_code, same_code, steps_code};
+ghost use Rattle.ep_gen_expr.specs.ExprCode.{begin_code, drops_code, end_code, first_code, first_index, given_code, range_code, ranges_code, reach_code, same_code, spread_code, spreads_code, steps_code, tested_code};
 
 use ep_base::NoMemory;
-use ep_gen_code::{Code, FILL, SWAP, emit, type_reference};
+use ep_gen_code::{Code, FILL, RANGE, SPREAD, SWAP, emit, next_place, type_reference};
 use ep_object::op;
 use ep_typed::CaseRange;
 
@@ -99,4 +99,62 @@ fn first_index(ranges: &[CaseRange]) -> i64
         [] => 0,
         [first, ..] => first.low,
     }
+}
+
+/// Appends what tests two indexes on top against the array below them, and leaves them below it.
+pub fn test_range(code: &mut Code) -> Result<(), NoMemory>
+    ensures { OnOk result (Grows code.old code.new (tested_code code.old.line)) }
+{
+    emit(code, op::CALL, RANGE as i64, 0)?;
+    emit(code, op::INDEX, 0, 0)?;
+    emit(code, op::DROP, 0, 0)?;
+    emit(code, op::INDEX, 0, 0)?;
+    emit(code, op::DROP, 0, 0)
+}
+
+/// Appends what gives the value on top to the components of the array below it with the indexes of so many ranges below both,
+/// and leaves the array and the value.
+pub fn spread_values(ranges: usize, code: &mut Code) -> Result<(), NoMemory>
+    ensures { OnOk result (Grows code.old code.new (spreads_code code.old.line (length code.old.instructions) ranges)) }
+{
+    for _range in 0..ranges {
+        spread_value(code)?;
+    }
+    Ok(())
+}
+
+/// Appends what gives it to those with the indexes of one range, where it has any.
+fn spread_value(code: &mut Code) -> Result<(), NoMemory>
+    ensures { OnOk result (Grows code.old code.new (spread_code code.old.line (length code.old.instructions))) }
+{
+    let place = next_place(code)? as u64;
+    emit(code, op::DUP, 0, 0)?;
+    emit(code, op::CALL, SPREAD as i64, 0)?;
+    emit(code, op::JUMP_FALSE, (place + 8) as i64, 0)?;
+    give_first(code)?;
+    emit(code, op::JUMP, (place + SPREAD_LENGTH) as i64, 0)?;
+    drop_operands(7, code)
+}
+
+/// How many instructions give a value to the components with the indexes of a range.
+const SPREAD_LENGTH: u64 = 15;
+
+/// Appends what gives a value to the component with the first index of a range, and what that has then to all of them.
+fn give_first(code: &mut Code) -> Result<(), NoMemory>
+    ensures { OnOk result (Grows code.old code.new (given_code code.old.line)) }
+{
+    emit(code, op::INDEX, 0, 0)?;
+    emit(code, op::CALL, SWAP as i64, 0)?;
+    emit(code, op::STORE, 0, 0)?;
+    emit(code, op::CALL, FILL as i64, 0)
+}
+
+/// Appends what drops so many operands.
+fn drop_operands(count: usize, code: &mut Code) -> Result<(), NoMemory>
+    ensures { OnOk result (Grows code.old code.new (drops_code code.old.line count)) }
+{
+    for _operand in 0..count {
+        emit(code, op::DROP, 0, 0)?;
+    }
+    Ok(())
 }

@@ -3,7 +3,7 @@ use Rattle.std.proofs.Common.{◌≡◌, ℕ, ℤ, pos, suc, ◌+◌, ◌*◌, �
 use Rattle.std.specs.Prelude.{int_le, neg_ℤ}
 use Rattle.ep_gen_code.specs.Instructions.{bare, instr}
 use Rattle.ep_gen_code.specs.Credit.{least_credit}
-use Rattle.ep_gen_code.specs.Referring.{AreReferred, IsFillReferred, IsSwapReferred, type_reference}
+use Rattle.ep_gen_code.specs.Referring.{AreReferred, AreArraysReferred, IsSwapReferred, type_reference}
 use Rattle.ep_gen_code.proofs.Placed.{code_front, code_back}
 use Rattle.ep_gen_type.specs.TypeCode.{ordinal_code, how_many, start_code, each_code, type_code}
 use Rattle.ep_gen_type.proofs.InitialStates.{start_follows}
@@ -106,7 +106,7 @@ module _ (declared : Declarations) (G : Image) (untouched : Slots) (Here : Facts
       (subst (λ us. Fragment declared G Here n (point injection memory (p.instructions.before + at) (stacked numbers below)) (elaborated call g unit (type.Record given)) (p.instructions.before + at + 1) (λ a. Inside untouched injection memory (TypeOnTop (type.Record us) below a)) (d + 4 * count) (λ a. d + 4)) top.types_are
       (fragment_less {n = suc n} (omega arith) (fragment_counted {weight = length numbers} 0 (with_type (type.Record given)) (λ s. s) (type.Record given) (λ s. refl) grows_refl (λ s matches here. rec_does declared G (p.instructions.before + at) line below numbers given has lasts injection memory s top.described top.starts matches here) (omega (arith, enough, top.many)) (omega arith) (omega (arith, enough, top.many)) (omega (arith, enough, top.many)))))
 
-  module _ (types : List UnitType) (types_are : declared.types unit ≡ types) (among : AreAmong untouched (kept_slots declared G)) (kept : CallsAreKept declared G ps call n) (referred : AreReferred declared unit types references) (swap_referred : IsSwapReferred declared unit references) (fill_referred : IsFillReferred declared unit references) where
+  module _ (types : List UnitType) (types_are : declared.types unit ≡ types) (among : AreAmong untouched (kept_slots declared G)) (kept : CallsAreKept declared G ps call n) (referred : AreReferred declared unit types references) (swap_referred : IsSwapReferred declared unit references) (arrays_referred : AreArraysReferred declared unit references) where
     -- a name, by a call of the routine that elaborates its type
     named_elaborates : (at index : ℕ) (t : TypeValue) → IsTyped types (Named index []) t → index < length types → IsElaborated at (instr op.CALL (pos (type_reference index)) 0 line ∷ []) t (call.named_type unit line index)
     named_elaborates at index t typed within stands injection memory below d enough home =
@@ -210,7 +210,7 @@ module _ (declared : Declarations) (G : Image) (untouched : Slots) (Here : Facts
           inside_bind {e = λ a. d + 4} (λ a. steady_bind (steady_eval call steady_call g unit line value) (λ r. steady_begins_where call steady_call g unit line a r (start_from r)))
           (elaborates at of u typed (code_front G ps p references at xs ys stands) injection memory below d enough home)
           (λ a longer after pushed grown routine top.
-          fragment_to ends (start_follows declared G untouched Here lasts among ps p references call steady_call n kept g unit line types types_are referred swap_referred fill_referred (at + length xs) u value fits (code_back G ps p references at xs ys stands) longer after below pushed a (d + 4) (omega (arith, enough)) (unit_in-same G routine ∙ home) top))
+          fragment_to ends (start_follows declared G untouched Here lasts among ps p references call steady_call n kept g unit line types types_are referred swap_referred arrays_referred (at + length xs) u value fits (code_back G ps p references at xs ys stands) longer after below pushed a (d + 4) (omega (arith, enough)) (unit_in-same G routine ∙ home) top))
 
       each_elaborates : (at : ℕ) (ds : Denoters) (ts : ComponentTypes) → AreTyped types ds ts → IsElaboratedEach at ds ts
       each_elaborates at ds ts none_typed = none_elaborate at

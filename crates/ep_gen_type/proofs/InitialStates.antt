@@ -2,7 +2,7 @@
 use Rattle.std.proofs.Common.{◌≡◌, ℕ, pos, suc, ◌+◌, ◌-◌, ◌≤◌, ◌<◌, List, [], ◌∷◌, ◌++◌, length, length-append, Some, refl, sym, ap, ◌∙◌, subst, arith}
 use Rattle.ep_gen_code.specs.Instructions.{bare}
 use Rattle.ep_gen_code.specs.Credit.{least_credit}
-use Rattle.ep_gen_code.specs.Referring.{AreReferred, IsFillReferred, IsSwapReferred}
+use Rattle.ep_gen_code.specs.Referring.{AreReferred, AreArraysReferred, IsSwapReferred}
 use Rattle.ep_gen_code.proofs.Constants.{set_follows, word_follows}
 use Rattle.ep_gen_code.proofs.Placed.{code_back, code_front}
 use Rattle.ep_gen_expr.specs.ExprCode.{end_code, first_code, ranges_code, reach_code, same_code}
@@ -51,7 +51,7 @@ start_kind types t v (word_start low high h w bounds of_host) = (Ordinal h, boun
 start_kind types t v (set_start low high h ms base is_set between) = (kind.Set h, base)
 start_kind types t v (structured_start of t2 es found typed structured parts) = (Structured t2, (refl, structured))
 
-module _ (declared : Declarations) (G : Image) (untouched : Slots) (Here : Facts) (lasts : Lasts untouched Here) (among : AreAmong untouched (kept_slots declared G)) (ps : List Placement) (p : Placement) (references : List Reference) (call : Handler) (steady_call : IsSteadyHandler call) (n : ℕ) (kept : CallsAreKept declared G ps call n) (g : ℕ) (unit : List ℕ) (line : ℕ) (types : List UnitType) (types_are : declared.types unit ≡ types) (referred : AreReferred declared unit types references) (swap_referred : IsSwapReferred declared unit references) (fill_referred : IsFillReferred declared unit references) where
+module _ (declared : Declarations) (G : Image) (untouched : Slots) (Here : Facts) (lasts : Lasts untouched Here) (among : AreAmong untouched (kept_slots declared G)) (ps : List Placement) (p : Placement) (references : List Reference) (call : Handler) (steady_call : IsSteadyHandler call) (n : ℕ) (kept : CallsAreKept declared G ps call n) (g : ℕ) (unit : List ℕ) (line : ℕ) (types : List UnitType) (types_are : declared.types unit ≡ types) (referred : AreReferred declared unit types references) (swap_referred : IsSwapReferred declared unit references) (arrays_referred : AreArraysReferred declared unit references) where
   -- a unit that has a type has types
   some_types : (number : ℕ) (t : TypeValue) → IsTyped types (Named number []) t → 0 < length (declared.types unit)
   some_types number t typed = let within : number < length types = named_within types number t typed in omega (arith, within, ap length types_are)
@@ -97,7 +97,7 @@ module _ (declared : Declarations) (G : Image) (untouched : Slots) (Here : Facts
         let here : CodeStands G ps p references at one = code_front G ps p references at one (parts_code line more) stands in
         let k = start_kind types of v its in
         next_element_follows declared G untouched Here lasts ps p references call steady_call g unit line n (type.Array low high of) (AtRanges (r ∷ rs) v) more at one (parts_code line more) (one ++ parts_code line more) refl
-        (at_ranges_follow declared G untouched Here lasts ps p references call steady_call g unit line n (kept.fills unit some) fill_referred low high bounds.3 bounds.4 of k.0 k.1 r rs within v at xs
+        (at_ranges_follow declared G untouched Here lasts ps p references call steady_call g unit line n (let arrays = kept.of_arrays unit some in arrays.fill) arrays_referred.fill low high bounds.3 bounds.4 of k.0 k.1 r rs within v at xs
         (constant_follows of v its (at + 3) (code_front G ps p references (at + 3) xs behind (code_back G ps p references at first (xs ++ behind) here))) here)
         (parts_follow (type.Array low high of) more rest some (at + length one) (code_back G ps p references at one (parts_code line more) stands))
     parts_follow t es (field_given ts steps of v more leads its rest) some at stands =

@@ -7,7 +7,7 @@ use Rattle.ep_gen_code.specs.Instructions.{bare, instr, members_code, push}
 use Rattle.ep_object.specs.declared.code.Instr.{Instr}
 use Rattle.ep_typed.specs.Denoters.{enumeration_type, required_type, subrange_type}
 use Rattle.ep_gen_expr.specs.ExprCode.{begin_code, end_code, first_code, first_index, ranges_code, reach_code, same_code}
-use Rattle.ep_typed.specs.Trees.{Expr, Constant, SetConstant, Structured, Element, AtIndex, AtField, SameField, AtRanges, Elements, no_element, next_element, Denoter, Required, Named, Subrange, Enumeration, Array, Record, Set, Initial, Denoters, no_denoter, next_denoter}
+use Rattle.ep_typed.specs.Trees.{Expr, Constant, SetConstant, Structured, Element, AtIndex, AtField, SameField, AtRanges, AtIndexes, Elements, no_element, next_element, Denoter, Required, Named, Subrange, Enumeration, Array, Record, Set, Initial, Denoters, no_denoter, next_denoter}
 use Rattle.ep_typed.specs.TypeValues as type
 use Rattle.ep_typed.specs.TypeValues.{TypeValue}
 use Rattle.ep_object.specs.declared.op.TheConstants as op
@@ -35,6 +35,7 @@ abbrev mutual
   part_code line (AtField steps x) = reach_code line steps ++ (start_code line x ++ bare line op.STORE ∷ [])
   part_code line (SameField from to) = same_code line from to
   part_code line (AtIndex x y) = []
+  part_code line (AtIndexes ds x) = []
 
   -- in order
   pub parts_code : ℕ → Elements → List Instr

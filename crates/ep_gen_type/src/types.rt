@@ -244,7 +244,7 @@ fn start_part_code(part: &Element, code: &mut Code) -> Result<(), NoMemory>
         Element::AtRanges(ranges, value) => ranges_start_code(ranges.items(), value.get(), code),
         Element::AtField(steps, value) => field_start_code(steps.items(), value.get(), code),
         Element::SameField(from, to) => same_field(from.items(), to.items(), code),
-        Element::AtIndex(_, _) => Ok(()),
+        Element::AtIndex(_, _) | Element::AtIndexes(_, _) => Ok(()),
     }
 }
 

@@ -5,7 +5,7 @@ use Rattle.ep_gen_code.specs.Credit.{least_credit}
 use Rattle.ep_gen_code.specs.Instructions.{instr}
 use Rattle.ep_gen_unit.specs.StmtCode.{make_code, make_all_code}
 use Rattle.ep_gen_type.specs.TypeCode.{type_code}
-use Rattle.ep_gen_code.specs.Referring.{AreReferred, IsFillReferred, IsSwapReferred}
+use Rattle.ep_gen_code.specs.Referring.{AreReferred, AreArraysReferred, IsSwapReferred}
 use Rattle.ep_gen_type.proofs.Elaborating.{elaborates}
 use Rattle.ep_object.specs.Promises.{CallsAreKept}
 use Rattle.ep_gen_unit.specs.UnitLaws.{AreDeclared}
@@ -60,7 +60,7 @@ MovesIn declared G untouched Here p n x at to c =
     → Fragment declared G Here n (point injection memory (p.instructions.before + at) below) c (p.instructions.before + to) (λ a. Inside untouched injection memory (Bare below a)) d (λ a. d)
 
 module _ (declared : Declarations) (G : Image) (untouched : Slots) (Here : Facts) (lasts : Lasts untouched Here) (ps : List Placement) (p : Placement) (references : List Reference) (call : Handler) (steady_call : IsSteadyHandler call) (n : ℕ) (x : ImageUnit) (free : VariablesAreFree declared G untouched x) (distinct : HasDistinctNames G) (types_valid : HaveValidTypes declared)
-    (among : AreAmong untouched (kept_slots declared G)) (kept : CallsAreKept declared G ps call n) (referred : AreReferred declared x.name (declared.types x.name) references) (swap_referred : IsSwapReferred declared x.name references) (fill_referred : IsFillReferred declared x.name references) where
+    (among : AreAmong untouched (kept_slots declared G)) (kept : CallsAreKept declared G ps call n) (referred : AreReferred declared x.name (declared.types x.name) references) (swap_referred : IsSwapReferred declared x.name references) (arrays_referred : AreArraysReferred declared x.name references) where
   module _ (number line at : ℕ) (v : UnitVariable) (is_declared : declared.variables x.name number ≡ Some v) (within : number < x.slots) where
     -- `Make`, over the number of the type
     make_row_moves : (t : TypeValue) (type_number : ℕ) → IsTypeValue t → AreStarts t
@@ -87,7 +87,7 @@ module _ (declared : Declarations) (G : Image) (untouched : Slots) (Here : Facts
       let has_type : (a : TypeValue) → bare_of a ≡ t → (w : UnitVariable) → declared.variables x.name number ≡ Some w → HasType declared x.name w (bare_of a) =
       λ a is w e. subst (λ (u : UnitVariable). HasType declared x.name u (bare_of a)) (same_Some v w (sym is_declared ∙ e)) (t, types_are_instances types (denoter_of v.denoter) t valid.has_type, own ∙ sym is) in
       inside_bind {First = TypeOnTop t below} {e = λ a. d + 4} (λ a. steady_allocate x.name number a)
-      (elaborates declared G untouched Here lasts ps p references call steady_call n g x.name v.line types refl among kept referred swap_referred fill_referred at (denoter_of v.denoter) t valid.typed parts.0 injection memory below d enough named)
+      (elaborates declared G untouched Here lasts ps p references call steady_call n g x.name v.line types refl among kept referred swap_referred arrays_referred at (denoter_of v.denoter) t valid.typed parts.0 injection memory below d enough named)
       (λ a longer after pushed grown routine top.
       let is_type : IsTypeValue a = value_bare a (subst IsTypeValue (sym top.type_is) (typed_value types (denoter_of v.denoter) t valid.typed)) in
       subst (λ o. Fragment declared G Here n (point longer after (p.instructions.before + (at + length code)) o) (allocate x.name number a) (p.instructions.before + (at + length (code ++ instr op.MAKE (pos number) 0 v.line ∷ []))) (λ b. Inside untouched longer after (Bare below b)) (d + 4) (λ b. d)) (sym top.is)

@@ -7,7 +7,7 @@ use Rattle.ep_gen_code.proofs.Placed.{instr_at}
 use Rattle.ep_gen_expr.proofs.PlaceTypes.{has_bare_type}
 use Rattle.ep_gen_unit.specs.StmtCode.{make_code, make_all_code, value_code, place_taken, take_code, take_all_code}
 use Rattle.ep_gen_type.specs.TypeCode.{type_code}
-use Rattle.ep_gen_code.specs.Referring.{AreReferred, IsFillReferred, IsSwapReferred}
+use Rattle.ep_gen_code.specs.Referring.{AreReferred, AreArraysReferred, IsSwapReferred}
 use Rattle.ep_gen_type.proofs.Elaborating.{elaborates}
 use Rattle.ep_gen_unit.proofs.Sized.{fragment_sized}
 use Rattle.ep_gen_unit.proofs.Parts.{code_stands-parts}
@@ -82,7 +82,7 @@ still_later : {before memory : Memory} {below : List Operand} → StillRuns befo
 still_later runs longer after operands h = record { runs = still_runs-trans runs h.runs; operands_are = h.operands_are }
 
 module _ (declared : Declarations) (G : Image) (untouched : Slots) (first : Injection) (start : Memory) (lasts : Lasts untouched (InActivation declared untouched first start)) (ps : List Placement) (p : Placement) (references : List Reference) (call : Handler) (steady_call : IsSteadyHandler call) (n : ℕ) (unit : List ℕ) (own_valid : HaveValidOwnTypes declared)
-    (types_are : declared.types unit ≡ declared.routine_types) (among : AreAmong untouched (kept_slots declared G)) (kept : CallsAreKept declared G ps call n) (referred : AreReferred declared unit declared.routine_types references) (swap_referred : IsSwapReferred declared unit references) (fill_referred : IsFillReferred declared unit references) where
+    (types_are : declared.types unit ≡ declared.routine_types) (among : AreAmong untouched (kept_slots declared G)) (kept : CallsAreKept declared G ps call n) (referred : AreReferred declared unit declared.routine_types references) (swap_referred : IsSwapReferred declared unit references) (arrays_referred : AreArraysReferred declared unit references) where
   module _ (number line at : ℕ) (v : UnitVariable) (is_declared : slice_get (variables_up declared 0) number ≡ Some v) where
     -- `Make`, over the number of the type
     make_row_moves : (t : TypeValue) (type_number : ℕ) → IsTypeValue t → AreStarts t
@@ -110,7 +110,7 @@ module _ (declared : Declarations) (G : Image) (untouched : Slots) (first : Inje
       let has_type : (a : TypeValue) → bare_of a ≡ t → (w : UnitVariable) → slice_get (variables_up declared 0) number ≡ Some w → HasOwnType declared w (bare_of a) =
       λ a is w e. subst (λ (u : UnitVariable). HasOwnType declared u (bare_of a)) (same_Some v w (sym is_declared ∙ e)) (t, types_are_instances types (denoter_of v.denoter) t valid.has_type, own ∙ sym is) in
       fragment_bind {P = λ a. Inside untouched injection memory (TypeOnTop t below a)} {e = λ a. d + 4} (λ a. steady_allocate_own number a)
-      (elaborates declared G untouched (InActivation declared untouched first start) lasts ps p references call steady_call n g unit v.line types types_are among kept referred swap_referred fill_referred at (denoter_of v.denoter) t valid.typed parts.0 injection memory below d enough home)
+      (elaborates declared G untouched (InActivation declared untouched first start) lasts ps p references call steady_call n g unit v.line types types_are among kept referred swap_referred arrays_referred at (denoter_of v.denoter) t valid.typed parts.0 injection memory below d enough home)
       (λ a longer after pushed inside.
       let top = inside.operands_are in
       let size : size_of a ≡ size_of t = sym (bare_size a) ∙ ap size_of top.type_is in
@@ -198,7 +198,7 @@ module _ (declared : Declarations) (G : Image) (untouched : Slots) (first : Inje
         let parts = code_stands-parts G ps p references at code rest stands in
         fragment_to ends
         (fragment_bind {middle = p.instructions.before + k} {P = λ a. Inside untouched injection memory (TypeOnTop t below a)} {e = λ a. d + 4} (λ a. steady_bind (steady_allocate_own number a) (λ u. steady_initialized unit line a r))
-        (elaborates declared G untouched (InActivation declared untouched first start) lasts ps p references call steady_call n g unit line types types_are among kept referred swap_referred fill_referred at (denoter_of f.denoter) t its.typed parts.0 injection memory below d enough home)
+        (elaborates declared G untouched (InActivation declared untouched first start) lasts ps p references call steady_call n g unit line types types_are among kept referred swap_referred arrays_referred at (denoter_of f.denoter) t its.typed parts.0 injection memory below d enough home)
         (λ a longer after pushed inside.
         let top = inside.operands_are in
         let runs : StillRuns memory.frames after.frames = still_routine inside.routine in

@@ -22,8 +22,8 @@ use Rattle.ep_gen_code.specs.declared.references.TheConstants as routine
 use Rattle.ep_gen_code.specs.Growth.{Grows, IsTable, AreDistinct, begun_code}
 use Rattle.ep_gen_code.proofs.Named.{named_distinct}
 use Rattle.ep_gen_type.specs.TypeCode.{type_code}
-use Rattle.ep_object.specs.Promises.{copying_code, next_code, swap_routine}
-use Rattle.ep_object.specs.WordRows.{less}
+use Rattle.ep_object.specs.Promises.{copying_code, first_code, next_code, ranging_code, row_code, spreading_code, swap_routine}
+use Rattle.ep_object.specs.WordRows.{at_most, less}
 use Rattle.ep_typed.specs.Denoters.{definition_of}
 use Rattle.ep_typed.specs.Meaning.{line_where}
 use Rattle.ep_typed.specs.declared.unit.UnitType.{UnitType}
@@ -36,8 +36,8 @@ use Rattle.std.specs.Prelude.{is_some, true, false}
 use Rattle.ep_typed.specs.Denoters.{host_of}
 use Rattle.ep_typed.specs.Hosts.{Host}
 use Rattle.ep_gen_code.specs.Jumps.{IsNextPlace}
-use Rattle.ep_gen_unit.specs.StmtGrowth.{Follows, AppendsStmt, AppendsStart, AppendsRoutine, AppendsRoutines, AppendsFill, AppendsSwap, AppendsType, AppendsTypes, IsCompact, MakesBlock, MakesOwn, MakesResult, assembled}
-use Rattle.ep_gen_unit.specs.UnitCode.{IsProgramCode, IsSwapCode, swap_code, IsFillCode, fill_code, IsRoutineCode, IsTypeCode, AreRoutinesCode, AreTypesCode, StandsIn, elaborating_code, own_code, its_end, entry_of, plain_at, routine_at}
+use Rattle.ep_gen_unit.specs.StmtGrowth.{Follows, AppendsStmt, AppendsStart, AppendsRoutine, AppendsRoutines, AppendsArrays, AppendsFill, AppendsShuffle, AppendsSwap, AppendsType, AppendsTypes, IsCompact, MakesBlock, MakesOwn, MakesResult, assembled}
+use Rattle.ep_gen_unit.specs.UnitCode.{IsProgramCode, IsSwapCode, swap_code, IsFillCode, IsShuffleCode, fill_code, IsRoutineCode, IsTypeCode, AreRoutinesCode, AreTypesCode, StandsIn, elaborating_code, own_code, its_end, entry_of, plain_at, routine_at}
 use Rattle.ep_gen_unit.proofs.Following.{later_follows, stmt_later, follows_none, follows_grows, follows_line, follows_then, grown_length}
 use Rattle.ep_object.specs.declared.op.TheConstants as op
 
@@ -420,10 +420,69 @@ fill_stands {e = e} entry p =
       };
     }
 
+-- ---- the other routines of arrays
+
+-- three more at the end
+pub three_pushed : {A : Type 0} (xs : List A) (a b c : A) {l m n : List A} → l ≡ xs ++ a ∷ [] → m ≡ l ++ b ∷ [] → n ≡ m ++ c ∷ [] → n ≡ xs ++ a ∷ b ∷ c ∷ []
+three_pushed xs a b c p q r = r ∙ (ap (λ t. t ++ c ∷ []) (q ∙ (ap (λ t. t ++ b ∷ []) p ∙ append_assoc xs (a ∷ []) (b ∷ []))) ∙ append_assoc xs (a ∷ b ∷ []) (c ∷ []))
+
+pub grows_ranging : {a b c d e f g h i j k : Code} → Grows a b (instr op.ARG (pos 0) 0 a.line ∷ []) → Grows b c (bare b.line op.BIND ∷ []) → Grows c d (instr op.PEEK (pos 1) 0 c.line ∷ []) → Grows d e (instr op.PEEK (pos 2) 0 d.line ∷ []) → Grows e f (bare e.line op.SLOT ∷ []) → Grows f g (bare f.line op.SLOT ∷ [])
+    → Grows g h (instr op.PEEK (pos 2) 0 g.line ∷ []) → Grows h i (bare h.line op.SLOT ∷ []) → Grows i j (instr op.PEEK (pos 1) 0 i.line ∷ []) → Grows j k (bare j.line op.RETURN ∷ []) → Grows a k (ranging_code a.line)
+grows_ranging p q r s t u v w x y =
+    grows_at (λ l. bare l op.RETURN ∷ []) (grows_at (λ l. instr op.PEEK (pos 1) 0 l ∷ []) (grows_at (λ l. bare l op.SLOT ∷ []) (grows_at (λ l. instr op.PEEK (pos 2) 0 l ∷ []) (grows_at (λ l. bare l op.SLOT ∷ []) (grows_at (λ l. bare l op.SLOT ∷ [])
+    (grows_at (λ l. instr op.PEEK (pos 2) 0 l ∷ []) (grows_at (λ l. instr op.PEEK (pos 1) 0 l ∷ []) (grows_at (λ l. bare l op.BIND ∷ []) p q) r) s) t) u) v) w) x) y
+
+pub grows_row : {a b c d e f g h i : Code} → Grows a b (instr op.ARG (pos 2) 0 a.line ∷ []) → Grows b c (bare b.line op.BIND ∷ []) → Grows c d (bare c.line op.SLOT ∷ []) → Grows d e (instr op.ARG (pos 3) 0 d.line ∷ []) → Grows e f (bare e.line op.SLOT ∷ []) → Grows f g (bare f.line op.PEEK ∷ [])
+    → Grows g h (bare g.line op.PEEK ∷ []) → Grows h i (instr op.PEEK (pos 1) 0 h.line ∷ []) → Grows a i (row_code a.line)
+grows_row p q r s t u v w =
+    grows_at (λ l. instr op.PEEK (pos 1) 0 l ∷ []) (grows_at (λ l. bare l op.PEEK ∷ []) (grows_at (λ l. bare l op.PEEK ∷ []) (grows_at (λ l. bare l op.SLOT ∷ []) (grows_at (λ l. instr op.ARG (pos 3) 0 l ∷ [])
+    (grows_at (λ l. bare l op.SLOT ∷ []) (grows_at (λ l. bare l op.BIND ∷ []) p q) r) s) t) u) v) w
+
+pub grows_first : {a b c d e f g h : Code} → Grows a b (instr op.ARG (pos 4) 0 a.line ∷ []) → Grows b c (bare b.line op.SLOT ∷ []) → Grows c d (bare c.line op.PEEK ∷ []) → Grows d e (bare d.line op.PEEK ∷ []) → Grows e f (instr op.PEEK (pos 1) 0 e.line ∷ []) → Grows f g (instr op.CMP at_most 0 f.line ∷ []) → Grows g h (bare g.line op.RETURN ∷ [])
+    → Grows a h (first_code a.line)
+grows_first p q r s t u v =
+    grows_at (λ l. bare l op.RETURN ∷ []) (grows_at (λ l. instr op.CMP at_most 0 l ∷ []) (grows_at (λ l. instr op.PEEK (pos 1) 0 l ∷ []) (grows_at (λ l. bare l op.PEEK ∷ []) (grows_at (λ l. bare l op.PEEK ∷ []) (grows_at (λ l. bare l op.SLOT ∷ []) p q) r) s) t) u) v
+
+pub appends_shuffle : {b : Code} (a : Code) (its : ℕ → List Instr) (entry : ℕ) → IsNextPlace a entry → Grows (record a { line = code.NO_LINE }) b (its code.NO_LINE) → AppendsShuffle a b (its code.NO_LINE) entry
+appends_shuffle a its entry next p = record { starts = next.is_length; follows = follows_line a code.NO_LINE (follows_grows p) }
+
+-- it is the code of the routine
+shuffle_stands : {e g : Code} (operands : ℕ) (its : List Instr) (entry : ℕ) → AppendsShuffle e g its entry → IsShuffleCode g.instructions operands its (routine_at entry operands 1)
+shuffle_stands {e = e} operands its entry p =
+    record {
+      plain = refl;
+      stands = record {
+        before = e.instructions;
+        after = [];
+        is = let f = p.follows in f.instructions ∙ ap (λ l. e.instructions ++ l) (sym (append-nil its));
+        from = sym p.starts;
+      };
+    }
+
+-- all of them
+pub appends_arrays : {a b c d : Code} (fill_entry range_entry spread_entry : ℕ) → AppendsFill a b fill_entry → AppendsShuffle b c (ranging_code code.NO_LINE) range_entry → AppendsShuffle c d (spreading_code code.NO_LINE) spread_entry
+    → (before after : List CodeRoutine) → after ≡ before ++ routine_at fill_entry 4 1 ∷ routine_at range_entry 3 1 ∷ routine_at spread_entry 5 1 ∷ [] → AppendsArrays a d before after
+appends_arrays fill_entry range_entry spread_entry fill range spread before after are =
+    let ranging = shuffle_stands 3 (ranging_code code.NO_LINE) range_entry range in
+    let filling = fill_stands fill_entry fill in
+    let behind_range = spread.follows in
+    let behind_fill = follows_then range.follows spread.follows in
+    record {
+      code = fill_code fill_entry ++ (ranging_code code.NO_LINE ++ spreading_code code.NO_LINE);
+      follows = follows_then fill.follows behind_fill;
+      filling = routine_at fill_entry 4 1;
+      fills = record { plain = filling.plain; stands = stands_longer (ranging_code code.NO_LINE ++ spreading_code code.NO_LINE) behind_fill.instructions filling.stands };
+      ranging = routine_at range_entry 3 1;
+      ranges = record { plain = ranging.plain; stands = stands_longer (spreading_code code.NO_LINE) behind_range.instructions ranging.stands };
+      spreading = routine_at spread_entry 5 1;
+      spreads = shuffle_stands 5 (spreading_code code.NO_LINE) spread_entry spread;
+      are = are;
+    }
+
 -- the object of a program, from the code of its start, of its routines and of its types
-module _ (u : TypedUnit) {a b e h i f : Code} (begins : a ≡ begun_code u) (few : IsTable a.references) (name : List ℕ) (named : name ≡ u.name) (slots stop_entry swap_entry fill_entry start : ℕ) (appends : AppendsStart a b u stop_entry)
-    (rs : List UnitRoutine) (routines_are : rs ≡ u.routines) (entries : List CodeRoutine) (types : List UnitType) (types_are : types ≡ u.types) (more : AppendsRoutines b e types rs entries) (swap : AppendsSwap e h swap_entry) (fill : AppendsFill h i fill_entry) (before after : List CodeRoutine)
-    (all : before ≡ entries ++ plain_at 0 ∷ plain_at stop_entry ∷ routine_at swap_entry 2 0 ∷ routine_at fill_entry 4 1 ∷ []) (ts : List UnitType) (ts_are : ts ≡ u.types) (last : AppendsTypes i f ts before after) (starts : start ≡ length entries) (o : Object) (is : o ≡ assembled name f after start slots) where
+module _ (u : TypedUnit) {a b e h i f : Code} (begins : a ≡ begun_code u) (few : IsTable a.references) (name : List ℕ) (named : name ≡ u.name) (slots stop_entry swap_entry start : ℕ) (appends : AppendsStart a b u stop_entry)
+    (rs : List UnitRoutine) (routines_are : rs ≡ u.routines) (entries : List CodeRoutine) (types : List UnitType) (types_are : types ≡ u.types) (more : AppendsRoutines b e types rs entries) (swap : AppendsSwap e h swap_entry) (before middle after : List CodeRoutine) (arrays : AppendsArrays h i before middle)
+    (all : before ≡ entries ++ plain_at 0 ∷ plain_at stop_entry ∷ routine_at swap_entry 2 0 ∷ []) (ts : List UnitType) (ts_are : ts ≡ u.types) (last : AppendsTypes i f ts middle after) (starts : start ≡ length entries) (o : Object) (is : o ≡ assembled name f after start slots) where
   whole : AppendsStart (begun_code u) b u stop_entry
   whole = subst (λ code. AppendsStart code b u stop_entry) begins appends
 
@@ -433,12 +492,12 @@ module _ (u : TypedUnit) {a b e h i f : Code} (begins : a ≡ begun_code u) (few
   stops : stop_entry ≡ length (make_all_code 0 (made_by_unit u)) + length whole.code + 1
   stops = omega (arith, whole.stops)
 
-  behind_swap : Follows h f (fill_code fill_entry ++ last.code)
-  behind_swap = follows_then fill.follows last.follows
+  behind_swap : Follows h f (arrays.code ++ last.code)
+  behind_swap = follows_then arrays.follows last.follows
 
   -- the code behind that of the routines
   abbrev rest : List Instr
-  rest = swap_code ++ (fill_code fill_entry ++ last.code)
+  rest = swap_code ++ (arrays.code ++ last.code)
 
   behind_routines : Follows e f rest
   behind_routines = follows_then swap.follows behind_swap
@@ -454,6 +513,13 @@ module _ (u : TypedUnit) {a b e h i f : Code} (begins : a ≡ begun_code u) (few
   all_code : Follows (begun_code u) f ((make_all_code 0 (made_by_unit u) ++ (whole.code ++ return_code ∷ return_code ∷ [])) ++ (more.code ++ rest))
   all_code = follows_then whole.follows behind_start
 
+  abbrev its_arrays : List CodeRoutine
+  its_arrays = arrays.filling ∷ arrays.ranging ∷ arrays.spreading ∷ []
+
+  -- the start, the stop, and the routine that leaves two operands in the other order
+  abbrev three : List CodeRoutine
+  three = plain_at 0 ∷ plain_at (length (make_all_code 0 (made_by_unit u)) + length whole.code + 1) ∷ routine_at swap_entry 2 0 ∷ []
+
   pub is_program : slots ≡ length (unit_variables u) → IsProgramCode u o
   is_program n = subst (λ object. IsProgramCode u object) (sym is) (record {
     code = whole.code;
@@ -465,13 +531,17 @@ module _ (u : TypedUnit) {a b e h i f : Code} (begins : a ≡ begun_code u) (few
     entries = entries;
     blocks = its_blocks;
     swapping = routine_at swap_entry 2 0;
-    swaps = let x = swap_stands swap_entry swap in record { plain = x.plain; stands = let g = behind_swap in stands_longer (fill_code fill_entry ++ last.code) g.instructions x.stands };
-    filling = routine_at fill_entry 4 1;
-    fills = let x = fill_stands fill_entry fill in record { plain = x.plain; stands = let g = last.follows in stands_longer last.code g.instructions x.stands };
+    swaps = let x = swap_stands swap_entry swap in record { plain = x.plain; stands = let g = behind_swap in stands_longer (arrays.code ++ last.code) g.instructions x.stands };
+    filling = arrays.filling;
+    fills = let x = arrays.fills in record { plain = x.plain; stands = let g = last.follows in stands_longer last.code g.instructions x.stands };
+    ranging = arrays.ranging;
+    ranges = let x = arrays.ranges in record { plain = x.plain; stands = let g = last.follows in stands_longer last.code g.instructions x.stands };
+    spreading = arrays.spreading;
+    spreads = let x = arrays.spreads in record { plain = x.plain; stands = let g = last.follows in stands_longer last.code g.instructions x.stands };
     elaborating = last.entries;
     types = subst (λ l. AreTypesCode f.instructions l last.entries) ts_are last.types;
     named = all_code.references.begins;
-    routines = last.are ∙ (ap (λ l. l ++ last.entries) (all ∙ ap (λ at. entries ++ plain_at 0 ∷ plain_at at ∷ routine_at swap_entry 2 0 ∷ routine_at fill_entry 4 1 ∷ []) stops) ∙ append_assoc entries (plain_at 0 ∷ plain_at (length (make_all_code 0 (made_by_unit u)) + length whole.code + 1) ∷ routine_at swap_entry 2 0 ∷ routine_at fill_entry 4 1 ∷ []) last.entries);
+    routines = last.are ∙ (ap (λ l. l ++ last.entries) (arrays.are ∙ ap (λ l. l ++ its_arrays) (all ∙ ap (λ at. entries ++ plain_at 0 ∷ plain_at at ∷ routine_at swap_entry 2 0 ∷ []) stops)) ∙ (ap (λ l. l ++ last.entries) (append_assoc entries three its_arrays) ∙ append_assoc entries (three ++ its_arrays) last.entries));
     start = starts ∙ its_blocks.count;
     stop = ap (λ k. k + 1) (starts ∙ its_blocks.count);
     unit_slots = n;

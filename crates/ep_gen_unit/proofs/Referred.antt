@@ -4,11 +4,11 @@ use Rattle.std.proofs.lemmas.List.{length-map}
 use Rattle.ep_gen_code.proofs.Named.{named_at}
 use Rattle.ep_gen_code.proofs.Pushed.{get_later}
 use Rattle.ep_gen_code.specs.Instructions.{reference}
-use Rattle.ep_gen_code.specs.Referring.{AreReferred, IsFillReferred, IsSwapReferred, type_reference}
+use Rattle.ep_gen_code.specs.Referring.{AreReferred, AreArraysReferred, IsSwapReferred, type_reference}
 use Rattle.ep_gen_code.specs.declared.references.TheConstants as routine
 use Rattle.ep_gen_unit.specs.UnitCode.{IsProgramCode}
 use Rattle.ep_gen_unit.proofs.Declared.{name_same}
-use Rattle.ep_object.specs.Promises.{fill_routine, swap_routine, type_routine}
+use Rattle.ep_object.specs.Promises.{fill_routine, range_routine, spread_routine, swap_routine, type_routine}
 use Rattle.ep_object.specs.declared.code.Object.{Object}
 use Rattle.ep_typed.specs.Valid.{Declarations, heading_of, own}
 use Rattle.ep_typed.specs.declared.unit.Unit.{Unit as TypedUnit}
@@ -17,7 +17,7 @@ use Rattle.ep_typed.specs.declared.unit.Unit.{Unit as TypedUnit}
 first_referred : (u : TypedUnit) (o : Object) → IsProgramCode u o → (k : ℕ) → k < type_reference (length u.types) → slice_get o.references k ≡ Some (reference u.name (swap_routine (length u.routines) + k))
 first_referred u o is k less = get_later k (reference u.name (swap_routine (length u.routines) + k)) is.named (named_at u.name (swap_routine (length u.routines)) (type_reference (length u.types)) k less)
 
--- those behind the first two are to those that elaborate types
+-- those behind the first four are to those that elaborate types
 pub types_referred : (declared : Declarations) (u : TypedUnit) (o : Object) → IsProgramCode u o → length (declared.routines u.name) ≡ length u.routines → AreReferred declared u.name u.types o.references
 types_referred declared u o is many index less =
     subst (λ k. slice_get o.references (type_reference index) ≡ Some (reference u.name k)) {x = swap_routine (length u.routines) + type_reference index} {y = type_routine (length (declared.routines u.name)) index} (omega (arith, many))
@@ -29,10 +29,13 @@ swap_referred declared u o is many =
     subst (λ k. slice_get o.references routine.SWAP ≡ Some (reference u.name k)) {x = swap_routine (length u.routines) + routine.SWAP} {y = swap_routine (length (declared.routines u.name))} (omega (arith, many))
     (first_referred u o is routine.SWAP (omega arith))
 
-pub fill_referred : (declared : Declarations) (u : TypedUnit) (o : Object) → IsProgramCode u o → length (declared.routines u.name) ≡ length u.routines → IsFillReferred declared u.name o.references
-fill_referred declared u o is many =
-    subst (λ k. slice_get o.references routine.FILL ≡ Some (reference u.name k)) {x = swap_routine (length u.routines) + routine.FILL} {y = fill_routine (length (declared.routines u.name))} (omega (arith, many))
-    (first_referred u o is routine.FILL (omega arith))
+pub arrays_referred : (declared : Declarations) (u : TypedUnit) (o : Object) → IsProgramCode u o → length (declared.routines u.name) ≡ length u.routines → AreArraysReferred declared u.name o.references
+arrays_referred declared u o is many =
+    record {
+      fill = subst (λ k. slice_get o.references routine.FILL ≡ Some (reference u.name k)) {x = swap_routine (length u.routines) + routine.FILL} {y = fill_routine (length (declared.routines u.name))} (omega (arith, many)) (first_referred u o is routine.FILL (omega arith));
+      range = subst (λ k. slice_get o.references routine.RANGE ≡ Some (reference u.name k)) {x = swap_routine (length u.routines) + routine.RANGE} {y = range_routine (length (declared.routines u.name))} (omega (arith, many)) (first_referred u o is routine.RANGE (omega arith));
+      spread = subst (λ k. slice_get o.references routine.SPREAD ≡ Some (reference u.name k)) {x = swap_routine (length u.routines) + routine.SPREAD} {y = spread_routine (length (declared.routines u.name))} (omega (arith, many)) (first_referred u o is routine.SPREAD (omega arith));
+    }
 
 -- as many routines are declared alone as the unit has
 pub own_count : (u : TypedUnit) → length ((own u).routines u.name) ≡ length u.routines

@@ -17,8 +17,8 @@ use Rattle.ep_gen_unit.proofs.Parts.{code_stands-parts}
 use Rattle.ep_gen_unit.proofs.Results.{result_moves, set_moves, structure_moves}
 use Rattle.ep_gen_code.specs.Referring.{AreReferred}
 use Rattle.ep_gen_unit.proofs.StmtMoves.{statement_moves}
-use Rattle.ep_gen_unit.proofs.Referred.{fill_referred, own_count, swap_referred, types_referred}
-use Rattle.ep_gen_unit.proofs.StructureRoutines.{fill_there, swap_there}
+use Rattle.ep_gen_unit.proofs.Referred.{arrays_referred, own_count, swap_referred, types_referred}
+use Rattle.ep_gen_unit.proofs.StructureRoutines.{arrays_there, swap_there}
 use Rattle.ep_gen_unit.proofs.TypeRoutines.{call_placed, types_keep, types_none}
 use Rattle.ep_gen_unit.proofs.WithMoves.{own_binds_follow}
 use Rattle.ep_gen_unit.proofs.Units.{of_object, room, routine_there, scene_of, moved_own}
@@ -153,7 +153,7 @@ module _ (u : TypedUnit) (o : Object) (is : IsProgramCode u o) (valid : IsValid 
       let at : 0 + length s.before ≡ x.0.entry = omega (arith, s.from) in
       record {
         entry = x.0;
-        in_object = ap (λ l. slice_get l number) is.routines ∙ slice_get-prefix is.entries (is.entries ++ plain_at 0 ∷ plain_at _ ∷ is.swapping ∷ is.filling ∷ is.elaborating) number x.0 (record { rest = plain_at 0 ∷ plain_at _ ∷ is.swapping ∷ is.filling ∷ is.elaborating; is = refl }) x.1;
+        in_object = ap (λ l. slice_get l number) is.routines ∙ slice_get-prefix is.entries (is.entries ++ plain_at 0 ∷ plain_at _ ∷ is.swapping ∷ is.filling ∷ is.ranging ∷ is.spreading ∷ is.elaborating) number x.0 (record { rest = plain_at 0 ∷ plain_at _ ∷ is.swapping ∷ is.filling ∷ is.ranging ∷ is.spreading ∷ is.elaborating; is = refl }) x.1;
         plain = h.plain;
         code = h.code;
         is_code = h.is_code;
@@ -498,9 +498,9 @@ module _ (u : TypedUnit) (o : Object) (is : IsProgramCode u o) (valid : IsValid 
       runs_block longer after pushed at_home is_below =
           subst (λ o. Fragment within G Here m (point longer after (p.instructions.before + (x.entry.entry + length (own_code r))) o) (exec call m u.name (stmt_of r.block)) (p.instructions.before + end) (λ b. Inside left longer after (Bare below b)) (63 + more) (λ b. 63 + more)) (sym is_below)
           (statement_moves lasts_left ps p o.texts o.references call steady_call m u.name in_code scene
-          (λ x_kind e is_x line at code is_code x_stands inside v1 m1 operands d enough x_home. expression_follows {untouched = left} ps p o.texts o.references scene knows call steady_call m u.name in_code lasts_left left_among m kept_inside refl referred (swap_referred within u o is (own_count u)) (fill_referred within u o is (own_count u)) x_kind e is_x line at code is_code x_stands inside v1 m1 operands d (omega arith) x_home)
-          (λ q q_valid t has_type line at code is_code x_stands inside v1 m1 operands d enough x_home. place_follows {untouched = left} ps p o.texts o.references scene knows call steady_call m u.name in_code lasts_left left_among m kept_inside refl referred (swap_referred within u o is (own_count u)) (fill_referred within u o is (own_count u)) q q_valid t has_type line at code is_code x_stands inside v1 m1 operands d (omega arith) x_home)
-          (λ line at to callee k given xs r keeps given_valid is_code is_declared named xs_stands xs_inside v1 m1 operands d enough x_home rest steady behind. call_then {untouched = left} ps p o.texts o.references scene knows call steady_call m u.name in_code lasts_left left_among m kept_inside refl referred (swap_referred within u o is (own_count u)) (fill_referred within u o is (own_count u)) {to = to} line at callee k given xs r keeps given_valid is_code is_declared named xs_stands xs_inside v1 m1 operands d enough x_home rest steady (λ rs longer after pushed grown routine top. fragment_credit {d = d} {e = λ b. d} (omega arith) (λ b. omega arith) (behind rs longer after pushed grown routine top)))
+          (λ x_kind e is_x line at code is_code x_stands inside v1 m1 operands d enough x_home. expression_follows {untouched = left} ps p o.texts o.references scene knows call steady_call m u.name in_code lasts_left left_among m kept_inside refl referred (swap_referred within u o is (own_count u)) (arrays_referred within u o is (own_count u)) x_kind e is_x line at code is_code x_stands inside v1 m1 operands d (omega arith) x_home)
+          (λ q q_valid t has_type line at code is_code x_stands inside v1 m1 operands d enough x_home. place_follows {untouched = left} ps p o.texts o.references scene knows call steady_call m u.name in_code lasts_left left_among m kept_inside refl referred (swap_referred within u o is (own_count u)) (arrays_referred within u o is (own_count u)) q q_valid t has_type line at code is_code x_stands inside v1 m1 operands d (omega arith) x_home)
+          (λ line at to callee k given xs r keeps given_valid is_code is_declared named xs_stands xs_inside v1 m1 operands d enough x_home rest steady behind. call_then {untouched = left} ps p o.texts o.references scene knows call steady_call m u.name in_code lasts_left left_among m kept_inside refl referred (swap_referred within u o is (own_count u)) (arrays_referred within u o is (own_count u)) {to = to} line at callee k given xs r keeps given_valid is_code is_declared named xs_stands xs_inside v1 m1 operands d enough x_home rest steady (λ rs longer after pushed grown routine top. fragment_credit {d = d} {e = λ b. d} (omega arith) (λ b. omega arith) (behind rs longer after pushed grown routine top)))
           kept_inside (own_binds_follow ps p o.references call m u.name some_level none_left) (stmt_of r.block) (x.entry.entry + length (own_code r)) x.code its.block x.is_code x.code_stands (omega (arith, x.room_for, end_length u.types line_of (length formals) end r.result)) longer after below (63 + more) (omega arith) at_home)
 
       abbrev gives : Computation (List Result)
@@ -524,9 +524,9 @@ module _ (u : TypedUnit) (o : Object) (is : IsProgramCode u o) (valid : IsValid 
           → Fragment within G Here m (point longer after (p.instructions.before + at) below) (make_all_own call m u.name (length formals) (result_variable r.name line_of y ++ (r.variables ++ block_auxiliaries (stmt_of r.block)))) (p.instructions.before + (at + length (make_all_code (length formals) (result_variable r.name line_of y ++ (r.variables ++ block_auxiliaries (stmt_of r.block)))))) (λ a. StillBare after below) 63 (λ a. 63 + spare y valid_result)
       makes_all None valid_result at are_declared at_stands longer after below at_home =
           fragment_credit {d = 63} {e = λ a. 63} (omega arith) (λ a. omega arith)
-          (make_all_own_moves within G untouched injection begun lasts ps p o.references call steady_call m u.name scene.own_types_valid (own_types u) among_same kept_inside referred (swap_referred within u o is (own_count u)) (fill_referred within u o is (own_count u)) m (length formals) at (r.variables ++ block_auxiliaries (stmt_of r.block)) are_declared at_stands longer after below 63 (omega arith) at_home)
+          (make_all_own_moves within G untouched injection begun lasts ps p o.references call steady_call m u.name scene.own_types_valid (own_types u) among_same kept_inside referred (swap_referred within u o is (own_count u)) (arrays_referred within u o is (own_count u)) m (length formals) at (r.variables ++ block_auxiliaries (stmt_of r.block)) are_declared at_stands longer after below 63 (omega arith) at_home)
       makes_all (Some y) valid_result at are_declared at_stands longer after below at_home =
-          make_sized_moves within G untouched injection begun lasts ps p o.references call steady_call m u.name scene.own_types_valid (own_types u) among_same kept_inside referred (swap_referred within u o is (own_count u)) (fill_referred within u o is (own_count u)) m (length formals) at (result_of_name y) (r.variables ++ block_auxiliaries (stmt_of r.block)) (valid_result.denoter).type_value (valid_result.denoter).has_type are_declared at_stands longer after below 63 (omega arith) at_home
+          make_sized_moves within G untouched injection begun lasts ps p o.references call steady_call m u.name scene.own_types_valid (own_types u) among_same kept_inside referred (swap_referred within u o is (own_count u)) (arrays_referred within u o is (own_count u)) m (length formals) at (result_of_name y) (r.variables ++ block_auxiliaries (stmt_of r.block)) (valid_result.denoter).type_value (valid_result.denoter).has_type are_declared at_stands longer after below 63 (omega arith) at_home
 
       -- the making of the variables, and then the block
       makes : (longer : Injection) (after : Memory) (pushed : List Operand) → unit_in G after.frames ≡ u.name → pushed ≡ below
@@ -545,7 +545,7 @@ module _ (u : TypedUnit) (o : Object) (is : IsProgramCode u o) (valid : IsValid 
           let parts = code_stands-parts G ps p o.references x.entry.entry takes_code makes_code x.makes_stand in
           fragment_outside within.levels (own u) (fragment_from entry
           (fragment_bind {middle = p.instructions.before + (x.entry.entry + length takes_code)} {e = λ a. 63} (λ a. steady_bind (steady_make_all_own call steady_call m u.name (length formals) (made_variables r)) (λ b. steady_bind (steady_exec call steady_call m u.name (stmt_of r.block)) (λ c. steady_gives)))
-          (takes_all_moves within G untouched injection begun lasts ps p o.references call steady_call m u.name scene.own_types_valid (own_types u) among_same kept_inside referred (swap_referred within u o is (own_count u)) (fill_referred within u o is (own_count u)) m line_of 0 x.entry.entry formals passings.0 xs passings.1 formal_is parts.0 injection begun below 63 (omega arith) home awaited)
+          (takes_all_moves within G untouched injection begun lasts ps p o.references call steady_call m u.name scene.own_types_valid (own_types u) among_same kept_inside referred (swap_referred within u o is (own_count u)) (arrays_referred within u o is (own_count u)) m line_of 0 x.entry.entry formals passings.0 xs passings.1 formal_is parts.0 injection begun below 63 (omega arith) home awaited)
           (λ a longer after pushed still. (still.runs, makes longer after pushed (unit_in-still G still.runs ∙ home) still.operands_are))))
 
     -- what a call of it does
@@ -616,7 +616,7 @@ module _ (u : TypedUnit) (o : Object) (is : IsProgramCode u o) (valid : IsValid 
             subst (λ x. RoutineKeeps (own u) G ps (handler_of (u ∷ []) 0) 0 unit number x) own_one.heading (keeps_none unit number own_one.routine own_one.there own_one.named);
         types = types_none u o is G ps p stands;
         swaps = swap_there u o is G ps p stands;
-        fills = fill_there u o is G ps p stands;
+        of_arrays = arrays_there u o is G ps p stands;
       }
   routines_kept (suc m) =
       record {
@@ -625,5 +625,5 @@ module _ (u : TypedUnit) (o : Object) (is : IsProgramCode u o) (valid : IsValid 
             subst (λ x. RoutineKeeps (own u) G ps (handler_of (u ∷ []) (suc m)) (suc m) unit number x) own_one.heading (subst (λ n. RoutineKeeps (own u) G ps (handler_of (u ∷ []) (suc m)) (suc m) n number (heading_of own_one.routine)) own_one.named (keeps_own m (routines_kept m) number own_one.routine own_one.there));
         types = types_keep u o is G ps p stands m (routines_kept m);
         swaps = swap_there u o is G ps p stands;
-        fills = fill_there u o is G ps p stands;
+        of_arrays = arrays_there u o is G ps p stands;
       }

@@ -4,14 +4,14 @@ use Rattle.std.proofs.lemmas.Option.{slice_get_within}
 use Rattle.ep_gen_code.specs.declared.code.TheConstants as code_line
 use Rattle.ep_gen_code.specs.declared.references.TheConstants as routine
 use Rattle.ep_gen_code.specs.Instructions.{instr}
-use Rattle.ep_gen_unit.specs.UnitCode.{IsProgramCode, StandsIn, fill_code, plain_at, swap_code}
+use Rattle.ep_gen_unit.specs.UnitCode.{IsProgramCode, IsShuffleCode, StandsIn, fill_code, plain_at, swap_code}
 use Rattle.ep_gen_unit.proofs.Declared.{same_name}
 use Rattle.ep_gen_unit.proofs.Parts.{code_stands-parts}
 use Rattle.ep_gen_unit.proofs.Referred.{own_count, swap_referred}
 use Rattle.ep_gen_unit.proofs.TypeRoutines.{behind_list, call_placed}
 use Rattle.ep_gen_unit.proofs.Units.{moved_own, of_object, routine_there}
 use Rattle.ep_object.specs.Placing.{CodeStands, Placement, Stands, moved, placed, placed_routine}
-use Rattle.ep_object.specs.Promises.{FillStands, IsFill, IsSwap, StandFrom, SwapStands, fill_routine, filling_code, swap_routine}
+use Rattle.ep_object.specs.Promises.{ArrayRoutinesStand, IsFill, IsShuffle, IsSwap, StandFrom, SwapStands, fill_routine, filling_code, range_routine, ranging_code, spread_routine, spreading_code, swap_routine}
 use Rattle.ep_object.specs.Routines.{routine_of}
 use Rattle.ep_object.specs.declared.code.CodeRoutine.{CodeRoutine}
 use Rattle.ep_object.specs.declared.code.Image.{Image}
@@ -30,10 +30,10 @@ stand_from G ps p references at (i ∷ is) h =
 
 module _ (u : TypedUnit) (o : Object) (is : IsProgramCode u o) (G : Image) (ps : List Placement) (p : Placement) (stands : Stands G ps p o) where
   -- a routine behind those of the unit, its start and its stop
-  behind_stop : (k : ℕ) (x : CodeRoutine) → slice_get (is.swapping ∷ is.filling ∷ is.elaborating) k ≡ Some x → slice_get o.routines (swap_routine (length u.routines) + k) ≡ Some x
+  behind_stop : (k : ℕ) (x : CodeRoutine) → slice_get (is.swapping ∷ is.filling ∷ is.ranging ∷ is.spreading ∷ is.elaborating) k ≡ Some x → slice_get o.routines (swap_routine (length u.routines) + k) ≡ Some x
   behind_stop k x there =
       let blocks = is.blocks in
-      let behind : slice_get o.routines (length is.entries + suc (suc k)) ≡ slice_get (is.swapping ∷ is.filling ∷ is.elaborating) k = ap (λ l. slice_get l (length is.entries + suc (suc k))) is.routines ∙ behind_list is.entries (plain_at 0 ∷ plain_at _ ∷ is.swapping ∷ is.filling ∷ is.elaborating) (suc (suc k)) in
+      let behind : slice_get o.routines (length is.entries + suc (suc k)) ≡ slice_get (is.swapping ∷ is.filling ∷ is.ranging ∷ is.spreading ∷ is.elaborating) k = ap (λ l. slice_get l (length is.entries + suc (suc k))) is.routines ∙ behind_list is.entries (plain_at 0 ∷ plain_at _ ∷ is.swapping ∷ is.filling ∷ is.ranging ∷ is.spreading ∷ is.elaborating) (suc (suc k)) in
       subst (λ n. slice_get o.routines n ≡ Some x) {x = length is.entries + suc (suc k)} {y = length u.routines + 2 + k} (omega (arith, blocks.count)) (behind ∙ there)
 
   -- a routine of the object with this number and this code, in the image
@@ -123,7 +123,36 @@ module _ (u : TypedUnit) (o : Object) (is : IsProgramCode u o) (G : Image) (ps :
         stands = subst (StandFrom G (moved p.instructions fill_entry)) placed_code (subst (λ m. StandFrom G m (map (placed ps p o.references) (fill_code fill_entry))) (sym filling.entry) (stand_from G ps p o.references fill_entry (fill_code fill_entry) filling.code_stands));
       }
 
-  -- ---- each unit that alone declares types has both
+  -- ---- the other ones that give values to components of arrays
+
+  -- one with this code, in which no instruction depends on where it stands
+  shuffle_placed : (k operands : ℕ) (x : CodeRoutine) (its : ℕ → List Instr) → slice_get (is.swapping ∷ is.filling ∷ is.ranging ∷ is.spreading ∷ is.elaborating) k ≡ Some x → IsShuffleCode o.instructions operands (its code_line.NO_LINE) x → 0 < length (its code_line.NO_LINE)
+      → map (placed ps p o.references) (its code_line.NO_LINE) ≡ its code_line.NO_LINE → IsShuffle G (moved p.routines (swap_number + k)) operands its
+  shuffle_placed k operands x its there code some same =
+      let at = placed_at (swap_number + k) x (its code_line.NO_LINE) (behind_stop k x there) code.stands some in
+      record {
+        its = placed_routine p x;
+        there = at.there;
+        numbered = at.numbered;
+        takes = ap (λ (c : CodeRoutine). c.arguments) code.plain;
+        has_slot = ap (λ (c : CodeRoutine). c.slots) code.plain;
+        line = code_line.NO_LINE;
+        stands = subst (StandFrom G (moved p.instructions x.entry)) same (subst (λ m. StandFrom G m (map (placed ps p o.references) (its code_line.NO_LINE))) (sym at.entry) (stand_from G ps p o.references x.entry (its code_line.NO_LINE) at.code_stands));
+      }
+
+  abbrev range_number : ℕ
+  range_number = range_routine (length u.routines)
+
+  abbrev spread_number : ℕ
+  spread_number = spread_routine (length u.routines)
+
+  ranges : IsShuffle G (moved p.routines range_number) 3 ranging_code
+  ranges = subst (λ n. IsShuffle G (moved p.routines n) 3 ranging_code) {x = swap_number + 2} {y = range_number} (omega arith) (shuffle_placed 2 3 is.ranging ranging_code refl is.ranges (omega arith) refl)
+
+  spreads : IsShuffle G (moved p.routines spread_number) 5 spreading_code
+  spreads = subst (λ n. IsShuffle G (moved p.routines n) 5 spreading_code) {x = swap_number + 3} {y = spread_number} (omega arith) (shuffle_placed 3 5 is.spreading spreading_code refl is.spreads (omega arith) refl)
+
+  -- ---- each unit that alone declares types has all of them
 
   module _ (Holds : List ℕ → ℕ → Type 0) (holds : Holds u.name (length u.routines)) where
     of_unit : (unit : List ℕ) → 0 < length ((own u).types unit) → Holds unit (length ((own u).routines unit))
@@ -136,5 +165,13 @@ module _ (u : TypedUnit) (o : Object) (is : IsProgramCode u o) (G : Image) (ps :
   pub swap_there : (unit : List ℕ) → 0 < length ((own u).types unit) → SwapStands G ps unit (length ((own u).routines unit))
   swap_there = of_unit (SwapStands G ps) (record { routine = moved p.routines swap_number; swaps = swaps; placed = call_placed u o is G ps p stands swap_number })
 
-  pub fill_there : (unit : List ℕ) → 0 < length ((own u).types unit) → FillStands G ps unit (length ((own u).routines unit))
-  fill_there = of_unit (FillStands G ps) (record { routine = moved p.routines fill_number; fills = fills; placed = call_placed u o is G ps p stands fill_number })
+  arrays_stand : ArrayRoutinesStand G ps u.name (length u.routines)
+  arrays_stand =
+      record {
+        fill = record { routine = moved p.routines fill_number; fills = fills; placed = call_placed u o is G ps p stands fill_number };
+        range = record { routine = moved p.routines range_number; ranges = ranges; placed = call_placed u o is G ps p stands range_number };
+        spread = record { routine = moved p.routines spread_number; spreads = spreads; placed = call_placed u o is G ps p stands spread_number };
+      }
+
+  pub arrays_there : (unit : List ℕ) → 0 < length ((own u).types unit) → ArrayRoutinesStand G ps unit (length ((own u).routines unit))
+  arrays_there = of_unit (ArrayRoutinesStand G ps) arrays_stand

@@ -8,7 +8,7 @@ use Rattle.ep_gen_type.specs.TypeCode.{type_code}
 use Rattle.ep_gen_unit.specs.UnitCode.{IsProgramCode, plain_at}
 use Rattle.ep_gen_unit.proofs.Declared.{name_same, own_types, same_name}
 use Rattle.ep_gen_unit.proofs.Parts.{code_stands-parts}
-use Rattle.ep_gen_unit.proofs.Referred.{fill_referred, own_count, swap_referred, types_referred}
+use Rattle.ep_gen_unit.proofs.Referred.{arrays_referred, own_count, swap_referred, types_referred}
 use Rattle.ep_gen_unit.proofs.Units.{moved_own, of_object, routine_there}
 use Rattle.ep_object.proofs.following.Fragments.{fragment_credit, fragment_cut, fragment_from, fragment_post}
 use Rattle.ep_object.proofs.following.Routines.{begun_memory, type_keeps}
@@ -88,10 +88,10 @@ module _ (u : TypedUnit) (o : Object) (is : IsProgramCode u o) (G : Image) (ps :
       let second = code_stands-parts G ps p o.references (0 + length s.before) (code ++ last) s.after first.1 in
       let third = code_stands-parts G ps p o.references (0 + length s.before) code last second.0 in
       let at : 0 + length s.before ≡ x.0.entry = omega (arith, s.from) in
-      let behind : slice_get o.routines (length is.entries + suc (suc (suc (suc index)))) ≡ slice_get is.elaborating index = ap (λ l. slice_get l (length is.entries + suc (suc (suc (suc index))))) is.routines ∙ behind_list is.entries (plain_at 0 ∷ plain_at _ ∷ is.swapping ∷ is.filling ∷ is.elaborating) (suc (suc (suc (suc index)))) in
+      let behind : slice_get o.routines (length is.entries + suc (suc (suc (suc (suc (suc index)))))) ≡ slice_get is.elaborating index = ap (λ l. slice_get l (length is.entries + suc (suc (suc (suc (suc (suc index))))))) is.routines ∙ behind_list is.entries (plain_at 0 ∷ plain_at _ ∷ is.swapping ∷ is.filling ∷ is.ranging ∷ is.spreading ∷ is.elaborating) (suc (suc (suc (suc (suc (suc index)))))) in
       record {
         entry = x.0;
-        in_object = subst (λ k. slice_get o.routines k ≡ Some x.0) {x = length is.entries + suc (suc (suc (suc index)))} {y = length u.routines + 4 + index} (omega (arith, blocks.count)) (behind ∙ x.1);
+        in_object = subst (λ k. slice_get o.routines k ≡ Some x.0) {x = length is.entries + suc (suc (suc (suc (suc (suc index)))))} {y = length u.routines + 6 + index} (omega (arith, blocks.count)) (behind ∙ x.1);
         plain = h.plain;
         code_stands = subst (λ k. CodeStands G ps p o.references k code) at third.0;
         end_stands = subst (λ k. CodeStands G ps p o.references (k + length code) last) at third.1;
@@ -159,7 +159,7 @@ module _ (u : TypedUnit) (o : Object) (is : IsProgramCode u o) (G : Image) (ps :
       follows =
           fragment_from entry (fragment_post (λ a longer after pushed i. i.operands_are) (fragment_credit {d = 63} {e = λ a. 63 + 4} (omega arith) (λ a. omega arith)
           (elaborates (own u) G untouched Here in_activation-lasts ps p o.references call steady_call m m u.name line_of u.types (own_types u) among_same kept
-          (types_referred (own u) u o is (own_count u)) (swap_referred (own u) u o is (own_count u)) (fill_referred (own u) u o is (own_count u)) x.entry.entry (definition_of t) v typed x.code_stands injection begun below 63 (omega arith) home)))
+          (types_referred (own u) u o is (own_count u)) (swap_referred (own u) u o is (own_count u)) (arrays_referred (own u) u o is (own_count u)) x.entry.entry (definition_of t) v typed x.code_stands injection begun below 63 (omega arith) home)))
 
     -- what a call of it does
     found : type_in (u ∷ []) u.name index ≡ Some t

@@ -6,8 +6,8 @@ use Rattle.ep_gen_expr.proofs.Following.{place_follows, expression_follows, call
 use Rattle.ep_gen_unit.specs.StmtCode.{make_all_code, return_code}
 use Rattle.ep_gen_unit.specs.UnitCode.{IsProgramCode, plain_at}
 use Rattle.ep_gen_unit.specs.UnitLaws.{AreDeclared, idle_stop}
-use Rattle.ep_gen_code.specs.Referring.{AreReferred, IsFillReferred, IsSwapReferred}
-use Rattle.ep_gen_unit.proofs.Referred.{fill_referred, own_count, swap_referred, types_referred}
+use Rattle.ep_gen_code.specs.Referring.{AreReferred, AreArraysReferred, IsSwapReferred}
+use Rattle.ep_gen_unit.proofs.Referred.{arrays_referred, own_count, swap_referred, types_referred}
 use Rattle.ep_gen_unit.proofs.Declared.{own_is, own_declared, own_types, own_valid, made_declared}
 use Rattle.ep_gen_unit.proofs.Makes.{VariablesAreFree, make_all_moves, same_frame}
 use Rattle.ep_gen_unit.proofs.Parts.{code_stands-parts}
@@ -145,13 +145,13 @@ module _ (u : TypedUnit) (o : Object) (is : IsProgramCode u o) (G : Image) (ps :
   start_is =
       let blocks = is.blocks in
       ap (slice_get o.routines) (is.start ∙ sym blocks.count)
-      ∙ (ap (λ l. slice_get l (length is.entries)) is.routines ∙ behind is.entries (plain_at 0) (plain_at (ends_block + 1) ∷ is.swapping ∷ is.filling ∷ is.elaborating))
+      ∙ (ap (λ l. slice_get l (length is.entries)) is.routines ∙ behind is.entries (plain_at 0) (plain_at (ends_block + 1) ∷ is.swapping ∷ is.filling ∷ is.ranging ∷ is.spreading ∷ is.elaborating))
 
   stop_is : slice_get o.routines o.stop ≡ Some (plain_at (ends_block + 1))
   stop_is =
       let blocks = is.blocks in
       ap (slice_get o.routines) (is.stop ∙ ap (λ k. k + 1) (sym blocks.count))
-      ∙ (ap (λ l. slice_get l (length is.entries + 1)) is.routines ∙ one_behind is.entries (plain_at 0) (plain_at (ends_block + 1)) (is.swapping ∷ is.filling ∷ is.elaborating))
+      ∙ (ap (λ l. slice_get l (length is.entries + 1)) is.routines ∙ one_behind is.entries (plain_at 0) (plain_at (ends_block + 1)) (is.swapping ∷ is.filling ∷ is.ranging ∷ is.spreading ∷ is.elaborating))
 
   -- the stop does nothing
   pub stop_simulates : (declared : Declarations) (n : ℕ)
@@ -191,8 +191,8 @@ module _ (u : TypedUnit) (o : Object) (is : IsProgramCode u o) (G : Image) (ps :
     unit_swap : IsSwapReferred declared (placed_object_unit p o).name o.references
     unit_swap = subst (λ n. IsSwapReferred declared n o.references) (sym is.name) (swap_referred declared u o is many)
 
-    unit_fill : IsFillReferred declared (placed_object_unit p o).name o.references
-    unit_fill = subst (λ n. IsFillReferred declared n o.references) (sym is.name) (fill_referred declared u o is many)
+    unit_arrays : AreArraysReferred declared (placed_object_unit p o).name o.references
+    unit_arrays = subst (λ n. AreArraysReferred declared n o.references) (sym is.name) (arrays_referred declared u o is many)
 
     own_referred : AreReferred declared u.name declared.routine_types o.references
     own_referred = subst (λ ts. AreReferred declared u.name ts o.references) (sym types ∙ (sym (ap declared.types of_unit) ∙ scene.own_types_are)) (types_referred declared u o is many)
@@ -202,7 +202,7 @@ module _ (u : TypedUnit) (o : Object) (is : IsProgramCode u o) (G : Image) (ps :
         → MakesFollow declared G (kept_slots declared G) Here p call n u
     makes {Here = Here} lasts injection memory below d enough home framed =
         let there : RunsInUnit G memory.frames (placed_object_unit p o) = record { calls = framed.calls; unit = ap (slice_get G.units) framed.unit ∙ stands.unit } in
-        fragment_to {to = p.instructions.before + (0 + begins_block)} (omega arith) (make_all_moves declared G (kept_slots declared G) Here lasts ps p o.references call steady_call n (placed_object_unit p o) free distinct scene.types_valid among_same kept referred unit_swap unit_fill u.name is.name n 0 0 (made_by_unit u) (made_declared declared u.name (made_by_unit u) (with_variables (stmt_of u.start)) are_declared) (omega (arith, is.unit_slots, length-append (made_by_unit u) (with_variables (stmt_of u.start)))) makes_stand injection memory below d enough there (home ∙ sym is.name))
+        fragment_to {to = p.instructions.before + (0 + begins_block)} (omega arith) (make_all_moves declared G (kept_slots declared G) Here lasts ps p o.references call steady_call n (placed_object_unit p o) free distinct scene.types_valid among_same kept referred unit_swap unit_arrays u.name is.name n 0 0 (made_by_unit u) (made_declared declared u.name (made_by_unit u) (with_variables (stmt_of u.start)) are_declared) (omega (arith, is.unit_slots, length-append (made_by_unit u) (with_variables (stmt_of u.start)))) makes_stand injection memory below d enough there (home ∙ sym is.name))
 
     -- each variable of the unit has a slot of its frame
     its_slot : (k : ℕ) (v : UnitVariable) → declared.variables (placed_object_unit p o).name k ≡ Some v → k < (placed_object_unit p o).slots
@@ -232,9 +232,9 @@ module _ (u : TypedUnit) (o : Object) (is : IsProgramCode u o) (G : Image) (ps :
               let whole = of_object in
               let knows : KnowsNames declared (Since (kept_slots declared G) injection s memory) = λ longer t after since. none_named declared no_routine longer t after in
               let body = body_follows {Here = Since (kept_slots declared G) injection s memory} since_lasts ps p call steady_call n u o is stands.code room whole.instructions scene
-              (λ x_kind x is_x line at code is_code x_stands inside v1 m1 operands d enough x_home. expression_follows ps p o.texts o.references scene knows call steady_call n u.name room since_lasts among_same n kept (sym of_unit) own_referred (swap_referred declared u o is many) (fill_referred declared u o is many) x_kind x is_x line at code is_code x_stands inside v1 m1 operands d (omega arith) x_home)
-              (λ q q_valid t has_type line at code is_code x_stands inside v1 m1 operands d enough x_home. place_follows ps p o.texts o.references scene knows call steady_call n u.name room since_lasts among_same n kept (sym of_unit) own_referred (swap_referred declared u o is many) (fill_referred declared u o is many) q q_valid t has_type line at code is_code x_stands inside v1 m1 operands d (omega arith) x_home)
-              (λ line at to callee k given xs r keeps given_valid is_code is_declared named xs_stands xs_inside v1 m1 operands d enough x_home rest steady behind. call_then ps p o.texts o.references scene knows call steady_call n u.name room since_lasts among_same n kept (sym of_unit) own_referred (swap_referred declared u o is many) (fill_referred declared u o is many) {to = to} line at callee k given xs r keeps given_valid is_code is_declared named xs_stands xs_inside v1 m1 operands d enough x_home rest steady (λ rs longer after pushed grown routine top. fragment_credit {d = d} {e = λ b. d} (omega arith) (λ b. omega arith) (behind rs longer after pushed grown routine top)))
+              (λ x_kind x is_x line at code is_code x_stands inside v1 m1 operands d enough x_home. expression_follows ps p o.texts o.references scene knows call steady_call n u.name room since_lasts among_same n kept (sym of_unit) own_referred (swap_referred declared u o is many) (arrays_referred declared u o is many) x_kind x is_x line at code is_code x_stands inside v1 m1 operands d (omega arith) x_home)
+              (λ q q_valid t has_type line at code is_code x_stands inside v1 m1 operands d enough x_home. place_follows ps p o.texts o.references scene knows call steady_call n u.name room since_lasts among_same n kept (sym of_unit) own_referred (swap_referred declared u o is many) (arrays_referred declared u o is many) q q_valid t has_type line at code is_code x_stands inside v1 m1 operands d (omega arith) x_home)
+              (λ line at to callee k given xs r keeps given_valid is_code is_declared named xs_stands xs_inside v1 m1 operands d enough x_home rest steady behind. call_then ps p o.texts o.references scene knows call steady_call n u.name room since_lasts among_same n kept (sym of_unit) own_referred (swap_referred declared u o is many) (arrays_referred declared u o is many) {to = to} line at callee k given xs r keeps given_valid is_code is_declared named xs_stands xs_inside v1 m1 operands d enough x_home rest steady (λ rs longer after pushed grown routine top. fragment_credit {d = d} {e = λ b. d} (omega arith) (λ b. omega arith) (behind rs longer after pushed grown routine top)))
               kept (binds injection s memory enters.without_calls enters.in_unit) valid (makes since_lasts) injection memory below routine_credit (omega arith) (home o.start (plain_at 0) start_is memory.frames enters.without_calls enters.runs) (record { calls = enters.without_calls; unit = enters.in_unit }) in
               follows_from (at_entry o.start (plain_at 0) start_is (omega (arith, instructions_own)) enters)
               (follows_less {n = n} (omega arith) (follows_post (λ a t l lands. record { place = p.instructions.before + ends_block; instruction = return_code; stands = returns_stand.0; returns = (let routine = lands.post.routine in subst (λ (x : State). obey G return_code x ≡ light Returns) (sym lands.is) (returns_from (p.instructions.before + ends_block) lands.operands lands.memory t.trace (no_calls memory.frames.calls lands.memory.frames.calls routine.calls enters.without_calls))); lands = lands }) (body.by s enters.matches (since_here injection s memory))));

@@ -7,7 +7,7 @@ use Rattle.ep_gen_code.specs.Jumps.{landed}
 use Rattle.ep_gen_code.specs.declared.code.Code.{Code}
 use Rattle.ep_gen_unit.specs.StmtCode.{IsItemCode, AreItemsCode, IsStmtCode, AreStmtsCode, AreBoundsCode, IsFirstCode, IsTestCode, IsUndefineCode, IsLeastCode, IsKeptCode, IsBindCode, make_all_code, return_code, end_code, AreArmsCode, IsOtherCode}
 use Rattle.ep_gen_unit.specs.TagCode.{IsTriedCode, IsChangeCode, IsTakenCode}
-use Rattle.ep_gen_unit.specs.UnitCode.{fill_code, swap_code, AreRoutinesCode, AreTypesCode, elaborating_code, own_code, entry_of, its_end}
+use Rattle.ep_gen_unit.specs.UnitCode.{IsFillCode, IsShuffleCode, fill_code, range_code, spread_code, swap_code, AreRoutinesCode, AreTypesCode, elaborating_code, own_code, entry_of, its_end}
 use Rattle.ep_object.specs.declared.code.CodeRoutine.{CodeRoutine}
 use Rattle.ep_object.specs.declared.code.Instr.{Instr}
 use Rattle.ep_object.specs.declared.code.Object.{Object}
@@ -171,6 +171,23 @@ pub record AppendsSwap (old new : Code) (entry : ℕ) : Type 0 where
 pub record AppendsFill (old new : Code) (entry : ℕ) : Type 0 where
   pub starts : entry ≡ length old.instructions
   pub follows : Follows old new (fill_code entry)
+
+-- This code is appended, and this is its entry.
+pub record AppendsShuffle (old new : Code) (its : List Instr) (entry : ℕ) : Type 0 where
+  pub starts : entry ≡ length old.instructions
+  pub follows : Follows old new its
+
+-- The code of the routines that give values to components of arrays is appended, and their entries to those that there were.
+pub record AppendsArrays (old new : Code) (before after : List CodeRoutine) : Type 0 where
+  pub code : List Instr
+  pub follows : Follows old new code
+  pub filling : CodeRoutine
+  pub fills : IsFillCode new.instructions filling
+  pub ranging : CodeRoutine
+  pub ranges : IsShuffleCode new.instructions 3 range_code ranging
+  pub spreading : CodeRoutine
+  pub spreads : IsShuffleCode new.instructions 5 spread_code spreading
+  pub are : after ≡ before ++ filling ∷ ranging ∷ spreading ∷ []
 
 -- The code that elaborates a type is appended, and this is its entry.
 pub record AppendsType (old new : Code) (t : UnitType) (entry : ℕ) : Type 0 where

@@ -13,7 +13,7 @@ use Rattle.ep_object.specs.declared.code.Instr.{Instr}
 use Rattle.ep_object.specs.declared.code.Object.{Object}
 use Rattle.ep_object.specs.declared.code.Reference.{Reference}
 use Rattle.ep_object.specs.declared.op.TheConstants as op
-use Rattle.ep_object.specs.Promises.{filling_code, swap_routine}
+use Rattle.ep_object.specs.Promises.{filling_code, ranging_code, spreading_code, swap_routine}
 use Rattle.ep_outside.specs.Known.{IsPrefix}
 use Rattle.ep_typed.specs.Denoters.{definition_of}
 use Rattle.ep_typed.specs.Meaning.{line_where}
@@ -100,6 +100,19 @@ pub record IsFillCode (instructions : List Instr) (x : CodeRoutine) : Type 0 whe
   pub plain : x ≡ routine_at x.entry 4 1
   pub stands : StandsIn instructions x.entry (fill_code x.entry)
 
+-- the code that leaves the indexes of a range and what tests them
+abbrev pub range_code : List Instr
+range_code = ranging_code code.NO_LINE
+
+-- the code that leaves what the components with the indexes of a range are given by
+abbrev pub spread_code : List Instr
+spread_code = spreading_code code.NO_LINE
+
+-- at the entry of a routine that takes so many operands and has one slot stands this code
+pub record IsShuffleCode (instructions : List Instr) (operands : ℕ) (its : List Instr) (x : CodeRoutine) : Type 0 where
+  pub plain : x ≡ routine_at x.entry operands 1
+  pub stands : StandsIn instructions x.entry its
+
 -- the object of a program
 pub record IsProgramCode (u : TypedUnit) (o : Object) : Type 0 where
   -- the code of the block
@@ -114,11 +127,15 @@ pub record IsProgramCode (u : TypedUnit) (o : Object) : Type 0 where
   pub swaps : IsSwapCode o.instructions swapping
   pub filling : CodeRoutine
   pub fills : IsFillCode o.instructions filling
+  pub ranging : CodeRoutine
+  pub ranges : IsShuffleCode o.instructions 3 range_code ranging
+  pub spreading : CodeRoutine
+  pub spreads : IsShuffleCode o.instructions 5 spread_code spreading
   pub elaborating : List CodeRoutine
   pub types : AreTypesCode o.instructions u.types elaborating
   -- the first references, to the routines behind the stop
   pub named : IsPrefix (in_row u.name (swap_routine (length u.routines)) (type_reference (length u.types))) o.references
-  pub routines : o.routines ≡ entries ++ plain_at 0 ∷ plain_at (length (make_all_code 0 (made_by_unit u)) + length code + 1) ∷ swapping ∷ filling ∷ elaborating
+  pub routines : o.routines ≡ entries ++ plain_at 0 ∷ plain_at (length (make_all_code 0 (made_by_unit u)) + length code + 1) ∷ swapping ∷ filling ∷ ranging ∷ spreading ∷ elaborating
   pub start : o.start ≡ length u.routines
   pub stop : o.stop ≡ length u.routines + 1
   pub unit_slots : o.unit_slots ≡ length (unit_variables u)

@@ -3,14 +3,15 @@
 ghost use Rattle.std.specs.Prelude.{◌≡◌, ◌+◌, ◌<◌, ◌^◌, OnOk, IfOk, length};
 ghost use Rattle.ep_gen_code.specs.Growth.{Grows};
 ghost use Rattle.ep_gen_unit.specs.StmtCode.{function_end, result_code, make_code, make_all_code, value_code, place_taken, take_code, take_all_code};
-ghost use Rattle.ep_gen_unit.specs.StmtGrowth.{AppendsEnd, AppendsFill, AppendsStart, AppendsRoutine, AppendsRoutines, AppendsSwap, AppendsType, AppendsTypes, Follows, IsCompact, MakesBlock, MakesOwn, MakesResult, assembled};
+ghost use Rattle.ep_gen_unit.specs.StmtGrowth.{AppendsArrays, AppendsEnd, AppendsFill, AppendsShuffle, AppendsStart, AppendsRoutine, AppendsRoutines, AppendsSwap, AppendsType, AppendsTypes, Follows, IsCompact, MakesBlock, MakesOwn, MakesResult, assembled};
 ghost use Rattle.ep_typed.specs.Auxiliaries.{block_auxiliaries, with_variables};
 ghost use Rattle.ep_typed.specs.Denoters.{host_of};
 ghost use Rattle.ep_typed.specs.Meaning.{line_where};
 ghost use Rattle.ep_typed.specs.Viewed.{denoter_of, stmt_of};
 ghost use Rattle.ep_gen_unit.specs.UnitCode.{IsProgramCode, routine_at};
+ghost use Rattle.ep_gen_code.specs.declared.code.TheConstants as code_line;
 ghost use Rattle.ep_gen_code.specs.declared.references.TheConstants as routine;
-ghost use Rattle.ep_object.specs.Promises.{copying_code, next_code};
+ghost use Rattle.ep_object.specs.Promises.{copying_code, first_code, next_code, ranging_code, row_code, spreading_code};
 
 use crate::statements::statement_code;
 use ep_base::{Line, List, Name, NoMemory};
@@ -26,8 +27,8 @@ use std::alloc::{AllocError, Global};
 
 /// The object of a program. Its first routines are those of the program, by their numbers; the one after them makes
 /// the variables and runs the block, the next one does nothing, then there is one that leaves two operands in the other order and
-/// one that gives the value of a component of an array to others, and the last ones elaborate the types, by their numbers. Where
-/// memory is wanting, or the code or a table would reach 2 ^ 32 - 1 entries, the program is refused.
+/// those that give values to components of arrays, and the last ones elaborate the types, by their numbers. Where memory is
+/// wanting, or the code or a table would reach 2 ^ 32 - 1 entries, the program is refused.
 pub fn program_code(alloc: Global, u: &Unit) -> Result<Object, NoMemory>
     ensures program { IfOk result (λ o. IsProgramCode u.now o) }
     ensures compact { IfOk result (λ o. IsCompact o) }
@@ -43,8 +44,7 @@ pub fn program_code(alloc: Global, u: &Unit) -> Result<Object, NoMemory>
     routines.push(routine_at(stop_entry, 0, 0))?;
     let swap_entry = swap_code(&mut code)?;
     routines.push(routine_at(swap_entry, 2, 0))?;
-    let fill_entry = fill_code(&mut code)?;
-    routines.push(routine_at(fill_entry, 4, 1))?;
+    array_routines_code(&mut routines, &mut code)?;
     types_code(u.types.items(), &mut routines, &mut code)?;
     // A place of the code has to fit a field of an instruction.
     next_place(&code)?;
@@ -74,6 +74,77 @@ fn swap_code(code: &mut Code) -> Result<u32, NoMemory>
     emit(code, op::ARG, 0, 0)?;
     emit(code, op::RETURN, 0, 0)?;
     Ok(entry)
+}
+
+/// Appends the code of the routines that give values to components of arrays, and their entries.
+fn array_routines_code(routines: &mut CodeRoutines, code: &mut Code) -> Result<(), NoMemory>
+    ensures { OnOk result (AppendsArrays code.old code.new routines.old routines.new) }
+{
+    let fill_entry = fill_code(code)?;
+    let range_entry = range_code(code)?;
+    let spread_entry = spread_code(code)?;
+    routines.push(routine_at(fill_entry, 4, 1))?;
+    routines.push(routine_at(range_entry, 3, 1))?;
+    routines.push(routine_at(spread_entry, 5, 1))?;
+    Ok(())
+}
+
+/// Appends the code of the routine that leaves the indexes of a range and what tests them, and answers its entry.
+fn range_code(code: &mut Code) -> Result<u32, NoMemory>
+    ensures { IfOk result (λ entry. AppendsShuffle code.old code.new (ranging_code code_line.NO_LINE) entry) }
+{
+    let entry = next_place(code)?;
+    code.line = NO_LINE;
+    emit(code, op::ARG, 0, 0)?;
+    emit(code, op::BIND, 0, 0)?;
+    emit(code, op::PEEK, 1, 0)?;
+    emit(code, op::PEEK, 2, 0)?;
+    emit(code, op::SLOT, 0, 0)?;
+    emit(code, op::SLOT, 0, 0)?;
+    emit(code, op::PEEK, 2, 0)?;
+    emit(code, op::SLOT, 0, 0)?;
+    emit(code, op::PEEK, 1, 0)?;
+    emit(code, op::RETURN, 0, 0)?;
+    Ok(entry)
+}
+
+/// Appends the code of the routine that leaves what the components with the indexes of a range are given by, and answers its
+/// entry.
+fn spread_code(code: &mut Code) -> Result<u32, NoMemory>
+    ensures { IfOk result (λ entry. AppendsShuffle code.old code.new (spreading_code code_line.NO_LINE) entry) }
+{
+    let entry = next_place(code)?;
+    code.line = NO_LINE;
+    leave_row(code)?;
+    leave_first(code)?;
+    Ok(entry)
+}
+
+/// Appends what leaves the place and the value, and above them what the routine that fills takes.
+fn leave_row(code: &mut Code) -> Result<(), NoMemory>
+    ensures { OnOk result (Grows code.old code.new (row_code code.old.line)) }
+{
+    emit(code, op::ARG, 2, 0)?;
+    emit(code, op::BIND, 0, 0)?;
+    emit(code, op::SLOT, 0, 0)?;
+    emit(code, op::ARG, 3, 0)?;
+    emit(code, op::SLOT, 0, 0)?;
+    emit(code, op::PEEK, 0, 0)?;
+    emit(code, op::PEEK, 0, 0)?;
+    emit(code, op::PEEK, 1, 0)
+}
+
+/// Appends what leaves the value again, the first component by the place and its index, and whether there is one.
+fn leave_first(code: &mut Code) -> Result<(), NoMemory>
+    ensures { OnOk result (Grows code.old code.new (first_code code.old.line)) }
+{
+    emit(code, op::ARG, 4, 0)?;
+    emit(code, op::SLOT, 0, 0)?;
+    emit(code, op::PEEK, 0, 0)?;
+    emit(code, op::PEEK, 0, 0)?;
+    emit(code, op::PEEK, 1, 0)?;
+    apply_binary(Binary::AtMost, code)?;
+    emit(code, op::RETURN, 0, 0)
 }
 
 /// Appends the code of the routine that gives the value of a component of an array to others, and answers its entry.

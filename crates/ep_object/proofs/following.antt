@@ -5,8 +5,11 @@ pub mod Declaring
 pub mod Filling
 pub mod Fragments
 pub mod Losing
-pub mod Routines
 pub mod Promising
+pub mod Ranging
+pub mod Routines
+pub mod Shuffling
 pub mod Simulating
+pub mod Spreading
 pub mod Swapping
 pub mod Weights

@@ -18,7 +18,7 @@ use Rattle.ep_object.specs.Simulates.{KeepPace, StaysIn, EndsAfter, StaysAfter}
 use Rattle.ep_object.specs.State.{State, Running}
 use Rattle.ep_object.specs.Table as table
 use Rattle.ep_object.specs.Table.{instr, op_of}
-use Rattle.ep_object.specs.WordRows.{less}
+use Rattle.ep_object.specs.WordRows.{at_most, less}
 use Rattle.ep_object.specs.declared.code.Image.{Image}
 use Rattle.ep_object.specs.declared.code.ImageRoutine.{ImageRoutine}
 use Rattle.ep_object.specs.declared.code.Instr.{Instr}
@@ -157,9 +157,17 @@ swap_routine routines = routines + 2
 abbrev pub fill_routine : ℕ → ℕ
 fill_routine routines = routines + 3
 
+-- of the one that leaves the indexes of a range, and what tests them
+abbrev pub range_routine : ℕ → ℕ
+range_routine routines = routines + 4
+
+-- of the one that leaves what the components with the indexes of a range are given by
+abbrev pub spread_routine : ℕ → ℕ
+spread_routine routines = routines + 5
+
 -- and of the one that elaborates the type of this number, which stand behind that
 abbrev pub type_routine : ℕ → ℕ → ℕ
-type_routine routines index = routines + 4 + index
+type_routine routines index = routines + 6 + index
 
 -- the credit behind the elaboration of a type
 abbrev pub type_credit : ℕ
@@ -246,15 +254,70 @@ pub record FillStands (G : Image) (ps : List Placement) (unit : List ℕ) (routi
   pub fills : IsFill G routine
   pub placed : (i : Instr) → placed_call ps (Some (record { unit = unit; number = fill_routine routines })) i ≡ record i { a = pos routine }
 
+-- The routine of this number in the image takes so many operands, has one slot, and has this code, each instruction of which has the
+-- same line.
+pub record IsShuffle (G : Image) (routine operands : ℕ) (code : ℕ → List Instr) : Type 0 where
+  pub its : ImageRoutine
+  pub there : routine_of G routine ≡ Some its
+  pub numbered : routine < length G.routines
+  pub takes : its.arguments ≡ operands
+  pub has_slot : its.slots ≡ 1
+  pub line : ℕ
+  pub stands : StandFrom G its.entry (code line)
+
+-- The code of the routine that takes the place of an array and the first and the last index of a range. It leaves the indexes, and the
+-- place above them; and above that the last index with the place, and the first one with it, for `Index` to test.
+abbrev pub ranging_code : (line : ℕ) → List Instr
+ranging_code line =
+    instr op.ARG (pos 0) 0 line ∷ instr op.BIND (pos 0) 0 line ∷ instr op.PEEK (pos 1) 0 line ∷ instr op.PEEK (pos 2) 0 line
+    ∷ instr op.SLOT (pos 0) 0 line ∷ instr op.SLOT (pos 0) 0 line ∷ instr op.PEEK (pos 2) 0 line
+    ∷ instr op.SLOT (pos 0) 0 line ∷ instr op.PEEK (pos 1) 0 line ∷ instr op.RETURN (pos 0) 0 line ∷ []
+
+-- In the routine that takes the first and the last index of a range, the place of an array, and a value twice: it leaves the place and
+-- the value, and above them what the routine that gives the value of a component to others takes, which are here the component with
+-- the first index and those of the range.
+abbrev pub row_code : (line : ℕ) → List Instr
+row_code line =
+    instr op.ARG (pos 2) 0 line ∷ instr op.BIND (pos 0) 0 line ∷ instr op.SLOT (pos 0) 0 line ∷ instr op.ARG (pos 3) 0 line
+    ∷ instr op.SLOT (pos 0) 0 line ∷ instr op.PEEK (pos 0) 0 line ∷ instr op.PEEK (pos 0) 0 line ∷ instr op.PEEK (pos 1) 0 line ∷ []
+
+-- behind that: the value again, the first component by the place and its index, and whether the first index is at most the last one
+abbrev pub first_code : (line : ℕ) → List Instr
+first_code line =
+    instr op.ARG (pos 4) 0 line ∷ instr op.SLOT (pos 0) 0 line ∷ instr op.PEEK (pos 0) 0 line
+    ∷ instr op.PEEK (pos 0) 0 line ∷ instr op.PEEK (pos 1) 0 line ∷ instr op.CMP at_most 0 line ∷ instr op.RETURN (pos 0) 0 line ∷ []
+
+-- The code of that routine.
+abbrev pub spreading_code : (line : ℕ) → List Instr
+spreading_code line = row_code line ++ first_code line
+
+-- A unit with so many routines has the first of these in the image, by which a call that names it is placed.
+pub record RangeStands (G : Image) (ps : List Placement) (unit : List ℕ) (routines : ℕ) : Type 0 where
+  pub routine : ℕ
+  pub ranges : IsShuffle G routine 3 ranging_code
+  pub placed : (i : Instr) → placed_call ps (Some (record { unit = unit; number = range_routine routines })) i ≡ record i { a = pos routine }
+
+-- and the second one
+pub record SpreadStands (G : Image) (ps : List Placement) (unit : List ℕ) (routines : ℕ) : Type 0 where
+  pub routine : ℕ
+  pub spreads : IsShuffle G routine 5 spreading_code
+  pub placed : (i : Instr) → placed_call ps (Some (record { unit = unit; number = spread_routine routines })) i ≡ record i { a = pos routine }
+
+-- A unit with so many routines has all of those that give values to components of arrays.
+pub record ArrayRoutinesStand (G : Image) (ps : List Placement) (unit : List ℕ) (routines : ℕ) : Type 0 where
+  pub fill : FillStands G ps unit routines
+  pub range : RangeStands G ps unit routines
+  pub spread : SpreadStands G ps unit routines
+
 -- Every routine that is declared does so, and so does that of every type that has a type value. Each unit with types has the
--- routine that leaves two operands in the other order, and the one that gives the value of a component to others.
+-- routine that leaves two operands in the other order, and those that give values to components of arrays.
 pub record CallsAreKept (declared : Declarations) (G : Image) (ps : List Placement) (call : Handler) (n : ℕ) : Type 0 where
   pub routines : (unit : List ℕ) (number : ℕ) (r : RoutineEntry)
       → slice_get (declared.routines unit) number ≡ Some r → RoutineKeeps declared G ps call n unit number r
   pub types : (unit : List ℕ) (index : ℕ) (t : TypeValue)
       → IsTyped (declared.types unit) (Named index []) t → TypeKeeps declared G ps call n unit index t
   pub swaps : (unit : List ℕ) → 0 < length (declared.types unit) → SwapStands G ps unit (length (declared.routines unit))
-  pub fills : (unit : List ℕ) → 0 < length (declared.types unit) → FillStands G ps unit (length (declared.routines unit))
+  pub of_arrays : (unit : List ℕ) → 0 < length (declared.types unit) → ArrayRoutinesStand G ps unit (length (declared.routines unit))
 
 -- ---- what this says of runs from a call
 

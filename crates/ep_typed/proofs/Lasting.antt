@@ -1,9 +1,9 @@
 -- With more steps, and more turns of its loops, a computation comes to the same, or goes on from where it was cut.
 use Rattle.std.proofs.Common.{◌≡◌, ℕ, ℤ, pos, negsuc, zero, suc, ◌+◌, ◌*◌, List, [], ◌∷◌, Option, Some, None, Bool, true, false, length, refl, ap, arith}
-use Rattle.std.specs.Prelude.{if◌then◌else◌}
+use Rattle.std.specs.Prelude.{if◌then◌else◌, int_le}
 use Rattle.ep_typed.specs.Controls.{in_order, next_value, has_more, others}
 use Rattle.ep_typed.specs.Denoters.{definition_of, required_type, subrange_type, enumeration_type, array_type, set_type}
-use Rattle.ep_typed.specs.Meaning.{clears, clears_all, tag_tested, selected_by, selected_now, is_another, changes_variant, sets_tag, assigns_tag, looks, argument, arguments, extended, collected, first_located, located, reached, given, taken, gives, gives_all, members_found, one_result, weights_of, results_given, initialized, takes_by, takes_all, elaborate, elaborate_each, answered, indexed, selected, selecting, selects, chosen, active, part, chosen_part, active_part, place, eval, write_piece, write_wide, write_item, write_items, assign, turns, turns_until, assigns, undefines, turns_to, counts, takes_least, member_turn, names, exec, exec_all, elaborated, elaborated_where, make, make_all, make_own, make_all_own, start_of, starts_of, routine_in, type_in, line_where, activation, runs_routine, routine_does, type_does, handler_of, read, assign_living, tried, exec_arms, exec_other, begins, begins_where}
+use Rattle.ep_typed.specs.Meaning.{clears, clears_all, tag_tested, selected_by, selected_now, is_another, changes_variant, sets_tag, assigns_tag, looks, argument, arguments, extended, collected, first_located, given_at, given_each, given_from, indexes, ranging, located, reached, given, taken, gives, gives_all, members_found, one_result, weights_of, results_given, initialized, takes_by, takes_all, elaborate, elaborate_each, answered, indexed, selected, selecting, selects, chosen, active, part, chosen_part, active_part, place, eval, write_piece, write_wide, write_item, write_items, assign, turns, turns_until, assigns, undefines, turns_to, counts, takes_least, member_turn, names, exec, exec_all, elaborated, elaborated_where, make, make_all, make_own, make_all_own, start_of, starts_of, routine_in, type_in, line_where, activation, runs_routine, routine_does, type_does, handler_of, read, assign_living, tried, exec_arms, exec_other, begins, begins_where}
 use Rattle.ep_typed.specs.Nameless.{begins_nameless, fills, fills_all, newest_nameless, range_count}
 use Rattle.ep_typed.specs.Operations.{Answer, Number, Fault, is_same, is_true, decides, is_in}
 use Rattle.ep_typed.specs.Printing.{Result, number_of, members_of, plain_text, wide_text, piece_events}
@@ -16,7 +16,7 @@ use Rattle.ep_typed.specs.Steps.{Value as ValueOf}
 use Rattle.ep_typed.specs.SetOperations.{set_answer}
 use Rattle.ep_typed.specs.Sets.{least_member, with_number, with_numbers}
 use Rattle.ep_typed.specs.Results.{misfit, result_of, start_from, suits, unresulting, value_of, weight_of}
-use Rattle.ep_typed.specs.Trees.{Array, Enumeration, Subrange, Named, Record, Set, Required, Denoter, Denoters, no_denoter, next_denoter, Callee, Place, Variable, Own, Standard, Indexed, Field, Variant, Expr, Constant, Text, Read, One, Two, Short, Step, Function, IndexedValue, FieldValue, VariantValue, SetOf, OnSets, Card, Designator, Single, Range, Designators, no_member, next_member, Actual, Evaluated, Accessed, Actuals, no_actual, next_actual, Item, Plain, Wide, Stmt, Stmts, Empty, Compound, Assign, Tagging, AssignTag, If, While, Repeat, Control, For, MemberControl, ForIn, With, Procedure, Halt, Write, none, next, Case, Arms, no_arm, next_arm, Other, no_other, otherwise_do, Entire, OfUnit, OfRoutine, entire, SetConstant, Initial, Structured, Element, AtIndex, AtField, SameField, AtRanges, Elements, no_element, next_element}
+use Rattle.ep_typed.specs.Trees.{Array, Enumeration, Subrange, Named, Record, Set, Required, Denoter, Denoters, no_denoter, next_denoter, Callee, Place, Variable, Own, Standard, Indexed, Field, Variant, Expr, Constant, Text, Read, One, Two, Short, Step, Function, IndexedValue, FieldValue, VariantValue, SetOf, OnSets, Card, Designator, Single, Range, Designators, no_member, next_member, Actual, Evaluated, Accessed, Actuals, no_actual, next_actual, Item, Plain, Wide, Stmt, Stmts, Empty, Compound, Assign, Tagging, AssignTag, If, While, Repeat, Control, For, MemberControl, ForIn, With, Procedure, Halt, Write, none, next, Case, Arms, no_arm, next_arm, Other, no_other, otherwise_do, Entire, OfUnit, OfRoutine, entire, SetConstant, Initial, Structured, Element, AtIndex, AtField, SameField, AtRanges, AtIndexes, Elements, no_element, next_element}
 use Rattle.ep_typed.specs.Routines.{made_variables, made_by_unit}
 use Rattle.ep_typed.specs.Viewed.{denoter_of, stmt_of}
 use Rattle.ep_typed.specs.declared.interface.Formal.{Formal}
@@ -245,6 +245,18 @@ module _ (call other : Handler) (lasts : IsLastingHandler call other) (g j : ℕ
       go m k s true = let x = lasting_spend (suc (weight_of r)) (lasting_change (λ t. grows_quiet t (assigned c (value_of r) t) refl refl)) in x.by m k s
       go m k s false = refl
 
+  -- indexes of a range, and what the components at them are given
+  lasting_ranging : (line : ℕ) (c : Component) (low high : ℤ) → Lasting (ranging call g unit line c low high) (ranging other (g + j) unit line c low high)
+  lasting_ranging line c low high =
+      lasting_bind (lasting_change grows_depth) (λ _. lasting_bind (lasting_located line c low) (λ _. lasting_bind (lasting_located line c high) (λ _. lasting_spend 1 (lasting_give (record { low = low; high = high })))))
+
+  lasting_given_from : (line : ℕ) (c : Component) (range : CaseRange) (r : Result) → Lasting (given_from call g unit line c range r) (given_from other (g + j) unit line c range r)
+  lasting_given_from line c range r =
+      lasting_if (int_le range.low range.high) (lasting_bind (lasting_located line c range.low) (λ d. lasting_bind (lasting_change grows_depth) (λ _. lasting_bind (lasting_given line d r) (λ _. lasting_fills_all c r (range ∷ []))))) (lasting_give tt)
+
+  lasting_given_each : (line : ℕ) (c : Component) (range : CaseRange) (r : Result) → Lasting (given_each call g unit line c range r) (given_each other (g + j) unit line c range r)
+  lasting_given_each line c range r = lasting_spend (suc (weight_of r)) (lasting_bind (lasting_change grows_depth) (λ _. lasting_given_from line c range r))
+
   lasting_taken : (line n : ℕ) → Lasting (taken call g unit line n) (taken other (g + j) unit line n)
   lasting_taken line n = lasting_using _ n (lasting_bind (lasting_fetch _ _) (λ r. lasting_bind (lasting_change grows_depth) (λ _. lasting_bind (lasting_change (grows_ended (n ∷ []))) (λ _. lasting_give r))))
 
@@ -290,6 +302,16 @@ module _ (call other : Handler) (lasts : IsLastingHandler call other) (g j : ℕ
     lasting_gives line c (SameField from to) = lasting_bind (lasting_reached line c to) (λ d. lasting_bind (lasting_change grows_depth) (λ _. lasting_bind (lasting_reached line c from) (λ source. lasting_bind (lasting_read line source) (lasting_given line d))))
     lasting_gives line c (AtRanges ranges x) =
         lasting_bind (lasting_first_located line c ranges) (λ d. lasting_bind (lasting_eval line x) (λ r. lasting_bind (lasting_given line d r) (λ _. lasting_fills_all c r ranges)))
+    lasting_gives line c (AtIndexes ds x) = lasting_bind (lasting_given_at line c ds (lasting_eval line x)) (λ r. lasting_give tt)
+
+    lasting_given_at : (line : ℕ) (c : Component) (ds : Designators) {value other_value : Computation Result} → Lasting value other_value → Lasting (given_at call g unit line c ds value) (given_at other (g + j) unit line c ds other_value)
+    lasting_given_at line c no_member its = its
+    lasting_given_at line c (next_member d ds) its =
+        lasting_bind (lasting_indexes line c d) (λ range. lasting_bind (lasting_given_at line c ds its) (λ r. lasting_bind (lasting_given_each line c range r) (λ _. lasting_give r)))
+
+    lasting_indexes : (line : ℕ) (c : Component) (d : Designator) → Lasting (indexes call g unit line c d) (indexes other (g + j) unit line c d)
+    lasting_indexes line c (Single x) = lasting_bind (lasting_eval line x) (λ z. lasting_ranging line c (number_of z) (number_of z))
+    lasting_indexes line c (Range x y) = lasting_bind (lasting_eval line x) (λ a. lasting_bind (lasting_eval line y) (λ b. lasting_ranging line c (number_of a) (number_of b)))
 
     lasting_gives_all : (line : ℕ) (c : Component) (es : Elements) → Lasting (gives_all call g unit line c es) (gives_all other (g + j) unit line c es)
     lasting_gives_all line c no_element = lasting_give tt

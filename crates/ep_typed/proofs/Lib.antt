@@ -1,6 +1,7 @@
 pub mod Auxiliaries
 pub mod Bares
 pub mod Denoters
+pub mod DesignatorCounts
 pub mod Done
 pub mod Examples
 pub mod Forms

@@ -1,12 +1,12 @@
 -- No computation takes back an event, or room that was lost.
 use Rattle.std.proofs.Common.{◌≡◌, ℕ, ℤ, pos, negsuc, zero, suc, ◌+◌, ◌*◌, List, [], ◌∷◌, ◌++◌, Option, Some, None, Bool, true, false, IsTrue, length, refl, sym, ap, ◌∙◌, append_assoc, append-nil}
-use Rattle.std.specs.Prelude.{if◌then◌else◌}
+use Rattle.std.specs.Prelude.{if◌then◌else◌, int_le}
 use Rattle.std.specs.List.{list_any}
 use Rattle.ep_outside.specs.Known.{IsPrefix}
 use Rattle.ep_typed.specs.Controls.{in_order, next_value, has_more, others}
 use Rattle.ep_typed.specs.Denoters.{definition_of, required_type, subrange_type, enumeration_type, array_type, set_type}
 use Rattle.ep_typed.specs.Events.{Trace}
-use Rattle.ep_typed.specs.Meaning.{clears, clears_all, tag_tested, selected_by, selected_now, is_another, changes_variant, sets_tag, assigns_tag, looks, argument, arguments, extended, collected, first_located, located, reached, given_living, given, taken, gives, gives_all, members_found, one_result, weights_of, result_at, results_given, initialized, takes_by, takes_all, elaborate, elaborate_each, answered, indexed, selected, selecting, selects, chosen, active, part, tag_read, chosen_part, active_part, place, eval, write_piece, write_wide, write_item, write_items, assign, turns, turns_until, assigns, undefines, turns_to, counts, takes_least, member_turn, names, exec, exec_all, elaborated, elaborated_where, make, make_all, make_own, make_all_own, start_of, starts_of, routine_in, type_in, line_where, activation, runs_routine, routine_does, type_does, handler_of, read, assign_living, tried, exec_arms, exec_other, begins, begins_where}
+use Rattle.ep_typed.specs.Meaning.{clears, clears_all, tag_tested, selected_by, selected_now, is_another, changes_variant, sets_tag, assigns_tag, looks, argument, arguments, extended, collected, first_located, given_at, given_each, given_from, indexes, ranging, located, reached, given_living, given, taken, gives, gives_all, members_found, one_result, weights_of, result_at, results_given, initialized, takes_by, takes_all, elaborate, elaborate_each, answered, indexed, selected, selecting, selects, chosen, active, part, tag_read, chosen_part, active_part, place, eval, write_piece, write_wide, write_item, write_items, assign, turns, turns_until, assigns, undefines, turns_to, counts, takes_least, member_turn, names, exec, exec_all, elaborated, elaborated_where, make, make_all, make_own, make_all_own, start_of, starts_of, routine_in, type_in, line_where, activation, runs_routine, routine_does, type_does, handler_of, read, assign_living, tried, exec_arms, exec_other, begins, begins_where}
 use Rattle.ep_typed.specs.Nameless.{all_assigned, assigned_from, begins_nameless, fills, fills_all, made_nameless, newest_nameless, range_assigned, range_count, takes_nameless, with_depth}
 use Rattle.ep_typed.specs.Operations.{Answer, Number, Fault, is_same, is_true, decides, is_in}
 use Rattle.ep_typed.specs.Printing.{Result, number_of, members_of, plain_text, wide_text, piece_events}
@@ -19,7 +19,7 @@ use Rattle.ep_typed.specs.Steps.{Value as ValueOf}
 use Rattle.ep_typed.specs.SetOperations.{set_answer}
 use Rattle.ep_typed.specs.Sets.{least_member, with_number, with_numbers}
 use Rattle.ep_typed.specs.Results.{misfit, result_of, start_from, suits, unresulting, value_of, weight_of}
-use Rattle.ep_typed.specs.Trees.{Array, Enumeration, Subrange, Named, Record, Set, Required, Denoter, Denoters, no_denoter, next_denoter, Callee, Place, Variable, Own, Standard, Indexed, Field, Variant, Expr, Constant, Text, Read, One, Two, Short, Step, Function, IndexedValue, FieldValue, VariantValue, SetOf, OnSets, Card, Designator, Single, Range, Designators, no_member, next_member, Actual, Evaluated, Accessed, Actuals, no_actual, next_actual, Item, Plain, Wide, Stmt, Stmts, Empty, Compound, Assign, Tagging, AssignTag, If, While, Repeat, Control, For, MemberControl, ForIn, With, Procedure, Halt, Write, none, next, Case, Arms, no_arm, next_arm, Other, no_other, otherwise_do, Entire, OfUnit, OfRoutine, entire, SetConstant, Initial, Structured, Element, AtIndex, AtField, SameField, AtRanges, Elements, no_element, next_element}
+use Rattle.ep_typed.specs.Trees.{Array, Enumeration, Subrange, Named, Record, Set, Required, Denoter, Denoters, no_denoter, next_denoter, Callee, Place, Variable, Own, Standard, Indexed, Field, Variant, Expr, Constant, Text, Read, One, Two, Short, Step, Function, IndexedValue, FieldValue, VariantValue, SetOf, OnSets, Card, Designator, Single, Range, Designators, no_member, next_member, Actual, Evaluated, Accessed, Actuals, no_actual, next_actual, Item, Plain, Wide, Stmt, Stmts, Empty, Compound, Assign, Tagging, AssignTag, If, While, Repeat, Control, For, MemberControl, ForIn, With, Procedure, Halt, Write, none, next, Case, Arms, no_arm, next_arm, Other, no_other, otherwise_do, Entire, OfUnit, OfRoutine, entire, SetConstant, Initial, Structured, Element, AtIndex, AtField, SameField, AtRanges, AtIndexes, Elements, no_element, next_element}
 use Rattle.ep_typed.specs.Routines.{made_variables, made_by_unit}
 use Rattle.ep_typed.specs.Viewed.{denoter_of, stmt_of}
 use Rattle.ep_typed.specs.declared.interface.Formal.{Formal}
@@ -307,6 +307,18 @@ module _ (call : Handler) (steady : IsSteadyHandler call) (g : ℕ) (unit : List
   pub steady_given : (line : ℕ) (c : Component) (r : Result) → Steady (given call g unit line c r)
   steady_given line c r = steady_using _ c.allocation (steady_given_living line c r)
 
+  -- indexes of a range, and what the components at them are given
+  pub steady_ranging : (line : ℕ) (c : Component) (low high : ℤ) → Steady (ranging call g unit line c low high)
+  steady_ranging line c low high =
+      steady_bind (steady_change grows_depth) (λ _. steady_bind (steady_located line c low) (λ _. steady_bind (steady_located line c high) (λ _. steady_spend 1 (steady_give (record { low = low; high = high })))))
+
+  pub steady_given_from : (line : ℕ) (c : Component) (range : CaseRange) (r : Result) → Steady (given_from call g unit line c range r)
+  steady_given_from line c range r =
+      steady_if (int_le range.low range.high) (steady_bind (steady_located line c range.low) (λ d. steady_bind (steady_change grows_depth) (λ _. steady_bind (steady_given line d r) (λ _. steady_fills_all c r (range ∷ []))))) (steady_give tt)
+
+  pub steady_given_each : (line : ℕ) (c : Component) (range : CaseRange) (r : Result) → Steady (given_each call g unit line c range r)
+  steady_given_each line c range r = steady_spend (suc (weight_of r)) (steady_bind (steady_change grows_depth) (λ _. steady_given_from line c range r))
+
   -- and what it is in the end
   pub steady_taken : (line n : ℕ) → Steady (taken call g unit line n)
   steady_taken line n = steady_takes _ _ n
@@ -351,6 +363,16 @@ module _ (call : Handler) (steady : IsSteadyHandler call) (g : ℕ) (unit : List
     steady_gives line c (AtField steps x) = steady_bind (steady_reached line c steps) (λ d. steady_bind (steady_eval line x) (steady_given line d))
     steady_gives line c (SameField from to) = steady_bind (steady_reached line c to) (λ d. steady_bind (steady_change grows_depth) (λ _. steady_bind (steady_reached line c from) (λ source. steady_bind (steady_read line source) (steady_given line d))))
     steady_gives line c (AtRanges ranges x) = steady_bind (steady_first_located line c ranges) (λ d. steady_bind (steady_eval line x) (λ r. steady_bind (steady_given line d r) (λ _. steady_fills_all c r ranges)))
+    steady_gives line c (AtIndexes ds x) = steady_bind (steady_given_at line c ds (steady_eval line x)) (λ r. steady_give tt)
+
+    pub steady_given_at : (line : ℕ) (c : Component) (ds : Designators) {value : Computation Result} → Steady value → Steady (given_at call g unit line c ds value)
+    steady_given_at line c no_member its = its
+    steady_given_at line c (next_member d ds) its =
+        steady_bind (steady_indexes line c d) (λ range. steady_bind (steady_given_at line c ds its) (λ r. steady_bind (steady_given_each line c range r) (λ _. steady_give r)))
+
+    pub steady_indexes : (line : ℕ) (c : Component) (d : Designator) → Steady (indexes call g unit line c d)
+    steady_indexes line c (Single x) = steady_bind (steady_eval line x) (λ z. steady_ranging line c (number_of z) (number_of z))
+    steady_indexes line c (Range x y) = steady_bind (steady_eval line x) (λ a. steady_bind (steady_eval line y) (λ b. steady_ranging line c (number_of a) (number_of b)))
 
     pub steady_gives_all : (line : ℕ) (c : Component) (es : Elements) → Steady (gives_all call g unit line c es)
     steady_gives_all line c no_element = steady_give tt

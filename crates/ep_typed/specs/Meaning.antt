@@ -1,11 +1,11 @@
 -- The meaning of typed trees, by recursion on them, in counted steps.
 use Rattle.std.specs.Str.{bytes_eq}
-use Rattle.std.specs.Prelude.{ℕ, ℤ, pos, negsuc, zero, suc, ◌+◌, Bool, true, false, not, List, [], ◌∷◌, length, slice_get, Option, Some, None, if◌then◌else◌}
+use Rattle.std.specs.Prelude.{ℕ, ℤ, pos, negsuc, zero, suc, ◌+◌, int_le, Bool, true, false, not, List, [], ◌∷◌, length, slice_get, Option, Some, None, if◌then◌else◌}
 use Rattle.ep_typed.specs.Calls.{Argument, Value, Handler, activation_words, in_call}
 use Rattle.ep_typed.specs.Calls as argument_is
 use Rattle.ep_typed.specs.Controls.{in_order, next_value, has_more, others}
 use Rattle.ep_typed.specs.Denoters.{required_type, subrange_type, enumeration_type, array_type, set_type, definition_of}
-use Rattle.ep_typed.specs.Trees.{Denoter, Required, Named, Subrange, Enumeration, Array, Record, Denoters, no_denoter, next_denoter, Set, Initial, Callee, Place, Variable, Own, Standard, Indexed, Field, Variant, Expr, Constant, Text, Read, One, Two, Short, Step, Function, IndexedValue, FieldValue, VariantValue, SetOf, OnSets, Card, Designator, Single, Range, Designators, no_member, next_member, Actual, Evaluated, Accessed, Actuals, no_actual, next_actual, Item, Plain, Wide, Stmt, Stmts, Empty, Compound, Assign, Tagging, AssignTag, If, While, Repeat, Control, For, MemberControl, ForIn, With, Procedure, Halt, Write, none, next, Case, Arms, no_arm, next_arm, Other, no_other, otherwise_do, Entire, OfUnit, OfRoutine, entire, SetConstant, Structured, Element, AtIndex, AtField, SameField, AtRanges, Elements, no_element, next_element}
+use Rattle.ep_typed.specs.Trees.{Denoter, Required, Named, Subrange, Enumeration, Array, Record, Denoters, no_denoter, next_denoter, Set, Initial, Callee, Place, Variable, Own, Standard, Indexed, Field, Variant, Expr, Constant, Text, Read, One, Two, Short, Step, Function, IndexedValue, FieldValue, VariantValue, SetOf, OnSets, Card, Designator, Single, Range, Designators, no_member, next_member, Actual, Evaluated, Accessed, Actuals, no_actual, next_actual, Item, Plain, Wide, Stmt, Stmts, Empty, Compound, Assign, Tagging, AssignTag, If, While, Repeat, Control, For, MemberControl, ForIn, With, Procedure, Halt, Write, none, next, Case, Arms, no_arm, next_arm, Other, no_other, otherwise_do, Entire, OfUnit, OfRoutine, entire, SetConstant, Structured, Element, AtIndex, AtField, SameField, AtRanges, AtIndexes, Elements, no_element, next_element}
 use Rattle.ep_typed.specs.Routines.{made_variables, made_by_unit}
 use Rattle.ep_typed.specs.Viewed.{denoter_of, stmt_of}
 use Rattle.ep_typed.specs.Steps.{Call, Normal, Halted, Error, Undefined, Outcome, Computation, give, cut, stop, bind, spend, change, fetch, fetch_or, with_events, assigned, type_at, whole, Component, component, component_number, is_number, tag_of, variant_number, with_type, allocate, allocate_own, own_variable, newest_assigned, with_bound, with_own_bound, standard_file, first_state, using, is_within, size_of, variants_count}
@@ -142,6 +142,22 @@ module _ (call : Handler) (g : ℕ) (unit : List ℕ) where
   abbrev pub given : ℕ → Component → Result → Computation (Unit {0})
   given line c r = using (Error run_error.DISPOSED unit line) c.allocation (given_living line c r)
 
+  -- Indexes from one to another, both of which are tested, the first one first. That spends a step, and a call is under way on the
+  -- machine, whose depth counts.
+  abbrev pub ranging : ℕ → Component → ℤ → ℤ → Computation CaseRange
+  ranging line c low high =
+      bind (change with_depth) (λ _. bind (located line c low) (λ _. bind (located line c high) (λ _. spend 1 (give (record { low = low; high = high })))))
+
+  -- The components with the indexes of a range are given a value: the first one, and then all of them have what it has. There are
+  -- none where the first index is above the last one.
+  abbrev pub given_from : ℕ → Component → CaseRange → Result → Computation (Unit {0})
+  given_from line c range r =
+      if int_le range.low range.high then bind (located line c range.low) (λ d. bind (change with_depth) (λ _. bind (given line d r) (λ _. fills_all c r (range ∷ [])))) else give tt
+
+  -- That spends a step and what the value weighs besides, and a call is under way on the machine.
+  abbrev pub given_each : ℕ → Component → CaseRange → Result → Computation (Unit {0})
+  given_each line c range r = spend (suc (weight_of r)) (bind (change with_depth) (λ _. given_from line c range r))
+
   -- what it is when all is given, which ends it
   abbrev pub taken : ℕ → ℕ → Computation Result
   taken line n = takes_nameless (Error run_error.DISPOSED unit line) (Error run_error.UNDEFINED_VALUE unit line) n
@@ -189,6 +205,18 @@ module _ (call : Handler) (g : ℕ) (unit : List ℕ) where
     gives line c (SameField from to) = bind (reached line c to) (λ d. bind (change with_depth) (λ _. bind (reached line c from) (λ source. bind (read line source) (given line d))))
     -- the first of the components is given the value, and then all of them have it
     gives line c (AtRanges ranges x) = bind (first_located line c ranges) (λ d. bind (eval line x) (λ r. bind (given line d r) (λ _. fills_all c r ranges)))
+    gives line c (AtIndexes ds x) = bind (given_at line c ds (eval line x)) (λ r. give tt)
+
+    -- The indexes of an element come first, in order, and then its value, which the components at them are given. The last ones
+    -- get it first, which nothing can tell (own).
+    pub given_at : ℕ → Component → Designators → Computation Result → Computation Result
+    given_at line c no_member value = value
+    given_at line c (next_member d ds) value = bind (indexes line c d) (λ range. bind (given_at line c ds value) (λ r. bind (given_each line c range r) (λ _. give r)))
+
+    -- an index alone is a range of its own
+    pub indexes : ℕ → Component → Designator → Computation CaseRange
+    indexes line c (Single x) = bind (eval line x) (λ z. ranging line c (number_of z) (number_of z))
+    indexes line c (Range x y) = bind (eval line x) (λ a. bind (eval line y) (λ b. ranging line c (number_of a) (number_of b)))
 
     -- in order
     pub gives_all : ℕ → Component → Elements → Computation (Unit {0})

@@ -1,6 +1,6 @@
 -- How many typed nodes a unit has: its expressions, places, statements, ranges of `case` statements, of variants, of structured values, of places in variants and of assignments to tags, steps to components of structured values, imports, routines, formals, variables, denoters, bounds and values. An expression that is a constant or a text counts one, and its value one more; that of a set one more for each member. So do the values of constants.
-use Rattle.std.specs.Prelude.{ℕ, ◌+◌, ◌*◌, List, [], ◌∷◌, length, map, sum, Option, Some, None}
-use Rattle.ep_typed.specs.Trees.{Place, Variable, Own, Standard, Indexed, Field, Variant, Expr, Constant, Text, Read, One, Two, Short, Step, Function, IndexedValue, FieldValue, VariantValue, SetOf, OnSets, Card, Designator, Single, Range, Designators, no_member, next_member, Actual, Evaluated, Accessed, Actuals, no_actual, next_actual, Item, Plain, Wide, Stmt, Stmts, Empty, Compound, Assign, AssignTag, If, While, Repeat, For, ForIn, With, Procedure, Case, Halt, Write, none, next, Arm, Arms, no_arm, next_arm, Other, no_other, otherwise_do, entire, SetConstant, Structured, Element, AtIndex, AtField, SameField, AtRanges, Elements, no_element, next_element, elements}
+use Rattle.std.specs.Prelude.{ℕ, suc, ◌+◌, ◌*◌, List, [], ◌∷◌, length, map, sum, Option, Some, None}
+use Rattle.ep_typed.specs.Trees.{Place, Variable, Own, Standard, Indexed, Field, Variant, Expr, Constant, Text, Read, One, Two, Short, Step, Function, IndexedValue, FieldValue, VariantValue, SetOf, OnSets, Card, Designator, Single, Range, Designators, no_member, next_member, Actual, Evaluated, Accessed, Actuals, no_actual, next_actual, Item, Plain, Wide, Stmt, Stmts, Empty, Compound, Assign, AssignTag, If, While, Repeat, For, ForIn, With, Procedure, Case, Halt, Write, none, next, Arm, Arms, no_arm, next_arm, Other, no_other, otherwise_do, entire, SetConstant, Structured, Element, AtIndex, AtField, SameField, AtRanges, AtIndexes, Elements, no_element, next_element, elements}
 use Rattle.ep_typed.specs.Viewed.{element_of, expr_of, stmt_of}
 use Rattle.ep_typed.specs.declared.denoter.Denoter.{Denoter}
 use Rattle.ep_typed.specs.declared.denoter.Denoter.TheOpen as denoter
@@ -30,6 +30,11 @@ use Rattle.ep_typed.specs.declared.value.Value.TheVariants as value
 abbrev pub labels_nodes : List (List CaseRange) → ℕ
 labels_nodes [] = 0
 labels_nodes (ranges ∷ more) = 3 * length ranges + labels_nodes more
+
+-- how many designators these are
+abbrev pub designators_count : Designators → ℕ
+designators_count no_member = 0
+designators_count (next_member d more) = suc (designators_count more)
 
 abbrev mutual
   pub place_nodes : Place → ℕ
@@ -70,12 +75,13 @@ abbrev mutual
   designator_nodes (Single x) = expr_nodes x
   designator_nodes (Range x y) = expr_nodes x + expr_nodes y
 
-  -- the index and the value, or the steps and the value; what a component has that is read is an expression
+  -- the index and the value, the steps and the value, or the ranges of indexes, their ends and the value; what a component has that is read is an expression
   pub element_nodes : Element → ℕ
   element_nodes (AtIndex x y) = expr_nodes x + expr_nodes y
   element_nodes (AtField steps x) = length steps + expr_nodes x
   element_nodes (SameField from to) = 1 + length from + length to
   element_nodes (AtRanges ranges x) = 3 * length ranges + expr_nodes x
+  element_nodes (AtIndexes ds x) = designators_count ds + designators_nodes ds + expr_nodes x
 
   pub elements_nodes : Elements → ℕ
   elements_nodes no_element = 0

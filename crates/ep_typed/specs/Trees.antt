@@ -76,6 +76,8 @@ mutual
     SameField : (from to : List ℕ) → Element
     -- the components of an array at the indexes in ranges, which are all given one value
     AtRanges : (ranges : List CaseRange) (value : Expr) → Element
+    -- the components of an array at the indexes that designators give, which are all given one value
+    AtIndexes : (indexes : Designators) (value : Expr) → Element
 
   -- what components are given, in order
   pub data Elements : Type 0 where

@@ -9,7 +9,7 @@ use Rattle.ep_typed.specs.Results.{has_base_for}
 use Rattle.ep_typed.specs.Sets.{IsSet, are_between, is_ordinal}
 use Rattle.ep_typed.specs.Steps.{is_within, variant_number, variants_count}
 use Rattle.ep_typed.specs.Trees as tree
-use Rattle.ep_typed.specs.Trees.{Fixed, Denoter, Required, Named, Subrange, Enumeration, Array, Record, Denoters, no_denoter, next_denoter, Initial, Callee, Place, Variable, Own, Standard, Indexed, Field, Variant, Expr, Constant, Text, Read, One, Two, Short, Step, Function, IndexedValue, FieldValue, VariantValue, SetOf, OnSets, Card, Designator, Single, Range, Designators, no_member, next_member, Actual, Evaluated, Accessed, Actuals, no_actual, next_actual, Item, Plain, Wide, Stmt, Stmts, Empty, Compound, Assign, Tagging, AssignTag, If, While, Repeat, Control, For, MemberControl, ForIn, With, Procedure, Halt, Write, none, next, Case, Arms, no_arm, next_arm, Other, no_other, otherwise_do, Entire, OfUnit, OfRoutine, entire, SetConstant, Element, AtIndex, AtField, SameField, AtRanges, Elements, no_element, next_element}
+use Rattle.ep_typed.specs.Trees.{Fixed, Denoter, Required, Named, Subrange, Enumeration, Array, Record, Denoters, no_denoter, next_denoter, Initial, Callee, Place, Variable, Own, Standard, Indexed, Field, Variant, Expr, Constant, Text, Read, One, Two, Short, Step, Function, IndexedValue, FieldValue, VariantValue, SetOf, OnSets, Card, Designator, Single, Range, Designators, no_member, next_member, Actual, Evaluated, Accessed, Actuals, no_actual, next_actual, Item, Plain, Wide, Stmt, Stmts, Empty, Compound, Assign, Tagging, AssignTag, If, While, Repeat, Control, For, MemberControl, ForIn, With, Procedure, Halt, Write, none, next, Case, Arms, no_arm, next_arm, Other, no_other, otherwise_do, Entire, OfUnit, OfRoutine, entire, SetConstant, Element, AtIndex, AtField, SameField, AtRanges, AtIndexes, Elements, no_element, next_element}
 pub use Rattle.ep_typed.specs.Routines.{heading_of, formal_variable, variables_of, unit_variables}
 use Rattle.ep_typed.specs.Routines.{first_with, made_by_unit}
 use Rattle.ep_typed.specs.Viewed.{denoter_of, stmt_of}
@@ -371,6 +371,8 @@ module _ (declared : Declarations) where
     IsElement (type.Record ts) (SameField from to) = (k : Kind) × LeadToKind ts from k × LeadToKind ts to k
     IsElement (type.Array low high of) (AtRanges ranges x) =
         ((h : Host) × IsTypeOf h (type.Ordinal low high)) × HasRange ranges × All (IsRangeWithin low high) ranges × ((k : Kind) × IsTypeOfKind k of × IsExpr k x)
+    IsElement (type.Array low high of) (AtIndexes ds x) =
+        ((h : Host) × IsTypeOf h (type.Ordinal low high) × AreDesignators h ds) × ((k : Kind) × IsTypeOfKind k of × IsExpr k x)
     IsElement t e = ⊥
 
     pub AreElements : TypeValue → Elements → Type 0

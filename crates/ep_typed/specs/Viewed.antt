@@ -74,6 +74,7 @@ element_step (expr.AtIndex index value) = tree.AtIndex index value
 element_step (expr.AtField steps value) = tree.AtField steps value
 element_step (expr.SameField from to) = tree.SameField from to
 element_step (expr.AtRanges ranges value) = tree.AtRanges ranges value
+element_step (expr.AtIndexes indexes value) = tree.AtIndexes (tree.designators indexes) value
 
 abbrev pub actual_step : Actual-F tree.Actual tree.Element tree.Designator tree.Expr tree.Place → tree.Actual
 actual_step (expr.Value value) = tree.Evaluated value

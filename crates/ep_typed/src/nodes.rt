@@ -534,5 +534,16 @@ fn element(e: &Element) -> u64
         Element::AtRanges(ranges, value) => (ranges.items().len() as u64)
             .saturating_mul(3)
             .saturating_add(expression(value.get())),
+        Element::AtIndexes(indexes, value) => designators_count(indexes.items())
+            .saturating_add(designators(indexes.items()))
+            .saturating_add(expression(value.get())),
     }
+}
+
+/// How many designators these are.
+#[tactic(auto, using(crate::proofs::DesignatorCounts::counted))]
+fn designators_count(all: &[MemberDesignator]) -> u64
+    ensures { result ≡ nodes.designators_count (tree.designators (map designator_of all.now)) }
+{
+    all.len() as u64
 }

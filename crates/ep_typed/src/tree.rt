@@ -146,6 +146,9 @@ pub enum Element {
     /// The components of an array at the indexes in these ranges, of which there is at least one and none is empty, and the
     /// value that all of them have. It is evaluated once (ISO 10206, 6.8.7.2).
     AtRanges(CaseRanges, Boxed<TypedExpr>),
+    /// The components of an array at the indexes that these give, of which there may be none, and the value that all of them
+    /// have. It is evaluated once, behind the indexes (ISO 10206, 6.8.7.2).
+    AtIndexes(MemberDesignators, Boxed<TypedExpr>),
 }
 
 /// Steps from a record to a component inside of it, each the number of a component; there is at least one.

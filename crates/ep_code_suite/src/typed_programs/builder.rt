@@ -2,8 +2,8 @@
 
 use ep_base::{Boxed, Bytes, Line, List, Name, NameRefusal};
 use ep_typed::{
-    Binary, Callee, CaseRange, Element, Elements, Print, Shared, TypedExpr, TypedPlace, TypedStmt,
-    Unary, WriteItem,
+    Binary, Callee, CaseRange, Element, Elements, MemberDesignator, Print, Shared, TypedExpr,
+    TypedPlace, TypedStmt, Unary, WriteItem,
 };
 use std::alloc::{AllocError, Global};
 
@@ -36,6 +36,8 @@ pub(crate) enum Step {
     SameField(&'static [u32], &'static [u32]),
     /// What all components of a structured value with the indexes of these ranges are given.
     AtRanges(&'static [(i64, i64)]),
+    /// What the component of a structured value at an index and those in a range are given, by the three indexes and a value.
+    AtIndexes,
     /// A structured value of the type of this number, of all that its components are given.
     Structured(u32),
     /// A value that is written.
@@ -128,6 +130,7 @@ impl Builder {
             Step::AtField(steps) => self.at_field(steps),
             Step::SameField(from, to) => self.same_field(from, to),
             Step::AtRanges(ranges) => self.at_ranges(ranges),
+            Step::AtIndexes => self.at_indexes(),
             Step::Structured(number) => self.structured(number),
             Step::Plain(print) => self.plain(print),
             Step::Wide(print) => self.wide(print),
@@ -261,6 +264,16 @@ impl Builder {
         }
         let value = self.expression()?;
         Ok(self.elements.push(Element::AtRanges(ranges, value))?)
+    }
+
+    fn at_indexes(&mut self) -> Result<(), Unbuilt> {
+        let value = self.expression()?;
+        let last = self.expression()?;
+        let first = self.expression()?;
+        let mut indexes = List::new(self.alloc);
+        indexes.push(MemberDesignator::Single(self.expression()?))?;
+        indexes.push(MemberDesignator::Range(first, last))?;
+        Ok(self.elements.push(Element::AtIndexes(indexes, value))?)
     }
 
     fn structured(&mut self, number: u32) -> Result<(), Unbuilt> {

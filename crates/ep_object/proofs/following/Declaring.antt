@@ -72,5 +72,5 @@ module _ (levels : List Level) (declared : Declarations) where
             let k = kept.types unit index t typed in
             record { routine = k.routine; placed = k.placed; promise = λ place line calls injection begun memory below home. fragment_inside (k.promise place line calls injection begun memory below home) };
         swaps = kept.swaps;
-        fills = kept.fills;
+        of_arrays = kept.of_arrays;
       }

@@ -2,7 +2,7 @@ use Rattle.std.proofs.Common.{◌∙◌, Ok, ap, map}
 use Rattle.ep_typed.specs.Trees.{elements}
 use Rattle.ep_typed.specs.Viewed.{element_of}
 use Rattle.ep_check_expr.specs.StructuredConstants.{elements_constancy, joined}
-use Rattle.ep_check_expr.proofs.Joining.{joined_none, joined_step}
+use Rattle.ep_check_expr.proofs.Joining.{joined_none, joined_step, varies_at}
 use Rattle.ep_check_expr.proofs.structured_constants.+constancies.Goals as goal
 
 pub elements-loop-one-init : goal.elements-loop-one-init
@@ -13,3 +13,6 @@ elements-loop-one-init t c =
 pub elements-loop-one-preserved : goal.elements-loop-one-preserved
 elements-loop-one-preserved t c =
     joined_step c.args.scopes.now c.args.of c.args.all.now c.loop-one.one-index c.one-item.result c.loop-one.found c.in_ok-found.found c.in_ok-more.more _ c.loop-one-test.true c.one-item.is c.in_ok-found.ensures c.in_ok-more.ensures c.loop-one.invariant
+
+pub element-returns-else-is_empty : goal.element-returns-else-is_empty
+element-returns-else-is_empty t c = varies_at c.args.scopes.now c.args.of c.args.e.now _ _ c.in-AtIndexes.is (rw c.items-in-AtIndexes.ensures at c.if-is_empty.ensures)

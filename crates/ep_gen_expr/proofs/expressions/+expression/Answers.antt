@@ -1,11 +1,13 @@
 use Rattle.std.proofs.Common.{◌+◌, map, w64, arith}
 use Rattle.std.proofs.lemmas.Int.{to_z_pos, to_z-of_z}
-use Rattle.ep_typed.specs.Trees.{actuals, elements}
+use Rattle.ep_typed.specs.Trees.{actuals, designators, elements}
+use Rattle.ep_typed.proofs.DesignatorCounts.{counted}
 use Rattle.ep_typed.specs.Viewed.{actual_of, callee_of, designator_of, element_of, expr_of}
 use Rattle.ep_gen_expr.proofs.ActualForms.{appends_call, actuals_more}
 use Rattle.ep_gen_code.proofs.Growing.{on_ok}
 use Rattle.ep_gen_expr.proofs.Forms.{appends_short, appends_step}
 use Rattle.ep_gen_expr.proofs.SetForms.{set_more}
+use Rattle.ep_gen_expr.proofs.RangeIndexes.{appends_alone, appends_at_indexes, indexes_more}
 use Rattle.ep_gen_expr.proofs.StructuredForms.{appends_at_field, appends_at_index, appends_at_ranges, appends_structured, elements_more}
 use Rattle.ep_gen_expr.proofs.expressions.+expression.Goals as goal
 
@@ -49,3 +51,14 @@ at_field_code-returns t c =
 pub at_ranges_code-returns : goal.at_ranges_code-returns
 at_ranges_code-returns t c =
     on_ok c.fill_ranges.result (appends_at_ranges c.args.ranges.now (expr_of c.args.value.now) c.in_ok-reach_first.ensures c.in_ok-expression_code.ensures c.in_ok-emit.ensures) c.fill_ranges.ensures
+
+pub indexes_code-loop-range-preserved : goal.indexes_code-loop-range-preserved
+indexes_code-loop-range-preserved t c = indexes_more designator_of c.args.indexes.now c.loop-range.range-index c.range-item.result c.loop-range-test.true c.range-item.is c.loop-range.invariant c.in_ok-index_range_code.ensures
+
+pub at_indexes_code-returns : goal.at_indexes_code-returns
+at_indexes_code-returns t c =
+    on_ok c.emit.result (appends_at_indexes (designators (map designator_of c.args.indexes.now)) (expr_of c.args.value.now) _ (counted c.args.indexes.now) c.in_ok-indexes_code.ensures c.in_ok-expression_code.ensures c.in_ok-spread_values.ensures) c.emit.ensures
+
+pub index_alone_code-returns : goal.index_alone_code-returns
+index_alone_code-returns t c =
+    on_ok c.test_range.result (appends_alone (expr_of c.args.index.now) c.in_ok-expression_code.ensures c.in_ok-emit.ensures) c.test_range.ensures

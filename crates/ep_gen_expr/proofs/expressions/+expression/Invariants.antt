@@ -6,7 +6,7 @@ use Rattle.ep_typed.specs.declared.tree.Element.{size-Element}
 use Rattle.ep_typed.specs.declared.tree.MemberDesignator.{size-MemberDesignator}
 use Rattle.ep_typed.specs.declared.tree.TypedExpr.{size-TypedExpr}
 use Rattle.ep_typed.specs.declared.tree.TypedPlace.{size-TypedPlace}
-use Rattle.ep_gen_expr.specs.Growth.{AppendsActuals, AppendsElements, AppendsExpr}
+use Rattle.ep_gen_expr.specs.Growth.{AppendsActuals, AppendsElements, AppendsExpr, AppendsIndexes}
 use Rattle.ep_gen_expr.proofs.expressions.+expression.Given as goal
 
 abbrev pub decreases-place_code : goal.decreases-place_code
@@ -101,3 +101,21 @@ decreases-at_ranges_code l = 4 * size-TypedExpr l.value.now + 1
 
 abbrev pub invariant-elements_code-loop-element : goal.invariant-elements_code-loop-element
 invariant-elements_code-loop-element l = AppendsElements l.fn.code l.code (elements (map element_of (take l.element-index l.elements)))
+
+abbrev pub decreases-at_indexes_code : goal.decreases-at_indexes_code
+decreases-at_indexes_code l = 4 * max (goal.size-at_indexes_code l) (size-TypedExpr l.value.now) + 2
+
+abbrev pub decreases-indexes_code : goal.decreases-indexes_code
+decreases-indexes_code l = 4 * goal.size-indexes_code l + 1
+
+abbrev pub decreases-index_range_code : goal.decreases-index_range_code
+decreases-index_range_code l = 4 * size-MemberDesignator l.range.now
+
+abbrev pub invariant-indexes_code-loop-range : goal.invariant-indexes_code-loop-range
+invariant-indexes_code-loop-range l = AppendsIndexes l.fn.code l.code (designators (map designator_of (take l.range-index l.indexes)))
+
+abbrev pub decreases-index_alone_code : goal.decreases-index_alone_code
+decreases-index_alone_code l = 4 * size-TypedExpr l.index.now + 1
+
+abbrev pub decreases-index_pair_code : goal.decreases-index_pair_code
+decreases-index_pair_code l = 4 * max (size-TypedExpr l.first.now) (size-TypedExpr l.last.now) + 1

@@ -1,26 +1,20 @@
-use Rattle.std.proofs.Common.{◌≡◌, List, ◌++◌, ◌∷◌, [], length, length-append, rules, arith, ap, ◌∙◌, append_assoc}
+use Rattle.std.proofs.Common.{◌≡◌, ◌++◌, ◌∷◌, [], length, length-append, rules, arith, ap}
 use Rattle.ep_typed.specs.Auxiliaries.{block_auxiliaries, with_variables}
 use Rattle.ep_typed.specs.Routines.{unit_variables}
 use Rattle.ep_typed.specs.Viewed.{stmt_of}
 use Rattle.ep_gen_unit.specs.UnitCode.{plain_at, routine_at}
-use Rattle.ep_gen_unit.proofs.ProgramForms.{is_program, is_compact}
+use Rattle.ep_gen_unit.proofs.ProgramForms.{is_program, is_compact, three_pushed}
 use Rattle.ep_gen_unit.proofs.program.program_code.Goals as goal
 
--- four more at the end
-four_pushed : {A : Type 0} (xs : List A) (a b c d : A) {l m n o : List A} → l ≡ xs ++ a ∷ [] → m ≡ l ++ b ∷ [] → n ≡ m ++ c ∷ [] → o ≡ n ++ d ∷ [] → o ≡ xs ++ a ∷ b ∷ c ∷ d ∷ []
-four_pushed xs a b c d p q r s =
-    s ∙ (ap (λ t. t ++ d ∷ []) (r ∙ (ap (λ t. t ++ c ∷ []) (q ∙ (ap (λ t. t ++ b ∷ []) p ∙ append_assoc xs (a ∷ []) (b ∷ []))) ∙ append_assoc xs (a ∷ b ∷ []) (c ∷ []))) ∙ append_assoc xs (a ∷ b ∷ c ∷ []) (d ∷ []))
-
 abbrev all_routines : goal.After-assemble → Type 0
-all_routines c = c.push-4.new.self ≡ c.in_ok-routines.routines ++ plain_at 0 ∷ plain_at c.in_ok-stop_entry.stop_entry ∷ routine_at c.in_ok-swap_entry.swap_entry 2 0 ∷ routine_at c.in_ok-fill_entry.fill_entry 4 1 ∷ []
+all_routines c = c.push-3.new.self ≡ c.in_ok-routines.routines ++ plain_at 0 ∷ plain_at c.in_ok-stop_entry.stop_entry ∷ routine_at c.in_ok-swap_entry.swap_entry 2 0 ∷ []
 
 pushed : (c : goal.After-assemble) → all_routines c
 pushed c =
     let start : c.push.new.self ≡ c.in_ok-routines.routines ++ plain_at 0 ∷ [] = search rules in
     let stop : c.push-2.new.self ≡ c.push.new.self ++ plain_at c.in_ok-stop_entry.stop_entry ∷ [] = search rules in
     let swap : c.push-3.new.self ≡ c.push-2.new.self ++ routine_at c.in_ok-swap_entry.swap_entry 2 0 ∷ [] = search rules in
-    let fill : c.push-4.new.self ≡ c.push-3.new.self ++ routine_at c.in_ok-fill_entry.fill_entry 4 1 ∷ [] = search rules in
-    four_pushed c.in_ok-routines.routines (plain_at 0) (plain_at c.in_ok-stop_entry.stop_entry) (routine_at c.in_ok-swap_entry.swap_entry 2 0) (routine_at c.in_ok-fill_entry.fill_entry 4 1) start stop swap fill
+    three_pushed c.in_ok-routines.routines (plain_at 0) (plain_at c.in_ok-stop_entry.stop_entry) (routine_at c.in_ok-swap_entry.swap_entry 2 0) start stop swap
 
 starts : (c : goal.After-assemble) → c.in_ok-start.start ≡ length c.in_ok-routines.routines
 starts c = search rules
@@ -29,10 +23,10 @@ pub returns-clause-program : goal.returns-clause-program
 returns-clause-program c =
     let more = block_auxiliaries (stmt_of c.args.u.now.start) in
     let slots : c.in_ok-unit_slots.unit_slots ≡ length (unit_variables c.args.u.now) = omega (arith, c.in_ok-unit_slots.ensures, ap length c.items.ensures, length-append c.args.u.now.variables more, length-append (c.args.u.now.variables ++ more) (with_variables (stmt_of c.args.u.now.start))) in
-    is_program c.args.u.now c.in_ok-code.ensures.begun c.in_ok-code.ensures.small c.in_ok-name.name c.in_ok-name.ensures c.in_ok-unit_slots.unit_slots c.in_ok-stop_entry.stop_entry c.in_ok-swap_entry.swap_entry c.in_ok-fill_entry.fill_entry c.in_ok-start.start c.in_ok-stop_entry.ensures
-    c.items-3.result.now c.items-3.ensures c.in_ok-routines.routines c.items-2.result.now c.items-2.ensures c.in_ok-routines.ensures c.in_ok-swap_entry.ensures c.in_ok-fill_entry.ensures c.push-4.new.self c.types_code.new.routines (pushed c) c.items-5.result.now c.items-5.ensures c.in_ok-types_code.ensures (starts c) c.assemble.result c.assemble.ensures slots
+    is_program c.args.u.now c.in_ok-code.ensures.begun c.in_ok-code.ensures.small c.in_ok-name.name c.in_ok-name.ensures c.in_ok-unit_slots.unit_slots c.in_ok-stop_entry.stop_entry c.in_ok-swap_entry.swap_entry c.in_ok-start.start c.in_ok-stop_entry.ensures
+    c.items-3.result.now c.items-3.ensures c.in_ok-routines.routines c.items-2.result.now c.items-2.ensures c.in_ok-routines.ensures c.in_ok-swap_entry.ensures c.push-3.new.self c.array_routines_code.new.routines c.types_code.new.routines c.in_ok-array_routines_code.ensures (pushed c) c.items-5.result.now c.items-5.ensures c.in_ok-types_code.ensures (starts c) c.assemble.result c.assemble.ensures slots
 
 pub returns-clause-compact : goal.returns-clause-compact
 returns-clause-compact c =
-    is_compact c.args.u.now c.in_ok-code.ensures.begun c.in_ok-code.ensures.small c.in_ok-name.name c.in_ok-name.ensures c.in_ok-unit_slots.unit_slots c.in_ok-stop_entry.stop_entry c.in_ok-swap_entry.swap_entry c.in_ok-fill_entry.fill_entry c.in_ok-start.start c.in_ok-stop_entry.ensures
-    c.items-3.result.now c.items-3.ensures c.in_ok-routines.routines c.items-2.result.now c.items-2.ensures c.in_ok-routines.ensures c.in_ok-swap_entry.ensures c.in_ok-fill_entry.ensures c.push-4.new.self c.types_code.new.routines (pushed c) c.items-5.result.now c.items-5.ensures c.in_ok-types_code.ensures (starts c) c.assemble.result c.assemble.ensures (omega (arith, c.in_ok-next_place.ensures.is_length, c.in_ok-next_place.ensures.small))
+    is_compact c.args.u.now c.in_ok-code.ensures.begun c.in_ok-code.ensures.small c.in_ok-name.name c.in_ok-name.ensures c.in_ok-unit_slots.unit_slots c.in_ok-stop_entry.stop_entry c.in_ok-swap_entry.swap_entry c.in_ok-start.start c.in_ok-stop_entry.ensures
+    c.items-3.result.now c.items-3.ensures c.in_ok-routines.routines c.items-2.result.now c.items-2.ensures c.in_ok-routines.ensures c.in_ok-swap_entry.ensures c.push-3.new.self c.array_routines_code.new.routines c.types_code.new.routines c.in_ok-array_routines_code.ensures (pushed c) c.items-5.result.now c.items-5.ensures c.in_ok-types_code.ensures (starts c) c.assemble.result c.assemble.ensures (omega (arith, c.in_ok-next_place.ensures.is_length, c.in_ok-next_place.ensures.small))

@@ -1,0 +1,6 @@
+use Rattle.ep_gen_code.proofs.Growing.{on_ok}
+use Rattle.ep_gen_unit.proofs.ProgramForms.{grows_row}
+use Rattle.ep_gen_unit.proofs.program.leave_row.Goals as goal
+
+pub returns : goal.returns
+returns c = on_ok c.emit-8.result (grows_row c.in_ok-emit.ensures c.in_ok-emit-2.ensures c.in_ok-emit-3.ensures c.in_ok-emit-4.ensures c.in_ok-emit-5.ensures c.in_ok-emit-6.ensures c.in_ok-emit-7.ensures) c.emit-8.ensures
