@@ -5,4 +5,6 @@
 #[cfg(test)]
 mod machine;
 #[cfg(test)]
-mod typed_programs;
+mod programs;
+#[cfg(test)]
+mod typed_trees;
