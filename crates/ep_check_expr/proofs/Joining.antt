@@ -1,7 +1,7 @@
 -- What components of constants are given, one after another.
 use Rattle.std.proofs.Common.{◌≡◌, ◌∙◌, ℕ, ◌+◌, ◌<◌, List, [], ◌∷◌, ◌++◌, Option, Ok, Err, drop, length, map, refl, sym, ap}
 use Rattle.std.proofs.lemmas.List.{drop_more}
-use Rattle.std.specs.Prelude.{false, get_or, ◌==◌}
+use Rattle.std.specs.Prelude.{false, get_or, option_to_list, ◌==◌}
 use Rattle.ep_typed.specs.Trees.{AtIndexes, designators, elements}
 use Rattle.ep_typed.specs.Viewed.{designator_of, element_of, expr_of}
 use Rattle.ep_typed.specs.declared.tree.Actual.TheFolds.{fold-roll-Element}
@@ -11,14 +11,14 @@ use Rattle.ep_typed.specs.declared.tree.MemberDesignator.{MemberDesignator}
 use Rattle.ep_typed.specs.declared.tree.TypedExpr.{TypedExpr}
 use Rattle.ep_scope.specs.Scopes.{Region}
 use Rattle.ep_scope.specs.declared.structure.ArrayType.{ArrayType}
-use Rattle.ep_check_expr.specs.StructuredConstants.{Constancy, alone, element_constancy, elements_constancy, joined, with_first, with_last}
+use Rattle.ep_check_expr.specs.StructuredConstants.{Constancy, element_constancy, elements_constancy, joined, with_first, with_last}
 use Rattle.ep_check_expr.specs.declared.structured_constants.NoConstant.TheVariants as reason
 
 pub joined_none : (more : Constancy (List Element)) → joined (Ok []) more ≡ more
 joined_none (Ok xs) = refl
 joined_none (Err why) = refl
 
-append_first : (xs : List Element) (x : Option Element) (ys : List Element) → (xs ++ alone x) ++ ys ≡ xs ++ (alone x ++ ys)
+append_first : (xs : List Element) (x : Option Element) (ys : List Element) → (xs ++ option_to_list x) ++ ys ≡ xs ++ (option_to_list x ++ ys)
 append_first [] x ys = refl
 append_first (z ∷ zs) x ys = ap (λ l. z ∷ l) (append_first zs x ys)
 

@@ -3,7 +3,7 @@ use Rattle.std.proofs.Common.{◌≡◌, ◌∙◌, ℕ, ℤ, pos, negsuc, arith
 use Rattle.std.proofs.lemmas.Bool.Decides.{nat_tests}
 use Rattle.std.proofs.lemmas.List.Elements.{All-cons, All-nil}
 use Rattle.std.proofs.lemmas.Option.{same_Some}
-use Rattle.std.specs.Prelude.{All, ⊤, int_le, ◌&&◌, if◌then◌else◌}
+use Rattle.std.specs.Prelude.{All, ⊤, int_le, option_to_list, ◌&&◌, if◌then◌else◌}
 use Rattle.ep_typed.proofs.Typed.{typed_bare}
 use Rattle.ep_typed.specs.Hosts.{Host}
 use Rattle.ep_typed.specs.Trees as tree
@@ -25,7 +25,7 @@ use Rattle.ep_scope.specs.declared.structure.Composition.{Composition}
 use Rattle.ep_scope.specs.declared.structure.Composition.TheVariants as composition
 use Rattle.ep_check_expr.specs.Agreement.{AgreesBy, TypeValues, structures_of}
 use Rattle.ep_check_expr.specs.Folding.{folded, number_in}
-use Rattle.ep_check_expr.specs.StructuredConstants.{Constancy, alone, array_in, constancy, element_constancy, elements_constancy, index_constancy, form_in, index_range, known_constancy, of_both, of_one, value_in, value_known}
+use Rattle.ep_check_expr.specs.StructuredConstants.{Constancy, array_in, constancy, element_constancy, elements_constancy, index_constancy, form_in, index_range, known_constancy, of_both, of_one, value_in, value_known}
 use Rattle.ep_check_expr.specs.declared.folding.Folded.{Folded}
 use Rattle.ep_check_expr.specs.declared.folding.Folded.TheVariants.{Known, Varies, Errs}
 use Rattle.ep_check_expr.specs.declared.folding.KnownValue.{KnownValue}
@@ -101,7 +101,7 @@ module _ (list : List UnitType) where
   IsGivenIf t (Some x) = IsGiven t x
 
   -- one, where there is one, before whatever else
-  given-first : (t : TypeValue) (x : Option Element) (xs : List Element) → IsGivenIf t x → AreGiven t xs → AreGiven t (alone x ++ xs)
+  given-first : (t : TypeValue) (x : Option Element) (xs : List Element) → IsGivenIf t x → AreGiven t xs → AreGiven t (option_to_list x ++ xs)
   given-first t None xs p q = q
   given-first t (Some x) xs p q = p (elements (map element_of xs)) q
 
@@ -239,5 +239,5 @@ module _ (declared : Declarations) (types : TypeValues) (scopes : List Region) (
     elements-start : (o : Option ArrayType) (t : TypeValue) (es : Elements) (xs : List Element) → IsBounded o t → AreElements declared t es → elements_constancy scopes o es ≡ Ok xs → AreGiven list t xs
     elements-start o t no_element xs bounds f e = subst (AreGiven list t) (same_Ok [] xs e) (valid.none_given t)
     elements-start o t (next_element d more) xs bounds f e =
-        let p = of_both-constant (λ y ys. alone y ++ ys) (element_constancy scopes o d) (elements_constancy scopes o more) xs e in
+        let p = of_both-constant (λ y ys. option_to_list y ++ ys) (element_constancy scopes o d) (elements_constancy scopes o more) xs e in
         subst (AreGiven list t) p.gives (given-first list t p.left p.right (element-starts o t d p.left bounds f.0 p.left_is) (elements-start o t more p.right bounds f.1 p.right_is))

@@ -1,5 +1,5 @@
 -- What a typed form is as a constant that may be an array or a record (ISO 10206, 6.6, 6.8.2 and 6.8.7): its components are such constants.
-use Rattle.std.specs.Prelude.{ℕ, ℤ, int_le, ◌&&◌, List, [], ◌∷◌, ◌++◌, Option, Some, None, Result, Ok, Err, if◌then◌else◌}
+use Rattle.std.specs.Prelude.{ℕ, ℤ, int_le, ◌&&◌, List, [], ◌∷◌, ◌++◌, Option, Some, None, option_to_list, Result, Ok, Err, if◌then◌else◌}
 use Rattle.ep_typed.specs.Trees as tree
 use Rattle.ep_typed.specs.Trees.{Expr, AtIndex, AtField, SameField, AtRanges, AtIndexes, Elements, no_element, next_element, no_member, next_member}
 use Rattle.ep_typed.specs.declared.tree.CaseRange.{CaseRange}
@@ -106,18 +106,13 @@ structured n es = of_one (λ xs. constant.Structured n xs) es
 abbrev pub joined : Constancy (List Element) → Constancy (List Element) → Constancy (List Element)
 joined before more = of_both (◌++◌) before more
 
--- an element alone, where there is one
-abbrev pub alone : Option Element → List Element
-alone None = []
-alone (Some x) = x ∷ []
-
 -- elements behind one, where there is one
 abbrev pub with_first : Constancy (Option Element) → Constancy (List Element) → Constancy (List Element)
-with_first first more = of_both (λ x xs. alone x ++ xs) first more
+with_first first more = of_both (λ x xs. option_to_list x ++ xs) first more
 
 -- elements with one more, where there is one
 abbrev pub with_last : Constancy (List Element) → Constancy (Option Element) → Constancy (List Element)
-with_last before last = of_both (λ xs x. xs ++ alone x) before last
+with_last before last = of_both (λ xs x. xs ++ option_to_list x) before last
 
 module _ (scopes : List Region) where
   abbrev mutual
