@@ -26,22 +26,11 @@ use Rattle.ep_check_expr.specs.KnownFields.{are_selected, field_known}
 use Rattle.ep_check_expr.specs.VariantSteps.{field_steps, part_steps, variant_step}
 use Rattle.ep_check_expr.specs.declared.folding.Folded.{Folded}
 use Rattle.ep_check_expr.specs.declared.folding.Folded.TheVariants.{Known, Varies, Errs}
-use Rattle.ep_check_expr.proofs.Leading.{Leads, step_leads}
+use Rattle.ep_check_expr.proofs.Leading.{Leads, leads_once, step_leads}
 use Rattle.ep_check_expr.proofs.Betweens.{between_all}
 
 same_bytes : (a b : List ℕ) → bytes_eq a b ≡ true → a ≡ b
 same_bytes a b e = (bytes_eq-Decides a b).0 e
-
--- steps lead to one type
-leads_once : (ts : ComponentTypes) (steps : List ℕ) (a b : TypeValue) → LeadTo ts steps a → LeadTo ts steps b → a ≡ b
-leads_once ts [] a b p q = absurd p
-leads_once ts (k ∷ []) a b p q = same_Some a b (sym p ∙ q)
-leads_once ts (k ∷ j ∷ more) a b p q =
-    let same : type.Record p.0 ≡ type.Record q.0 = same_Some (type.Record p.0) (type.Record q.0) (sym p.1 ∙ q.1) in
-    leads_once q.0 (j ∷ more) a b (subst (λ us. LeadTo us (j ∷ more) a) (same_components p.0 q.0 same) p.2) q.2
-  where
-    same_components : (us vs : ComponentTypes) → type.Record us ≡ type.Record vs → us ≡ vs
-    same_components us vs e = cc
 
 -- a structured type has one kind
 structured_kind : (k : valid.Kind) (t : TypeValue) → IsStructured t → IsTypeOfKind k t → k ≡ valid.Structured t

@@ -1,5 +1,6 @@
 -- The steps to a field of a record lead to a component with a type value of its kind, in variants and for tags too.
-use Rattle.std.proofs.Common.{◌≡◌, ◌∙◌, ℕ, List, [], ◌∷◌, ◌++◌, map, Option, Some, None, ap, refl, subst}
+use Rattle.std.proofs.Common.{◌≡◌, ◌∙◌, ℕ, List, [], ◌∷◌, ◌++◌, map, Option, Some, None, ap, refl, subst, sym}
+use Rattle.std.proofs.lemmas.Option.{same_Some}
 use Rattle.std.proofs.lemmas.List.Elements.{All-weaker}
 use Rattle.std.specs.Prelude.{All}
 use Rattle.std.specs.Option.{option_map}
@@ -35,6 +36,17 @@ pub step_leads : (ts us : ComponentTypes) (k : ℕ) (steps : List ℕ) (of : Typ
 step_leads ts us k [] of e h = absurd h
 step_leads ts us k (j ∷ more) of e h = (us, e, h)
 
+-- steps lead to one type
+pub leads_once : (ts : ComponentTypes) (steps : List ℕ) (a b : TypeValue) → LeadTo ts steps a → LeadTo ts steps b → a ≡ b
+leads_once ts [] a b p q = absurd p
+leads_once ts (k ∷ []) a b p q = same_Some a b (sym p ∙ q)
+leads_once ts (k ∷ j ∷ more) a b p q =
+    let same : type.Record p.0 ≡ type.Record q.0 = same_Some (type.Record p.0) (type.Record q.0) (sym p.1 ∙ q.1) in
+    leads_once q.0 (j ∷ more) a b (subst (λ us. LeadTo us (j ∷ more) a) (same_components p.0 q.0 same) p.2) q.2
+  where
+    same_components : (us vs : ComponentTypes) → type.Record us ≡ type.Record vs → us ≡ vs
+    same_components us vs e = cc
+
 module _ (types : TypeValues) (list : List UnitType) where
   -- a valid denoter of a kind has a type value of the kind
   kind_value : (k : Kind) (d : Denoter) (t : TypeValue) → IsTyped list d t → HasKind types list d k → IsValueOfKind types k (bare_of t)
@@ -49,11 +61,11 @@ module _ (types : TypeValues) (list : List UnitType) where
   kind_value kind.File d t typed has = absurd has
 
   -- the component of a number, without initial states
-  among_bare : (ds : Denoters) (ts : ComponentTypes) (k : ℕ) (d : Denoter) → AreTyped list ds ts → denoter_at ds k ≡ Some d → (t : TypeValue) × (type_among (bare_each ts) k ≡ Some (bare_of t)) × IsTyped list d t
+  pub among_bare : (ds : Denoters) (ts : ComponentTypes) (k : ℕ) (d : Denoter) → AreTyped list ds ts → denoter_at ds k ≡ Some d → (t : TypeValue) × (type_among (bare_each ts) k ≡ Some (bare_of t)) × IsTyped list d t
   among_bare ds ts k d all there = let m = typed_among list ds ts k d all there in (m.0, bare_among ts k ∙ ap (option_map bare_of) m.1, m.2)
 
   -- one that is a record
-  record_among : (ds : Denoters) (ts : ComponentTypes) (k : ℕ) (inner : Denoters) → AreTyped list ds ts → denoter_at ds k ≡ Some (Record inner) → (us : ComponentTypes) × (type_among (bare_each ts) k ≡ Some (type.Record (bare_each us))) × AreTyped list inner us
+  pub record_among : (ds : Denoters) (ts : ComponentTypes) (k : ℕ) (inner : Denoters) → AreTyped list ds ts → denoter_at ds k ≡ Some (Record inner) → (us : ComponentTypes) × (type_among (bare_each ts) k ≡ Some (type.Record (bare_each us))) × AreTyped list inner us
   record_among ds ts k inner all there =
       let m = among_bare ds ts k (Record inner) all there in
       let c = typed_components list (Record inner) m.0 inner m.2 refl in

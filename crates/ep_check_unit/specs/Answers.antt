@@ -123,7 +123,7 @@ headed_in b h = record { number = h.number; parameters = h.parameters; result = 
 
 -- a constant's entry more, where it has one
 abbrev pub with_constant_entry : List ℕ → Kind → Value → Block → Block
-with_constant_entry name k v b = record b { constants = spec.with_entry name (spec.entry_denoter k) v b.constants }
+with_constant_entry name k v b = record b { constants = spec.with_entry name (spec.entry_denoter k v) v b.constants }
 
 -- a type more, by its number
 abbrev pub AnswersType : Option (List ℕ) → ℕ → Denoter → Block → Result ℕ Refusal → Block → Type 0

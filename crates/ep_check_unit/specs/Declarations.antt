@@ -142,14 +142,19 @@ members_denoter h = if are_all_members h then host_denoter h else denoter.Subran
 abbrev pub set_denoter : Host → Denoter
 set_denoter h = denoter.Set (members_denoter h)
 
--- the denoter of a constant in the list of constants: its host, or a set of all values of its host that may be members. The empty set is one of integers there, and no other constant stands in the list so far (own).
-abbrev pub entry_denoter : Kind → Option Denoter
-entry_denoter (kind.Ordinal h) = Some (host_denoter h)
-entry_denoter (kind.Set h) = Some (set_denoter h)
-entry_denoter kind.EmptySet = Some (set_denoter host.Integer)
-entry_denoter (kind.Structured n) = None
-entry_denoter kind.Text = None
-entry_denoter kind.File = None
+-- the denoter of the type of an array or a record
+abbrev pub structured_denoter : Value → Option Denoter
+structured_denoter (value.Structured of es) = Some (denoter.Named of [])
+structured_denoter _ = None
+
+-- The denoter of a constant in the list of constants: its host, a set of all values of its host that may be members, or the array or record type that the value is of. The empty set is one of integers there, and no text stands in the list so far (own).
+abbrev pub entry_denoter : Kind → Value → Option Denoter
+entry_denoter (kind.Ordinal h) v = Some (host_denoter h)
+entry_denoter (kind.Set h) v = Some (set_denoter h)
+entry_denoter kind.EmptySet v = Some (set_denoter host.Integer)
+entry_denoter (kind.Structured n) v = structured_denoter v
+entry_denoter kind.Text v = None
+entry_denoter kind.File v = None
 
 -- constants with one more, where it has a denoter
 abbrev pub with_entry : List ℕ → Option Denoter → Value → List ConstantEntry → List ConstantEntry
@@ -159,7 +164,7 @@ with_entry name (Some d) v all = all ++ record { name = name; denoter = d; value
 -- a constant is entered, with its entry in the list of constants
 abbrev pub with_constant : List ℕ → Kind → Value → ℕ → Block → Block
 with_constant name k v deep b =
-    with_name name (own_thing b (length b.constants) (declaration.Constant k v deep)) (record b { constants = with_entry name (entry_denoter k) v b.constants })
+    with_name name (own_thing b (length b.constants) (declaration.Constant k v deep)) (record b { constants = with_entry name (entry_denoter k v) v b.constants })
 
 -- a constant whose name is not there yet
 abbrev pub constant_entered : List ℕ → Kind → Value → ℕ → Block → Judged Block

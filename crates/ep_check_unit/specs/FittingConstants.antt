@@ -65,11 +65,12 @@ abbrev pub are_members_in : Option TypeValue → List ℕ → Bool
 are_members_in (Some (type.Ordinal low high)) ms = list_all (λ m. int_le low (pos m) && int_le (pos m) high) ms
 are_members_in _ ms = false
 
--- a number or a set lies in the type, where that is known
+-- a number or a set lies in the type, and so does an array or a record, which is of no other one
 abbrev pub is_plain_in : List UnitType → Option TypeName → Option Expr → Bool
 is_plain_in types (Some of) (Some (Constant z)) = is_number_in (value_of types of) z
 is_plain_in types (Some of) (Some (SetConstant ms)) = are_members_in (members_of types of) ms
-is_plain_in types of x = true
+is_plain_in types (Some of) (Some x) = true
+is_plain_in types of x = false
 
 module _ (types : List UnitType) (scopes : List Region) where
   abbrev mutual

@@ -4,7 +4,7 @@ ghost use Rattle.std.specs.Prelude.{◌≡◌, [], length, IfOk, OnOk};
 ghost use Rattle.std.specs.Option.{option_map};
 ghost use Rattle.ep_check_unit.specs.Answers.{AnswersBlock, AnswersNumber, AnswersType, with_constant_entry};
 ghost use Rattle.ep_check_unit.specs.Blocks.{block_of, first_own, has_number, own_count, result_count};
-ghost use Rattle.ep_check_unit.specs.Declarations.{constant_entered, entered, entry_denoter, noted, own_thing, with_type};
+ghost use Rattle.ep_check_unit.specs.Declarations.{constant_entered, entered, entry_denoter, noted, own_thing, structured_denoter, with_type};
 ghost use Rattle.ep_check_unit.specs.Checks.{IsUnitWith};
 ghost use Rattle.ep_check_unit.specs.Units.{first_block};
 
@@ -349,7 +349,7 @@ impl Block {
         ensures { OnOk result (block_of self.new ≡ with_constant_entry name.now kind value.now
             (block_of self.old)) }
     {
-        let Some(denoter) = entry_denoter(alloc, kind)? else {
+        let Some(denoter) = entry_denoter(alloc, kind, value)? else {
             return Ok(());
         };
         let entry = ConstantEntry {
@@ -402,13 +402,24 @@ fn copied(alloc: Global, value: &Value) -> Result<Value, NoMemory>
 }
 
 /// The denoter of a constant of this kind in the list of constants, where it has one.
-fn entry_denoter(alloc: Global, kind: Kind) -> Result<Option<Denoter>, NoMemory>
-    ensures { IfOk result (λ d. d ≡ entry_denoter kind) }
+fn entry_denoter(alloc: Global, kind: Kind, value: &Value) -> Result<Option<Denoter>, NoMemory>
+    ensures { IfOk result (λ d. d ≡ entry_denoter kind value.now) }
 {
     match kind {
         Kind::Ordinal(host) => Ok(Some(type_denoter(alloc, host_type(host)))),
         Kind::Set(host) => Ok(Some(set_denoter(alloc, host)?)),
         Kind::EmptySet => Ok(Some(set_denoter(alloc, Host::Integer)?)),
-        Kind::Structured(_) | Kind::Text | Kind::File => Ok(None),
+        Kind::Structured(_) => Ok(structured_denoter(alloc, value)),
+        Kind::Text | Kind::File => Ok(None),
+    }
+}
+
+/// The denoter of the type of an array or a record.
+fn structured_denoter(alloc: Global, value: &Value) -> Option<Denoter>
+    ensures { result ≡ structured_denoter value.now }
+{
+    match value {
+        Value::Structured(number, _) => Some(Denoter::Named(*number, List::new(alloc))),
+        _ => None,
     }
 }

@@ -120,7 +120,7 @@ fn are_members_in(types: &[UnitType], of: TypeName, members: &[u8]) -> Result<bo
     }
 }
 
-/// Whether a number or a set lies in the type, where that is known.
+/// Whether a number or a set lies in the type. An array or a record is of no other one.
 fn is_plain_in(
     types: &[UnitType],
     of: Option<TypeName>,
@@ -133,7 +133,8 @@ fn is_plain_in(
         (Some(of), Some(TypedExpr::SetConstant(members))) => {
             are_members_in(types, of, members.items())
         }
-        _ => Ok(true),
+        (Some(_), Some(_)) => Ok(true),
+        _ => Ok(false),
     }
 }
 

@@ -555,7 +555,8 @@ fn at_indexes_code(
     value: &TypedExpr,
     code: &mut Code,
 ) -> Result<(), NoMemory>
-    ensures { OnOk result (AppendsElement code.old code.new (AtIndexes (tree.designators (map designator_of indexes.now)) (expr_of value.now))) }
+    ensures { OnOk result (AppendsElement code.old code.new
+        (AtIndexes (tree.designators (map designator_of indexes.now)) (expr_of value.now))) }
 {
     indexes_code(alloc, indexes, code)?;
     expression_code(alloc, value, code)?;

@@ -1,5 +1,5 @@
 -- Which typed trees the static rules give: each form has parts of the kinds, types and numbers that it asks for.
-use Rattle.std.specs.Prelude.{◌≡◌, ℕ, ℤ, pos, zero, suc, ◌+◌, ◌<◌, ◌≤◌, Bool, true, false, All, List, [], ◌∷◌, ◌++◌, map, slice_get, drop, length, Option, Some, None, IsTrue, int_le, ⊤, if◌then◌else◌}
+use Rattle.std.specs.Prelude.{◌≡◌, ℕ, ℤ, pos, zero, suc, ◌+◌, ◌<◌, ◌≤◌, Bool, true, false, All, List, [], ◌∷◌, ◌++◌, map, slice_get, drop, length, Option, Some, None, IsTrue, int_le, ⊤, ◌⊎◌, if◌then◌else◌}
 use Rattle.std.specs.Str.{bytes_eq}
 use Rattle.ep_typed.specs.Denoters.{ArrayParts, array_of, base_of, definition_of, denoter_at, denoters_count, record_of, required_type, type_of, host_of, bare_type_of}
 use Rattle.ep_typed.specs.Hosts.{Host, least, greatest, is_of_host}
@@ -12,7 +12,7 @@ use Rattle.ep_typed.specs.Trees as tree
 use Rattle.ep_typed.specs.Trees.{Fixed, Denoter, Required, Named, Subrange, Enumeration, Array, Record, Denoters, no_denoter, next_denoter, Initial, Callee, Place, Variable, Own, Standard, Indexed, Field, Variant, Expr, Constant, Text, Read, One, Two, Short, Step, Function, IndexedValue, FieldValue, VariantValue, SetOf, OnSets, Card, Designator, Single, Range, Designators, no_member, next_member, Actual, Evaluated, Accessed, Actuals, no_actual, next_actual, Item, Plain, Wide, Stmt, Stmts, Empty, Compound, Assign, Tagging, AssignTag, If, While, Repeat, Control, For, MemberControl, ForIn, With, Procedure, Halt, Write, none, next, Case, Arms, no_arm, next_arm, Other, no_other, otherwise_do, Entire, OfUnit, OfRoutine, entire, SetConstant, Element, AtIndex, AtField, SameField, AtRanges, AtIndexes, Elements, no_element, next_element}
 pub use Rattle.ep_typed.specs.Routines.{heading_of, formal_variable, variables_of, unit_variables}
 use Rattle.ep_typed.specs.Routines.{first_with, made_by_unit}
-use Rattle.ep_typed.specs.Viewed.{denoter_of, stmt_of}
+use Rattle.ep_typed.specs.Viewed.{constant_expr, denoter_of, stmt_of}
 use Rattle.ep_typed.specs.declared.operations.Unary.{Unary}
 use Rattle.ep_typed.specs.declared.operations.Unary.TheVariants as unary
 use Rattle.ep_typed.specs.declared.operations.Binary.{Binary}
@@ -516,22 +516,51 @@ pub record HasKind (types : List UnitType) (d : Denoter) : Type 0 where
   pub of_kind : IsOfKind kind types d
   pub denoter : IsDenoter types d
 
--- The value is one of the type. A text, an array and a record are of none so far.
-abbrev pub IsValue : TypeValue → Value → Type 0
-IsValue t (value.Word w) = IsTrue (is_within t w)
-IsValue t (value.Text bytes) = ⊥
-IsValue t (value.Set ms) = IsSet ms × IsTrue (has_base_for (Some t) ms)
-IsValue t (value.Structured of es) = ⊥
+-- a number or a set lies in the type (ISO 10206, 6.4.6); what an array or a record is given lies in its own components
+abbrev pub IsPlainIn : TypeValue → Expr → Type 0
+IsPlainIn t (Constant z) = IsTrue (is_within t z)
+IsPlainIn t (SetConstant ms) = IsTrue (has_base_for (Some t) ms)
+IsPlainIn t _ = ⊤
+
+-- the component of a record to which the steps lead is given this
+abbrev pub Gives : Elements → List ℕ → Expr → Type 0
+Gives no_element steps x = ⊥
+Gives (next_element (AtField own y) more) steps x = ((own ≡ steps) × (y ≡ x)) ⊎ Gives more steps x
+Gives (next_element e more) steps x = Gives more steps x
+
+abbrev mutual
+  -- a constant lies in a type, and so does what components are given, each in its own (ISO 10206, 6.4.6 and 6.8.7)
+  pub LiesIn : TypeValue → Expr → Type 0
+  LiesIn t (tree.Structured of es) = AllLieIn t es es
+  LiesIn t x = IsPlainIn t x
+
+  -- what one component is given, of an array or a record with all these
+  pub ElementLiesIn : TypeValue → Elements → Element → Type 0
+  ElementLiesIn (type.Array low high of) all (AtRanges ranges x) = LiesIn of x
+  ElementLiesIn (type.Record ts) all (AtField steps x) = (of : TypeValue) × LeadTo ts steps of × LiesIn of x
+  ElementLiesIn (type.Record ts) all (SameField from to) = (of : TypeValue) × LeadTo ts to of × ((x : Expr) × Gives all from x × IsPlainIn of x)
+  ElementLiesIn t all e = ⊥
+
+  pub AllLieIn : TypeValue → Elements → Elements → Type 0
+  AllLieIn t all no_element = ⊤
+  AllLieIn t all (next_element e more) = ElementLiesIn t all e × AllLieIn t all more
+
+-- Under a list of types the value is one of the type. A text is of none so far.
+abbrev pub IsValue : List UnitType → TypeValue → Value → Type 0
+IsValue types t (value.Word w) = IsTrue (is_within t w)
+IsValue types t (value.Text bytes) = ⊥
+IsValue types t (value.Set ms) = IsSet ms × IsTrue (has_base_for (Some t) ms)
+IsValue types t (value.Structured of es) = IsStartFor types t (constant_expr (value.Structured of es)) × LiesIn t (constant_expr (value.Structured of es))
 
 -- a type that is no schema, of a valid denoter
 pub record IsType (types : List UnitType) (t : UnitType) : Type 0 where
   pub formals : t.entry.formals ≡ []
   pub denoter : IsDenoter types (definition_of t)
 
--- a constant of an ordinal type or a set type that is a value of it
+-- a constant that is a value of its type
 pub record IsConstant (types : List UnitType) (c : ConstantEntry) : Type 0 where
   pub kind : HasKind types (denoter_of c.denoter)
-  pub value : IsValue kind.denoter.type_value c.value
+  pub value : IsValue types kind.denoter.type_value c.value
 
 -- a variable of a valid denoter without discriminants
 pub record IsVariable (types : List UnitType) (v : UnitVariable) : Type 0 where

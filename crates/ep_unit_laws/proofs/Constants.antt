@@ -1,28 +1,35 @@
 -- Constants of a block are held by the unit that has its lists.
-use Rattle.std.proofs.Common.{◌≡◌, ◌∙◌, ℕ, ℤ, pos, suc, ◌≤◌, ◌+◌, nat_le, Bool, true, false, List, [], ◌∷◌, map, length, Option, Some, None, IsTrue, inl, inr, refl, sym, ap, subst, arith}
+use Rattle.std.proofs.Common.{◌≡◌, ◌∙◌, ℕ, ℤ, pos, suc, ◌≤◌, ◌+◌, nat_le, Bool, true, false, List, [], ◌∷◌, map, length, Option, Some, None, IsTrue, inl, inr, option_map, refl, sym, ap, subst, arith}
 use Rattle.std.proofs.lemmas.Bool.{cases_lt}
 use Rattle.std.proofs.lemmas.Bool.Decides.{nat_tests}
 use Rattle.std.proofs.lemmas.List.Elements.{All-push}
-use Rattle.std.specs.Prelude.{All, if◌then◌else◌}
+use Rattle.std.specs.Prelude.{All, ⊤, if◌then◌else◌}
 use Rattle.ep_outside.specs.Known.{IsPrefix}
 use Rattle.ep_tree.specs.declared.declaration.ConstantDefinition.{ConstantDefinition}
 use Rattle.ep_tree.specs.declared.expression.ComponentValue.{ComponentValue}
+use Rattle.ep_typed.specs.Denoters.{bare_type_of, type_of}
 use Rattle.ep_typed.specs.Hosts as typed
 use Rattle.ep_typed.specs.Hosts.{greatest, is_of_host, least}
 use Rattle.ep_typed.specs.Sets.{IsSet, are_between, has, is_ordinal, last_member, member_limit}
+use Rattle.ep_typed.specs.Trees as tree
+use Rattle.ep_typed.specs.Trees.{Elements, elements}
 use Rattle.ep_typed.specs.TypeValues as type
-use Rattle.ep_typed.specs.TypeValues.{Ordinal}
-use Rattle.ep_typed.specs.Valid.{IsConstant}
-use Rattle.ep_typed.specs.Viewed.{denoter_of}
+use Rattle.ep_typed.specs.TypeValues.{Ordinal, TypeValue, bare_of}
+use Rattle.ep_typed.specs.Valid as valid
+use Rattle.ep_typed.specs.Valid.{IsConstant, IsStartFor, IsStructured, IsTyped, LiesIn, structured_start}
+use Rattle.ep_typed.specs.Viewed.{constant_expr, denoter_of, element_of}
 use Rattle.ep_typed.specs.declared.denoter.Bound.TheVariants.{Constant as Fixed}
 use Rattle.ep_typed.specs.declared.denoter.Denoter.{Denoter}
 use Rattle.ep_typed.specs.declared.denoter.Denoter.TheVariants as denoter
 use Rattle.ep_typed.specs.declared.interface.ConstantEntry.{ConstantEntry}
+use Rattle.ep_typed.specs.declared.tree.Element.{Element}
 use Rattle.ep_typed.specs.declared.unit.Unit.{Unit as TypedUnit}
 use Rattle.ep_typed.specs.declared.value.Value.{Value}
 use Rattle.ep_typed.specs.declared.value.Value.TheVariants as value
-use Rattle.ep_typed.proofs.Forms.{set_is, subrange_is}
+use Rattle.ep_typed.proofs.Forms.{named_is, set_is, subrange_is}
 use Rattle.ep_typed.proofs.Sets.{between_yes, has_no_more}
+use Rattle.ep_typed.proofs.Typed.{typed_bare}
+use Rattle.ep_scope.specs.Scopes.{depth_in}
 use Rattle.ep_scope.specs.declared.kind.Enumeration.{Enumeration}
 use Rattle.ep_scope.specs.declared.kind.Host.{Host}
 use Rattle.ep_scope.specs.declared.kind.Host.TheVariants as host
@@ -30,7 +37,7 @@ use Rattle.ep_scope.specs.declared.kind.Kind.{Kind}
 use Rattle.ep_scope.specs.declared.kind.Kind.TheVariants as kind
 use Rattle.ep_scope.specs.declared.rule.TheConstants as rule
 use Rattle.ep_scope.specs.declared.thing.Declaration.TheVariants as declaration
-use Rattle.ep_check_expr.specs.Agreement.{IsConstantIf, IsConstantOf, IsSetOver}
+use Rattle.ep_check_expr.specs.Agreement.{IsConstantIf, IsConstantOf, IsSetOver, structures_of}
 use Rattle.ep_check_expr.specs.Constants.{constant_judged}
 use Rattle.ep_check_expr.specs.Hosts.{typed_host}
 use Rattle.ep_check_expr.specs.Judgements.{Judged, Accepts, Breaks}
@@ -40,8 +47,9 @@ use Rattle.ep_check_stmt.proofs.judged.Fits.{Any, Fits, fits_any, fits_both, fit
 use Rattle.ep_check_unit.specs.Declarations.{are_all_members, constant_definition, constant_entered, constant_fitting, entry_denoter, enumerated, host_denoter, members_denoter, own_thing, scopes_of, set_denoter, unused, with_constant, with_entry, with_name}
 use Rattle.ep_check_unit.specs.FittingConstants.{fits, unless_outside}
 use Rattle.ep_check_unit.specs.Blocks.{Block}
-use Rattle.ep_unit_laws.proofs.Agreeing.{holds_agrees, within}
+use Rattle.ep_unit_laws.proofs.Agreeing.{block_agrees, holds_agrees, within}
 use Rattle.ep_unit_laws.proofs.Denoting.{Denotes, DenotesSet, bare_takes, denotes_set, denotes_subrange, full_type, kind_bare, kind_has_values}
+use Rattle.ep_unit_laws.proofs.Fitting.{value_lies}
 use Rattle.ep_unit_laws.proofs.Holds.{Holds, Lists, ListsKind, constant_valid, host_denotes, known_listed, lists_small, things_push, type_values}
 use Rattle.ep_unit_laws.proofs.Open.{IsOpen, open_push}
 use Rattle.ep_unit_laws.proofs.Leading.{Grows, Leads, Enters, bodies_refl, enters_refl, enters_then, head_in, length_push, noted_leads, prefix_length, prefix_more, prefix_refl}
@@ -58,7 +66,7 @@ entry_prefix name (Some d) v all = prefix_more all (record { name = name; denote
 constant_grows : (name : List ℕ) (k : Kind) (v : Value) (deep : ℕ) (b : Block) → Grows b (with_constant name k v deep b)
 constant_grows name k v deep b = record {
   types = prefix_refl b.types;
-  constants = entry_prefix name (entry_denoter k) v b.constants;
+  constants = entry_prefix name (entry_denoter k v) v b.constants;
   variables = prefix_refl b.variables;
   own = prefix_refl b.own.variables;
   parameters = refl;
@@ -157,27 +165,59 @@ module _ (u : TypedUnit) where
         (kind_bare u.types i (denoter_of (set_denoter h)) (kind.Set h) (type.Set (members_least h) (members_greatest h)) (set_denotes i h le l)) (value.Set ms) (s.0, members_between h ms s);
   }
 
+  -- ---- arrays and records
+
+  -- what is given to an array or a record lies in the types of its components
+  abbrev pub Lies : Value → Type 0
+  Lies (value.Word z) = ⊤
+  Lies (value.Text bytes) = ⊤
+  Lies (value.Set ms) = ⊤
+  Lies (value.Structured of es) = (t : TypeValue) → IsStartFor u.types t (constant_expr (value.Structured of es)) → LiesIn t (constant_expr (value.Structured of es))
+
+  -- its type is the one that it names
+  type_named : (of : ℕ) (es : Elements) (t : TypeValue) → IsStartFor u.types t (tree.Structured of es) → (type_of u.types (tree.Named of []) ≡ Some t) × IsTyped u.types (tree.Named of []) t × IsStructured t
+  type_named of es t (structured_start n v given has typed structured starts) = (has, typed, structured)
+
+  structured_valid : (name : List ℕ) (of : ℕ) (es : List Element) (t : TypeValue) → IsStartFor u.types t (constant_expr (value.Structured of es)) → Lies (value.Structured of es)
+      → IsConstant u.types (record { name = name; denoter = denoter.Named of []; value = value.Structured of es })
+  structured_valid name of es t start lies = record { kind = record { kind = valid.Structured t; of_kind = (bare, its.2); denoter = record { type_value = t; has_type = has; typed = typed } }; value = (start, lies t start) }
+    where
+      its : (type_of u.types (tree.Named of []) ≡ Some t) × IsTyped u.types (tree.Named of []) t × IsStructured t
+      its = type_named of (elements (map element_of es)) t start
+
+      has : type_of u.types (denoter_of (denoter.Named of [])) ≡ Some t
+      has = ap (type_of u.types) (named_is of []) ∙ its.0
+
+      typed : IsTyped u.types (denoter_of (denoter.Named of [])) t
+      typed = subst (λ d. IsTyped u.types d t) (sym (named_is of [])) its.1
+
+      bare : bare_type_of u.types (denoter_of (denoter.Named of [])) ≡ Some t
+      bare = ap (option_map bare_of) has ∙ ap Some (typed_bare u.types (tree.Named of []) t its.1)
+
   -- the list of constants with one of its kind, whose host is listed
-  entry_holds : (i : ℕ) (name : List ℕ) (k : Kind) (v : Value) (all : List ConstantEntry) → i ≤ length u.types → IsConstantOf (type_values u) u.types k v → ListsKind u i k → All (IsConstant u.types) all → All (IsConstant u.types) (with_entry name (entry_denoter k) v all)
-  entry_holds i name (kind.Ordinal h) (value.Word z) all le s l x = All-push (IsConstant u.types) all (record { name = name; denoter = host_denoter h; value = value.Word z }) x (constant_valid u i name h z le l s.1)
-  entry_holds i name (kind.Ordinal h) (value.Text bytes) all le s l x = absurd s
-  entry_holds i name (kind.Ordinal h) (value.Structured of es) all le s l x = absurd s
-  entry_holds i name (kind.Ordinal h) (value.Set ms) all le s l x = absurd s
-  entry_holds i name (kind.Set h) (value.Word z) all le s l x = absurd s
-  entry_holds i name (kind.Set h) (value.Text bytes) all le s l x = absurd s
-  entry_holds i name (kind.Set h) (value.Structured of es) all le s l x = absurd s
-  entry_holds i name (kind.Set h) (value.Set ms) all le s l x = All-push (IsConstant u.types) all (record { name = name; denoter = set_denoter h; value = value.Set ms }) x (set_valid i name h ms le l s.1)
-  entry_holds i name kind.EmptySet (value.Word z) all le s l x = absurd s
-  entry_holds i name kind.EmptySet (value.Text bytes) all le s l x = absurd s
-  entry_holds i name kind.EmptySet (value.Structured of es) all le s l x = absurd s
-  entry_holds i name kind.EmptySet (value.Set ms) all le s l x = All-push (IsConstant u.types) all (record { name = name; denoter = set_denoter host.Integer; value = value.Set ms }) x (set_valid i name host.Integer ms le tt (s typed.Integer))
-  entry_holds i name (kind.Structured n) v all le s l x = x
-  entry_holds i name kind.Text v all le s l x = x
-  entry_holds i name kind.File v all le s l x = x
+  entry_holds : (i : ℕ) (name : List ℕ) (k : Kind) (v : Value) (all : List ConstantEntry) → i ≤ length u.types → IsConstantOf (type_values u) u.types k v → Lies v → ListsKind u i k → All (IsConstant u.types) all → All (IsConstant u.types) (with_entry name (entry_denoter k v) v all)
+  entry_holds i name (kind.Ordinal h) (value.Word z) all le s lies l x = All-push (IsConstant u.types) all (record { name = name; denoter = host_denoter h; value = value.Word z }) x (constant_valid u i name h z le l s.1)
+  entry_holds i name (kind.Ordinal h) (value.Text bytes) all le s lies l x = absurd s
+  entry_holds i name (kind.Ordinal h) (value.Structured of es) all le s lies l x = absurd s
+  entry_holds i name (kind.Ordinal h) (value.Set ms) all le s lies l x = absurd s
+  entry_holds i name (kind.Set h) (value.Word z) all le s lies l x = absurd s
+  entry_holds i name (kind.Set h) (value.Text bytes) all le s lies l x = absurd s
+  entry_holds i name (kind.Set h) (value.Structured of es) all le s lies l x = absurd s
+  entry_holds i name (kind.Set h) (value.Set ms) all le s lies l x = All-push (IsConstant u.types) all (record { name = name; denoter = set_denoter h; value = value.Set ms }) x (set_valid i name h ms le l s.1)
+  entry_holds i name kind.EmptySet (value.Word z) all le s lies l x = absurd s
+  entry_holds i name kind.EmptySet (value.Text bytes) all le s lies l x = absurd s
+  entry_holds i name kind.EmptySet (value.Structured of es) all le s lies l x = absurd s
+  entry_holds i name kind.EmptySet (value.Set ms) all le s lies l x = All-push (IsConstant u.types) all (record { name = name; denoter = set_denoter host.Integer; value = value.Set ms }) x (set_valid i name host.Integer ms le tt (s typed.Integer))
+  entry_holds i name (kind.Structured n) (value.Word z) all le s lies l x = absurd s
+  entry_holds i name (kind.Structured n) (value.Text bytes) all le s lies l x = absurd s
+  entry_holds i name (kind.Structured n) (value.Set ms) all le s lies l x = absurd s
+  entry_holds i name (kind.Structured n) (value.Structured of es) all le s lies l x = All-push (IsConstant u.types) all (record { name = name; denoter = denoter.Named of []; value = value.Structured of es }) x (structured_valid name of es s.0 s.2 lies)
+  entry_holds i name kind.Text v all le s lies l x = x
+  entry_holds i name kind.File v all le s lies l x = x
 
   -- so the block with it is held
-  constant_holds : (i : ℕ) (name : List ℕ) (k : Kind) (v : Value) (deep : ℕ) (b : Block) → i ≤ length u.types → IsConstantOf (type_values u) u.types k v → ListsKind u i k → Holds u i b → Holds u i (with_constant name k v deep b)
-  constant_holds i name k v deep b le s l x = record {
+  constant_holds : (i : ℕ) (name : List ℕ) (k : Kind) (v : Value) (deep : ℕ) (b : Block) → i ≤ length u.types → IsConstantOf (type_values u) u.types k v → Lies v → ListsKind u i k → Holds u i b → Holds u i (with_constant name k v deep b)
+  constant_holds i name k v deep b le s lies l x = record {
     unit = x.unit;
     things = things_push u b.own.enclosing i b.scopes.inner.entries name (own_thing b (length b.constants) (declaration.Constant k v deep)) x.things (x.unit, (s, l));
     plain = x.plain;
@@ -185,7 +225,7 @@ module _ (u : TypedUnit) where
     outer = x.outer;
     routines = x.routines;
     types = x.types;
-    constants = entry_holds i name k v b.constants le s l x.constants;
+    constants = entry_holds i name k v b.constants le s lies l x.constants;
     variables = x.variables;
     parameters = x.parameters;
     result = x.result;
@@ -204,32 +244,42 @@ module _ (u : TypedUnit) where
   built_constant kind.Text built v is c = c
   built_constant kind.File built v is c = c
 
-  definition_leads : (d : ConstantDefinition) (form : ConstantForm) (b : Block) → ConstantsAreSound → ConstantsAreKnown → constant_judged (scopes_of b) d.value ≡ Accepts form → form.built ≡ true → Leads u b (with_constant d.name form.kind form.value form.depth b)
-  definition_leads d form b sound known e is = record {
+  -- what was found to fit lies in its type
+  found_lies : (i : ℕ) (b : Block) (v : Value) → IsOpen b → i ≤ length u.types → IsPrefix b.types u.types → Holds u i b → fits b.types (scopes_of b) v ≡ true → Lies v
+  found_lies i b (value.Word z) under le front x e = tt
+  found_lies i b (value.Text bytes) under le front x e = tt
+  found_lies i b (value.Set ms) under le front x e = tt
+  found_lies i b (value.Structured of es) under le front x e = λ t start. value_lies (within u b.own.enclosing) (structures_of (scopes_of b)) (depth_in (scopes_of b)) (scopes_of b) (block_agrees u i b under le x) b.types of es t front start e
+
+  definition_leads : (d : ConstantDefinition) (form : ConstantForm) (b : Block) → ConstantsAreSound → ConstantsAreKnown → constant_judged (scopes_of b) d.value ≡ Accepts form → fits b.types (scopes_of b) form.value ≡ true → form.built ≡ true
+      → Leads u b (with_constant d.name form.kind form.value form.depth b)
+  definition_leads d form b sound known e inside is = record {
     grows = constant_grows d.name form.kind form.value form.depth b;
     holds = λ under ext w x.
-        let le : length b.types ≤ length u.types = prefix_length b.types u.types ext.types in
-        constant_holds (length b.types) d.name form.kind form.value form.depth b le
-        (built_constant form.kind form.built form.value is (sound (scopes_of b) d.value form e (within u b.own.enclosing) (type_values u) (holds_agrees u (length b.types) b under le x).1))
-        (known_listed u (length b.types) b form.kind x (known (scopes_of b) d.value form e)) x;
+        let i : ℕ = length b.types in
+        let le : i ≤ length u.types = prefix_length b.types u.types ext.types in
+        constant_holds i d.name form.kind form.value form.depth b le
+        (built_constant form.kind form.built form.value is (sound (scopes_of b) d.value form e (within u b.own.enclosing) (type_values u) (holds_agrees u i b under le x).1))
+        (found_lies i b form.value under le ext.types x inside)
+        (known_listed u i b form.kind x (known (scopes_of b) d.value form e)) x;
   }
 
   -- what lies in its type is what was judged
   abbrev WasJudged : ComponentValue → Block → ConstantForm → Type 0
-  WasJudged v b form = constant_judged (scopes_of b) v ≡ Accepts form
+  WasJudged v b form = (constant_judged (scopes_of b) v ≡ Accepts form) × (fits b.types (scopes_of b) form.value ≡ true)
 
-  inside_judged : (v : ComponentValue) (b : Block) (t : Bool) (c : ConstantForm) → WasJudged v b c → Fits (WasJudged v b) (if t then Accepts c else Breaks (rule.CONSTANT ∷ []))
-  inside_judged v b true c e = e
-  inside_judged v b false c e = tt
+  inside_judged : (v : ComponentValue) (b : Block) (t : Bool) (c : ConstantForm) → fits b.types (scopes_of b) c.value ≡ t → constant_judged (scopes_of b) v ≡ Accepts c → Fits (WasJudged v b) (if t then Accepts c else Breaks (rule.CONSTANT ∷ []))
+  inside_judged v b true c inside e = (e, inside)
+  inside_judged v b false c inside e = tt
 
   fitting_accepted : (v : ComponentValue) (b : Block) → Fits (WasJudged v b) (constant_fitting v b)
   fitting_accepted v b =
-      fits_then (WasJudged v b) (WasJudged v b) (unless_outside b.types (scopes_of b)) (constant_judged (scopes_of b) v) (fits_is (constant_judged (scopes_of b) v)) (λ c e. inside_judged v b (fits b.types (scopes_of b) c.value) c e)
+      fits_then (λ c. constant_judged (scopes_of b) v ≡ Accepts c) (WasJudged v b) (unless_outside b.types (scopes_of b)) (constant_judged (scopes_of b) v) (fits_is (constant_judged (scopes_of b) v)) (λ c e. inside_judged v b (fits b.types (scopes_of b) c.value) c refl e)
 
   pub constant_definition-leads : ConstantsAreSound → ConstantsAreKnown → (d : ConstantDefinition) (b : Block) → Fits (Leads u b) (constant_definition d b)
   constant_definition-leads sound known d b =
       fits_both (WasJudged d.value b) Any (Leads u b) _ (constant_fitting d.value b) (unused d.name b) (fitting_accepted d.value b) (fits_any (unused d.name b))
-      (λ form new e k. noted_leads u form.built d.line b (with_constant d.name form.kind form.value form.depth b) (λ is. definition_leads d form b sound known e is) (constant_grows d.name form.kind form.value form.depth b))
+      (λ form new e k. noted_leads u form.built d.line b (with_constant d.name form.kind form.value form.depth b) (λ is. definition_leads d form b sound known e.0 e.1 is) (constant_grows d.name form.kind form.value form.depth b))
 
   -- ---- the constants of an enumeration
 
@@ -246,7 +296,7 @@ module _ (u : TypedUnit) where
       (λ a k. record {
         grows = constant_grows name (kind.Ordinal (host.Enumeration e)) (value.Word (pos ordinal)) 1 b;
         same = refl;
-        holds = λ p under ext x. constant_holds i name (kind.Ordinal (host.Enumeration e)) (value.Word (pos ordinal)) 1 b p.0 (lists_small u i (host.Enumeration e) p.1, enumerated_ordinal e ordinal le) p.1 x;
+        holds = λ p under ext x. constant_holds i name (kind.Ordinal (host.Enumeration e)) (value.Word (pos ordinal)) 1 b p.0 (lists_small u i (host.Enumeration e) p.1, enumerated_ordinal e ordinal le) tt p.1 x;
       })
 
   pub enumerated_enters : (i : ℕ) (e : Enumeration) (ordinal : ℕ) (names : List (List ℕ)) (b : Block) → ordinal + length names ≤ suc e.last → Fits (Enters u (ListsWithin i e) i b) (enumerated (host.Enumeration e) ordinal names b)

@@ -10,7 +10,7 @@ use Rattle.ep_typed.specs.Trees.{Array, Denoter, Denoters, Fixed, Required, Name
 use Rattle.ep_typed.specs.Valid as valid
 use Rattle.ep_typed.specs.Valid.{AreTyped, HasKind as HasValues, IsDenoter, IsOfKind, IsSetOf, IsStructured, IsTypeOf, IsTyped, IsValue, array, components, enumeration, named, next_typed, none_typed, required, set, subrange}
 use Rattle.ep_typed.proofs.Bares.{bare_among_values, bare_base}
-use Rattle.ep_typed.proofs.Typed.{typed_of_host, typed_set}
+use Rattle.ep_typed.proofs.Typed.{typed_bare, typed_of_host, typed_set}
 use Rattle.ep_typed.specs.Results.{has_base}
 use Rattle.ep_typed.specs.Sets.{is_ordinal}
 use Rattle.ep_typed.specs.declared.denoter.RequiredType.{RequiredType}
@@ -89,12 +89,9 @@ module _ (types : List UnitType) where
   bare_found : (k : ℕ) (d : Denoter) (v : TypeValue) → HasBare types k d v → (n : ℕ) → k < n → option_map bare_of (type_within types n d) ≡ Some v
   bare_found k d v x n lt = ap (option_map bare_of) (x.has_type n lt) ∙ ap Some x.bare
 
-  -- what is a value of the bare form is one of the type value
-  pub bare_takes : (k : ℕ) (d : Denoter) (v : TypeValue) (x : HasBare types k d v) (c : Value) → IsValue v c → IsValue x.type_value c
-  bare_takes k d v x (value.Word w) s = subst IsTrue (sym (ap (λ b. is_within b w) x.bare) ∙ bare_among_values (Some x.type_value) w) s
-  bare_takes k d v x (value.Text bytes) s = absurd s
-  bare_takes k d v x (value.Set ms) s = (s.0, subst IsTrue (sym (ap (λ b. has_base b ms) x.bare) ∙ bare_base (Some x.type_value) ms) s.1)
-  bare_takes k d v x (value.Structured of es) s = absurd s
+  -- what is a value of the bare form is one of the type value, which is that form
+  pub bare_takes : (k : ℕ) (d : Denoter) (v : TypeValue) (x : HasBare types k d v) (c : Value) → IsValue types v c → IsValue types x.type_value c
+  bare_takes k d v x c s = subst (λ t. IsValue types t c) (sym x.bare ∙ typed_bare types d x.type_value x.typed) s
 
   -- behind more names
   pub bare_more : (k j : ℕ) (d : Denoter) (v : TypeValue) → k ≤ j → HasBare types k d v → HasBare types j d v

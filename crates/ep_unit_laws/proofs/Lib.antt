@@ -4,10 +4,11 @@ pub mod Holds
 pub mod Agreeing
 pub mod Leading
 pub mod Meant
+pub mod Ordinals
+pub mod Fitting
 pub mod Constants
 pub mod Types
 pub mod Structures
-pub mod Ordinals
 pub mod Arrays
 pub mod Records
 pub mod Sets

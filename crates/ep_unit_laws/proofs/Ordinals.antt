@@ -68,7 +68,8 @@ front_there (y ∷ xs) ys zero x e = e
 front_there (y ∷ xs) ys (suc n) x e = front_there xs ys n x e
 
 module _ (types : List UnitType) where
-  definition_is : (n : ℕ) (d : tree.Denoter) (v x : TypeValue) → type_within types n d ≡ Some v → ordinal_value d ≡ Some x → bare_of v ≡ x
+  -- by its own denoter
+  pub definition_is : (n : ℕ) (d : tree.Denoter) (v x : TypeValue) → type_within types n d ≡ Some v → ordinal_value d ≡ Some x → bare_of v ≡ x
   definition_is zero d v x e f = cc
   definition_is (suc n) (tree.Subrange of (tree.Fixed low) (tree.Fixed high)) v x e f = ap bare_of (same_Some v (type.Ordinal low high) (sym e)) ∙ same_Some (type.Ordinal low high) x f
   definition_is (suc n) (tree.Enumeration []) v x e f = cc
