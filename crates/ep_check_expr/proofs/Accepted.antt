@@ -24,9 +24,9 @@ use Rattle.ep_tree.specs.declared.operator.RelationalOperator.{RelationalOperato
 use Rattle.ep_tree.specs.declared.operator.Sign.{Sign}
 use Rattle.ep_scope.specs.Scopes.{Region}
 use Rattle.ep_check_expr.specs.Expressions.{Said, components_written, element_written, expression_said, factor_said, judged, judged_value, simple_judged, term_judged, factor_judged, addend_judged, multiplier_judged, comparison_judged, labelled, name_judged, selected, given}
-use Rattle.ep_check_expr.specs.Judgements.{Accepts, Typed, when_accepted}
-use Rattle.ep_check_expr.specs.Names.{parenthesized}
-use Rattle.ep_check_expr.specs.Operators.{signed, negated, added, multiplied}
+use Rattle.ep_rules.specs.Judgements.{Accepts, Typed, when_accepted}
+use Rattle.ep_rules.specs.Names.{parenthesized}
+use Rattle.ep_rules.specs.Operators.{signed, negated, added, multiplied}
 use Rattle.ep_check_expr.specs.StructuredValues.{Components, bracketed, named_number, structure_judged}
 use Rattle.ep_check_expr.proofs.Nodes.{factor-rolled, values-rolled, access_expression, access-alone, expression-judged, compared-judged, second-judged, access-judged, range-labelled, simple-judged, value-labelled, addend-judged, term-judged, multiplier-judged, argument-judged, wide-judged}
 use Rattle.ep_check_expr.proofs.Parts.{AreIndexes, AreOperands, IsSelected, AreSelected, when_accepted-fits, chained-fits, comparison_of-fits, string_judged-fits, access_judged-fits}

@@ -3,13 +3,13 @@ use Rattle.std.proofs.Common.{◌≡◌, ◌≤◌, ◌<◌, ℕ, true, false, L
 use Rattle.std.specs.Result.{IsErrAnd}
 use Rattle.std.proofs.lemmas.Result.{err_from_is_err_and}
 use Rattle.ep_scope.specs.declared.required.Function.{Function}
-use Rattle.ep_check_expr.proofs.Breaking.{IsIn, IsIn-first, IsIn-second}
-use Rattle.ep_check_expr.specs.Answers.{AnswersJudged, AnswersTyped, AnswersGiven}
-use Rattle.ep_check_expr.specs.declared.forms.Typed as code
-use Rattle.ep_check_expr.specs.declared.forms.Refusal.{Refusal}
-use Rattle.ep_check_expr.specs.declared.forms.Refusal.TheVariants.{Rule, NoMemory}
-use Rattle.ep_check_expr.specs.Functions.{Given, given_faults, all_faults, applied, applied_one, applied_two, unless_faults, number_faults, takes, called, accepted}
-use Rattle.ep_check_expr.specs.Judgements.{Judged, Accepts, Typed, breaks}
+use Rattle.ep_rules.proofs.Breaking.{IsIn, IsIn-first, IsIn-second}
+use Rattle.ep_rules.specs.Answers.{AnswersJudged, AnswersTyped, AnswersGiven}
+use Rattle.ep_rules.specs.declared.forms.Typed as code
+use Rattle.ep_rules.specs.declared.forms.Refusal.{Refusal}
+use Rattle.ep_rules.specs.declared.forms.Refusal.TheVariants.{Rule, NoMemory}
+use Rattle.ep_rules.specs.Functions.{Given, given_faults, all_faults, applied, applied_one, applied_two, unless_faults, number_faults, takes, called, accepted}
+use Rattle.ep_rules.specs.Judgements.{Judged, Accepts, Typed, breaks}
 
 -- a list of one item, and of two
 pub one-item : {A : Type 0} (xs : List A) (x : A) → 1 ≤ length xs → length xs < 2 → x ≡ get_or xs 0 x → xs ≡ x ∷ []

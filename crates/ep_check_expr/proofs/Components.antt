@@ -21,15 +21,15 @@ use Rattle.ep_scope.specs.declared.structure.StructuredType.{StructuredType}
 use Rattle.ep_scope.specs.declared.structure.TagType.{TagType}
 use Rattle.ep_scope.specs.declared.structure.VariantStep.{VariantStep}
 use Rattle.ep_check_expr.specs.Agreement.{AreHeld, HasKind, HoldsStructure, IsAccessOf, IsFieldAt, IsFieldValue, IsFormOf, IsHost, IsOfType, IsPartValue, IsStoredIn, IsStructuredAt, IsStructuredValue, IsValueAlong, IsValueOf, IsValueOfKind, TypeValues}
-use Rattle.ep_check_expr.specs.ConstantAccesses.{element_known}
-use Rattle.ep_check_expr.specs.FieldDesignators.{component_taken, part_taken, reached, taken_along}
-use Rattle.ep_check_expr.specs.KnownFields.{field_known}
-use Rattle.ep_check_expr.specs.declared.folding.Folded.{Folded}
+use Rattle.ep_rules.specs.ConstantAccesses.{element_known}
+use Rattle.ep_rules.specs.FieldDesignators.{component_taken, part_taken, reached, taken_along}
+use Rattle.ep_rules.specs.KnownFields.{field_known}
+use Rattle.ep_rules.specs.declared.folding.Folded.{Folded}
 use Rattle.ep_check_expr.proofs.ConstantAccesses.{element_known-fits, field_known-fits}
-use Rattle.ep_check_expr.specs.Hosts.{typed_host}
-use Rattle.ep_check_expr.specs.Indexing.{component_access}
-use Rattle.ep_check_expr.specs.declared.access.Access.{Access}
-use Rattle.ep_check_expr.specs.declared.access.Access.TheVariants as access
+use Rattle.ep_rules.specs.Hosts.{typed_host}
+use Rattle.ep_rules.specs.Indexing.{component_access}
+use Rattle.ep_rules.specs.declared.access.Access.{Access}
+use Rattle.ep_rules.specs.declared.access.Access.TheVariants as access
 use Rattle.ep_check_expr.proofs.FieldPlaces.{all_of_each, all_there, field-place, field-tagged}
 use Rattle.ep_check_expr.proofs.Places.{IsComponent, IsComponentAt, made_so, place_at, place_wider}
 

@@ -19,13 +19,13 @@ use Rattle.ep_scope.specs.declared.structure.FieldType.{FieldType}
 use Rattle.ep_scope.specs.declared.structure.TagType.{TagType}
 use Rattle.ep_scope.specs.declared.structure.VariantStep.{VariantStep}
 use Rattle.ep_check_expr.specs.Agreement.{AreHeld, IsFieldValue, IsFormOf, IsPartValue, IsValueAlong, IsValueOfKind, TypeValues}
-use Rattle.ep_check_expr.specs.ConstantAccesses.{are_of_host, constant_as, element_known, has_index, value_at, value_for, value_of_field}
-use Rattle.ep_check_expr.specs.Folding.{number_in}
-use Rattle.ep_check_expr.specs.Hosts.{typed_host}
-use Rattle.ep_check_expr.specs.KnownFields.{are_selected, field_known}
-use Rattle.ep_check_expr.specs.VariantSteps.{field_steps, part_steps, variant_step}
-use Rattle.ep_check_expr.specs.declared.folding.Folded.{Folded}
-use Rattle.ep_check_expr.specs.declared.folding.Folded.TheVariants.{Known, Varies, Errs}
+use Rattle.ep_rules.specs.ConstantAccesses.{are_of_host, constant_as, element_known, has_index, value_at, value_for, value_of_field}
+use Rattle.ep_rules.specs.Folding.{number_in}
+use Rattle.ep_rules.specs.Hosts.{typed_host}
+use Rattle.ep_rules.specs.KnownFields.{are_selected, field_known}
+use Rattle.ep_rules.specs.VariantSteps.{field_steps, part_steps, variant_step}
+use Rattle.ep_rules.specs.declared.folding.Folded.{Folded}
+use Rattle.ep_rules.specs.declared.folding.Folded.TheVariants.{Known, Varies, Errs}
 use Rattle.ep_check_expr.proofs.Leading.{Leads, leads_once, step_leads}
 use Rattle.ep_check_expr.proofs.Betweens.{between_all}
 

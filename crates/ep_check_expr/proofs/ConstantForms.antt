@@ -19,17 +19,17 @@ use Rattle.ep_scope.specs.declared.kind.Kind.TheVariants as kind
 use Rattle.ep_scope.specs.declared.rule.TheConstants as rule
 use Rattle.ep_check_expr.specs.Agreement.{AgreesBy, IsConstantIf, IsConstantOf, IsFile, IsFormOf, IsHost, IsValueOf, TypeValues, structures_of}
 use Rattle.ep_check_expr.specs.Constants.{as_constant, constant_by, constant_of, known, may_be_constant, unbuilt_of}
-use Rattle.ep_check_expr.specs.Folding.{folded}
-use Rattle.ep_check_expr.specs.Hosts.{typed_host}
-use Rattle.ep_check_expr.specs.Judgements.{Judged, Accepts, Breaks, Typed, when_accepted}
+use Rattle.ep_rules.specs.Folding.{folded}
+use Rattle.ep_rules.specs.Hosts.{typed_host}
+use Rattle.ep_rules.specs.Judgements.{Judged, Accepts, Breaks, Typed, when_accepted}
 use Rattle.ep_check_expr.specs.StructuredConstants.{Constancy, constancy, known_constancy, value_in, value_known}
-use Rattle.ep_check_expr.specs.declared.access.Access.{Access}
+use Rattle.ep_rules.specs.declared.access.Access.{Access}
 use Rattle.ep_check_expr.specs.declared.constants.ConstantForm.{ConstantForm}
 use Rattle.ep_check_expr.specs.declared.constants.Purpose.{Purpose}
-use Rattle.ep_check_expr.specs.declared.folding.Folded.{Folded}
-use Rattle.ep_check_expr.specs.declared.folding.Folded.TheVariants.{Known, Varies, Errs}
-use Rattle.ep_check_expr.specs.declared.folding.KnownValue.{KnownValue}
-use Rattle.ep_check_expr.specs.declared.folding.KnownValue.TheVariants as known_value
+use Rattle.ep_rules.specs.declared.folding.Folded.{Folded}
+use Rattle.ep_rules.specs.declared.folding.Folded.TheVariants.{Known, Varies, Errs}
+use Rattle.ep_rules.specs.declared.folding.KnownValue.{KnownValue}
+use Rattle.ep_rules.specs.declared.folding.KnownValue.TheVariants as known_value
 use Rattle.ep_check_expr.specs.declared.structured_constants.ConstantValue.{ConstantValue}
 use Rattle.ep_check_expr.specs.declared.structured_constants.ConstantValue.TheVariants as constant
 use Rattle.ep_check_expr.specs.declared.structured_constants.NoConstant.TheVariants as reason

@@ -10,10 +10,10 @@ use Rattle.ep_scope.specs.declared.kind.Kind.{Kind}
 use Rattle.ep_scope.specs.declared.kind.Kind.TheVariants as kind
 use Rattle.ep_scope.specs.declared.structure.StructuredType.{StructuredType}
 use Rattle.ep_check_expr.specs.Agreement.{IsFormOf, IsHost, TypeValues}
-use Rattle.ep_check_expr.specs.Constructors.{Label, Members, extended, joined_by, may_join, no_member, set_judged, set_kind}
-use Rattle.ep_check_expr.specs.Hosts.{typed_host}
-use Rattle.ep_check_expr.specs.Judgements.{Accepts, Typed}
-use Rattle.ep_check_expr.specs.Operators.{are_compatible, map_both}
+use Rattle.ep_rules.specs.Constructors.{Label, Members, extended, joined_by, may_join, no_member, set_judged, set_kind}
+use Rattle.ep_rules.specs.Hosts.{typed_host}
+use Rattle.ep_rules.specs.Judgements.{Accepts, Typed}
+use Rattle.ep_rules.specs.Operators.{are_compatible, map_both}
 use Rattle.ep_check_expr.proofs.Labels.{set-has}
 use Rattle.ep_check_expr.proofs.Keeping.{AreLabels, Satisfies}
 use Rattle.ep_check_expr.proofs.SameHost.{host_same}

@@ -16,11 +16,11 @@ use Rattle.ep_scope.specs.declared.structure.Composition.TheVariants as composit
 use Rattle.ep_scope.specs.declared.structure.FieldType.{FieldType}
 use Rattle.ep_scope.specs.declared.structure.StructuredType.{StructuredType}
 use Rattle.ep_check_expr.specs.Agreement.{HoldsStructure, IsAccessOf, IsFormOf, IsStructuredAt, IsStructuredValue, TypeValues, structures_of}
-use Rattle.ep_check_expr.specs.FieldDesignators.{along, designated, designated_by, field_access, field_by, field_form, field_if, field_typed, field_within, part_form, part_taken, reached, steps_to, variable_access}
-use Rattle.ep_check_expr.specs.Judgements.{Judged, Accepts, Breaks, Typed}
-use Rattle.ep_check_expr.specs.declared.access.Access.{Access}
-use Rattle.ep_check_expr.specs.declared.access.Access.TheVariants as access
-use Rattle.ep_check_expr.specs.declared.forms.TheConstants as limit
+use Rattle.ep_rules.specs.FieldDesignators.{along, designated, designated_by, field_access, field_by, field_form, field_if, field_typed, field_within, part_form, part_taken, reached, steps_to, variable_access}
+use Rattle.ep_rules.specs.Judgements.{Judged, Accepts, Breaks, Typed}
+use Rattle.ep_rules.specs.declared.access.Access.{Access}
+use Rattle.ep_rules.specs.declared.access.Access.TheVariants as access
+use Rattle.ep_rules.specs.declared.forms.TheConstants as limit
 use Rattle.ep_check_expr.proofs.Components.{HasComponents, built-form, component-type, field-component, known-field, unbuilt-form}
 use Rattle.ep_check_expr.proofs.FieldPlaces.{field-place, field-tagged, read-access, some-field, unread-access}
 use Rattle.ep_check_expr.proofs.Keeping.{Satisfies, if-satisfies}

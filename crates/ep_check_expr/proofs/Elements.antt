@@ -24,12 +24,12 @@ use Rattle.ep_tree.specs.declared.expression.Values.{Values}
 use Rattle.ep_tree.specs.declared.operator.Sign.{Sign}
 use Rattle.ep_scope.specs.Scopes.{Region}
 use Rattle.ep_scope.specs.declared.structure.ArrayType.{ArrayType}
-use Rattle.ep_check_expr.specs.Constructors.{Label}
+use Rattle.ep_rules.specs.Constructors.{Label}
 use Rattle.ep_check_expr.specs.Expressions.{Addition, Multiplication, Relation, Result, Selected, at_access, at_addend, at_argument, at_comparison, at_component_value, at_element, at_expression, at_factor, at_label, at_multiplier, at_selector, at_simple, at_term, at_values, judged, addend_judged, comparison_judged, components_written, element_written, given, judged_value, multiplier_judged, selected, expression_said, factor_said, labelled, name_said, simple_said, term_said}
-use Rattle.ep_check_expr.specs.Functions.{Given}
-use Rattle.ep_check_expr.specs.Judgements.{Judged, Accepts, Typed, breaks, when_accepted}
+use Rattle.ep_rules.specs.Functions.{Given}
+use Rattle.ep_rules.specs.Judgements.{Judged, Accepts, Typed, breaks, when_accepted}
 use Rattle.ep_check_expr.specs.StructuredValues.{Arranged, Choice, Components, Filled, Index, IndexLabels, Labelled, One, Ranges, Valued, VariantNumbers, Written, alone_labels, array_element, asked_by, asked_first, choice, chosen_written, fields_element, fields_filled, given_by, given_then, index_judged, label_name, label_places, labelled_element, labels_judged, many_labels, named_element, range_labelled, ranges_labelled, record_element, second_index, single_label, values_chosen, with_labels, with_range}
-use Rattle.ep_check_expr.proofs.Breaking.{when_accepted-part}
+use Rattle.ep_rules.proofs.Breaking.{when_accepted-part}
 use Rattle.ep_check_expr.proofs.Rows.{left-cons}
 
 -- ---- the name that an expression is alone

@@ -15,8 +15,8 @@ use Rattle.ep_scope.specs.declared.structure.StructuredType.{StructuredType}
 use Rattle.ep_scope.specs.declared.structure.TagType.{TagType}
 use Rattle.ep_scope.specs.declared.structure.VariantStep.{VariantStep}
 use Rattle.ep_check_expr.specs.Agreement.{HasKind, HoldsStructure, IsAccessOf, IsAlong, IsDenoterOf, IsFieldOf, IsMadeOf, IsOfType, IsPartOf, IsStructuredAt, IsTaggedIf, Records, Arrays, Structure, TypeValues}
-use Rattle.ep_check_expr.specs.FieldDesignators.{along, component_place, reached, variable_access}
-use Rattle.ep_check_expr.specs.Hosts.{typed_host}
+use Rattle.ep_rules.specs.FieldDesignators.{along, component_place, reached, variable_access}
+use Rattle.ep_rules.specs.Hosts.{typed_host}
 use Rattle.ep_check_expr.proofs.Places.{IsComponentAt, IsFieldWhere, IsStructured, IsVariantWhere, made_so, place_wider, record_parts}
 
 -- what holds of all holds of the one of a number

@@ -11,10 +11,10 @@ use Rattle.ep_tree.specs.declared.expression.Multiplier.{Multiplier, out-Multipl
 use Rattle.ep_tree.specs.declared.expression.Simple.{Simple, out-Simple}
 use Rattle.ep_tree.specs.declared.expression.Term.{Term, out-Term}
 use Rattle.ep_check_expr.specs.Expressions.{Result, Selected, Addition, Relation, Multiplication, access_judged, chained, name_judged, selected, addend_judged, multiplier_judged, simple_judged, term_judged, factor_judged, at_component_value, at_element, at_factor, at_selector, at_access, at_addend, at_argument, at_comparison, at_expression, at_label, at_multiplier, at_simple, at_term, at_values}
-use Rattle.ep_check_expr.specs.Constructors.{Label}
-use Rattle.ep_check_expr.specs.Functions.{Given}
-use Rattle.ep_check_expr.specs.Judgements.{when_accepted}
-use Rattle.ep_check_expr.specs.Operators.{added, multiplied, signed}
+use Rattle.ep_rules.specs.Constructors.{Label}
+use Rattle.ep_rules.specs.Functions.{Given}
+use Rattle.ep_rules.specs.Judgements.{when_accepted}
+use Rattle.ep_rules.specs.Operators.{added, multiplied, signed}
 use Rattle.ep_check_expr.specs.StructuredValues.{Components, Valued, Written}
 
 module _ (scopes : List Region) where

@@ -1,15 +1,14 @@
 -- What is given for formal parameters, gathered from one argument after another.
-use Rattle.std.proofs.Common.{◌≡◌, ◌<◌, ◌≤◌, ℕ, true, suc, ◌+◌, max, List, [], ◌∷◌, ◌++◌, map, drop, length, get_or, Option, Some, None, refl, sym, ap, ap₂, ◌∙◌, append_assoc, arith}
-use Rattle.ep_typed.specs.Trees.{Actual, Callee}
-use Rattle.ep_scope.specs.declared.kind.Kind.{Kind}
+use Rattle.std.proofs.Common.{◌≡◌, ◌<◌, ℕ, true, suc, ◌+◌, max, List, [], ◌∷◌, ◌++◌, map, drop, length, get_or, Option, Some, None, refl, sym, ap, ap₂, ◌∙◌, append_assoc, arith}
+use Rattle.ep_typed.specs.Trees.{Actual}
 use Rattle.ep_scope.specs.declared.parameter.FormalParameter.{FormalParameter}
-use Rattle.ep_check_expr.proofs.Breaking.{IsIn, both-first, both-second, when_accepted-part}
+use Rattle.ep_rules.proofs.Breaking.{IsIn, both-first, both-second, when_accepted-part}
 use Rattle.ep_check_expr.proofs.Calls.{unless_faults-in}
 use Rattle.ep_check_expr.proofs.Rows.{left-cons}
-use Rattle.ep_check_expr.specs.Arguments.{Taken, argument_judged, argument_taken, arguments_judged, function_called, joined}
-use Rattle.ep_check_expr.specs.Functions.{Given, given_faults, unless_faults}
-use Rattle.ep_check_expr.specs.Judgements.{Judged, Accepts, Breaks, Typed, both, breaks, when_accepted}
-use Rattle.ep_check_expr.specs.Operators.{map_both}
+use Rattle.ep_rules.specs.Arguments.{Taken, argument_judged, argument_taken, arguments_judged, joined}
+use Rattle.ep_rules.specs.Functions.{Given, given_faults, unless_faults}
+use Rattle.ep_rules.specs.Judgements.{Judged, Accepts, Breaks, Typed, both, breaks, when_accepted}
+use Rattle.ep_rules.specs.Operators.{map_both}
 
 -- what is given so far, and for the parameters that come
 abbrev pub gathered : Taken → Judged Taken → Judged Taken
@@ -78,8 +77,3 @@ module _ {X : Type 0} (view : X → Given) (ps : List FormalParameter) (all : Li
       taken_part : (J : Judged Taken) → breaks n (gathered found J) ≡ true → breaks n J ≡ true
       taken_part (Accepts t) h = h
       taken_part (Breaks rules) h = h
-
--- a function that has parameters, without arguments
-pub without_arguments : (callee : Callee) (ps : List FormalParameter) (k : Kind) → 1 ≤ length ps → breaks 37 (function_called callee ps k []) ≡ true
-without_arguments callee [] k e = let none : ⊥ = omega (arith, e) in absurd none
-without_arguments callee (p ∷ ps) k e = refl

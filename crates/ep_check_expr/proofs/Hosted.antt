@@ -39,17 +39,16 @@ use Rattle.ep_scope.specs.declared.thing.Declared.{Declared}
 use Rattle.ep_scope.specs.declared.thing.Thing.{Thing}
 use Rattle.ep_scope.specs.declared.thing.Thing.TheVariants as thing
 use Rattle.ep_scope.specs.declared.rule.TheConstants as rule
-use Rattle.ep_check_expr.specs.declared.access.Access.TheVariants as access
-use Rattle.ep_check_expr.specs.Arguments.{Taken, arguments_judged, callee_at, function_typed}
-use Rattle.ep_check_expr.specs.Constructors.{Label, Members, extended, joined_by, may_join, no_member, set_judged, set_kind}
-use Rattle.ep_check_expr.specs.Expressions.{spelled}
-use Rattle.ep_check_expr.specs.FieldDesignators.{field_typed, steps_to}
-use Rattle.ep_check_expr.specs.Functions.{Given, applied_one, applied_two, card_by, ordinal_by, other_argument, step_typed, stepped_by, one}
-use Rattle.ep_check_expr.specs.Hosts.{typed_host}
-use Rattle.ep_check_expr.specs.Indexing.{component_depth, component_typed}
-use Rattle.ep_check_expr.specs.Judgements.{Judged, Accepts, Breaks, Typed, unbuilt, when_accepted}
-use Rattle.ep_check_expr.specs.Names.{call_declared, leaf, value_declared, value_named, value_required}
-use Rattle.ep_check_expr.specs.Operators.{added, are_compatible, are_sets, combined, joint_kind, may_be_in, on_sets_typed, related, sum_typed, arithmetic, binary_typed, boolean, character, compared, comparison, integer, is_boolean, is_integer, is_string, logical, misfit, multiplied, short_circuit, short_typed, sign_of, signed, unary_typed, unbuilt_typed, within_depth}
+use Rattle.ep_rules.specs.declared.access.Access.TheVariants as access
+use Rattle.ep_rules.specs.Arguments.{Taken, arguments_judged, callee_at, function_typed}
+use Rattle.ep_rules.specs.Constructors.{Label, Members, extended, joined_by, may_join, no_member, set_judged, set_kind}
+use Rattle.ep_rules.specs.Names.{spelled, call_declared, leaf, value_declared, value_named, value_required}
+use Rattle.ep_rules.specs.FieldDesignators.{field_typed, steps_to}
+use Rattle.ep_rules.specs.Functions.{Given, applied_one, applied_two, card_by, ordinal_by, other_argument, step_typed, stepped_by, one}
+use Rattle.ep_rules.specs.Hosts.{typed_host}
+use Rattle.ep_rules.specs.Indexing.{component_depth, component_typed}
+use Rattle.ep_rules.specs.Judgements.{Judged, Accepts, Breaks, Typed, unbuilt, when_accepted}
+use Rattle.ep_rules.specs.Operators.{added, are_compatible, are_sets, combined, joint_kind, may_be_in, on_sets_typed, related, sum_typed, arithmetic, binary_typed, boolean, character, compared, comparison, integer, is_boolean, is_integer, is_string, logical, misfit, multiplied, short_circuit, short_typed, sign_of, signed, unary_typed, unbuilt_typed, within_depth}
 use Rattle.ep_check_expr.specs.Origins.{CompositionHasHost, DeclaresHost, EntriesHaveHost, FieldsHaveHost, HasHost, StructuresHaveHost, InterfacesHaveHost, IsKnownHost, IsKnownKind, RecordsHaveHost, ScopesHaveHost, ThingHasHost}
 use Rattle.ep_check_expr.proofs.Labels.{set-has}
 use Rattle.ep_check_expr.proofs.Designated.{field-given}

@@ -14,13 +14,13 @@ use Rattle.ep_scope.specs.declared.structure.Composition.{Composition}
 use Rattle.ep_scope.specs.declared.structure.Composition.TheVariants as composition
 use Rattle.ep_scope.specs.declared.structure.StructuredType.{StructuredType}
 use Rattle.ep_check_expr.specs.Agreement.{HoldsStructure, IsAccessOf, IsFormOf, IsStructuredAt, IsStructuredValue, TypeValues, structures_of}
-use Rattle.ep_check_expr.specs.ConstantAccesses.{element_known}
-use Rattle.ep_check_expr.specs.Folding.{folded}
-use Rattle.ep_check_expr.specs.Indexing.{component_depth, component_form, component_typed, element_form, indexed, indexed_by, indexed_if, no_index}
-use Rattle.ep_check_expr.specs.Judgements.{Judged, Accepts, Breaks, Typed}
-use Rattle.ep_check_expr.specs.Operators.{are_compatible, character, is_integer, unbuilt_typed}
-use Rattle.ep_check_expr.specs.declared.access.Access.{Access}
-use Rattle.ep_check_expr.specs.declared.forms.TheConstants as limit
+use Rattle.ep_rules.specs.ConstantAccesses.{element_known}
+use Rattle.ep_rules.specs.Folding.{folded}
+use Rattle.ep_rules.specs.Indexing.{component_depth, component_form, component_typed, element_form, indexed, indexed_by, indexed_if, no_index}
+use Rattle.ep_rules.specs.Judgements.{Judged, Accepts, Breaks, Typed}
+use Rattle.ep_rules.specs.Operators.{are_compatible, character, is_integer, unbuilt_typed}
+use Rattle.ep_rules.specs.declared.access.Access.{Access}
+use Rattle.ep_rules.specs.declared.forms.TheConstants as limit
 use Rattle.ep_check_expr.proofs.Components.{IsComponentForm, built-component, element-known, indexed-component, unbuilt-component}
 use Rattle.ep_check_expr.proofs.Keeping.{Satisfies, if-satisfies}
 use Rattle.ep_check_expr.proofs.Passing.{IsForm}

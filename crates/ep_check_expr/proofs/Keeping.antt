@@ -11,15 +11,14 @@ use Rattle.ep_scope.specs.Scopes as meaning
 use Rattle.ep_scope.specs.declared.kind.Host.TheVariants as host
 use Rattle.ep_scope.specs.declared.kind.Kind.TheVariants as kind
 use Rattle.ep_scope.specs.declared.required.Function.{Function}
-use Rattle.ep_check_expr.specs.declared.access.Access.TheVariants as access
-use Rattle.ep_check_expr.specs.Constructors.{Label, set_judged}
-use Rattle.ep_check_expr.specs.Expressions.{spelled}
-use Rattle.ep_check_expr.specs.FieldDesignators.{designated}
-use Rattle.ep_check_expr.specs.Functions.{Given, applied_one, applied_two}
-use Rattle.ep_check_expr.specs.Indexing.{indexed}
-use Rattle.ep_check_expr.specs.Judgements.{Judged, Accepts, Breaks, Typed, both, when_accepted}
-use Rattle.ep_check_expr.specs.Names.{call_declared, leaf, parenthesized, value_named}
-use Rattle.ep_check_expr.specs.Operators.{signed, negated, added, multiplied, compared}
+use Rattle.ep_rules.specs.declared.access.Access.TheVariants as access
+use Rattle.ep_rules.specs.Constructors.{Label, set_judged}
+use Rattle.ep_rules.specs.Names.{spelled, call_declared, leaf, parenthesized, value_named}
+use Rattle.ep_rules.specs.FieldDesignators.{designated}
+use Rattle.ep_rules.specs.Functions.{Given, applied_one, applied_two}
+use Rattle.ep_rules.specs.Indexing.{indexed}
+use Rattle.ep_rules.specs.Judgements.{Judged, Accepts, Breaks, Typed, both, when_accepted}
+use Rattle.ep_rules.specs.Operators.{signed, negated, added, multiplied, compared}
 use Rattle.ep_check_expr.specs.StructuredValues.{Chosen, Components, Labelled, Valued, Written, WrittenRow, next_written, no_written, row_of, structure_judged}
 
 -- what is accepted has the property

@@ -21,11 +21,11 @@ use Rattle.ep_typed.specs.declared.operations.ShortOperation.{ShortOperation}
 use Rattle.ep_typed.specs.declared.run_error.TheConstants as run_error
 use Rattle.ep_typed.proofs.Sets.{few_members}
 use Rattle.ep_check_expr.specs.Agreement.{IsSetOver}
-use Rattle.ep_check_expr.specs.Folding.{answered, as_known, folded, folded_member, folded_members, joined, members_in, number_in, one_folded, result_of, set_found, short_folded, two_folded}
-use Rattle.ep_check_expr.specs.declared.folding.Folded.{Folded}
-use Rattle.ep_check_expr.specs.declared.folding.Folded.TheVariants.{Known, Varies, Errs}
-use Rattle.ep_check_expr.specs.declared.folding.KnownValue.{KnownValue}
-use Rattle.ep_check_expr.specs.declared.folding.KnownValue.TheVariants as known_value
+use Rattle.ep_rules.specs.Folding.{answered, as_known, folded, folded_member, folded_members, joined, members_in, number_in, one_folded, result_of, set_found, short_folded, two_folded}
+use Rattle.ep_rules.specs.declared.folding.Folded.{Folded}
+use Rattle.ep_rules.specs.declared.folding.Folded.TheVariants.{Known, Varies, Errs}
+use Rattle.ep_rules.specs.declared.folding.KnownValue.{KnownValue}
+use Rattle.ep_rules.specs.declared.folding.KnownValue.TheVariants as known_value
 use Rattle.ep_check_expr.proofs.SetsOver.{IsFound, combined-over, empty-over, range-over, single-over}
 
 -- ---- numbers

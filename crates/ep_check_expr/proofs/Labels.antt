@@ -3,10 +3,10 @@ use Rattle.std.proofs.Common.{◌≡◌, ◌∙◌, ◌+◌, ◌<◌, ℕ, true,
 use Rattle.std.specs.Prelude.{⊤}
 use Rattle.ep_typed.specs.Trees.{Expr}
 use Rattle.ep_scope.specs.declared.kind.Kind.{Kind}
-use Rattle.ep_check_expr.specs.Constructors.{Label, Members, constructed, gathered, no_members, pair, set_judged, with_label, with_pair, with_range, with_single, with_values}
-use Rattle.ep_check_expr.specs.Judgements.{Judged, Accepts, Breaks, Typed, both, breaks}
-use Rattle.ep_check_expr.specs.declared.access.Access.TheVariants as access
-use Rattle.ep_check_expr.proofs.Breaking.{both-first, both-second}
+use Rattle.ep_rules.specs.Constructors.{Label, Members, constructed, gathered, no_members, pair, set_judged, with_label, with_pair, with_range, with_single, with_values}
+use Rattle.ep_rules.specs.Judgements.{Judged, Accepts, Breaks, Typed, both, breaks}
+use Rattle.ep_rules.specs.declared.access.Access.TheVariants as access
+use Rattle.ep_rules.proofs.Breaking.{both-first, both-second}
 use Rattle.ep_check_expr.proofs.Keeping.{AreLabels, IsHigh, Satisfies, both-satisfies, then-satisfies, weaker-satisfies}
 use Rattle.ep_check_expr.proofs.Plain.{deep-plain}
 use Rattle.ep_check_expr.proofs.Rows.{left-cons}

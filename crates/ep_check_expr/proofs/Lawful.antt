@@ -18,17 +18,17 @@ use Rattle.ep_scope.specs.declared.kind.Kind.TheVariants as kind
 use Rattle.ep_scope.specs.declared.rule.TheConstants as rule
 use Rattle.ep_check_expr.specs.Agreement.{AgreesBy, AreActuals, IsAccessOf, IsFormOf, IsHost, TypeValues, structures_of}
 use Rattle.ep_check_expr.specs.Constants.{IsSoundConstant, as_constant, constant_by, constant_expression, constant_of, known, may_be_constant, nesting, purpose_of, stand_in, unbuilt_of}
-use Rattle.ep_check_expr.specs.Expressions.{given, judged, judged_value, name_judged, spelled}
-use Rattle.ep_check_expr.specs.Hosts.{typed_host}
-use Rattle.ep_check_expr.specs.Judgements.{Judged, Accepts, Breaks, Typed, unbuilt, when_accepted}
+use Rattle.ep_check_expr.specs.Expressions.{given, judged, judged_value, name_judged}
+use Rattle.ep_rules.specs.Names.{spelled, leaf}
+use Rattle.ep_rules.specs.Hosts.{typed_host}
+use Rattle.ep_rules.specs.Judgements.{Judged, Accepts, Breaks, Typed, unbuilt, when_accepted}
 use Rattle.ep_check_expr.specs.Laws.{ExpressionsAreSound, AccessesAreSound, VariablesAreSound, ArgumentsAreSound, ValuesAreSound, ConstantsAreSound, BoundsAreSound, LabelsAreSound, InitialStatesAreSound, ExpressionsAreKnown, ConstantsAreKnown, BoundsAreKnown}
 use Rattle.ep_check_expr.specs.Origins.{IsKnownKind}
-use Rattle.ep_check_expr.specs.declared.access.Access as accessed
-use Rattle.ep_check_expr.specs.declared.access.Access.TheVariants as access
-use Rattle.ep_check_expr.specs.Constructors.{set_judged}
-use Rattle.ep_check_expr.specs.Functions.{applied_one, applied_two}
-use Rattle.ep_check_expr.specs.Operators.{signed, negated, added, multiplied, compared}
-use Rattle.ep_check_expr.specs.Names.{leaf}
+use Rattle.ep_rules.specs.declared.access.Access as accessed
+use Rattle.ep_rules.specs.declared.access.Access.TheVariants as access
+use Rattle.ep_rules.specs.Constructors.{set_judged}
+use Rattle.ep_rules.specs.Functions.{applied_one, applied_two}
+use Rattle.ep_rules.specs.Operators.{signed, negated, added, multiplied, compared}
 use Rattle.ep_check_expr.specs.declared.constants.ConstantForm.{ConstantForm}
 use Rattle.ep_check_expr.specs.declared.constants.Purpose.{Purpose}
 use Rattle.ep_check_expr.specs.declared.constants.Purpose.TheVariants as purpose

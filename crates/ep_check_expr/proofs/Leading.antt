@@ -23,8 +23,8 @@ use Rattle.ep_scope.specs.declared.structure.FieldType.{FieldType}
 use Rattle.ep_scope.specs.declared.structure.TagType.{TagType}
 use Rattle.ep_scope.specs.declared.structure.VariantStep.{VariantStep}
 use Rattle.ep_check_expr.specs.Agreement.{AreFields, Arrays, HasKind, HasStructure, IsAlong, IsFieldOf, IsListed, IsMadeOf, IsPartOf, IsValueOf, IsValueOfKind, Records, Structure, TypeValues}
-use Rattle.ep_check_expr.specs.Hosts.{typed_host}
-use Rattle.ep_check_expr.specs.VariantSteps.{field_steps, part_steps}
+use Rattle.ep_rules.specs.Hosts.{typed_host}
+use Rattle.ep_rules.specs.VariantSteps.{field_steps, part_steps}
 use Rattle.ep_check_expr.proofs.Places.{made_so}
 
 -- from records with these components steps lead to a component with a type value of the kind

@@ -2,7 +2,6 @@ pub mod Accepted
 pub mod Plain
 pub mod Passing
 pub mod Betweens
-pub mod Breaking
 pub mod Calls
 pub mod ConstantAccesses
 pub mod ConstantForms
@@ -35,7 +34,6 @@ pub mod SameType
 pub mod Sound
 pub mod Structures
 pub mod Gathering
-pub mod Taking
 pub mod Written
 pub mod Joining
 pub mod Keeping

@@ -26,12 +26,12 @@ use Rattle.ep_scope.specs.declared.thing.Declared.{Declared}
 use Rattle.ep_scope.specs.declared.thing.Thing.{Thing}
 use Rattle.ep_scope.specs.declared.thing.Thing.TheVariants as thing
 use Rattle.ep_check_expr.specs.Agreement.{IsConstantIn, IsStoredIn, IsDeclaration, IsFieldAt, IsOpen, IsThing, AreThings, AreInterfaces, AreOpen, AgreesBy, TypeValues, IsFormOf}
-use Rattle.ep_check_expr.specs.Arguments.{callee_at, own_place}
-use Rattle.ep_check_expr.specs.FieldDesignators.{along}
-use Rattle.ep_check_expr.specs.Hosts.{typed_host}
-use Rattle.ep_check_expr.specs.Names.{call_declared, field_place, value_declared, value_required, value_named}
-use Rattle.ep_check_expr.specs.Functions.{Given}
-use Rattle.ep_check_expr.specs.Judgements.{Judged, Typed}
+use Rattle.ep_rules.specs.Arguments.{callee_at, own_place}
+use Rattle.ep_rules.specs.FieldDesignators.{along}
+use Rattle.ep_rules.specs.Hosts.{typed_host}
+use Rattle.ep_rules.specs.Names.{call_declared, field_place, value_declared, value_required, value_named}
+use Rattle.ep_rules.specs.Functions.{Given}
+use Rattle.ep_rules.specs.Judgements.{Judged, Typed}
 use Rattle.ep_check_expr.proofs.FieldPlaces.{all_there, read-access}
 use Rattle.ep_check_expr.proofs.Passing.{IsForm, function_called-fits}
 use Rattle.ep_check_expr.proofs.Keeping.{AreGiven, IsCalled, Satisfies}

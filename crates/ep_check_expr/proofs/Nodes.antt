@@ -26,13 +26,13 @@ use Rattle.ep_tree.specs.declared.operator.MultiplyingOperator.{MultiplyingOpera
 use Rattle.ep_tree.specs.declared.operator.RelationalOperator.{RelationalOperator}
 use Rattle.ep_tree.specs.declared.operator.Sign.{Sign}
 use Rattle.ep_scope.specs.declared.kind.Host.TheVariants as host
-use Rattle.ep_check_expr.specs.Expressions.{Addition, Arguments, Field, Indexes, Multiplication, Relation, Result, Selected, at_access, at_addend, at_argument, at_comparison, at_component_value, at_element, at_expression, at_factor, at_label, at_multiplier, at_selector, at_simple, at_term, at_values, components_written, element_written, judged_value, factor_said, name_said, simple_said, term_said, chained, spelled, string_judged, access_judged, expression_said, judged, simple_judged, term_judged, factor_judged, addend_judged, multiplier_judged, comparison_judged, labelled, name_judged, selected, given}
-use Rattle.ep_check_expr.specs.Constructors.{Label}
-use Rattle.ep_check_expr.specs.Functions.{Given}
+use Rattle.ep_check_expr.specs.Expressions.{Addition, Arguments, Field, Indexes, Multiplication, Relation, Result, Selected, at_access, at_addend, at_argument, at_comparison, at_component_value, at_element, at_expression, at_factor, at_label, at_multiplier, at_selector, at_simple, at_term, at_values, components_written, element_written, judged_value, factor_said, name_said, simple_said, term_said, chained, string_judged, access_judged, expression_said, judged, simple_judged, term_judged, factor_judged, addend_judged, multiplier_judged, comparison_judged, labelled, name_judged, selected, given}
+use Rattle.ep_rules.specs.Names.{spelled, parenthesized}
+use Rattle.ep_rules.specs.Constructors.{Label}
+use Rattle.ep_rules.specs.Functions.{Given}
 use Rattle.ep_check_expr.specs.StructuredValues.{Components, Valued, Written}
-use Rattle.ep_check_expr.specs.Judgements.{Judged, Accepts, Breaks, Typed, both, when_accepted}
-use Rattle.ep_check_expr.specs.Names.{parenthesized}
-use Rattle.ep_check_expr.specs.Operators.{signed, added, multiplied, compared}
+use Rattle.ep_rules.specs.Judgements.{Judged, Accepts, Breaks, Typed, both, when_accepted}
+use Rattle.ep_rules.specs.Operators.{signed, added, multiplied, compared}
 
 -- an access by itself
 abbrev pub access_expression : Access → Expression

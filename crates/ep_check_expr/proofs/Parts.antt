@@ -8,12 +8,12 @@ use Rattle.ep_scope.specs.declared.required.Function.{Function}
 use Rattle.ep_scope.specs.declared.required.Required.{Required}
 use Rattle.ep_scope.specs.declared.required.Required.TheVariants as required
 use Rattle.ep_check_expr.specs.Expressions.{Operand, Selected, Field, Indexes, Arguments, Other, chained, string_judged, access_judged, selected_all}
-use Rattle.ep_check_expr.specs.FieldDesignators.{designated}
-use Rattle.ep_check_expr.specs.Functions.{Given, all_faults, accepted, accepted_first, called, number_faults, takes, unless_faults, applied}
-use Rattle.ep_check_expr.specs.Indexing.{indexed, indexed_all}
-use Rattle.ep_check_expr.specs.Judgements.{Judged, Accepts, Breaks, Typed, both, when_accepted}
-use Rattle.ep_check_expr.specs.Names.{call_required, call_named, is_nothing, qualified_value, value_named}
-use Rattle.ep_check_expr.specs.Operators.{compared}
+use Rattle.ep_rules.specs.FieldDesignators.{designated}
+use Rattle.ep_rules.specs.Functions.{Given, all_faults, accepted, accepted_first, called, number_faults, takes, unless_faults, applied}
+use Rattle.ep_rules.specs.Indexing.{indexed, indexed_all}
+use Rattle.ep_rules.specs.Judgements.{Judged, Accepts, Breaks, Typed, both, when_accepted}
+use Rattle.ep_rules.specs.Names.{call_required, call_named, is_nothing, qualified_value, value_named}
+use Rattle.ep_rules.specs.Operators.{compared}
 use Rattle.ep_check_expr.proofs.Keeping.{AreGiven, IsCalled, IsKept, Satisfies, if-satisfies}
 
 module _ (Q : Typed → Type 0) where

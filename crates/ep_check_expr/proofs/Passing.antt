@@ -25,15 +25,15 @@ use Rattle.ep_scope.specs.declared.parameter.Protection.{Protection}
 use Rattle.ep_scope.specs.declared.parameter.TypeName.{TypeName}
 use Rattle.ep_scope.specs.declared.parameter.TypeName.TheVariants as type_name
 use Rattle.ep_scope.specs.declared.rule.TheConstants as rule
-use Rattle.ep_check_expr.specs.declared.access.Access.{Access}
-use Rattle.ep_check_expr.specs.declared.access.Access.TheVariants as access
+use Rattle.ep_rules.specs.declared.access.Access.{Access}
+use Rattle.ep_rules.specs.declared.access.Access.TheVariants as access
 use Rattle.ep_check_expr.specs.Agreement.{AreActuals, AreParameters, HasKind, IsAccessOf, IsFormOf, IsFunctionOf, IsParameter, IsStructuredForm, IsValueOf, TypeValues}
-use Rattle.ep_check_expr.specs.Arguments.{Taken, accessed, actual_taken, argument_judged, argument_taken, arguments_judged, call_form, function_called, function_typed, given_to, joined, one_taken, threatened, value_taken, variable_taken}
-use Rattle.ep_check_expr.specs.Functions.{Given, given_faults, unless_faults}
-use Rattle.ep_check_expr.specs.Hosts.{typed_host}
-use Rattle.ep_check_expr.specs.Judgements.{Judged, Accepts, Breaks, Typed}
-use Rattle.ep_check_expr.specs.Operators.{map_both}
-use Rattle.ep_check_expr.specs.declared.forms.TheConstants as limit
+use Rattle.ep_rules.specs.Arguments.{Taken, accessed, actual_taken, argument_judged, argument_taken, arguments_judged, call_form, function_called, function_typed, given_to, joined, one_taken, threatened, value_taken, variable_taken}
+use Rattle.ep_rules.specs.Functions.{Given, given_faults, unless_faults}
+use Rattle.ep_rules.specs.Hosts.{typed_host}
+use Rattle.ep_rules.specs.Judgements.{Judged, Accepts, Breaks, Typed}
+use Rattle.ep_rules.specs.Operators.{map_both}
+use Rattle.ep_rules.specs.declared.forms.TheConstants as limit
 use Rattle.ep_check_expr.proofs.Keeping.{AreGiven, Satisfies, both-satisfies, if-satisfies, then-satisfies, weaker-satisfies, any-satisfies}
 use Rattle.ep_check_expr.proofs.Places.{same_number, structured-place}
 use Rattle.ep_check_expr.proofs.SameHost.{host_same}

@@ -23,7 +23,7 @@ use Rattle.ep_scope.specs.declared.structure.Composition.TheVariants as composit
 use Rattle.ep_scope.specs.declared.structure.FieldType.{FieldType}
 use Rattle.ep_scope.specs.declared.structure.StructuredType.{StructuredType}
 use Rattle.ep_check_expr.specs.Agreement.{AreFields, Arrays, HasKind, HasStructure, HoldsStructure, IsArrayOf, IsDenoterOf, IsMadeOf, IsStructuredAt, IsStructuredDenoter, IsValueOf, Records, Structure, TypeValues, structures_of}
-use Rattle.ep_check_expr.specs.Hosts.{typed_host}
+use Rattle.ep_rules.specs.Hosts.{typed_host}
 
 -- ---- places
 

@@ -20,14 +20,13 @@ use Rattle.ep_scope.specs.declared.kind.Kind.TheVariants as kind
 use Rattle.ep_scope.specs.declared.required.Function.{Function}
 use Rattle.ep_scope.specs.declared.required.Function.TheVariants as function
 use Rattle.ep_scope.specs.declared.rule.TheConstants as rule
-use Rattle.ep_check_expr.specs.declared.access.Access.TheVariants as access
-use Rattle.ep_check_expr.specs.Expressions.{spelled}
-use Rattle.ep_check_expr.specs.Functions.{applied_one, card_by, applied_two, of_integer, ordinal_by, other_argument, step_typed, stepped_by, one}
-use Rattle.ep_check_expr.specs.Hosts.{typed_host}
-use Rattle.ep_check_expr.specs.Judgements.{Judged, Accepts, Breaks, Typed, unbuilt}
-use Rattle.ep_check_expr.specs.Names.{leaf}
-use Rattle.ep_check_expr.specs.Operators.{added, are_compatible, are_sets, combined, joint_kind, may_be_in, on_sets_typed, related, sum_typed, arithmetic, binary_typed, boolean, compared, comparison, integer, is_boolean, is_integer, is_string, logical, misfit, multiplied, negated, short_circuit, short_typed, sign_of, signed, unary_typed, unbuilt_typed, within_depth}
-use Rattle.ep_check_expr.specs.declared.forms.TheConstants as limit
+use Rattle.ep_rules.specs.declared.access.Access.TheVariants as access
+use Rattle.ep_rules.specs.Names.{spelled, leaf}
+use Rattle.ep_rules.specs.Functions.{applied_one, card_by, applied_two, of_integer, ordinal_by, other_argument, step_typed, stepped_by, one}
+use Rattle.ep_rules.specs.Hosts.{typed_host}
+use Rattle.ep_rules.specs.Judgements.{Judged, Accepts, Breaks, Typed, unbuilt}
+use Rattle.ep_rules.specs.Operators.{added, are_compatible, are_sets, combined, joint_kind, may_be_in, on_sets_typed, related, sum_typed, arithmetic, binary_typed, boolean, compared, comparison, integer, is_boolean, is_integer, is_string, logical, misfit, multiplied, negated, short_circuit, short_typed, sign_of, signed, unary_typed, unbuilt_typed, within_depth}
+use Rattle.ep_rules.specs.declared.forms.TheConstants as limit
 use Rattle.ep_check_expr.proofs.Keeping.{Satisfies, if-satisfies}
 
 module _ (Q : Typed → Type 0) (every : (form : Option Expr) (k : Kind) (depth : ℕ) → Q (record { form = form; kind = k; depth = depth; access = access.Value })) where

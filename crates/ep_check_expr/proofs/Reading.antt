@@ -22,19 +22,19 @@ use Rattle.ep_scope.specs.declared.structure.TagType.{TagType}
 use Rattle.ep_scope.specs.declared.thing.Declaration.{Declaration}
 use Rattle.ep_scope.specs.declared.thing.Declaration.TheVariants as declaration
 use Rattle.ep_scope.specs.declared.thing.Declared.{Declared}
-use Rattle.ep_check_expr.specs.declared.access.Access.{Access}
-use Rattle.ep_check_expr.specs.declared.access.Access.TheVariants as access
-use Rattle.ep_check_expr.specs.declared.forms.TheConstants as limit
-use Rattle.ep_check_expr.specs.declared.forms.Refusal.{Refusal}
-use Rattle.ep_check_expr.specs.declared.forms.Typed as code
-use Rattle.ep_check_expr.specs.Answers.{AnswersTyped, typed_of}
-use Rattle.ep_check_expr.specs.Arguments.{IsReading, IsReadingIf, IsTagReadingIf, Taken, arguments_judged, callee_at, function_typed, own_place}
+use Rattle.ep_rules.specs.declared.access.Access.{Access}
+use Rattle.ep_rules.specs.declared.access.Access.TheVariants as access
+use Rattle.ep_rules.specs.declared.forms.TheConstants as limit
+use Rattle.ep_rules.specs.declared.forms.Refusal.{Refusal}
+use Rattle.ep_rules.specs.declared.forms.Typed as code
+use Rattle.ep_rules.specs.Answers.{AnswersTyped, typed_of}
+use Rattle.ep_rules.specs.Arguments.{IsReading, IsReadingIf, IsTagReadingIf, Taken, arguments_judged, callee_at, function_typed, own_place}
 use Rattle.ep_check_expr.specs.Expressions.{given, name_judged}
-use Rattle.ep_check_expr.specs.FieldDesignators.{along, component_place, field_access, field_form, field_typed, steps_to, variable_access}
-use Rattle.ep_check_expr.specs.Functions.{Given}
-use Rattle.ep_check_expr.specs.Indexing.{component_access, component_depth, component_form, component_typed, element_form}
-use Rattle.ep_check_expr.specs.Judgements.{Judged, Accepts, Breaks, Typed, when_accepted}
-use Rattle.ep_check_expr.specs.Names.{call_declared, value_declared, value_named, value_required}
+use Rattle.ep_rules.specs.FieldDesignators.{along, component_place, field_access, field_form, field_typed, steps_to, variable_access}
+use Rattle.ep_rules.specs.Functions.{Given}
+use Rattle.ep_rules.specs.Indexing.{component_access, component_depth, component_form, component_typed, element_form}
+use Rattle.ep_rules.specs.Judgements.{Judged, Accepts, Breaks, Typed, when_accepted}
+use Rattle.ep_rules.specs.Names.{call_declared, value_declared, value_named, value_required}
 use Rattle.ep_check_expr.proofs.Accepted.{accesses-fit, expressions-fit}
 use Rattle.ep_check_expr.proofs.Designated.{field-given}
 use Rattle.ep_check_expr.proofs.Indexed.{index-given}

@@ -2,9 +2,15 @@
 use Rattle.std.proofs.Common.{◌≡◌, ℕ, suc, ◌+◌, ◌<◌, Bool, true, false, ◌&&◌, List, [], ◌∷◌, ◌++◌, append_assoc, drop, get_or, length, map, Some, None, refl, sym, ap, ◌∙◌, add-one, drop-cons}
 use Rattle.std.specs.Option.{option_or}
 use Rattle.ep_built.specs.Built.{Belonging, Found, at_node, first_in, lines_in, all_are_built}
-use Rattle.ep_check_expr.proofs.Breaking.{both-second, chained-first}
+use Rattle.ep_rules.proofs.Breaking.{both-first, both-second}
 use Rattle.ep_check_expr.specs.Expressions.{Operand, chained}
-use Rattle.ep_check_expr.specs.Judgements.{Judged, Accepts, Typed, breaks, both}
+use Rattle.ep_rules.specs.Judgements.{Judged, Accepts, Typed, breaks, both}
+
+module _ (n : ℕ) where
+  -- a rule that fails in the first operand fails in all of the row
+  pub chained-first : {O : Type 0} (rule : O → Typed → Typed → Judged Typed) (x : Judged Typed) (os : List (Operand O)) → breaks n x ≡ true → breaks n (chained rule x os) ≡ true
+  chained-first rule x [] h = h
+  chained-first rule x (o ∷ os) h = chained-first rule (both (rule o.operator) x o.operand) os (both-first n (rule o.operator) x o.operand h)
 
 -- the item at a place is the first one of what is left there
 pub left-cons : {I : Type 0} (xs : List I) (i : ℕ) (x : I) → i < length xs → x ≡ get_or xs i x → drop i xs ≡ x ∷ drop (i + 1) xs

@@ -6,7 +6,7 @@ use Rattle.ep_scope.specs.Kinds.{same_host}
 use Rattle.ep_scope.specs.declared.kind.Enumeration.{Enumeration}
 use Rattle.ep_scope.specs.declared.kind.Host.{Host}
 use Rattle.ep_scope.specs.declared.kind.Host.TheVariants as host
-use Rattle.ep_check_expr.specs.Hosts.{typed_host}
+use Rattle.ep_rules.specs.Hosts.{typed_host}
 
 last_same : (e g : Enumeration) → same_host (host.Enumeration e) (host.Enumeration g) ≡ true → g.last ≡ e.last
 last_same e g s = grind (arith, nat_tests)

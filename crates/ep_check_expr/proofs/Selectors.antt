@@ -25,12 +25,12 @@ use Rattle.ep_tree.specs.declared.expression.Simple.{Simple}
 use Rattle.ep_tree.specs.declared.expression.Term.{Term}
 use Rattle.ep_tree.specs.declared.expression.Values.{Values}
 use Rattle.ep_check_expr.specs.Expressions.{Indexes, access_judged, given, judged, name_judged, selected, selected_all}
-use Rattle.ep_check_expr.specs.FieldDesignators.{designated}
-use Rattle.ep_check_expr.specs.Indexing.{indexed, indexed_all}
-use Rattle.ep_check_expr.specs.Judgements.{Judged, Accepts, Typed, both, breaks, when_accepted}
-use Rattle.ep_check_expr.specs.Names.{call_named, qualified_value, value_named}
+use Rattle.ep_rules.specs.FieldDesignators.{designated}
+use Rattle.ep_rules.specs.Indexing.{indexed, indexed_all}
+use Rattle.ep_rules.specs.Judgements.{Judged, Accepts, Typed, both, breaks, when_accepted}
+use Rattle.ep_rules.specs.Names.{call_named, qualified_value, value_named}
 use Rattle.ep_check_expr.specs.Shapes.{arguments_first, field_first}
-use Rattle.ep_check_expr.proofs.Breaking.{both-first, both-second, when_accepted-part}
+use Rattle.ep_rules.proofs.Breaking.{both-first, both-second, when_accepted-part}
 use Rattle.ep_check_expr.proofs.Folds.{name_judged-is}
 use Rattle.ep_check_expr.proofs.Nodes.{arguments-judged, field-judged, indexes-judged}
 use Rattle.ep_check_expr.proofs.Rows.{and_first, and_second, at_node-built, at_node-inner, left-cons, or-first, or-second}

@@ -9,12 +9,12 @@ use Rattle.ep_scope.specs.declared.kind.Kind.{Kind}
 use Rattle.ep_scope.specs.declared.kind.Kind.TheVariants as kind
 use Rattle.ep_scope.specs.declared.rule.TheConstants as rule
 use Rattle.ep_check_expr.specs.Constants.{constant_of, known}
-use Rattle.ep_check_expr.specs.Folding.{folded}
-use Rattle.ep_check_expr.specs.Judgements.{Breaks}
-use Rattle.ep_check_expr.specs.declared.access.Access.TheVariants as access
+use Rattle.ep_rules.specs.Folding.{folded}
+use Rattle.ep_rules.specs.Judgements.{Breaks}
+use Rattle.ep_rules.specs.declared.access.Access.TheVariants as access
 use Rattle.ep_check_expr.specs.declared.constants.Purpose.TheVariants as purpose
-use Rattle.ep_check_expr.specs.Operators.{boolean, integer}
-use Rattle.ep_check_expr.specs.declared.folding.Folded.TheVariants.{Varies}
+use Rattle.ep_rules.specs.Operators.{boolean, integer}
+use Rattle.ep_rules.specs.declared.folding.Folded.TheVariants.{Varies}
 
 abbrev number : ℕ → Expr
 number n = Constant (pos n)

@@ -15,8 +15,8 @@ use Rattle.ep_scope.specs.declared.kind.Kind.{Kind}
 use Rattle.ep_scope.specs.declared.kind.Kind.TheVariants as kind
 use Rattle.ep_scope.specs.declared.structure.StructuredType.{StructuredType}
 use Rattle.ep_check_expr.specs.Agreement.{IsFormOf, IsHost, TypeValues}
-use Rattle.ep_check_expr.specs.Hosts.{typed_host}
-use Rattle.ep_check_expr.specs.Operators.{are_sets, boolean, integer, joint_kind, map_both, may_be_in}
+use Rattle.ep_rules.specs.Hosts.{typed_host}
+use Rattle.ep_rules.specs.Operators.{are_sets, boolean, integer, joint_kind, map_both, may_be_in}
 use Rattle.ep_check_expr.proofs.SameHost.{host_same}
 
 module _ (declared : Declarations) (types : TypeValues) (structures : List StructuredType) where

@@ -9,7 +9,7 @@ use Rattle.ep_typed.specs.declared.operations.SetOperation.{SetOperation}
 use Rattle.ep_typed.specs.declared.operations.SetOperation.TheVariants as set
 use Rattle.ep_typed.proofs.Sets.{between_at, between_yes, has_members, has_no_more, members_set, none_set}
 use Rattle.ep_check_expr.specs.Agreement.{IsSetOver}
-use Rattle.ep_check_expr.specs.SetFolding.{takes, takes_ordinal}
+use Rattle.ep_rules.specs.SetFolding.{takes, takes_ordinal}
 
 -- what is taken is in one of two sets
 takes_within : {P : Type 0} (operation : SetOperation) (x y : Bool) → (x ≡ true → P) → (y ≡ true → P) → takes operation x y ≡ true → P

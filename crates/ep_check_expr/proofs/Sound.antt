@@ -32,12 +32,12 @@ use Rattle.ep_scope.specs.declared.kind.Kind.TheVariants as kind
 use Rattle.ep_scope.specs.declared.required.Function.{Function}
 use Rattle.ep_scope.specs.declared.required.Function.TheVariants as function
 use Rattle.ep_check_expr.specs.Agreement.{IsHost, IsFormOf, TypeValues}
-use Rattle.ep_check_expr.specs.Functions.{card_by, of_integer, ordinal_by, step_typed, stepped_by, one, applied_one, applied_two}
-use Rattle.ep_check_expr.specs.Hosts.{typed_host}
-use Rattle.ep_check_expr.specs.Judgements.{Judged, Accepts, Breaks, Typed}
-use Rattle.ep_check_expr.specs.Operators.{integer, boolean, is_integer, is_boolean, is_string, are_compatible, map_both, within_depth, unary_typed, binary_typed, short_typed, unbuilt_typed, signed, negated, arithmetic, logical, short_circuit, sum_typed, added, multiplied, comparison, compared, are_sets, combined, joint_kind, may_be_in, membership, misfit, on_sets_typed, related}
-use Rattle.ep_check_expr.specs.declared.access.Access.TheVariants as access
-use Rattle.ep_check_expr.specs.declared.forms.TheConstants as limit
+use Rattle.ep_rules.specs.Functions.{card_by, of_integer, ordinal_by, step_typed, stepped_by, one, applied_one, applied_two}
+use Rattle.ep_rules.specs.Hosts.{typed_host}
+use Rattle.ep_rules.specs.Judgements.{Judged, Accepts, Breaks, Typed}
+use Rattle.ep_rules.specs.Operators.{integer, boolean, is_integer, is_boolean, is_string, are_compatible, map_both, within_depth, unary_typed, binary_typed, short_typed, unbuilt_typed, signed, negated, arithmetic, logical, short_circuit, sum_typed, added, multiplied, comparison, compared, are_sets, combined, joint_kind, may_be_in, membership, misfit, on_sets_typed, related}
+use Rattle.ep_rules.specs.declared.access.Access.TheVariants as access
+use Rattle.ep_rules.specs.declared.forms.TheConstants as limit
 use Rattle.ep_check_expr.proofs.Keeping.{Satisfies}
 use Rattle.ep_check_expr.proofs.SameHost.{host_same}
 use Rattle.ep_check_expr.proofs.SetForms.{IsCombining, IsRelating, card-form, combined-form, empty_card-form, membership-form, related-form}

@@ -24,12 +24,12 @@ use Rattle.ep_scope.specs.declared.structure.ArrayType.{ArrayType}
 use Rattle.ep_scope.specs.declared.structure.Composition.{Composition}
 use Rattle.ep_scope.specs.declared.structure.Composition.TheVariants as composition
 use Rattle.ep_check_expr.specs.Agreement.{AgreesBy, TypeValues, structures_of}
-use Rattle.ep_check_expr.specs.Folding.{folded, number_in}
+use Rattle.ep_rules.specs.Folding.{folded, number_in}
 use Rattle.ep_check_expr.specs.StructuredConstants.{Constancy, array_in, constancy, element_constancy, elements_constancy, index_constancy, form_in, index_range, known_constancy, of_both, of_one, value_in, value_known}
-use Rattle.ep_check_expr.specs.declared.folding.Folded.{Folded}
-use Rattle.ep_check_expr.specs.declared.folding.Folded.TheVariants.{Known, Varies, Errs}
-use Rattle.ep_check_expr.specs.declared.folding.KnownValue.{KnownValue}
-use Rattle.ep_check_expr.specs.declared.folding.KnownValue.TheVariants as known_value
+use Rattle.ep_rules.specs.declared.folding.Folded.{Folded}
+use Rattle.ep_rules.specs.declared.folding.Folded.TheVariants.{Known, Varies, Errs}
+use Rattle.ep_rules.specs.declared.folding.KnownValue.{KnownValue}
+use Rattle.ep_rules.specs.declared.folding.KnownValue.TheVariants as known_value
 use Rattle.ep_check_expr.specs.declared.structured_constants.ConstantValue.{ConstantValue}
 use Rattle.ep_check_expr.specs.declared.structured_constants.ConstantValue.TheVariants as constant
 use Rattle.ep_check_expr.specs.declared.structured_constants.NoConstant.TheVariants as reason

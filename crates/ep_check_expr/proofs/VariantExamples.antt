@@ -13,10 +13,10 @@ use Rattle.ep_scope.specs.declared.structure.Composition.TheVariants as composit
 use Rattle.ep_scope.specs.declared.structure.StructuredType.{StructuredType}
 use Rattle.ep_scope.specs.declared.structure.TagType.{TagType}
 use Rattle.ep_scope.specs.declared.thing.Declaration.TheVariants as declaration
-use Rattle.ep_check_expr.specs.declared.access.Access.TheVariants as access
+use Rattle.ep_rules.specs.declared.access.Access.TheVariants as access
 use Rattle.ep_check_expr.specs.Expressions.{judged}
-use Rattle.ep_check_expr.specs.Judgements.{Accepts, Breaks}
-use Rattle.ep_check_expr.specs.Operators.{integer}
+use Rattle.ep_rules.specs.Judgements.{Accepts, Breaks}
+use Rattle.ep_rules.specs.Operators.{integer}
 use Rattle.ep_check_expr.proofs.Examples.{bare, call, color, declares, field, function_of, of_program, plain, plain_field, written}
 use Rattle.ep_check_expr.proofs.Nodes.{argument-judged, arguments-judged, expression-judged, field-judged, name-judged, simple-judged, term-judged}
 

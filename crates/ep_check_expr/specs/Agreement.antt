@@ -39,12 +39,12 @@ use Rattle.ep_scope.specs.declared.thing.Declaration.TheVariants as declaration
 use Rattle.ep_scope.specs.declared.thing.Declared.{Declared}
 use Rattle.ep_scope.specs.declared.thing.Thing.{Thing}
 use Rattle.ep_scope.specs.declared.thing.Thing.TheVariants as thing
-use Rattle.ep_check_expr.specs.declared.access.Access.{Access}
-use Rattle.ep_check_expr.specs.declared.access.Access.TheVariants as access
-use Rattle.ep_check_expr.specs.Arguments.{Taken, callee_at, own_place}
-use Rattle.ep_check_expr.specs.FieldDesignators.{along, reached}
-use Rattle.ep_check_expr.specs.Hosts.{typed_host}
-use Rattle.ep_check_expr.specs.Judgements.{Typed}
+use Rattle.ep_rules.specs.declared.access.Access.{Access}
+use Rattle.ep_rules.specs.declared.access.Access.TheVariants as access
+use Rattle.ep_rules.specs.Arguments.{Taken, callee_at, own_place}
+use Rattle.ep_rules.specs.FieldDesignators.{along, reached}
+use Rattle.ep_rules.specs.Hosts.{typed_host}
+use Rattle.ep_rules.specs.Judgements.{Typed}
 
 -- the ordinal numbers of the host are integers
 abbrev pub IsHost : Host → Type 0

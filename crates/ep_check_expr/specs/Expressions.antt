@@ -1,5 +1,5 @@
 -- What the static rules say of each expression, by its parts: one clause for each production (ISO 10206, 6.8.1).
-use Rattle.std.specs.Prelude.{ℕ, ℤ, pos, List, [], ◌∷◌, map, Option, Some, None, if◌then◌else◌}
+use Rattle.std.specs.Prelude.{ℕ, pos, List, [], ◌∷◌, map, Option, Some, None}
 use Rattle.std.specs.Option.{option_map}
 use Rattle.ep_tree.specs.Shapes.{when_empty, when_none, when_plain}
 use Rattle.ep_tree.specs.declared.operator.RelationalOperator.{RelationalOperator}
@@ -20,22 +20,19 @@ use Rattle.ep_tree.specs.declared.expression.Label.{Label as LabelTree, fold-Lab
 use Rattle.ep_tree.specs.declared.expression.Multiplier.{Multiplier, fold-Multiplier}
 use Rattle.ep_tree.specs.declared.expression.Simple.{Simple, fold-Simple}
 use Rattle.ep_tree.specs.declared.expression.Term.{Term, fold-Term}
-use Rattle.ep_typed.specs.Hosts.{is_of_host}
 use Rattle.ep_typed.specs.Trees as tree
 use Rattle.ep_scope.specs.Scopes.{Region, depth_in, meant}
-use Rattle.ep_scope.specs.declared.kind.Host.{Host}
 use Rattle.ep_scope.specs.declared.kind.Host.TheVariants as host
 use Rattle.ep_scope.specs.declared.kind.Kind.TheVariants as kind
-use Rattle.ep_check_expr.specs.declared.access.Access.TheVariants as access
-use Rattle.ep_check_expr.specs.Constructors.{Label, set_judged}
-use Rattle.ep_check_expr.specs.FieldDesignators.{designated}
-use Rattle.ep_check_expr.specs.Functions.{Given}
-use Rattle.ep_check_expr.specs.Hosts.{typed_host}
-use Rattle.ep_check_expr.specs.Indexing.{indexed_all}
-use Rattle.ep_check_expr.specs.Judgements.{Judged, Accepts, Typed, unbuilt, when_accepted, both}
-use Rattle.ep_check_expr.specs.Names.{leaf, parenthesized, value_named, call_named, qualified_value}
+use Rattle.ep_rules.specs.declared.access.Access.TheVariants as access
+use Rattle.ep_rules.specs.Constructors.{Label, set_judged}
+use Rattle.ep_rules.specs.FieldDesignators.{designated}
+use Rattle.ep_rules.specs.Functions.{Given}
+use Rattle.ep_rules.specs.Indexing.{indexed_all}
+use Rattle.ep_rules.specs.Judgements.{Judged, Accepts, Typed, unbuilt, when_accepted, both}
+use Rattle.ep_rules.specs.Names.{leaf, spelled, parenthesized, value_named, call_named, qualified_value}
 use Rattle.ep_check_expr.specs.StructuredValues.{Components, Labelled, Valued, Written, bracketed, chosen_written, named_number, structure_judged}
-use Rattle.ep_check_expr.specs.Operators.{signed, negated, added, multiplied, compared}
+use Rattle.ep_rules.specs.Operators.{signed, negated, added, multiplied, compared}
 
 -- an operand with the operator before it
 pub record Operand (O : Type 0) : Type 0 where
@@ -75,10 +72,6 @@ pub data Selected : Type 0 where
   Indexes : (indexes : List (Judged Typed)) → Selected
   Arguments : (given : List Given) → Selected
   Other : Selected
-
--- a number or a character as the text spells it, which is a value of its host: no text has a number above `maxint` (ISO 10206, 6.1.7 and 6.4.2.2)
-abbrev pub spelled : Host → ℤ → Judged Typed
-spelled h z = if is_of_host (typed_host h) z then leaf (tree.Constant z) (kind.Ordinal h) access.Value else unbuilt
 
 -- a character string of one byte is a char, and any other one a text (ISO 10206, 6.1.9)
 abbrev pub string_judged : List ℕ → Judged Typed

@@ -7,10 +7,10 @@ use Rattle.ep_tree.specs.declared.expression.Expression.{Expression}
 use Rattle.ep_scope.specs.Scopes.{Region}
 use Rattle.ep_scope.specs.declared.parameter.FormalParameter.{FormalParameter}
 use Rattle.ep_check_expr.specs.Agreement.{IsSound, IsSoundAccess, IsSoundTaken}
-use Rattle.ep_check_expr.specs.Arguments.{Taken, arguments_judged}
+use Rattle.ep_rules.specs.Arguments.{Taken, arguments_judged}
 use Rattle.ep_check_expr.specs.Constants.{IsSoundConstant, constant_judged, bound_judged, initial_state_judged, label_judged}
 use Rattle.ep_check_expr.specs.Expressions.{given, judged, judged_value, name_judged}
-use Rattle.ep_check_expr.specs.Judgements.{Accepts, Typed}
+use Rattle.ep_rules.specs.Judgements.{Accepts, Typed}
 use Rattle.ep_check_expr.specs.Origins.{IsKnownKind}
 use Rattle.ep_check_expr.specs.declared.constants.ConstantForm.{ConstantForm}
 

@@ -6,12 +6,12 @@ use Rattle.ep_typed.specs.declared.value.Value.{Value}
 use Rattle.ep_scope.specs.Scopes.{Region}
 use Rattle.ep_check_expr.specs.Agreement.{IsSound}
 use Rattle.ep_check_expr.specs.Constants.{IsSoundConstant}
-use Rattle.ep_check_expr.specs.Judgements.{Judged, Accepts, Typed, breaks}
+use Rattle.ep_rules.specs.Judgements.{Judged, Accepts, Typed, breaks}
 use Rattle.ep_check_expr.specs.declared.answers.ExpressionRefusal.{ExpressionRefusal}
 use Rattle.ep_check_expr.specs.declared.answers.ExpressionRefusal.TheVariants as refusal
 use Rattle.ep_check_expr.specs.declared.constants.ConstantForm.{ConstantForm}
-use Rattle.ep_check_expr.specs.declared.forms.Refusal.{Refusal}
-use Rattle.ep_check_expr.specs.declared.forms.Refusal.TheVariants.{Rule, NoMemory}
+use Rattle.ep_rules.specs.declared.forms.Refusal.{Refusal}
+use Rattle.ep_rules.specs.declared.forms.Refusal.TheVariants.{Rule, NoMemory}
 
 -- a refusal with its line
 abbrev pub refused : Refusal → ℕ → ExpressionRefusal

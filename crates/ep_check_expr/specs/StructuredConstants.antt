@@ -13,11 +13,11 @@ use Rattle.ep_scope.specs.Scopes.{Region, structure_in}
 use Rattle.ep_scope.specs.declared.structure.ArrayType.{ArrayType}
 use Rattle.ep_scope.specs.declared.structure.Composition.{Composition}
 use Rattle.ep_scope.specs.declared.structure.Composition.TheVariants as composition
-use Rattle.ep_check_expr.specs.Folding.{folded, number_in}
-use Rattle.ep_check_expr.specs.declared.folding.Folded.{Folded}
-use Rattle.ep_check_expr.specs.declared.folding.Folded.TheVariants.{Known, Varies, Errs}
-use Rattle.ep_check_expr.specs.declared.folding.KnownValue.{KnownValue}
-use Rattle.ep_check_expr.specs.declared.folding.KnownValue.TheVariants as known
+use Rattle.ep_rules.specs.Folding.{folded, number_in}
+use Rattle.ep_rules.specs.declared.folding.Folded.{Folded}
+use Rattle.ep_rules.specs.declared.folding.Folded.TheVariants.{Known, Varies, Errs}
+use Rattle.ep_rules.specs.declared.folding.KnownValue.{KnownValue}
+use Rattle.ep_rules.specs.declared.folding.KnownValue.TheVariants as known
 use Rattle.ep_check_expr.specs.declared.structured_constants.ConstantValue.{ConstantValue}
 use Rattle.ep_check_expr.specs.declared.structured_constants.ConstantValue.TheVariants as constant
 use Rattle.ep_check_expr.specs.declared.structured_constants.NoConstant.{NoConstant}

@@ -26,17 +26,17 @@ use Rattle.ep_scope.specs.declared.structure.TagType.{TagType}
 use Rattle.ep_scope.specs.declared.structure.VariantStep.{VariantStep}
 use Rattle.ep_scope.specs.declared.thing.Declaration.{Declaration}
 use Rattle.ep_scope.specs.declared.thing.Declaration.TheVariants as declaration
-use Rattle.ep_check_expr.specs.declared.access.Access.TheVariants as access
-use Rattle.ep_check_expr.specs.Arguments.{given_to}
-use Rattle.ep_check_expr.specs.ConstantAccesses.{has_index}
-use Rattle.ep_check_expr.specs.Constructors.{Label}
-use Rattle.ep_check_expr.specs.Folding.{folded, number_in}
-use Rattle.ep_check_expr.specs.Judgements.{Judged, Accepts, Breaks, Typed, when_accepted}
-use Rattle.ep_check_expr.specs.Names.{undeclared}
-use Rattle.ep_check_expr.specs.Operators.{are_compatible, map_both, within_depth}
-use Rattle.ep_check_expr.specs.VariantSteps.{field_steps, selected_variant}
-use Rattle.ep_check_expr.specs.declared.folding.Folded.{Folded}
-use Rattle.ep_check_expr.specs.declared.folding.Folded.TheVariants.{Known, Varies, Errs}
+use Rattle.ep_rules.specs.declared.access.Access.TheVariants as access
+use Rattle.ep_rules.specs.Arguments.{given_to}
+use Rattle.ep_rules.specs.ConstantAccesses.{has_index}
+use Rattle.ep_rules.specs.Constructors.{Label}
+use Rattle.ep_rules.specs.Folding.{folded, number_in}
+use Rattle.ep_rules.specs.Judgements.{Judged, Accepts, Breaks, Typed, when_accepted}
+use Rattle.ep_rules.specs.Names.{undeclared}
+use Rattle.ep_rules.specs.Operators.{are_compatible, map_both, within_depth}
+use Rattle.ep_rules.specs.VariantSteps.{field_steps, selected_variant}
+use Rattle.ep_rules.specs.declared.folding.Folded.{Folded}
+use Rattle.ep_rules.specs.declared.folding.Folded.TheVariants.{Known, Varies, Errs}
 
 -- ---- what is written
 

@@ -9,9 +9,9 @@ ghost use Rattle.ep_check_expr.specs.Public.{AnswersExpression, AnswersConstant,
 
 use crate::constants::{Purpose, as_constant};
 use crate::expressions::typed_expression;
-use crate::forms::Refusal;
 use ep_base::Line;
 use ep_built::expression_unbuilt;
+use ep_rules::Refusal;
 use ep_scope::{Scope, View};
 use ep_tree::Expression;
 use ep_typed::{TypedExpr, Value};

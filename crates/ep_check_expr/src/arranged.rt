@@ -5,18 +5,17 @@ ghost use Rattle.std.specs.Option.{option_map};
 ghost use Rattle.std.specs.List.{list_all};
 ghost use Rattle.ep_typed.specs.Operations.{is_apart};
 ghost use Rattle.ep_typed.specs.Viewed.{designator_of, element_of, expr_of};
-ghost use Rattle.ep_check_expr.specs.Answers.{AnswersJudged, AnswersTyped, arranged_of, index_of, labels_of, ranges_of, typed_of};
+ghost use Rattle.ep_rules.specs.Answers.{AnswersJudged, AnswersTyped, typed_of};
+ghost use Rattle.ep_check_expr.specs.Answers.{arranged_of, index_of, labels_of, ranges_of};
 ghost use Rattle.ep_check_expr.specs.StructuredValues as spec;
 ghost use Rattle.ep_check_expr.specs.StructuredValues.{arranged, component_given, with_index, with_label, with_range, with_ranges, with_single};
 
-use crate::arguments::given_value;
-use crate::constant_accesses::has_index;
-use crate::constructors::with_designator;
-use crate::folding::{Folded, folded_form, number_in};
-use crate::forms::{Refusal, Typed};
-use crate::operators::are_compatible;
 use crate::structured::{added, structured};
 use ep_base::{Boxed, List, NoMemory};
+use ep_rules::{
+    Folded, Refusal, Typed, are_compatible, folded_form, given_value, has_index, number_in,
+    with_designator,
+};
 use ep_scope::{ArrayType, Kind, rule};
 use ep_typed::{
     CaseRange, CaseRanges, Element, Elements, MemberDesignator, MemberDesignators, TypedExpr,

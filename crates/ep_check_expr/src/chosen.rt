@@ -3,18 +3,15 @@
 ghost use Rattle.std.specs.Prelude.{◌≡◌, ◌++◌, ◌∷◌, [], IfOk};
 ghost use Rattle.std.specs.Option.{option_map};
 ghost use Rattle.ep_typed.specs.Viewed.{expr_of};
-ghost use Rattle.ep_check_expr.specs.Answers.{AnswersJudged, choice_of, filled_of, typed_of};
+ghost use Rattle.ep_rules.specs.Answers.{AnswersJudged, typed_of};
+ghost use Rattle.ep_check_expr.specs.Answers.{choice_of, filled_of};
 ghost use Rattle.ep_check_expr.specs.StructuredValues as spec;
-ghost use Rattle.ep_check_expr.specs.VariantSteps as variants;
 
-use crate::arguments::given_value;
-use crate::constant_accesses::has_index;
 use crate::filled::{Filled, field_form, is_at};
-use crate::folding::{Folded, folded_form, number_in};
-use crate::forms::{Refusal, Typed};
 use ep_base::{Boxed, List, Name, NoMemory};
+use ep_rules::{Folded, Refusal, Typed, folded_form, given_value, number_in, selected_variant};
 use ep_scope::{FieldType, TagType, rule};
-use ep_typed::{CaseRange, CaseRanges, Selection, TypedExpr};
+use ep_typed::TypedExpr;
 use std::alloc::Global;
 
 /// What is gathered with a tag, and the variant that its value selects, where that is built.
@@ -81,26 +78,6 @@ fn is_tag_value(tag: &TagType, constant: Option<i64>) -> bool
     match constant {
         None => true,
         Some(value) => tag.low <= value && value <= tag.high,
-    }
-}
-
-/// The first variant that has a value among its labels.
-fn labelled_variant(labels: &[CaseRanges], value: i64) -> Option<usize>
-    ensures { result ≡ variants.labelled_variant labels.now value }
-{
-    labels
-        .iter()
-        .position(|ranges| has_index(ranges.items(), value))
-}
-
-/// The variant that a value of a tag selects: the first one that has it among its labels, or else the one that completes them.
-pub(crate) fn selected_variant(selection: &Selection, value: i64) -> usize
-    ensures { result ≡ variants.selected_variant selection.now value }
-{
-    let labels = selection.labels.items();
-    match labelled_variant(labels, value) {
-        Some(number) => number,
-        None => labels.len(),
     }
 }
 

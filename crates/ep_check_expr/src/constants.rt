@@ -2,18 +2,17 @@
 
 ghost use Rattle.std.specs.Prelude.{◌≡◌, IsTrue, None};
 ghost use Rattle.ep_built.specs.Built.{component_value_unbuilt, expression_unbuilt};
-ghost use Rattle.ep_check_expr.specs.Answers.{typed_of, AnswersJudged};
+ghost use Rattle.ep_rules.specs.Answers.{typed_of, AnswersJudged};
 ghost use Rattle.ep_tree.specs.declared.expression.ComponentValue.{out-ComponentValue};
 ghost use Rattle.ep_check_expr.specs.Constants.{as_constant, bound_judged, constant_by, constant_expression, constant_judged, initial_state_judged, is_access, known, label_judged, may_be_constant, nesting, purpose_of, unbuilt_form, unbuilt_of, varying};
-ghost use Rattle.ep_check_expr.specs.Names.{is_one_of};
-ghost use Rattle.ep_check_expr.specs.Judgements.{Accepts};
+ghost use Rattle.ep_rules.specs.Names.{is_one_of};
+ghost use Rattle.ep_rules.specs.Judgements.{Accepts};
 
-use crate::access::Access;
 use crate::expressions::{typed_expression, typed_value};
-use crate::forms::{Refusal, Typed};
 use crate::shapes::bare;
 use crate::structured_constants::{ConstantValue, NoConstant, constancy};
 use ep_base::Bytes;
+use ep_rules::{Access, Refusal, Typed};
 use ep_scope::{Kind, View, rule};
 use ep_tree::{ComponentValue, Expression, Factor};
 use ep_typed::{TypedExpr, Value};

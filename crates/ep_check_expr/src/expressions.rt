@@ -6,31 +6,28 @@ ghost use Rattle.std.specs.Option.{option_map};
 ghost use Rattle.ep_built.specs.Built.{component_value_unbuilt, expression_unbuilt, simple_unbuilt, term_unbuilt, factor_unbuilt, access_unbuilt, argument_unbuilt, addend_belonging, multiplier_belonging, form_told, is_component, label_unbuilt, selector_belonging, values_unbuilt, element_unbuilt, written_unbuilt, written_value_unbuilt, lines_in, first_if, first_in};
 ghost use Rattle.ep_typed.specs.Viewed.{expr_of};
 ghost use Rattle.ep_scope.specs.Scopes.{depth_in, meant};
-ghost use Rattle.ep_check_expr.specs.Answers.{arranged_of, choice_of, filled_of, index_of, labels_of, members_of, ranges_of, taken_of, typed_of, AnswersJudged, AnswersTyped, AnswersGiven};
-ghost use Rattle.ep_check_expr.specs.Arguments.{IsReading, arguments_judged};
-ghost use Rattle.ep_check_expr.specs.Constructors.{set_judged, with_label};
+ghost use Rattle.ep_check_expr.specs.Answers.{arranged_of, choice_of, filled_of, index_of, labels_of, ranges_of};
+ghost use Rattle.ep_rules.specs.Answers.{members_of, taken_of, typed_of, AnswersJudged, AnswersTyped, AnswersGiven};
+ghost use Rattle.ep_rules.specs.Arguments.{IsReading, arguments_judged};
+ghost use Rattle.ep_rules.specs.Constructors.{set_judged, with_label};
 ghost use Rattle.ep_check_expr.specs.Expressions.{chained, components_written, element_written, labelled, judged, judged_value, addend_judged, multiplier_judged, simple_judged, term_judged, factor_judged, name_judged, selected, selected_all, given, string_judged};
-ghost use Rattle.ep_check_expr.specs.Functions.{applied};
-ghost use Rattle.ep_check_expr.specs.Indexing.{indexed_all};
-ghost use Rattle.ep_check_expr.specs.Judgements.{Accepts, when_accepted};
-ghost use Rattle.ep_check_expr.specs.Names.{call_declared, call_named};
-ghost use Rattle.ep_check_expr.specs.Operators.{added, multiplied};
+ghost use Rattle.ep_rules.specs.Functions.{applied};
+ghost use Rattle.ep_rules.specs.Indexing.{indexed_all};
+ghost use Rattle.ep_rules.specs.Judgements.{Accepts, when_accepted};
+ghost use Rattle.ep_rules.specs.Names.{call_declared, call_named};
+ghost use Rattle.ep_rules.specs.Operators.{added, multiplied};
 ghost use Rattle.ep_check_expr.specs.StructuredValues.{array_begun, array_element, array_elements, array_judged, index_judged, labels_judged, no_ranges, range_labelled, ranges_labelled, record_element, record_elements, record_judged, structure_judged, values_chosen, values_filled};
 
-use crate::arguments::Taken;
 use crate::arranged::{Arranged, Index, IndexLabels, Ranges, taken_index};
 use crate::chosen::Choice;
-use crate::constructors::Members;
-use crate::fields::designated;
 use crate::filled::{Filled, asked_first, label_places};
-use crate::forms::{Refusal, Typed};
-use crate::functions::{applied_to_one, applied_to_two, takes};
-use crate::indexing::indexed;
-use crate::names::{named, qualified, undeclared};
-use crate::operators::{added, compared, multiplied, negated, signed};
 use crate::shapes::{arguments_first, bare, field_first, single_label};
 use crate::structured::{asked_by, named_number};
 use ep_base::{Boxed, Name};
+use ep_rules::{
+    Members, Refusal, Taken, Typed, added, applied_to_one, applied_to_two, compared, designated,
+    indexed, multiplied, named, negated, qualified, signed, takes, undeclared,
+};
 use ep_scope::{
     ArrayType, Composition, Declaration, Declared, FieldType, FormalParameter, Function, Host,
     Meaning, Required, View, depth_in, meaning_of, rule, structure_of,

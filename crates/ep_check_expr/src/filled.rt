@@ -7,23 +7,21 @@ ghost use Rattle.std.specs.Option.{option_map};
 ghost use Rattle.ep_tree.specs.Shapes.{as_identifier};
 ghost use Rattle.ep_tree.specs.declared.expression.Label.{out-Label};
 ghost use Rattle.ep_typed.specs.Viewed.{element_of, expr_of};
-ghost use Rattle.ep_check_expr.specs.Answers.{AnswersJudged, AnswersTyped, filled_of, typed_of};
+ghost use Rattle.ep_rules.specs.Answers.{AnswersJudged, AnswersTyped, typed_of};
+ghost use Rattle.ep_check_expr.specs.Answers.{filled_of};
 ghost use Rattle.ep_check_expr.specs.Expressions.{labelled};
 ghost use Rattle.ep_check_expr.specs.StructuredValues as spec;
-ghost use Rattle.ep_check_expr.specs.VariantSteps as variants;
-ghost use Rattle.ep_check_expr.specs.VariantSteps.{variant_step};
+ghost use Rattle.ep_rules.specs.VariantSteps as variants;
 ghost use Rattle.ep_check_expr.specs.StructuredValues.{filled, fields_filled, label_place, label_places, same_filled};
 
-use crate::access::Access;
-use crate::arguments::given_value;
-use crate::forms::{Refusal, Typed};
 use crate::shapes::label_name;
 use crate::structured::{added, asked_by, structured};
 use ep_base::{Boxed, List, NoMemory};
+use ep_rules::{Access, Refusal, Typed, field_steps, given_value};
 use ep_scope::{FieldType, Kind, VariantStep, field_number, rule, same_host};
 use ep_tree::Label;
-use ep_typed::{ComponentSteps, Element, Elements, TypedExpr};
-use std::alloc::{AllocError, Global};
+use ep_typed::{Element, Elements, TypedExpr};
+use std::alloc::Global;
 
 /// What is gathered of the elements of a record: what components are given, where all of it is built, how deep the deepest
 /// value is, and the places of the fields that are given, among all fields.
@@ -111,44 +109,6 @@ pub(crate) fn asked_first(fields: &[FieldType], places: &[usize]) -> Option<u32>
             Some(field) => asked_by(field.kind),
         },
     }
-}
-
-/// The number of the component that is the variant to which a step leads, if 32 bits hold it.
-pub(crate) fn variant_number(step: &VariantStep) -> Result<u32, NoMemory>
-    ensures { IfOk result (λ number. number ≡ variant_step step.now) }
-{
-    let tag = step.selection.get().tag;
-    match tag
-        .checked_add(step.variant)
-        .and_then(|number| number.checked_add(1))
-    {
-        Some(number) => Ok(number),
-        None => Err(AllocError),
-    }
-}
-
-/// The steps through variants.
-fn variant_steps(alloc: Global, path: &[VariantStep]) -> Result<ComponentSteps, NoMemory>
-    ensures { IfOk result (λ steps.
-        steps ≡ map variant_step path.now) }
-{
-    let mut steps = List::new(alloc);
-    for step in path {
-        steps.push(variant_number(step)?)?;
-    }
-    Ok(steps)
-}
-
-/// The steps from a record to a field.
-pub fn field_steps(alloc: Global, field: &FieldType) -> Result<ComponentSteps, NoMemory>
-    ensures { IfOk result (λ steps. steps ≡ variants.field_steps field.now) }
-{
-    let mut steps = variant_steps(alloc, field.path.items())?;
-    steps.push(field.number)?;
-    if field.tag.is_some() {
-        steps.push(0)?;
-    }
-    Ok(steps)
 }
 
 /// A field that is given a value, where it is built.

@@ -4,15 +4,13 @@ ghost use Rattle.std.specs.Prelude.{◌≡◌, ◌∷◌, [], IfOk, IsTrue, List
 ghost use Rattle.std.specs.Option.{option_map};
 ghost use Rattle.ep_scope.specs.Meanings.{meant_by};
 ghost use Rattle.ep_typed.specs.Viewed.{element_of};
-ghost use Rattle.ep_check_expr.specs.Answers.{AnswersJudged, AnswersTyped};
-ghost use Rattle.ep_check_expr.specs.Names.{is_one_of};
+ghost use Rattle.ep_rules.specs.Answers.{AnswersJudged, AnswersTyped};
+ghost use Rattle.ep_rules.specs.Names.{is_one_of};
 ghost use Rattle.ep_check_expr.specs.StructuredValues as spec;
 ghost use Rattle.ep_check_expr.specs.StructuredValues.{with_elements};
 
-use crate::access::Access;
-use crate::forms::{Refusal, Typed, above};
-use crate::names::undeclared;
 use ep_base::{Boxed, NoMemory};
+use ep_rules::{Access, Refusal, Typed, above, undeclared};
 use ep_scope::{Declaration, Kind, Meaning, Required, View, meaning_in, meaning_of, rule};
 use ep_tree::QualifiedName;
 use ep_typed::{Element, Elements, Shared, TypedExpr};

@@ -7,8 +7,8 @@ ghost use Rattle.ep_typed.specs.Viewed.{element_of, expr_of};
 ghost use Rattle.ep_typed.specs.declared.tree.Element.TheVariants as element;
 ghost use Rattle.ep_check_expr.specs.StructuredConstants as spec;
 
-use crate::folding::{Folded, KnownValue, folded_form, number_in};
 use ep_base::{Boxed, List, NoMemory};
+use ep_rules::{Folded, KnownValue, folded_form, number_in};
 use ep_scope::{ArrayType, Composition, View, structure_of};
 use ep_typed::{CaseRange, CaseRanges, Element, Elements, Shared, TypedExpr, Value};
 use std::alloc::Global;

@@ -11,9 +11,9 @@ use Rattle.ep_tree.specs.declared.statement.Statement.TheOpen.{Statement-F}
 use Rattle.ep_tree.specs.declared.statement.Statement.TheVariants as statement
 use Rattle.ep_typed.specs.Trees as tree
 use Rattle.ep_typed.specs.Trees.{Entire, Stmt, Stmts}
-use Rattle.ep_check_expr.specs.Judgements.{Judged, Accepts, Breaks}
-use Rattle.ep_check_expr.specs.declared.forms.Refusal.{Refusal}
-use Rattle.ep_check_expr.specs.declared.forms.Refusal.TheVariants.{Rule, NoMemory}
+use Rattle.ep_rules.specs.Judgements.{Judged, Accepts, Breaks}
+use Rattle.ep_rules.specs.declared.forms.Refusal.{Refusal}
+use Rattle.ep_rules.specs.declared.forms.Refusal.TheVariants.{Rule, NoMemory}
 use Rattle.ep_check_stmt.specs.Answers.{Refuses, RefusesRow}
 use Rattle.ep_check_stmt.specs.Outcomes.{refused_at}
 use Rattle.ep_check_stmt.specs.Statements.{ArmJudged, Context, Opened, Under, after, at_arm, at_compound, at_otherwise, at_statement, call_arguments, condition_judged, control_judged, else_judged, falls_by, for_in_judged, for_judged, if_judged, in_order, name_called, none_opened, records_opened, repeat_judged, statement_judged, stmt_item, with_judged}

@@ -1,9 +1,9 @@
 -- What is written for parameters, gathered one after another.
 use Rattle.std.proofs.Common.{◌≡◌, ℕ, ◌+◌, ◌<◌, List, [], ◌∷◌, ◌++◌, map, drop, length, get_or, Option, Some, None, refl, sym, ap, ◌∙◌, subst, append_assoc}
-use Rattle.ep_check_expr.specs.Functions.{Given}
-use Rattle.ep_check_expr.specs.Judgements.{Judged, Accepts, Breaks, both, when_accepted}
-use Rattle.ep_check_expr.specs.declared.forms.Refusal.{Refusal}
-use Rattle.ep_check_expr.specs.declared.forms.Refusal.TheVariants.{Rule, NoMemory}
+use Rattle.ep_rules.specs.Functions.{Given}
+use Rattle.ep_rules.specs.Judgements.{Judged, Accepts, Breaks, both, when_accepted}
+use Rattle.ep_rules.specs.declared.forms.Refusal.{Refusal}
+use Rattle.ep_rules.specs.declared.forms.Refusal.TheVariants.{Rule, NoMemory}
 use Rattle.ep_check_stmt.specs.Answers.{Refuses}
 use Rattle.ep_check_stmt.specs.Statements.{item_judged, items_judged, one_after, one_more}
 use Rattle.ep_check_stmt.proofs.judged.Refusing.{first_refused}

@@ -3,8 +3,8 @@ use Rattle.std.proofs.Common.{List, sym, subst}
 use Rattle.ep_tree.specs.declared.expression.Argument.{Argument, out-Argument}
 use Rattle.ep_scope.specs.Scopes.{Region}
 use Rattle.ep_check_expr.specs.Expressions.{given, judged}
-use Rattle.ep_check_expr.specs.Judgements.{Accepts, when_accepted}
-use Rattle.ep_check_expr.specs.declared.forms.Refusal.{Refusal}
+use Rattle.ep_rules.specs.Judgements.{Accepts, when_accepted}
+use Rattle.ep_rules.specs.declared.forms.Refusal.{Refusal}
 use Rattle.ep_check_expr.proofs.Nodes.{given-value}
 use Rattle.ep_check_stmt.specs.Answers.{Refuses}
 use Rattle.ep_check_stmt.specs.Statements.{item_form, item_judged, shown, width_judged}

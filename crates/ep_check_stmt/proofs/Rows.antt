@@ -12,9 +12,9 @@ use Rattle.ep_typed.specs.Auxiliaries.{with_variables}
 use Rattle.ep_typed.specs.Trees.{Entire, Stmt, Stmts, none, next, stmts}
 use Rattle.ep_typed.specs.Viewed.{stmt_of}
 use Rattle.ep_typed.specs.declared.tree.TypedStmt.{TypedStmt}
-use Rattle.ep_check_expr.specs.Judgements.{Judged, Accepts, Breaks}
-use Rattle.ep_check_expr.specs.declared.forms.Refusal.{Refusal}
-use Rattle.ep_check_expr.specs.declared.forms.Refusal.TheVariants.{Rule, NoMemory}
+use Rattle.ep_rules.specs.Judgements.{Judged, Accepts, Breaks}
+use Rattle.ep_rules.specs.declared.forms.Refusal.{Refusal}
+use Rattle.ep_rules.specs.declared.forms.Refusal.TheVariants.{Rule, NoMemory}
 use Rattle.ep_check_stmt.specs.Answers.{AnswersForm, AnswersRow, RefusesRow, passed}
 use Rattle.ep_check_stmt.specs.Outcomes.{item_at}
 use Rattle.ep_check_stmt.specs.Statements.{ArmJudged, Context, Under, Judgement, behind, Passes, Waits, Fails, after, at_arm, at_compound, at_item, at_otherwise, at_statement, in_order, statement_judged}

@@ -14,9 +14,9 @@ use Rattle.ep_typed.specs.declared.tree.TypedExpr.{TypedExpr}
 use Rattle.ep_typed.specs.declared.tree.TypedStmt.{TypedStmt}
 use Rattle.ep_typed.specs.declared.tree.WriteItem.{WriteItem}
 use Rattle.ep_scope.specs.declared.kind.Kind.{Kind}
-use Rattle.ep_check_expr.specs.Judgements.{Judged, Accepts, breaks}
-use Rattle.ep_check_expr.specs.declared.forms.Refusal.{Refusal}
-use Rattle.ep_check_expr.specs.declared.forms.Refusal.TheVariants.{Rule, NoMemory}
+use Rattle.ep_rules.specs.Judgements.{Judged, Accepts, breaks}
+use Rattle.ep_rules.specs.declared.forms.Refusal.{Refusal}
+use Rattle.ep_rules.specs.declared.forms.Refusal.TheVariants.{Rule, NoMemory}
 use Rattle.ep_check_stmt.specs.Statements.{Judgement, Passes, Shown, Waits, fails_at}
 use Rattle.ep_check_stmt.specs.Statements as rows
 use Rattle.ep_check_stmt.specs.Cases as cases

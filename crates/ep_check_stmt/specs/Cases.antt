@@ -18,7 +18,7 @@ use Rattle.ep_scope.specs.declared.kind.Kind.TheVariants as kind
 use Rattle.ep_scope.specs.declared.rule.TheConstants as rule
 use Rattle.ep_check_expr.specs.Constants.{label_judged}
 use Rattle.ep_check_expr.specs.Expressions.{judged}
-use Rattle.ep_check_expr.specs.Judgements.{Judged, Accepts, Breaks, when_accepted, both}
+use Rattle.ep_rules.specs.Judgements.{Judged, Accepts, Breaks, when_accepted, both}
 use Rattle.ep_check_stmt.specs.declared.cases.Labels.{Labels}
 
 -- a selector that is accepted: its host, and its form where all of the statement's own parts are built

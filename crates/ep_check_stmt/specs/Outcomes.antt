@@ -1,7 +1,7 @@
 -- The refusals of items, by their lines.
 use Rattle.std.specs.Prelude.{ℕ, Option, Some, None, Result, Ok, Err}
-use Rattle.ep_check_expr.specs.declared.forms.Refusal.{Refusal}
-use Rattle.ep_check_expr.specs.declared.forms.Refusal.TheVariants.{Rule, NoMemory}
+use Rattle.ep_rules.specs.declared.forms.Refusal.{Refusal}
+use Rattle.ep_rules.specs.declared.forms.Refusal.TheVariants.{Rule, NoMemory}
 use Rattle.ep_check_stmt.specs.declared.outcome.CheckRefusal.{CheckRefusal}
 use Rattle.ep_check_stmt.specs.declared.outcome.CheckRefusal.TheVariants as refusal
 use Rattle.ep_check_stmt.specs.declared.outcome.Outcome.{Outcome}

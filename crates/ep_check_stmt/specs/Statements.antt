@@ -48,14 +48,14 @@ use Rattle.ep_scope.specs.declared.structure.TagType.{TagType}
 use Rattle.ep_scope.specs.declared.thing.Declaration.{Declaration}
 use Rattle.ep_scope.specs.declared.thing.Declaration.TheVariants as declaration
 use Rattle.ep_scope.specs.declared.thing.Declared.{Declared}
-use Rattle.ep_check_expr.specs.declared.access.Access.{Access}
-use Rattle.ep_check_expr.specs.declared.access.Access.TheVariants as access
-use Rattle.ep_check_expr.specs.Arguments.{arguments_judged, callee_at, given_to, own_place, place_read, tagged_read, unless_protected}
-use Rattle.ep_check_expr.specs.Hosts.{typed_host}
-use Rattle.ep_check_expr.specs.Judgements.{Judged, Accepts, Breaks, Typed, when_accepted, both}
-use Rattle.ep_check_expr.specs.Functions.{Given}
-use Rattle.ep_check_expr.specs.Names.{field_place, tagged_place, undeclared}
-use Rattle.ep_check_expr.specs.Operators.{map_both}
+use Rattle.ep_rules.specs.declared.access.Access.{Access}
+use Rattle.ep_rules.specs.declared.access.Access.TheVariants as access
+use Rattle.ep_rules.specs.Arguments.{arguments_judged, callee_at, given_to, own_place, place_read, tagged_read, unless_protected}
+use Rattle.ep_rules.specs.Hosts.{typed_host}
+use Rattle.ep_rules.specs.Judgements.{Judged, Accepts, Breaks, Typed, when_accepted, both}
+use Rattle.ep_rules.specs.Functions.{Given}
+use Rattle.ep_rules.specs.Names.{field_place, tagged_place, undeclared}
+use Rattle.ep_rules.specs.Operators.{map_both}
 use Rattle.ep_check_expr.specs.Expressions.{given, judged, judged_value, name_judged}
 use Rattle.ep_check_expr.specs.StructuredValues.{asked_by}
 use Rattle.ep_tree.specs.declared.expression.ComponentValue.{ComponentValue}

@@ -24,7 +24,7 @@ use Rattle.ep_scope.specs.declared.structure.Composition.TheVariants as composit
 use Rattle.ep_scope.specs.declared.structure.FieldType.{FieldType}
 use Rattle.ep_scope.specs.declared.thing.Declaration.{Declaration}
 use Rattle.ep_scope.specs.declared.thing.Declaration.TheVariants as declaration
-use Rattle.ep_check_expr.specs.Names.{is_nothing}
+use Rattle.ep_rules.specs.Names.{is_nothing}
 use Rattle.ep_check_expr.specs.Shapes.{field_first}
 use Rattle.ep_check_stmt.specs.declared.tags.Reached.{Reached}
 

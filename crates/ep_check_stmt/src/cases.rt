@@ -8,7 +8,7 @@ ghost use Rattle.ep_typed.specs.Operations.{is_apart};
 ghost use Rattle.ep_typed.specs.Trees as tree;
 ghost use Rattle.ep_typed.specs.Trees.{Arms, Expr, Other, Stmt, Stmts};
 ghost use Rattle.ep_typed.specs.Viewed.{arm_of, expr_of, other_of, stmt_of};
-ghost use Rattle.ep_check_expr.specs.Judgements.{Judged};
+ghost use Rattle.ep_rules.specs.Judgements.{Judged};
 ghost use Rattle.ep_check_stmt.specs.Answers.{AnswersForm, AnswersLabels, AnswersRow, arms_of, labels_of, selector_of, stmts_of};
 ghost use Rattle.ep_check_stmt.specs.Cases as spec;
 ghost use Rattle.ep_check_stmt.specs.Cases.{added, arms_taken, end_judged, fitting, label_taken, labels_taken, own_ranges, range_judged, ranges_formed, ranging, selector_judged};
@@ -17,7 +17,8 @@ ghost use Rattle.ep_check_stmt.specs.Statements.{Judgement, Passes, after, at_it
 use crate::outcome::Outcome;
 use crate::statements::{Context, Row};
 use ep_base::{Boxed, Line, List};
-use ep_check_expr::{ConstantForm, Refusal, label_value, typed_expression};
+use ep_check_expr::{ConstantForm, label_value, typed_expression};
+use ep_rules::Refusal;
 use ep_scope::{Host, Kind, rule, same_host};
 use ep_tree::{Arm, Expression, Label};
 use ep_typed::{CaseArm, CaseArms, CaseRange, CaseRanges, TypedExpr, TypedStmt, TypedStmts, Value};

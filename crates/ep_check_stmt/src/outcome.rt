@@ -5,7 +5,8 @@ ghost use Rattle.ep_check_stmt.specs.Outcomes.{refused_at, item_at};
 ghost use Rattle.ep_check_stmt.specs.declared.outcome.CheckRefusal.TheVariants.{NoMemory};
 
 use ep_base::Line;
-use ep_check_expr::{Broken, Refusal};
+use ep_check_expr::Broken;
+use ep_rules::Refusal;
 use std::alloc::AllocError;
 
 /// Why a component has no typed unit.

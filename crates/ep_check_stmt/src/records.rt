@@ -8,9 +8,9 @@ ghost use Rattle.ep_scope.specs.Records.{variable_of};
 ghost use Rattle.ep_typed.specs.Trees as tree;
 ghost use Rattle.ep_typed.specs.Trees.{Stmt};
 ghost use Rattle.ep_typed.specs.Viewed.{expr_of, place_of, stmt_of};
-ghost use Rattle.ep_check_expr.specs.Arguments.{IsReading};
+ghost use Rattle.ep_rules.specs.Arguments.{IsReading};
 ghost use Rattle.ep_check_expr.specs.Expressions.{name_judged};
-ghost use Rattle.ep_check_expr.specs.Judgements.{Accepts, when_accepted};
+ghost use Rattle.ep_rules.specs.Judgements.{Accepts, when_accepted};
 ghost use Rattle.ep_check_stmt.specs.Answers.{AnswersForm, AnswersRow, context_of, entire_of, heads_of, locals_of, opened_of, record_named_of, with_head_of};
 ghost use Rattle.ep_check_stmt.specs.RoutineForms.{routine_form};
 ghost use Rattle.ep_check_stmt.specs.Statements as spec;
@@ -21,7 +21,8 @@ use crate::outcome::Outcome;
 use crate::statements::{Context, Locals, Row};
 use crate::threats::{Entire, place_threatens};
 use ep_base::{Boxed, Line, List, NoMemory};
-use ep_check_expr::{Access, Refusal, Typed, typed_access};
+use ep_check_expr::typed_access;
+use ep_rules::{Access, Refusal, Typed};
 use ep_scope::{
     Composition, FieldType, Inner, Kind, OpenRecord, Protection, RecordVariable, View, rule,
     structure_of,

@@ -10,9 +10,9 @@ ghost use Rattle.ep_typed.specs.Auxiliaries.{with_variables, with_variables_in};
 ghost use Rattle.ep_typed.specs.Trees as tree;
 ghost use Rattle.ep_typed.specs.Trees.{Arms, Expr, Stmt, Stmts};
 ghost use Rattle.ep_typed.specs.Viewed.{arm_of, expr_of, other_of, stmt_of};
-ghost use Rattle.ep_check_expr.specs.Answers.{typed_of};
+ghost use Rattle.ep_rules.specs.Answers.{typed_of};
 ghost use Rattle.ep_check_expr.specs.Expressions.{judged};
-ghost use Rattle.ep_check_expr.specs.Judgements.{both};
+ghost use Rattle.ep_rules.specs.Judgements.{both};
 ghost use Rattle.ep_check_stmt.specs.Answers.{AnswersForm, AnswersRow, arms_of, context_of, entire_of, fails_among, locals_of, numbered, opened_of, stmts_of, target_of};
 ghost use Rattle.ep_check_stmt.specs.Statements as spec;
 ghost use Rattle.ep_check_stmt.specs.Statements.{Judgement, after, arm_judged, arm_row, arms_in_order, assigned, component_rules, compound_judged, compound_under, condition_judged, control_judged, declared_called, for_in_judged, for_judged, formed, if_judged, in_order, name_called, none_opened, own_called, records_opened, repeat_judged, required_called, statement_judged, target_judged, value_judged, tested, with_judged};
@@ -27,10 +27,8 @@ use crate::tags::assignment;
 use crate::targets::Target;
 use crate::threats::Entire;
 use ep_base::{Boxed, Line, List, Name};
-use ep_check_expr::{
-    Refusal, Typed, asked_by, callee_at, given_value, typed_arguments, typed_expression,
-    typed_value, undeclared,
-};
+use ep_check_expr::{asked_by, typed_arguments, typed_expression, typed_value};
+use ep_rules::{Refusal, Typed, callee_at, given_value, undeclared};
 use ep_scope::{
     Declaration, Declared, FormalParameter, Host, Kind, Meaning, Procedure, Required, View,
     depth_in, meaning_of, rule,

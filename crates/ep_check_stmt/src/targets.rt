@@ -7,18 +7,18 @@ ghost use Rattle.ep_built.specs.Built.{access_unbuilt};
 ghost use Rattle.ep_scope.specs.Meanings.{field_meant};
 ghost use Rattle.ep_scope.specs.Scopes.{depth_in, meant};
 ghost use Rattle.ep_typed.specs.Viewed.{expr_of, place_of};
-ghost use Rattle.ep_check_expr.specs.Arguments.{IsReading};
+ghost use Rattle.ep_rules.specs.Arguments.{IsReading};
 ghost use Rattle.ep_check_expr.specs.Expressions.{name_judged};
-ghost use Rattle.ep_check_expr.specs.Judgements.{when_accepted};
+ghost use Rattle.ep_rules.specs.Judgements.{when_accepted};
 ghost use Rattle.ep_check_stmt.specs.Answers.{AnswersForm, context_of, fails_among, result_of, target_of};
 ghost use Rattle.ep_check_stmt.specs.Statements as spec;
 ghost use Rattle.ep_check_stmt.specs.Statements.{declared_target, field_target, function_target, has_result, place_named, tag_target, target_judged, target_rules, variable_target};
 
 use crate::statements::{Context, FunctionResult};
 use ep_base::Name;
-use ep_check_expr::{
-    Access, Refusal, Typed, field_place, own_place, tagged_place, typed_access, undeclared,
-    unless_protected,
+use ep_check_expr::typed_access;
+use ep_rules::{
+    Access, Refusal, Typed, field_place, own_place, tagged_place, undeclared, unless_protected,
 };
 use ep_scope::{
     Declaration, Declared, Kind, Meaning, OpenField, Required, TagType, depth_in, meaning_of, rule,

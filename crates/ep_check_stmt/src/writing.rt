@@ -6,16 +6,17 @@ ghost use Rattle.ep_built.specs.Built.{expression_unbuilt, first_if, first_in, w
 ghost use Rattle.ep_tree.specs.Shapes.{as_identifier};
 ghost use Rattle.ep_tree.specs.declared.expression.Argument.{out-Argument};
 ghost use Rattle.ep_typed.specs.Viewed.{expr_of, item_of, stmt_of};
-ghost use Rattle.ep_check_expr.specs.Answers.{typed_of};
+ghost use Rattle.ep_rules.specs.Answers.{typed_of};
 ghost use Rattle.ep_check_expr.specs.Expressions.{given, judged};
-ghost use Rattle.ep_check_expr.specs.Judgements.{Accepts, when_accepted};
+ghost use Rattle.ep_rules.specs.Judgements.{Accepts, when_accepted};
 ghost use Rattle.ep_check_stmt.specs.Answers.{AnswersForm, context_of, items_of, shown_of};
 ghost use Rattle.ep_check_stmt.specs.Statements as spec;
 ghost use Rattle.ep_check_stmt.specs.Statements.{file_given, item_form, item_judged, items_judged, one_after, printed, shown, width_judged, write_judged, written};
 
 use crate::statements::Context;
 use ep_base::{Boxed, Line, List, Name, NoMemory};
-use ep_check_expr::{Refusal, typed_expression, written_expression};
+use ep_check_expr::{typed_expression, written_expression};
+use ep_rules::Refusal;
 use ep_scope::{Host, Kind, Meaning, meaning_of, rule};
 use ep_tree::{Argument, Expression, Factor};
 use ep_typed::{Print, StandardFile, TypedExpr, TypedStmt, WriteItem, WriteItems};

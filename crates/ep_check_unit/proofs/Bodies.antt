@@ -2,8 +2,8 @@
 use Rattle.std.proofs.Common.{◌≡◌, ℕ, List, ap, sym, ◌∙◌, subst}
 use Rattle.ep_tree.specs.declared.statement.Compound.{Compound}
 use Rattle.ep_scope.specs.Scopes.{Row, opened}
-use Rattle.ep_check_expr.specs.Judgements.{Accepts}
-use Rattle.ep_check_expr.specs.declared.forms.Refusal.{Refusal}
+use Rattle.ep_rules.specs.Judgements.{Accepts}
+use Rattle.ep_rules.specs.declared.forms.Refusal.{Refusal}
 use Rattle.ep_check_stmt.specs.Answers.{Refuses}
 use Rattle.ep_check_stmt.specs.Outcomes.{refused_at}
 use Rattle.ep_check_unit.specs.Answers.{RefusesItems}

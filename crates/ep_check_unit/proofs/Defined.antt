@@ -5,12 +5,12 @@ use Rattle.ep_tree.specs.declared.declaration.ConstantDefinition.{ConstantDefini
 use Rattle.ep_tree.specs.declared.expression.ComponentValue.{ComponentValue}
 use Rattle.ep_scope.specs.Scopes.{Region}
 use Rattle.ep_scope.specs.declared.rule.TheConstants as rule
-use Rattle.ep_check_expr.specs.Answers.{AnswersJudged}
+use Rattle.ep_rules.specs.Answers.{AnswersJudged}
 use Rattle.ep_check_expr.specs.Constants.{constant_judged}
-use Rattle.ep_check_expr.specs.Judgements.{Judged, Accepts, Breaks, when_accepted}
+use Rattle.ep_rules.specs.Judgements.{Judged, Accepts, Breaks, when_accepted}
 use Rattle.ep_check_expr.specs.declared.constants.ConstantForm.{ConstantForm}
-use Rattle.ep_check_expr.specs.declared.forms.Refusal.{Refusal}
-use Rattle.ep_check_expr.specs.declared.forms.Refusal.TheVariants.{Rule, NoMemory}
+use Rattle.ep_rules.specs.declared.forms.Refusal.{Refusal}
+use Rattle.ep_rules.specs.declared.forms.Refusal.TheVariants.{Rule, NoMemory}
 use Rattle.ep_check_stmt.specs.Answers.{Refuses}
 use Rattle.ep_check_stmt.proofs.judged.Refusing.{from_judged, first_refused, both_accepted}
 use Rattle.ep_check_unit.specs.Declarations.{constant_definition, constant_entered, constant_fitting, noted, scopes_of, unused, with_constant}

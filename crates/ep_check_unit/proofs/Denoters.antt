@@ -16,7 +16,7 @@ use Rattle.ep_tree.specs.declared.types.Variant.{Variant, map-Variant, roll-Vari
 use Rattle.ep_tree.specs.declared.types.VariantPart.{VariantPart, map-VariantPart, roll-VariantPart}
 use Rattle.ep_tree.specs.declared.types.VariantSelector.{VariantSelector}
 use Rattle.ep_check_expr.specs.Constants.{bound_judged}
-use Rattle.ep_check_expr.specs.Judgements.{both}
+use Rattle.ep_rules.specs.Judgements.{both}
 use Rattle.ep_check_unit.specs.Declarations.{ListJudged, Part, PartJudged, Section, VariantJudged, array_part, array_written, at_core, at_field_section, at_fields, at_plain, at_structure, at_type_denoter, at_variant, at_variant_part, begun, core_part, denoter_part, enumeration, fields_judged, list_written, plain_part, range, record_written, scopes_of, set_written, section_part, structure_part, structured, type_named, unbuilt_part, variant_judged, variant_part_written, variants_judged}
 
 -- the parts of denoters

@@ -5,8 +5,8 @@ use Rattle.ep_built.specs.Built.{Found, field_section_unbuilt, type_denoter_unbu
 use Rattle.ep_tree.specs.declared.types.Core.TheFolds.{fold_out-FieldSection}
 use Rattle.ep_tree.specs.declared.types.FieldSection.{FieldSection, out-FieldSection}
 use Rattle.ep_tree.specs.declared.types.TypeDenoter.{TypeDenoter}
-use Rattle.ep_check_expr.specs.Judgements.{Judged, Accepts, when_accepted}
-use Rattle.ep_check_expr.specs.declared.forms.Refusal.{Refusal}
+use Rattle.ep_rules.specs.Judgements.{Judged, Accepts, when_accepted}
+use Rattle.ep_rules.specs.declared.forms.Refusal.{Refusal}
 use Rattle.ep_check_stmt.specs.Answers.{Refuses}
 use Rattle.ep_check_stmt.proofs.judged.Refusing.{part_refused}
 use Rattle.ep_check_stmt.proofs.judged.Rounds.{next_item}

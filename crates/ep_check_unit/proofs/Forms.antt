@@ -5,7 +5,7 @@ use Rattle.ep_typed.specs.declared.unit.UnitRoutine.{UnitRoutine}
 use Rattle.ep_scope.specs.declared.parameter.FormalParameter.{FormalParameter}
 use Rattle.ep_scope.specs.declared.thing.Declaration.{Declaration}
 use Rattle.ep_scope.specs.declared.thing.Thing.{Thing}
-use Rattle.ep_check_expr.specs.Judgements.{Accepts, when_accepted}
+use Rattle.ep_rules.specs.Judgements.{Accepts, when_accepted}
 use Rattle.ep_check_unit.specs.Blocks.{Block, RoutineForm, routine_form}
 use Rattle.ep_check_unit.specs.Declarations.{entered, own_thing}
 use Rattle.ep_check_unit.specs.Functions.{routine_declaration}

@@ -16,9 +16,9 @@ use Rattle.ep_tree.specs.declared.types.Plain.{Plain}
 use Rattle.ep_tree.specs.declared.types.Structure.{Structure, out-Structure, roll-Structure, roll-out-Structure}
 use Rattle.ep_tree.specs.declared.types.Structure.TheVariants as structure
 use Rattle.ep_typed.specs.declared.denoter.Denoter.{Denoter}
-use Rattle.ep_check_expr.specs.Judgements.{Judged, Accepts, Breaks, when_accepted}
-use Rattle.ep_check_expr.specs.declared.forms.Refusal.{Refusal}
-use Rattle.ep_check_expr.specs.declared.forms.Refusal.TheVariants.{Rule, NoMemory}
+use Rattle.ep_rules.specs.Judgements.{Judged, Accepts, Breaks, when_accepted}
+use Rattle.ep_rules.specs.declared.forms.Refusal.{Refusal}
+use Rattle.ep_rules.specs.declared.forms.Refusal.TheVariants.{Rule, NoMemory}
 use Rattle.ep_check_stmt.specs.Answers.{Refuses}
 use Rattle.ep_check_stmt.proofs.judged.Refusing.{part_refused}
 use Rattle.ep_check_stmt.proofs.judged.Rounds.{next_item}

@@ -4,12 +4,12 @@ use Rattle.std.specs.Prelude.{if◌then◌else◌}
 use Rattle.ep_tree.specs.declared.expression.ComponentValue.{ComponentValue}
 use Rattle.ep_scope.specs.Scopes.{Region}
 use Rattle.ep_scope.specs.declared.rule.TheConstants as rule
-use Rattle.ep_check_expr.specs.Answers.{AnswersJudged}
+use Rattle.ep_rules.specs.Answers.{AnswersJudged}
 use Rattle.ep_check_expr.specs.Constants.{initial_state_judged}
-use Rattle.ep_check_expr.specs.Judgements.{Accepts, Breaks}
+use Rattle.ep_rules.specs.Judgements.{Accepts, Breaks}
 use Rattle.ep_check_expr.specs.StructuredValues.{asked_by}
 use Rattle.ep_check_expr.specs.declared.constants.ConstantForm.{ConstantForm}
-use Rattle.ep_check_expr.specs.declared.forms.Refusal.{Refusal}
+use Rattle.ep_rules.specs.declared.forms.Refusal.{Refusal}
 use Rattle.ep_check_stmt.specs.Answers.{Refuses}
 use Rattle.ep_check_stmt.proofs.judged.Refusing.{from_judged, part_refused, then_accepted}
 use Rattle.ep_check_unit.specs.Declarations.{Written, begun_with, fitting_state, may_begin, scopes_of, with_initial_state}

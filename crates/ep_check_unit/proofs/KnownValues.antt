@@ -5,8 +5,8 @@ use Rattle.std.specs.Prelude.{int_le, ◌&&◌}
 use Rattle.ep_typed.specs.TypeValues as type
 use Rattle.ep_typed.specs.TypeValues.{TypeValue}
 use Rattle.ep_scope.specs.declared.kind.Host.{Host}
-use Rattle.ep_check_expr.specs.Judgements.{Accepts}
-use Rattle.ep_check_expr.specs.declared.forms.Refusal.TheVariants.{Rule}
+use Rattle.ep_rules.specs.Judgements.{Accepts}
+use Rattle.ep_rules.specs.declared.forms.Refusal.TheVariants.{Rule}
 use Rattle.ep_check_stmt.specs.Answers.{Refuses}
 use Rattle.ep_check_unit.specs.FittingConstants.{are_members_in, is_number_in}
 use Rattle.ep_check_unit.specs.Labels.{tag_values}

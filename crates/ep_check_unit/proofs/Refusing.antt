@@ -2,9 +2,9 @@
 use Rattle.std.proofs.Common.{◌≡◌, ℕ, nat_eq, ◌==◌, eq-eqb, Bool, true, false, ◌&&◌, [], ◌∷◌, refl, ap}
 use Rattle.std.specs.Prelude.{IsTrue}
 use Rattle.std.specs.List.{list_any}
-use Rattle.ep_check_expr.specs.Judgements.{Judged, Accepts, Breaks}
-use Rattle.ep_check_expr.specs.declared.forms.Refusal.{Refusal}
-use Rattle.ep_check_expr.specs.declared.forms.Refusal.TheVariants.{Rule, NoMemory}
+use Rattle.ep_rules.specs.Judgements.{Judged, Accepts, Breaks}
+use Rattle.ep_rules.specs.declared.forms.Refusal.{Refusal}
+use Rattle.ep_rules.specs.declared.forms.Refusal.TheVariants.{Rule, NoMemory}
 use Rattle.ep_check_stmt.specs.Answers.{Refuses}
 use Rattle.ep_check_stmt.specs.Outcomes.{refused_at}
 use Rattle.ep_check_stmt.specs.Statements.{Fails, fails_at}

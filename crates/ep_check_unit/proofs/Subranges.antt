@@ -3,11 +3,11 @@ use Rattle.std.proofs.Common.{◌≡◌, ℕ, List, Err, sym, ap, ◌∙◌, sub
 use Rattle.ep_tree.specs.declared.expression.Expression.{Expression}
 use Rattle.ep_scope.specs.Scopes.{Region}
 use Rattle.ep_scope.specs.declared.kind.Host.{Host}
-use Rattle.ep_check_expr.specs.Answers.{AnswersJudged}
+use Rattle.ep_rules.specs.Answers.{AnswersJudged}
 use Rattle.ep_check_expr.specs.Constants.{bound_judged}
-use Rattle.ep_check_expr.specs.Judgements.{Judged, Accepts, when_accepted, both}
+use Rattle.ep_rules.specs.Judgements.{Judged, Accepts, when_accepted, both}
 use Rattle.ep_check_expr.specs.declared.constants.ConstantForm.{ConstantForm}
-use Rattle.ep_check_expr.specs.declared.forms.Refusal.{Refusal}
+use Rattle.ep_rules.specs.declared.forms.Refusal.{Refusal}
 use Rattle.ep_check_stmt.specs.Answers.{Refuses}
 use Rattle.ep_check_stmt.proofs.judged.Refusing.{from_judged, first_refused, second_refused, both_refused, part_refused, rest_refused, both_accepted}
 use Rattle.ep_check_unit.specs.Declarations.{Written, common_host, ordered, range, scopes_of, subrange}

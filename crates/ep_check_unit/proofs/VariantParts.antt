@@ -14,8 +14,8 @@ use Rattle.ep_typed.specs.declared.tree.CaseRange.{CaseRange}
 use Rattle.ep_typed.specs.declared.tree.Selection.{Selection}
 use Rattle.ep_scope.specs.Scopes.{Region}
 use Rattle.ep_scope.specs.declared.structure.FieldType.{FieldType}
-use Rattle.ep_check_expr.specs.Judgements.{Accepts, when_accepted}
-use Rattle.ep_check_expr.specs.declared.forms.Refusal.{Refusal}
+use Rattle.ep_rules.specs.Judgements.{Accepts, when_accepted}
+use Rattle.ep_rules.specs.declared.forms.Refusal.{Refusal}
 use Rattle.ep_check_stmt.specs.Answers.{Refuses}
 use Rattle.ep_check_stmt.proofs.judged.Refusing.{first_refused, part_refused, second_refused}
 use Rattle.ep_check_unit.specs.Blocks.{Block}

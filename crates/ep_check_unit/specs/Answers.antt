@@ -4,9 +4,9 @@ use Rattle.ep_typed.specs.declared.denoter.Denoter.{Denoter}
 use Rattle.ep_typed.specs.declared.tree.CaseRange.{CaseRange}
 use Rattle.ep_typed.specs.declared.value.Value.{Value}
 use Rattle.ep_scope.specs.declared.kind.Kind.{Kind}
-use Rattle.ep_check_expr.specs.Judgements.{Judged, Accepts, when_accepted}
-use Rattle.ep_check_expr.specs.declared.forms.Refusal.{Refusal}
-use Rattle.ep_check_expr.specs.declared.forms.Refusal.TheVariants.{Rule, NoMemory}
+use Rattle.ep_rules.specs.Judgements.{Judged, Accepts, when_accepted}
+use Rattle.ep_rules.specs.declared.forms.Refusal.{Refusal}
+use Rattle.ep_rules.specs.declared.forms.Refusal.TheVariants.{Rule, NoMemory}
 use Rattle.ep_check_stmt.specs.Answers.{Refuses}
 use Rattle.ep_check_stmt.specs.declared.outcome.CheckRefusal.{CheckRefusal}
 use Rattle.ep_check_stmt.specs.declared.outcome.CheckRefusal.TheVariants as refusal

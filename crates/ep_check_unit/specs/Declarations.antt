@@ -61,10 +61,10 @@ use Rattle.ep_scope.specs.declared.thing.Declaration.TheVariants as declaration
 use Rattle.ep_scope.specs.declared.thing.Declared.{Declared}
 use Rattle.ep_scope.specs.declared.thing.Thing.{Thing}
 use Rattle.ep_scope.specs.declared.thing.Thing.TheVariants as thing
-use Rattle.ep_check_expr.specs.Judgements.{Judged, Accepts, Breaks, unbuilt, when_accepted, both}
+use Rattle.ep_rules.specs.Judgements.{Judged, Accepts, Breaks, unbuilt, when_accepted, both}
 use Rattle.ep_check_expr.specs.Constants.{constant_judged, bound_judged, initial_state_judged}
 use Rattle.ep_check_expr.specs.declared.constants.ConstantForm.{ConstantForm}
-use Rattle.ep_check_expr.specs.Names.{undeclared}
+use Rattle.ep_rules.specs.Names.{undeclared}
 use Rattle.ep_check_expr.specs.StructuredValues.{asked_by}
 pub use Rattle.ep_check_unit.specs.OrdinalTypes.{ordinal_value, value_of}
 use Rattle.ep_check_unit.specs.FittingConstants.{unless_outside}

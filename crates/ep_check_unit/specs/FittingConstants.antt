@@ -18,9 +18,9 @@ use Rattle.ep_scope.specs.declared.rule.TheConstants as rule
 use Rattle.ep_scope.specs.declared.structure.Composition.{Composition}
 use Rattle.ep_scope.specs.declared.structure.Composition.TheVariants as composition
 use Rattle.ep_scope.specs.declared.structure.FieldType.{FieldType}
-use Rattle.ep_check_expr.specs.ConstantAccesses.{value_of_field}
-use Rattle.ep_check_expr.specs.Judgements.{Judged, Accepts, Breaks}
-use Rattle.ep_check_expr.specs.VariantSteps.{field_steps}
+use Rattle.ep_rules.specs.ConstantAccesses.{value_of_field}
+use Rattle.ep_rules.specs.Judgements.{Judged, Accepts, Breaks}
+use Rattle.ep_rules.specs.VariantSteps.{field_steps}
 use Rattle.ep_check_expr.specs.declared.constants.ConstantForm.{ConstantForm}
 use Rattle.ep_check_unit.specs.OrdinalTypes.{ordinal_value, value_of}
 

@@ -13,7 +13,7 @@ use Rattle.ep_scope.specs.declared.parameter.Protection.TheVariants as protectio
 use Rattle.ep_scope.specs.declared.rule.TheConstants as rule
 use Rattle.ep_scope.specs.declared.thing.Declaration.{Declaration}
 use Rattle.ep_scope.specs.declared.thing.Declaration.TheVariants as declaration
-use Rattle.ep_check_expr.specs.Judgements.{Judged, Accepts}
+use Rattle.ep_rules.specs.Judgements.{Judged, Accepts}
 use Rattle.ep_check_stmt.specs.RoutineForms.{formals_at}
 use Rattle.ep_check_stmt.specs.Statements.{FunctionResult, Judgement, Passes, Waits, Fails}
 use Rattle.ep_check_stmt.specs.Threats.{assigns, inner_threatens, stmts_threaten}

@@ -18,7 +18,7 @@ use Rattle.ep_scope.specs.declared.kind.Kind.{Kind}
 use Rattle.ep_scope.specs.declared.kind.Kind.TheVariants as kind
 use Rattle.ep_scope.specs.declared.rule.TheConstants as rule
 use Rattle.ep_check_expr.specs.Constants.{constant_expression}
-use Rattle.ep_check_expr.specs.Judgements.{Judged, Accepts, Breaks, when_accepted, both}
+use Rattle.ep_rules.specs.Judgements.{Judged, Accepts, Breaks, when_accepted, both}
 use Rattle.ep_check_unit.specs.declared.labels.Labels.{Labels}
 use Rattle.ep_check_unit.specs.declared.labels.TagValues.{TagValues}
 

@@ -31,7 +31,7 @@ use Rattle.ep_scope.specs.declared.thing.Declaration.{Declaration}
 use Rattle.ep_scope.specs.declared.thing.Declaration.TheVariants as declaration
 use Rattle.ep_scope.specs.declared.thing.Thing.{Thing}
 use Rattle.ep_scope.specs.declared.thing.Thing.TheVariants as thing
-use Rattle.ep_check_expr.specs.Judgements.{Judged, Accepts, Breaks, unbuilt, when_accepted}
+use Rattle.ep_rules.specs.Judgements.{Judged, Accepts, Breaks, unbuilt, when_accepted}
 use Rattle.ep_check_stmt.specs.Auxiliaries.{has_for, has_for_in}
 use Rattle.ep_check_stmt.specs.Statements.{Context, Locals, OfUnit, OfRoutine, Judgement, Passes, Waits, Fails, compound_judged}
 use Rattle.ep_check_stmt.specs.Tags.{assigns_tag}

@@ -11,7 +11,7 @@ ghost use Rattle.ep_check_unit.specs.Units.{first_block};
 use crate::sets::set_denoter;
 use crate::types::{Written, host_type, type_denoter};
 use ep_base::{Line, List, Name, NoMemory};
-use ep_check_expr::Refusal;
+use ep_rules::Refusal;
 use ep_scope::{
     Declaration, Declared, FormalParameters, Host, Kind, ScopeRefusal, Scopes, Thing, WrittenType,
     rule,

@@ -11,8 +11,8 @@ ghost use Rattle.ep_check_unit.specs.Units.{IsTypedProgram, first_missing, has_n
 
 use crate::block::{Block, Forward, has_number};
 use ep_base::{Line, List, Name, NameRefusal, NoMemory};
-use ep_check_expr::Refusal;
 use ep_check_stmt::{CheckRefusal, Outcome, refused_at};
+use ep_rules::Refusal;
 use ep_scope::{Thing, rule};
 use ep_tree::{Component, Program};
 use ep_typed::{ImportSpec, ImportSpecs, Interface, StandardFile, TypedStmts, Unit};

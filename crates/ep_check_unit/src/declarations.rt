@@ -2,8 +2,8 @@
 
 ghost use Rattle.std.specs.Prelude.{◌≡◌, None, IfOk, map};
 ghost use Rattle.ep_built.specs.Built.{component_value_unbuilt, constant_unbuilt, first_in, type_denoter_unbuilt, type_unbuilt, variable_unbuilt};
-ghost use Rattle.ep_check_expr.specs.Answers.{AnswersJudged};
-ghost use Rattle.ep_check_expr.specs.Judgements.{when_accepted};
+ghost use Rattle.ep_rules.specs.Answers.{AnswersJudged};
+ghost use Rattle.ep_rules.specs.Judgements.{when_accepted};
 ghost use Rattle.ep_check_unit.specs.Answers.{AnswersBlock, AnswersStanding};
 ghost use Rattle.ep_check_unit.specs.Blocks.{block_of};
 ghost use Rattle.ep_check_unit.specs.Declarations.{all_variables_declared, at_line, constant_definition, constant_fitting, constants_declared, new_variable, type_definition, type_definitions, type_denoter, variable_declaration, variable_entered, variable_placed, variables_entered, with_own_variable, with_unit_variable};
@@ -12,8 +12,9 @@ use crate::block::{Block, number};
 use crate::fitting::fits;
 use crate::types::{NamedType, type_denoter};
 use ep_base::{Line, List, Name, NoMemory};
-use ep_check_expr::{ConstantForm, Refusal, constant_value};
+use ep_check_expr::{ConstantForm, constant_value};
 use ep_check_stmt::{CheckRefusal, refused_at};
+use ep_rules::Refusal;
 use ep_scope::{Declaration, Protection, rule};
 use ep_tree::{ComponentValue, ConstantDefinition, TypeDefinition, Types, VariableDeclaration};
 use ep_typed::UnitVariable;

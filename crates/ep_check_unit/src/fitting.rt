@@ -14,7 +14,7 @@ ghost use Rattle.ep_scope.specs.declared.kind.Host.TheVariants as host;
 
 use crate::labels::{TagValues, denoted_values, tag_values};
 use ep_base::NoMemory;
-use ep_check_expr::{Refusal, field_steps, value_of_field};
+use ep_rules::{Refusal, field_steps, value_of_field};
 use ep_scope::{Composition, FieldType, Host, TypeName, View, rule, structure_of};
 use ep_typed::{Denoter, Element, TypedExpr, UnitType, Value};
 use std::alloc::{AllocError, Global};

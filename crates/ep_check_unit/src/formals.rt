@@ -11,7 +11,7 @@ ghost use Rattle.ep_check_unit.specs.Routines.{formal_of, formals_entered, is_pa
 use crate::block::{Block, number};
 use crate::types::{NamedType, type_denoter};
 use ep_base::{List, Name, NoMemory};
-use ep_check_expr::Refusal;
+use ep_rules::Refusal;
 use ep_scope::{
     Declaration, FormalParameter, FormalParameters, Kind, WrittenType, protection_of, rule,
     same_parameters,

@@ -8,7 +8,7 @@ ghost use Rattle.ep_check_unit.specs.Blocks.{around_of, block_of, routine_form};
 ghost use Rattle.ep_check_unit.specs.Functions.{own_name_at};
 ghost use Rattle.ep_check_unit.specs.Routines.{function_headed, function_identified, has_body, headed_first, headed_form, headed_over, heading_entered, own_variables, procedure_headed, routine_there, start_headed, start_name};
 ghost use Rattle.ep_scope.specs.Required.{look_up};
-ghost use Rattle.ep_check_expr.specs.Judgements.{Accepts};
+ghost use Rattle.ep_rules.specs.Judgements.{Accepts};
 
 use crate::block::{Block, Enclosing, OwnVariables, has_number, number};
 use crate::formals::{formals, is_repeated};
@@ -17,7 +17,7 @@ use crate::functions::{
     typed_result,
 };
 use ep_base::{Line, List, Name, NoMemory};
-use ep_check_expr::Refusal;
+use ep_rules::Refusal;
 use ep_scope::{Declaration, FormalParameter, FormalParameters, Thing, copied_parameters, rule};
 use ep_tree::{FormalSection, QualifiedName, RoutineHeading, RoutineStart};
 use ep_typed::{RoutineNumbers, TypedStmt, UnitRoutine};

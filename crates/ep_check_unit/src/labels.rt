@@ -7,7 +7,7 @@ ghost use Rattle.ep_tree.specs.declared.expression.Label.{out-Label};
 ghost use Rattle.ep_typed.specs.Denoters.{required_type};
 ghost use Rattle.ep_typed.specs.Operations.{is_in};
 ghost use Rattle.ep_typed.specs.Viewed.{denoter_of};
-ghost use Rattle.ep_check_expr.specs.Judgements.{Accepts};
+ghost use Rattle.ep_rules.specs.Judgements.{Accepts};
 ghost use Rattle.ep_check_stmt.specs.Answers.{AnswersForm};
 ghost use Rattle.ep_check_unit.specs.Answers.{AnswersLabels};
 ghost use Rattle.ep_check_unit.specs.Declarations.{ordinal_value, value_of};
@@ -16,7 +16,8 @@ ghost use Rattle.ep_check_unit.specs.Labels.{end_judged, label_taken, labels_tak
 
 use crate::block::number;
 use ep_base::List;
-use ep_check_expr::{ConstantForm, Refusal, constant_expression_value};
+use ep_check_expr::{ConstantForm, constant_expression_value};
+use ep_rules::Refusal;
 use ep_scope::{Host, Kind, TypeName, View, rule, same_host};
 use ep_tree::{Expression, Label};
 use ep_typed::{

@@ -2,7 +2,7 @@
 
 ghost use Rattle.std.specs.Prelude.{◌≡◌, IfOk, None, map};
 ghost use Rattle.ep_typed.specs.declared.denoter.FieldPart.{FieldPart};
-ghost use Rattle.ep_check_expr.specs.Judgements.{Accepts};
+ghost use Rattle.ep_rules.specs.Judgements.{Accepts};
 ghost use Rattle.ep_check_stmt.specs.Answers.{AnswersForm};
 ghost use Rattle.ep_check_unit.specs.Answers.{field_in, field_named, fields_in, listed_in, written_in};
 ghost use Rattle.ep_check_unit.specs.Blocks.{Block as BlockNow, block_of};
@@ -12,7 +12,7 @@ ghost use Rattle.ep_check_unit.specs.Declarations.{fields_named, fields_nodes, h
 use crate::block::{Block, number};
 use crate::types::{NamedType, Written, counted, type_denoter};
 use ep_base::{List, Name, NoMemory};
-use ep_check_expr::Refusal;
+use ep_rules::Refusal;
 use ep_scope::{Composition, FieldType, FieldTypes, Kind, StructuredType, TypeName, rule};
 use ep_typed::{Denoter, FieldPart, RecordField, RecordFields};
 use std::alloc::Global;

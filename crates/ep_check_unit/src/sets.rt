@@ -12,7 +12,7 @@ ghost use Rattle.ep_check_unit.specs.Declarations.{are_all_members, are_members,
 use crate::block::Block;
 use crate::types::{NamedType, Written, counted, host_type, index_host, type_denoter};
 use ep_base::{Boxed, NoMemory};
-use ep_check_expr::Refusal;
+use ep_rules::Refusal;
 use ep_scope::{Host, Kind, TypeName, rule};
 use ep_typed::{Bound, Denoter, RequiredType, UnitType};
 use std::alloc::Global;

@@ -5,7 +5,7 @@ ghost use Rattle.std.specs.Option.{option_map};
 ghost use Rattle.ep_built.specs.Built.{core_unbuilt, expression_unbuilt, field_section_unbuilt, fields_unbuilt, first_if, first_in, plain_unbuilt, structure_unbuilt, type_denoter_unbuilt, variant_part_unbuilt, variant_unbuilt};
 ghost use Rattle.ep_scope.specs.Meanings.{meant_by};
 ghost use Rattle.ep_check_expr.specs.Constants.{bound_judged};
-ghost use Rattle.ep_check_expr.specs.Judgements.{Accepts, both, when_accepted};
+ghost use Rattle.ep_rules.specs.Judgements.{Accepts, both, when_accepted};
 ghost use Rattle.ep_check_stmt.specs.Answers.{AnswersForm, fails_among};
 ghost use Rattle.ep_check_unit.specs.Answers.{AnswersBlock, arrays_below, fields_in, gathered_in, index_of, indexes_written, listed_in, named_in, written_in};
 ghost use Rattle.ep_check_unit.specs.Declarations as spec;
@@ -17,7 +17,8 @@ use crate::labels::{TagValues, tag_values};
 use crate::records::{Listing, WrittenField, WrittenFields, add_fields, plain_list};
 use crate::variants::{Gathered, variant_list};
 use ep_base::{Boxed, Line, List, Name, Names, NoMemory};
-use ep_check_expr::{ConstantForm, Refusal, bound_value, undeclared};
+use ep_check_expr::{ConstantForm, bound_value};
+use ep_rules::{Refusal, undeclared};
 use ep_scope::{
     ArrayType, Composition, Declaration, Enumeration, Host, Kind, Meaning, Required,
     StructuredType, TypeName, WrittenType, meaning_in, meaning_of, rule, same_host,

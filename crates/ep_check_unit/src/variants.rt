@@ -14,7 +14,7 @@ use crate::labels::{Labels, TagValues, take_variant};
 use crate::records::{Listing, WrittenField, denoted, nodes, own_fields};
 use crate::types::{NamedType, counted, type_denoter};
 use ep_base::{Boxed, Line, List, Name, NoMemory};
-use ep_check_expr::Refusal;
+use ep_rules::Refusal;
 use ep_scope::{FieldType, FieldTypes, Kind, TagType, VariantPath, VariantStep, rule};
 use ep_tree::{Label, VariantSelector};
 use ep_typed::{

@@ -33,8 +33,8 @@ use Rattle.ep_scope.specs.declared.thing.Declared.{Declared}
 use Rattle.ep_scope.specs.declared.thing.Thing.{Thing}
 use Rattle.ep_scope.specs.declared.thing.Thing.TheVariants as thing
 use Rattle.ep_check_expr.specs.Agreement.{Agrees, AgreesBy, AreInterfaces, AreOpen, AreParameters, AreThings, Arrays, HasKind, HoldsStructure, IsConstantIn, IsConstantOf, IsDeclaration, IsDenoterOf, IsKind, IsListed, IsMadeOf, Records, Structure, IsFunctionWith, IsOfType, IsStoredIn, IsThing, structures_of}
-use Rattle.ep_check_expr.specs.Arguments.{callee_at, callee_levels}
-use Rattle.ep_check_expr.specs.Hosts.{typed_host}
+use Rattle.ep_rules.specs.Arguments.{callee_at, callee_levels}
+use Rattle.ep_rules.specs.Hosts.{typed_host}
 use Rattle.ep_check_unit.specs.Declarations.{scopes_of, type_denoter}
 use Rattle.ep_check_unit.specs.Routines.{formal_of}
 use Rattle.ep_check_stmt.specs.Laws.{IsResultAt, ResultsAreThere}

@@ -4,7 +4,7 @@ use Rattle.ep_tree.specs.declared.types.TypeDenoter.{TypeDenoter}
 use Rattle.ep_typed.specs.Operations.{maxint}
 use Rattle.ep_typed.specs.declared.unit.Unit.{Unit as TypedUnit}
 use Rattle.ep_check_expr.specs.Constants.{bound_judged}
-use Rattle.ep_check_expr.specs.Judgements.{Accepts}
+use Rattle.ep_rules.specs.Judgements.{Accepts}
 use Rattle.ep_check_expr.specs.Laws.{BoundsAreSound, BoundsAreKnown, InitialStatesAreSound}
 use Rattle.ep_check_stmt.proofs.judged.Fits.{Fits, fits_both, fits_is}
 use Rattle.ep_check_unit.specs.Blocks.{Block}

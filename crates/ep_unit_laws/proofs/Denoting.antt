@@ -24,7 +24,7 @@ use Rattle.ep_scope.specs.declared.kind.Kind.{Kind}
 use Rattle.ep_scope.specs.declared.kind.Kind.TheVariants as kind
 use Rattle.ep_scope.specs.declared.parameter.TypeName.TheVariants as type_name
 use Rattle.ep_check_expr.specs.Agreement.{Arrays, HasKind, HasStructure, IsKind, IsValueOfKind, Records, Structure, TypeValues}
-use Rattle.ep_check_expr.specs.Hosts.{typed_host}
+use Rattle.ep_rules.specs.Hosts.{typed_host}
 
 -- the numbers of the host are integers
 abbrev pub IsSmall : Host → Type 0

@@ -31,8 +31,8 @@ use Rattle.ep_scope.specs.declared.structure.TagType.{TagType}
 use Rattle.ep_scope.specs.declared.structure.VariantStep.{VariantStep}
 use Rattle.ep_scope.specs.declared.kind.Kind.{Kind}
 use Rattle.ep_check_expr.specs.Agreement.{AgreesBy, AreFields, Arrays, HasStructure, IsAlong, IsDenoterOf, IsFieldOf, IsListed, IsMadeOf, IsPartOf, Records, Structure, TypeValues}
-use Rattle.ep_check_expr.specs.ConstantAccesses.{value_of_field}
-use Rattle.ep_check_expr.specs.VariantSteps.{field_steps, part_steps}
+use Rattle.ep_rules.specs.ConstantAccesses.{value_of_field}
+use Rattle.ep_rules.specs.VariantSteps.{field_steps, part_steps}
 use Rattle.ep_check_expr.proofs.Betweens.{between_all}
 use Rattle.ep_check_expr.proofs.Leading.{among_bare, leads_once, record_among, step_leads}
 use Rattle.ep_check_expr.proofs.Listed.{structure_in-listed}

@@ -25,7 +25,7 @@ use Rattle.ep_scope.specs.declared.thing.Declaration.TheVariants as declaration
 use Rattle.ep_scope.specs.declared.thing.Declared.{Declared}
 use Rattle.ep_scope.specs.declared.thing.Thing.{Thing}
 use Rattle.ep_scope.specs.declared.thing.Thing.TheVariants as thing
-use Rattle.ep_check_expr.specs.Judgements.{Judged, Accepts, Breaks}
+use Rattle.ep_rules.specs.Judgements.{Judged, Accepts, Breaks}
 use Rattle.ep_check_stmt.proofs.judged.Fits.{Any, Fits, fits_any, fits_then, fits_weaker}
 use Rattle.ep_check_unit.specs.Blocks.{Block, RoutineForm, around_of}
 use Rattle.ep_check_unit.specs.Declarations.{Standing, Written, entered, own_thing, type_denoter, type_named, unused, with_name, written_type}

@@ -41,7 +41,7 @@ use Rattle.ep_scope.specs.declared.thing.Declared.{Declared}
 use Rattle.ep_scope.specs.declared.thing.Thing.{Thing}
 use Rattle.ep_scope.specs.declared.thing.Thing.TheVariants as thing
 use Rattle.ep_check_expr.specs.Agreement.{AreFields, Arrays, HasStructure, IsConstantOf, IsHost, IsKind, IsValueMadeOf, Records, Structure, TypeValues}
-use Rattle.ep_check_expr.specs.Hosts.{typed_host}
+use Rattle.ep_rules.specs.Hosts.{typed_host}
 use Rattle.ep_check_expr.specs.Origins.{IsKnownHost, IsKnownKind, IsRequiredHost, HasHost, DeclaresHost, ThingHasHost, CompositionHasHost, FieldsHaveHost, StructuresHaveHost, EntriesHaveHost, InterfacesHaveHost, RecordsHaveHost, ScopesHaveHost}
 use Rattle.ep_check_unit.specs.Declarations.{host_denoter, scopes_of, type_denoter}
 use Rattle.ep_check_unit.specs.Routines.{formal_of}

@@ -24,9 +24,9 @@ use Rattle.ep_scope.specs.declared.kind.Kind.TheVariants as kind
 use Rattle.ep_scope.specs.declared.rule.TheConstants as rule
 use Rattle.ep_check_expr.specs.Agreement.{Arrays, IsConstantIf, IsSetOver, Records, Structure}
 use Rattle.ep_check_expr.specs.Constants.{initial_state_judged}
-use Rattle.ep_check_expr.specs.Hosts.{typed_host}
+use Rattle.ep_rules.specs.Hosts.{typed_host}
 use Rattle.ep_check_expr.specs.StructuredValues.{asked_by}
-use Rattle.ep_check_expr.specs.Judgements.{Accepts, Breaks}
+use Rattle.ep_rules.specs.Judgements.{Accepts, Breaks}
 use Rattle.ep_check_expr.specs.Laws.{InitialStatesAreSound}
 use Rattle.ep_check_expr.specs.declared.constants.ConstantForm.{ConstantForm}
 use Rattle.ep_check_expr.proofs.SameHost.{host_same}

@@ -19,7 +19,7 @@ use Rattle.ep_scope.specs.declared.parameter.Protection.TheVariants as protectio
 use Rattle.ep_scope.specs.declared.parameter.TypeName.{TypeName}
 use Rattle.ep_scope.specs.declared.thing.Declaration.TheVariants as declaration
 use Rattle.ep_scope.specs.declared.thing.Thing.TheVariants as thing
-use Rattle.ep_check_expr.specs.Judgements.{Judged, Accepts, Breaks, when_accepted}
+use Rattle.ep_rules.specs.Judgements.{Judged, Accepts, Breaks, when_accepted}
 use Rattle.ep_check_expr.specs.Laws.{BoundsAreKnown, BoundsAreSound, ConstantsAreKnown, ConstantsAreSound, InitialStatesAreSound}
 use Rattle.ep_check_stmt.proofs.judged.Fits.{Any, Fits, fits_any, fits_then}
 use Rattle.ep_scope.specs.declared.rule.TheConstants as rule

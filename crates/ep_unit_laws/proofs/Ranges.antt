@@ -18,7 +18,7 @@ use Rattle.ep_scope.specs.Scopes.{Region}
 use Rattle.ep_scope.specs.declared.kind.Kind.{Kind}
 use Rattle.ep_scope.specs.declared.kind.Kind.TheVariants as kind
 use Rattle.ep_check_expr.specs.Constants.{constant_expression}
-use Rattle.ep_check_expr.specs.Judgements.{Accepts}
+use Rattle.ep_rules.specs.Judgements.{Accepts}
 use Rattle.ep_check_expr.proofs.Passing.{IfForm}
 use Rattle.ep_check_stmt.proofs.judged.Fits.{Any, Fits, fits_any, fits_both, fits_then}
 use Rattle.ep_check_unit.specs.Declarations.{Tag}

@@ -18,7 +18,7 @@ use Rattle.ep_scope.specs.declared.structure.Composition.TheVariants as composit
 use Rattle.ep_scope.specs.declared.structure.FieldType.{FieldType}
 use Rattle.ep_scope.specs.declared.structure.StructuredType.{StructuredType}
 use Rattle.ep_check_expr.specs.Agreement.{AreFieldValues, AreFields, IsFieldOf, IsFieldValue, Records}
-use Rattle.ep_check_expr.specs.Judgements.{Accepts, Breaks, when_accepted}
+use Rattle.ep_rules.specs.Judgements.{Accepts, Breaks, when_accepted}
 use Rattle.ep_check_stmt.proofs.judged.Fits.{Fits, fits_then, fits_weaker}
 use Rattle.ep_check_unit.specs.Blocks.{Block}
 use Rattle.ep_check_unit.specs.Declarations.{Field, Fielded, ListJudged, Listed, Section, Written, field_of, field_part, fields_named, has_field, own_fields, plain_list, record_field, record_over, record_written, section_written, sections_written, settled_part}

@@ -19,8 +19,8 @@ use Rattle.ep_scope.specs.declared.kind.Kind.TheVariants as kind
 use Rattle.ep_scope.specs.declared.parameter.TypeName.{TypeName}
 use Rattle.ep_scope.specs.declared.parameter.TypeName.TheVariants as type_name
 use Rattle.ep_scope.specs.declared.rule.TheConstants as rule
-use Rattle.ep_check_expr.specs.Hosts.{typed_host}
-use Rattle.ep_check_expr.specs.Judgements.{Accepts, Breaks, when_accepted}
+use Rattle.ep_rules.specs.Hosts.{typed_host}
+use Rattle.ep_rules.specs.Judgements.{Accepts, Breaks, when_accepted}
 use Rattle.ep_check_stmt.proofs.judged.Fits.{Fits, fits_is, fits_then}
 use Rattle.ep_check_unit.specs.Blocks.{Block}
 use Rattle.ep_check_unit.specs.Declarations.{Part, Written, are_members, index_host, ordinal_value, set_on, set_over, set_written, settled_part, unless_wide, value_of}

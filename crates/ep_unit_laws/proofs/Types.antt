@@ -38,10 +38,10 @@ use Rattle.ep_scope.specs.declared.thing.Declaration.TheVariants as declaration
 use Rattle.ep_scope.specs.declared.thing.Declared.{Declared}
 use Rattle.ep_check_expr.specs.Agreement.{IsConstantIf, IsConstantOf}
 use Rattle.ep_check_expr.specs.Constants.{bound_judged}
-use Rattle.ep_check_expr.specs.Hosts.{typed_host}
-use Rattle.ep_check_expr.specs.Judgements.{Accepts, Breaks}
+use Rattle.ep_rules.specs.Hosts.{typed_host}
+use Rattle.ep_rules.specs.Judgements.{Accepts, Breaks}
 use Rattle.ep_check_expr.specs.Laws.{BoundsAreSound, BoundsAreKnown}
-use Rattle.ep_check_expr.specs.Names.{undeclared}
+use Rattle.ep_rules.specs.Names.{undeclared}
 use Rattle.ep_check_expr.specs.declared.constants.ConstantForm.{ConstantForm}
 use Rattle.ep_check_expr.proofs.SameHost.{host_same}
 use Rattle.ep_check_stmt.proofs.judged.Fits.{Fits, fits_is, fits_pair, fits_then}

@@ -11,7 +11,7 @@ use Rattle.ep_typed.specs.Valid.{IsConstant, IsRoutine, IsStmt, IsType, IsValid,
 use Rattle.ep_typed.specs.Viewed.{stmt_of}
 use Rattle.ep_typed.specs.declared.unit.Unit.{Unit as TypedUnit}
 use Rattle.ep_typed.specs.declared.unit.UnitRoutine.{UnitRoutine}
-use Rattle.ep_check_expr.specs.Judgements.{Judged, Accepts, Breaks}
+use Rattle.ep_rules.specs.Judgements.{Judged, Accepts, Breaks}
 use Rattle.ep_check_expr.specs.Laws.{BoundsAreKnown, BoundsAreSound, ConstantsAreKnown, ConstantsAreSound, InitialStatesAreSound}
 use Rattle.ep_unit_laws.proofs.Auxiliaries.{AreBehind, auxiliaries_of, for_auxiliaries, for_in_auxiliaries, unit_behind, unit_unmade, with_auxiliaries}
 use Rattle.ep_scope.specs.Scopes.{depth_in}

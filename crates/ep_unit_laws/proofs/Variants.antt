@@ -31,8 +31,8 @@ use Rattle.ep_scope.specs.declared.kind.Kind.TheVariants as kind
 use Rattle.ep_scope.specs.declared.rule.TheConstants as rule
 use Rattle.ep_scope.specs.declared.structure.FieldType.{FieldType}
 use Rattle.ep_check_expr.specs.Agreement.{AreFieldValues, HasTagValue, IsFieldOf, IsFieldValue, Selects}
-use Rattle.ep_check_expr.specs.Hosts.{typed_host}
-use Rattle.ep_check_expr.specs.Judgements.{Accepts, Breaks, when_accepted}
+use Rattle.ep_rules.specs.Hosts.{typed_host}
+use Rattle.ep_rules.specs.Judgements.{Accepts, Breaks, when_accepted}
 use Rattle.ep_check_stmt.proofs.judged.Fits.{Any, Fits, fits_any, fits_then, fits_weaker}
 use Rattle.ep_check_unit.specs.Blocks.{Block}
 use Rattle.ep_check_unit.specs.Declarations.{Field, Fielded, Gathered, Labelled, ListJudged, Listed, PartJudged, Section, Tag, VariantJudged, Written, all_fields, completing_added, completing_written, field_part, fields_joined, index_values, inside, is_among_fields, labels_noted, list_ended, list_written, none_gathered, noted, own_fields, record_field, scopes_of, sections_written, selection_of, tag_field, tag_named, tag_of, tag_written, type_named, unless_left_out, value_of, variant_added, variant_list, variant_listing, variant_part, variant_part_written, variant_written, variants_after, variants_joined, variants_written}

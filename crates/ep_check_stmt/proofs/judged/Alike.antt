@@ -33,11 +33,11 @@ use Rattle.ep_scope.specs.declared.structure.Composition.TheVariants as composit
 use Rattle.ep_scope.specs.declared.structure.FieldType.{FieldType}
 use Rattle.ep_scope.specs.declared.thing.Thing.{Thing}
 use Rattle.ep_scope.specs.declared.thing.Thing.TheVariants as thing
-use Rattle.ep_check_expr.specs.declared.access.Access as accessing
-use Rattle.ep_check_expr.specs.declared.access.Access.TheVariants as access
+use Rattle.ep_rules.specs.declared.access.Access as accessing
+use Rattle.ep_rules.specs.declared.access.Access.TheVariants as access
 use Rattle.ep_check_expr.specs.Expressions.{name_judged}
-use Rattle.ep_check_expr.specs.Judgements.{Accepts, Typed, when_accepted}
-use Rattle.ep_check_expr.specs.Names.{is_nothing}
+use Rattle.ep_rules.specs.Judgements.{Accepts, Typed, when_accepted}
+use Rattle.ep_rules.specs.Names.{is_nothing}
 use Rattle.ep_check_expr.specs.Shapes.{field_first}
 use Rattle.ep_check_stmt.specs.Statements.{Context, Opened, RecordNamed, block_variable, none_opened, one_opened, record_accessed, record_made, record_of_kind, record_opened, records_opened}
 use Rattle.ep_check_stmt.specs.Tags as tags

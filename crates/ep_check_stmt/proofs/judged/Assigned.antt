@@ -14,12 +14,12 @@ use Rattle.ep_scope.specs.declared.structure.TagType.{TagType}
 use Rattle.ep_scope.specs.declared.thing.Declaration.{Declaration}
 use Rattle.ep_scope.specs.declared.thing.Declaration.TheVariants as declaration
 use Rattle.ep_scope.specs.declared.thing.Declared.{Declared}
-use Rattle.ep_check_expr.specs.declared.access.Access as accessing
-use Rattle.ep_check_expr.specs.declared.access.Access.TheVariants as access
-use Rattle.ep_check_expr.specs.Arguments.{given_to, own_place, place_read, tagged_read, unless_protected}
+use Rattle.ep_rules.specs.declared.access.Access as accessing
+use Rattle.ep_rules.specs.declared.access.Access.TheVariants as access
+use Rattle.ep_rules.specs.Arguments.{given_to, own_place, place_read, tagged_read, unless_protected}
 use Rattle.ep_check_expr.specs.Expressions.{name_judged}
-use Rattle.ep_check_expr.specs.Judgements.{Accepts, both, when_accepted}
-use Rattle.ep_check_expr.specs.Operators.{map_both}
+use Rattle.ep_rules.specs.Judgements.{Accepts, both, when_accepted}
+use Rattle.ep_rules.specs.Operators.{map_both}
 use Rattle.ep_check_expr.specs.Shapes.{field_first}
 use Rattle.ep_check_expr.proofs.Passing.{IfForm}
 use Rattle.ep_check_stmt.specs.Statements.{At, Context, FunctionResult, Locals, Receiver, TagOf, Target, assigned, assignment, declared_target, field_target_of, function_target, has_result, place_named, tag_target, target_judged, value_judged, target_of_selectors, variable_target}

@@ -17,7 +17,7 @@ use Rattle.ep_typed.specs.Trees.{Arms, Control, Entire, Expr, MemberControl, Oth
 use Rattle.ep_typed.specs.declared.tree.CaseRange.{CaseRange}
 use Rattle.ep_scope.specs.Scopes.{Region}
 use Rattle.ep_scope.specs.declared.kind.Host.{Host}
-use Rattle.ep_check_expr.specs.Judgements.{Judged, Accepts, Breaks, both}
+use Rattle.ep_rules.specs.Judgements.{Judged, Accepts, Breaks, both}
 use Rattle.ep_check_expr.proofs.Passing.{IfForm}
 use Rattle.ep_check_stmt.specs.Auxiliaries.{arm_has, compound_has, has_for, has_for_in, in_arm, in_compound, in_otherwise, in_statement, is_bounded, is_over_members, otherwise_has, statement_has}
 use Rattle.ep_check_stmt.specs.Cases.{CaseSelector, own_ranges}

@@ -1,7 +1,7 @@
 -- What holds of all that is accepted.
 use Rattle.std.proofs.Common.{◌≡◌, refl}
 use Rattle.std.specs.Prelude.{⊤}
-use Rattle.ep_check_expr.specs.Judgements.{Judged, Accepts, Breaks}
+use Rattle.ep_rules.specs.Judgements.{Judged, Accepts, Breaks}
 pub use Rattle.ep_check_expr.proofs.Keeping.{Satisfies as Fits, then-satisfies as fits_then, both-satisfies as fits_both, weaker-satisfies as fits_weaker, pair-satisfies as fits_pair}
 
 -- anything that is accepted

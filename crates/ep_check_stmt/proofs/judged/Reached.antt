@@ -40,18 +40,18 @@ use Rattle.ep_scope.specs.declared.structure.TagType.{TagType}
 use Rattle.ep_scope.specs.declared.thing.Declaration.{Declaration}
 use Rattle.ep_scope.specs.declared.thing.Declaration.TheVariants as declaration
 use Rattle.ep_scope.specs.declared.thing.Declared.{Declared}
-use Rattle.ep_check_expr.specs.declared.access.Access as accessing
-use Rattle.ep_check_expr.specs.declared.access.Access.TheVariants as access
-use Rattle.ep_check_expr.specs.declared.forms.TheConstants as limit
-use Rattle.ep_check_expr.specs.Arguments.{Taken, arguments_judged, callee_at, function_typed}
+use Rattle.ep_rules.specs.declared.access.Access as accessing
+use Rattle.ep_rules.specs.declared.access.Access.TheVariants as access
+use Rattle.ep_rules.specs.declared.forms.TheConstants as limit
+use Rattle.ep_rules.specs.Arguments.{Taken, arguments_judged, callee_at, function_typed}
 use Rattle.ep_check_expr.specs.Expressions.{Arguments, Field, Indexes, Other, Selected, access_judged, given, judged, name_judged, selected, selected_all}
-use Rattle.ep_check_expr.specs.FieldDesignators.{designated, designated_by, field_access, field_by, field_if, field_within, steps_to, variable_access}
-use Rattle.ep_check_expr.specs.Functions.{Given, accepted, called, unless_faults}
-use Rattle.ep_check_expr.specs.Indexing.{component_access, component_depth, component_typed, indexed, indexed_all, indexed_by, indexed_if, no_index}
-use Rattle.ep_check_expr.specs.Judgements.{Judged, Accepts, Breaks, Typed, both, when_accepted}
-use Rattle.ep_check_expr.specs.Names as names
-use Rattle.ep_check_expr.specs.Names.{call_declared, call_named, call_required, qualified_value, value_declared, value_named, value_required}
-use Rattle.ep_check_expr.specs.Operators.{are_compatible, character, is_integer, unbuilt_typed}
+use Rattle.ep_rules.specs.FieldDesignators.{designated, designated_by, field_access, field_by, field_if, field_within, steps_to, variable_access}
+use Rattle.ep_rules.specs.Functions.{Given, accepted, called, unless_faults}
+use Rattle.ep_rules.specs.Indexing.{component_access, component_depth, component_typed, indexed, indexed_all, indexed_by, indexed_if, no_index}
+use Rattle.ep_rules.specs.Judgements.{Judged, Accepts, Breaks, Typed, both, when_accepted}
+use Rattle.ep_rules.specs.Names as names
+use Rattle.ep_rules.specs.Names.{call_declared, call_named, call_required, qualified_value, value_declared, value_named, value_required}
+use Rattle.ep_rules.specs.Operators.{are_compatible, character, is_integer, unbuilt_typed}
 use Rattle.ep_check_expr.specs.Shapes.{field_first}
 use Rattle.ep_check_expr.proofs.Designated.{field-given}
 use Rattle.ep_check_expr.proofs.Folds.{name_judged-is}

@@ -3,10 +3,10 @@ use Rattle.std.proofs.Common.{◌≡◌, ℕ, nat_eq, Bool, true, ◌||◌, List
 use Rattle.std.specs.Prelude.{IsTrue}
 use Rattle.std.specs.List.{list_any}
 use Rattle.std.proofs.lemmas.List.Folds.{list_any-append}
-use Rattle.ep_check_expr.specs.Answers.{AnswersJudged}
-use Rattle.ep_check_expr.specs.Judgements.{Judged, Accepts, Breaks, breaks, when_accepted, both}
-use Rattle.ep_check_expr.specs.declared.forms.Refusal.{Refusal}
-use Rattle.ep_check_expr.specs.declared.forms.Refusal.TheVariants.{Rule, NoMemory}
+use Rattle.ep_rules.specs.Answers.{AnswersJudged}
+use Rattle.ep_rules.specs.Judgements.{Judged, Accepts, Breaks, breaks, when_accepted, both}
+use Rattle.ep_rules.specs.declared.forms.Refusal.{Refusal}
+use Rattle.ep_rules.specs.declared.forms.Refusal.TheVariants.{Rule, NoMemory}
 use Rattle.ep_check_stmt.specs.Answers.{Refuses}
 
 -- a test that passes in a front passes in the whole list

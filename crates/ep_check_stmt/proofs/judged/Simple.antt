@@ -16,10 +16,10 @@ use Rattle.ep_scope.specs.declared.required.Required.TheVariants as required
 use Rattle.ep_scope.specs.declared.thing.Declaration.{Declaration}
 use Rattle.ep_scope.specs.declared.thing.Declaration.TheVariants as declaration
 use Rattle.ep_scope.specs.declared.thing.Declared.{Declared}
-use Rattle.ep_check_expr.specs.Arguments.{arguments_judged, callee_at}
+use Rattle.ep_rules.specs.Arguments.{arguments_judged, callee_at}
 use Rattle.ep_check_expr.specs.Expressions.{given}
-use Rattle.ep_check_expr.specs.Functions.{Given}
-use Rattle.ep_check_expr.specs.Judgements.{Accepts}
+use Rattle.ep_rules.specs.Functions.{Given}
+use Rattle.ep_rules.specs.Judgements.{Accepts}
 use Rattle.ep_check_expr.proofs.Passing.{IfForm}
 use Rattle.ep_check_stmt.specs.Statements.{Context, available, call_judged, declared_called, file_given, items_judged, name_called, own_called, procedure_called, required_called, something, to_file, usually_written, write_judged, written, written_or}
 use Rattle.ep_check_stmt.proofs.judged.Fits.{Any, Fits, fits_any, fits_both, fits_then}

@@ -23,16 +23,16 @@ use Rattle.ep_scope.specs.declared.structure.TagType.{TagType}
 use Rattle.ep_scope.specs.declared.thing.Declaration.{Declaration}
 use Rattle.ep_scope.specs.declared.thing.Declaration.TheVariants as declaration
 use Rattle.ep_scope.specs.declared.thing.Declared.{Declared}
-use Rattle.ep_check_expr.specs.declared.access.Access.{Access}
-use Rattle.ep_check_expr.specs.declared.access.Access.TheVariants as access
+use Rattle.ep_rules.specs.declared.access.Access.{Access}
+use Rattle.ep_rules.specs.declared.access.Access.TheVariants as access
 use Rattle.ep_check_expr.specs.Agreement.{Agrees, IsDeclaration, IsFormOf, IsStoredIn, IsValueOf, structures_of, IsAccessOf, IsTaggedBy, IsTaggedIf}
-use Rattle.ep_check_expr.specs.Arguments.{given_to, own_place, place_read, unless_protected, tagged_read}
+use Rattle.ep_rules.specs.Arguments.{given_to, own_place, place_read, unless_protected, tagged_read}
 use Rattle.ep_check_expr.specs.Expressions.{given, judged_value, name_judged}
-use Rattle.ep_check_expr.specs.Hosts.{typed_host}
-use Rattle.ep_check_expr.specs.Names.{field_place, tagged_place}
-use Rattle.ep_check_expr.specs.Judgements.{Judged, Accepts, Breaks, Typed, both, when_accepted}
+use Rattle.ep_rules.specs.Hosts.{typed_host}
+use Rattle.ep_rules.specs.Names.{field_place, tagged_place}
+use Rattle.ep_rules.specs.Judgements.{Judged, Accepts, Breaks, Typed, both, when_accepted}
 use Rattle.ep_check_expr.specs.Laws.{ValuesAreSound, VariablesAreSound}
-use Rattle.ep_check_expr.specs.Operators.{map_both}
+use Rattle.ep_rules.specs.Operators.{map_both}
 use Rattle.ep_check_expr.proofs.Meant.{IsMeant, meant-declared}
 use Rattle.ep_check_expr.proofs.Passing.{IfForm, given-fits, set-fits, structured-fits}
 use Rattle.ep_check_expr.proofs.Places.{structured-place}

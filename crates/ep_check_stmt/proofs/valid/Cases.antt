@@ -25,8 +25,8 @@ use Rattle.ep_typed.specs.declared.unit.UnitVariable.{UnitVariable}
 use Rattle.ep_scope.specs.declared.structure.StructuredType.{StructuredType}
 use Rattle.ep_check_expr.specs.Agreement.{Agrees, IsConstantIf, TypeValues}
 use Rattle.ep_check_expr.specs.Constants.{label_judged}
-use Rattle.ep_check_expr.specs.Hosts.{typed_host}
-use Rattle.ep_check_expr.specs.Judgements.{Judged, Accepts, Breaks, when_accepted}
+use Rattle.ep_rules.specs.Hosts.{typed_host}
+use Rattle.ep_rules.specs.Judgements.{Judged, Accepts, Breaks, when_accepted}
 use Rattle.ep_check_expr.specs.Laws.{LabelsAreSound}
 use Rattle.ep_check_expr.specs.declared.constants.ConstantForm.{ConstantForm}
 use Rattle.ep_check_expr.proofs.Passing.{IfForm}

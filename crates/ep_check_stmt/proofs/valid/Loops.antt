@@ -18,11 +18,11 @@ use Rattle.ep_scope.specs.declared.thing.Declaration.TheVariants as declaration
 use Rattle.ep_scope.specs.declared.structure.StructuredType.{StructuredType}
 use Rattle.ep_scope.specs.declared.thing.Declared.{Declared}
 use Rattle.ep_check_expr.specs.Agreement.{Agrees, IsDeclaration, IsFormOf, IsHost, IsStoredIn, TypeValues, structures_of}
-use Rattle.ep_check_expr.specs.Arguments.{own_place}
+use Rattle.ep_rules.specs.Arguments.{own_place}
 use Rattle.ep_check_expr.specs.Expressions.{judged}
-use Rattle.ep_check_expr.specs.Hosts.{typed_host}
-use Rattle.ep_check_expr.specs.Judgements.{Judged, Accepts, Breaks, Typed, when_accepted}
-use Rattle.ep_check_expr.specs.Operators.{map_both}
+use Rattle.ep_rules.specs.Hosts.{typed_host}
+use Rattle.ep_rules.specs.Judgements.{Judged, Accepts, Breaks, Typed, when_accepted}
+use Rattle.ep_rules.specs.Operators.{map_both}
 use Rattle.ep_check_expr.proofs.Meant.{IsMeant, meant-declared}
 use Rattle.ep_check_expr.proofs.Passing.{IfForm, given-fits, set-fits}
 use Rattle.ep_check_stmt.specs.Laws.{AuxiliariesAreThere, MembersAreThere}

@@ -4,7 +4,7 @@ use Rattle.std.specs.Prelude.{⊤, if◌then◌else◌}
 use Rattle.std.specs.List.{list_any}
 use Rattle.ep_typed.specs.Trees.{Entire}
 use Rattle.ep_scope.specs.declared.rule.TheConstants as rule
-use Rattle.ep_check_expr.specs.Judgements.{Judged, Accepts, Breaks}
+use Rattle.ep_rules.specs.Judgements.{Judged, Accepts, Breaks}
 use Rattle.ep_check_expr.proofs.Passing.{IfForm}
 use Rattle.ep_typed.specs.declared.unit.UnitVariable.{UnitVariable}
 use Rattle.ep_check_stmt.specs.Statements.{Context, Judgement, Passes, Waits, Fails, after, at_item, behind, formed, unless_threatening, waiting}

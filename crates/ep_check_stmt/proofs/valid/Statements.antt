@@ -38,11 +38,11 @@ use Rattle.ep_scope.specs.declared.thing.Declaration.{Declaration}
 use Rattle.ep_scope.specs.declared.thing.Declaration.TheVariants as declaration
 use Rattle.ep_scope.specs.declared.thing.Declared.{Declared}
 use Rattle.ep_check_expr.specs.Agreement.{Agrees, AreActuals, IsDeclaration, IsFormOf, IsProcedureOf, TypeValues, structures_of}
-use Rattle.ep_check_expr.specs.Arguments.{Taken, arguments_judged, callee_at}
+use Rattle.ep_rules.specs.Arguments.{Taken, arguments_judged, callee_at}
 use Rattle.ep_check_expr.specs.Expressions.{given, judged}
-use Rattle.ep_check_expr.specs.Functions.{Given}
-use Rattle.ep_check_expr.specs.Hosts.{typed_host}
-use Rattle.ep_check_expr.specs.Judgements.{Judged, Accepts, Breaks, Typed, when_accepted}
+use Rattle.ep_rules.specs.Functions.{Given}
+use Rattle.ep_rules.specs.Hosts.{typed_host}
+use Rattle.ep_rules.specs.Judgements.{Judged, Accepts, Breaks, Typed, when_accepted}
 use Rattle.ep_check_expr.specs.Laws.{ArgumentsAreSound, ExpressionsAreSound, LabelsAreSound, ValuesAreSound, VariablesAreSound}
 use Rattle.ep_check_expr.proofs.Meant.{IsMeant, meant-declared}
 use Rattle.ep_check_expr.proofs.Nodes.{argument-judged, wide-judged}

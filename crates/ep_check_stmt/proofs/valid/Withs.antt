@@ -22,12 +22,12 @@ use Rattle.ep_scope.specs.declared.structure.Composition.TheVariants as composit
 use Rattle.ep_scope.specs.declared.structure.FieldType.{FieldType}
 use Rattle.ep_scope.specs.declared.structure.StructuredType.{StructuredType}
 use Rattle.ep_check_expr.specs.Agreement.{HasKind, HasStructure, HoldsStructure, IsFormOf, IsListed, IsOpen, IsStructuredAt, TypeValues}
-use Rattle.ep_check_expr.specs.Arguments.{place_read}
+use Rattle.ep_rules.specs.Arguments.{place_read}
 use Rattle.ep_check_expr.specs.Expressions.{name_judged}
-use Rattle.ep_check_expr.specs.Judgements.{Judged, Accepts, Breaks, Typed, when_accepted}
+use Rattle.ep_rules.specs.Judgements.{Judged, Accepts, Breaks, Typed, when_accepted}
 use Rattle.ep_check_expr.specs.Laws.{VariablesAreSound}
-use Rattle.ep_check_expr.specs.declared.access.Access.{Access}
-use Rattle.ep_check_expr.specs.declared.access.Access.TheVariants as access
+use Rattle.ep_rules.specs.declared.access.Access.{Access}
+use Rattle.ep_rules.specs.declared.access.Access.TheVariants as access
 use Rattle.ep_check_expr.proofs.Components.{fields-at}
 use Rattle.ep_check_expr.proofs.Passing.{IfForm}
 use Rattle.ep_check_expr.proofs.Places.{made_so, place_at, place_wider, structure_in-holds}

@@ -3,7 +3,7 @@ use Rattle.std.specs.Option.{option_map}
 use Rattle.ep_typed.specs.Viewed.{expr_of}
 use Rattle.ep_check_expr.proofs.Lawful.{expressions_are_sound}
 use Rattle.ep_check_expr.proofs.answers.expression_in_view.Goals as goal
-use Rattle.ep_check_expr.specs.Answers.{typed_of}
+use Rattle.ep_rules.specs.Answers.{typed_of}
 use Rattle.ep_built.specs.Built.{expression_unbuilt}
 
 pub returns-in-Some-into_form-clause-judged : goal.returns-in-Some-into_form-clause-judged

@@ -1,6 +1,6 @@
 use Rattle.std.proofs.Common.{◌≡◌, ◌∙◌, ◌++◌, ◌∷◌, [], Some, ap, sym, w64, of_z, to_z, rules}
 use Rattle.ep_check_expr.specs.StructuredValues as spec
-use Rattle.ep_check_expr.specs.VariantSteps as variants
+use Rattle.ep_rules.specs.VariantSteps as variants
 use Rattle.ep_check_expr.proofs.chosen.chosen_within.Goals as goal
 
 pub returns : goal.returns

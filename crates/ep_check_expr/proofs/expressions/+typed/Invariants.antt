@@ -2,14 +2,15 @@ use Rattle.std.proofs.Common.{◌≡◌, true, None, drop, map}
 use Rattle.std.specs.List.{list_all}
 use Rattle.ep_built.specs.Built.{addend_belonging, element_unbuilt, expression_unbuilt, first_in, form_told, is_component, label_unbuilt, lines_in, multiplier_belonging, selector_belonging, written_unbuilt}
 use Rattle.ep_check_expr.proofs.expressions.+typed.Given as goal
-use Rattle.ep_check_expr.specs.Answers.{arranged_of, filled_of, members_of, ranges_of, taken_of, typed_of}
-use Rattle.ep_check_expr.specs.Arguments.{arguments_judged}
+use Rattle.ep_check_expr.specs.Answers.{arranged_of, filled_of, ranges_of}
+use Rattle.ep_rules.specs.Answers.{members_of, taken_of, typed_of}
+use Rattle.ep_rules.specs.Arguments.{arguments_judged}
 use Rattle.ep_check_expr.proofs.Gathering.{gathered}
-use Rattle.ep_check_expr.specs.Constructors.{gathered as gathered_labels, no_members}
+use Rattle.ep_rules.specs.Constructors.{gathered as gathered_labels, no_members}
 use Rattle.ep_check_expr.specs.Expressions.{element_written, labelled, addend_judged, chained, given, selected_all, judged, multiplier_judged, selected}
-use Rattle.ep_check_expr.specs.Indexing.{indexed_all}
-use Rattle.ep_check_expr.specs.Judgements.{Accepts}
-use Rattle.ep_check_expr.specs.Operators.{added, multiplied}
+use Rattle.ep_rules.specs.Indexing.{indexed_all}
+use Rattle.ep_rules.specs.Judgements.{Accepts}
+use Rattle.ep_rules.specs.Operators.{added, multiplied}
 use Rattle.ep_check_expr.specs.StructuredValues.{array_elements, no_ranges, ranges_labelled, record_elements}
 
 abbrev pub invariant-addends-loop-addend : goal.invariant-addends-loop-addend

@@ -1,7 +1,7 @@
 use Rattle.std.proofs.Common.{◌≡◌}
-use Rattle.ep_check_expr.specs.Answers.{typed_of}
+use Rattle.ep_rules.specs.Answers.{typed_of}
 use Rattle.ep_check_expr.specs.Expressions.{name_judged}
-use Rattle.ep_check_expr.specs.Judgements.{Accepts}
+use Rattle.ep_rules.specs.Judgements.{Accepts}
 use Rattle.ep_check_stmt.proofs.statements.Context.record.Goals as goal
 
 pub returns : goal.returns

@@ -1,6 +1,6 @@
 use Rattle.std.proofs.Common.{◌≡◌, ◌∙◌, Some, map, refl, sym}
 use Rattle.std.specs.Option.{option_map}
-use Rattle.ep_check_expr.specs.Judgements.{Accepts}
+use Rattle.ep_rules.specs.Judgements.{Accepts}
 use Rattle.ep_check_stmt.specs.Answers.{entire_of, heads_of}
 use Rattle.ep_check_stmt.specs.RoutineForms.{routine_form}
 use Rattle.ep_check_stmt.specs.Statements.{heads_threat}

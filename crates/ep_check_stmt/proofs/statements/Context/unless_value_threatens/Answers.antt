@@ -1,6 +1,6 @@
 use Rattle.std.proofs.Common.{◌≡◌, ◌∙◌, Some, map, sym}
 use Rattle.ep_typed.specs.Viewed.{expr_of}
-use Rattle.ep_check_expr.specs.Judgements.{Accepts}
+use Rattle.ep_rules.specs.Judgements.{Accepts}
 use Rattle.ep_check_stmt.specs.Answers.{entire_of}
 use Rattle.ep_check_stmt.specs.RoutineForms.{routine_form}
 use Rattle.ep_check_stmt.specs.Statements.{expr_threat}

@@ -3,7 +3,7 @@ use Rattle.std.proofs.lemmas.Result.{err_from_is_err_and}
 use Rattle.std.specs.Bool.{IsTrue}
 use Rattle.std.specs.Prelude.{if◌then◌else◌}
 use Rattle.ep_scope.specs.declared.rule.TheConstants as rule
-use Rattle.ep_check_expr.specs.Judgements.{Accepts, Breaks, breaks}
+use Rattle.ep_rules.specs.Judgements.{Accepts, Breaks, breaks}
 use Rattle.ep_check_unit.specs.Blocks.{block_of}
 use Rattle.ep_check_unit.specs.FittingConstants.{fits}
 use Rattle.ep_check_unit.proofs.Defined.{value_judged, value_tried}

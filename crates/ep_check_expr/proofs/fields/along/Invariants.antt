@@ -1,7 +1,0 @@
-use Rattle.std.proofs.Common.{◌≡◌, drop}
-use Rattle.ep_typed.specs.Viewed.{place_of}
-use Rattle.ep_check_expr.specs.FieldDesignators.{along}
-use Rattle.ep_check_expr.proofs.fields.along.Given as goal
-
-abbrev pub invariant-loop-step : goal.invariant-loop-step
-invariant-loop-step l = along (drop l.step-index l.path) (place_of l.place) ≡ along l.path (place_of l.fn.whole)

@@ -1,6 +1,0 @@
-use Rattle.std.proofs.Common.{◌≡◌, ◌++◌, drop, map}
-use Rattle.ep_check_expr.specs.VariantSteps.{variant_step}
-use Rattle.ep_check_expr.proofs.filled.variant_steps.Given as goal
-
-abbrev pub invariant-loop-step : goal.invariant-loop-step
-invariant-loop-step l = l.steps ++ map variant_step (drop l.step-index l.path) ≡ map variant_step l.path

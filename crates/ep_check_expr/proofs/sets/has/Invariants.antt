@@ -1,6 +1,0 @@
-use Rattle.std.proofs.Common.{◌≡◌, drop}
-use Rattle.ep_typed.specs.Sets.{has}
-use Rattle.ep_check_expr.proofs.sets.has.Given as goal
-
-abbrev pub invariant-loop-member : goal.invariant-loop-member
-invariant-loop-member l = has l.ordinal (drop l.member-index l.set) ≡ has l.ordinal l.set

@@ -1,0 +1,15 @@
+pub mod Answers
+pub mod Arguments
+pub mod ConstantAccesses
+pub mod Constructors
+pub mod FieldDesignators
+pub mod Folding
+pub mod Functions
+pub mod Hosts
+pub mod Indexing
+pub mod Judgements
+pub mod KnownFields
+pub mod Names
+pub mod Operators
+pub mod SetFolding
+pub mod VariantSteps
