@@ -17,3 +17,5 @@ mod outside;
 mod texts;
 #[cfg(test)]
 mod tokens;
+#[cfg(test)]
+mod type_values;

@@ -1,3 +1,4 @@
+pub mod Agreement
 pub mod Auxiliaries
 pub mod Bares
 pub mod Denoters
@@ -8,6 +9,7 @@ pub mod Forms
 pub mod Lasting
 pub mod Levels
 pub mod Sets
+pub mod Sizes
 pub mod Steady
 pub mod Typed
 pub mod ValueKinds

@@ -22,3 +22,4 @@ pub mod Trees
 pub mod TypeValues
 pub mod Valid
 pub mod Viewed
+pub mod ViewedTypes

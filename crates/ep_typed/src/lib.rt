@@ -15,6 +15,7 @@ mod operations;
 pub mod run_error;
 mod shared;
 mod tree;
+mod type_value;
 mod unit;
 mod value;
 
@@ -41,6 +42,7 @@ pub use tree::{
     Selection, StandardFile, TagControl, TypedExpr, TypedExprs, TypedPlace, TypedStmt, TypedStmts,
     VariantLabels, WriteItem, WriteItems,
 };
+pub use type_value::{Start, Starts, TypeValue, TypeValues, agree, size};
 pub use unit::{
     RoutineNumbers, Unit, UnitRoutine, UnitRoutines, UnitType, UnitTypes, UnitVariable,
     UnitVariables,

@@ -193,15 +193,15 @@ module _ (types : List UnitType) where
   made_suits : (n : ℕ) (c : Composition) (m : Structure) (t : TypeValue) → IsTyped types (Named n []) t → HasStructure types (Named n []) m → IsMadeOf (Forms types) types c m → Suits (Some c) (bare_of t)
   made_suits n (composition.Array a) (Arrays parts) t typed has made =
       λ low high of is.
-          let p = typed_parts types (Named n []) t parts typed has in
-          let same : bare_of p.of ≡ of = same_component p.low p.high low high (bare_of p.of) of (sym p.is ∙ is) in
-          made.2.1.1 ∙ ap Some (one_form types parts.component p.of made.2.1.0 p.component made.2.1.2 ∙ same)
+      let p = typed_parts types (Named n []) t parts typed has in
+      let same : bare_of p.of ≡ of = same_component p.low p.high low high (bare_of p.of) of (sym p.is ∙ is) in
+      made.2.1.1 ∙ ap Some (one_form types parts.component p.of made.2.1.0 p.component made.2.1.2 ∙ same)
   made_suits n (composition.Array a) (Records ds) t typed has made = absurd made
   made_suits n (composition.Record fs) (Arrays parts) t typed has made = absurd made
   made_suits n (composition.Record fs) (Records ds) t typed has made =
       λ ts is.
-          let c = typed_components types (Named n []) t ds typed has in
-          record_suits fs ds ts c.types_of c.all made (same_components (bare_each c.types_of) ts (sym c.is ∙ is))
+      let c = typed_components types (Named n []) t ds typed has in
+      record_suits fs ds ts c.types_of c.all made (same_components (bare_each c.types_of) ts (sym c.is ∙ is))
 
 -- ---- elements
 
