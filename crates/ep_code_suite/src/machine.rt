@@ -530,6 +530,31 @@ Unit:-1:1 Push:0 TRec:1 Make:0 Slot:0 Load Defined Form Put Return=0|normal|15\n
 Unit:-1:1 Push:0 TRec:1 Make:0 Slot:0 Field:0 Push:5 Store Slot:0 Load Defined Form Put Return=1|normal|19\n\
 Push:0 Push:2 TRec:2 Make:0 Slot:0 Load Defined=|broken at 6|13";
 
+/// A component and its value, which are done as one: with both, with one tick left or none, with an error of the first or
+/// of the second, of a value, and where a jump leads to the second alone.
+const PAIRS: &str = "\
+Push:2 Push:0 TArr Make:0 Slot:0 Push:1 Index Push:9 Store Slot:0 Push:1 Index Load Halt=|halt|16\n\
+Push:2 Push:0 TArr Make:0 Slot:0 Push:1 Index Push:9 Store Slot:0 Push:1 Index Load Halt=|budget|14=13=1\n\
+Push:2 Push:0 TArr Make:0 Slot:0 Push:1 Index Push:9 Store Slot:0 Push:1 Index Load Halt=|budget|15=13=2\n\
+Push:2 Push:0 TArr Make:0 Slot:0 Push:1 Index Push:9 Store Slot:0 Push:1 Index Load Halt=|halt|16=14=9\n\
+Push:2 Push:0 TArr Make:0 Slot:0 Push:2 Index Load=|error 3 at 7|9\n\
+Push:2 Push:0 TArr Make:0 Slot:0 Push:-1 Index Load=|error 3 at 7|9\n\
+Push:2 Push:0 TArr Make:0 Slot:0 Push:1 Index Load=|error 1 at 8|10\n\
+Push:2 Push:0 TArr Make:0 Slot:0 Push:1 Index Load=|budget|9=9\n\
+Push:2 Push:0 TArr New Dup Deref Bind:0 Dispose Slot:0 Push:1 Index Load=|error 11 at 11|13\n\
+Push:1 Push:1 Index Load=|broken at 2|3\n\
+Push:2 Push:0 TArr Make:0 Slot:0 Push:1 Index Push:9 Store Slot:0 Load Push:1 Index Load=|broken at 13|20\n\
+Push:0 Make:0 Slot:0 Push:5 Store Slot:0 Jump:8 Index Load Halt=|halt|10\n\
+Push:0 Push:2 TRec:2 Make:0 Slot:0 Field:0 Push:5 Store Slot:0 Field:0 Load Halt=|halt|16\n\
+Push:0 Push:2 TRec:2 Make:0 Slot:0 Field:0 Push:5 Store Slot:0 Field:0 Load Halt=|budget|14=13=1\n\
+Push:0 Push:2 TRec:2 Make:0 Slot:0 Field:0 Push:5 Store Slot:0 Field:0 Load Halt=|budget|15=13=2\n\
+Push:0 Push:2 TRec:2 Make:0 Slot:0 Field:0 Push:5 Store Slot:0 Field:0 Load Halt=|halt|16=14=9\n\
+Push:0 Push:2 TRec:2 Make:0 Slot:0 Field:1 Load=|error 1 at 7|11\n\
+Push:0 TRec:1 New Dup Deref Bind:0 Dispose Slot:0 Field:0 Load=|error 11 at 9|11\n\
+Push:0 Push:2 TRec:2 Make:0 Slot:0 Field:2 Load=|broken at 5|10\n\
+Push:0 TRec:1 Make:0 Slot:0 Field:0 Push:5 Store Slot:0 Load Field:0 Load=|broken at 10|15\n\
+Push:0 Make:0 Slot:0 Push:5 Store Slot:0 Jump:8 Field:0 Load Halt=|halt|10";
+
 /// Sets and what is made of them. No member is less than 0 or greater than 255.
 const SETS: &str = "\
 Unit:-1:1 SetNone Card Form Put Return=0|normal|8\n\
@@ -662,6 +687,7 @@ fn each_row_comes_to_what_the_table_of_instructions_says(rt: HostRuntime) -> Res
         COMPONENTS,
         VALUES,
         PARTS,
+        PAIRS,
         SETS,
         SET_VARIABLES,
         PRINTS,

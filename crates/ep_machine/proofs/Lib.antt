@@ -4,6 +4,7 @@ mod Fusion
 mod Goings
 mod Leads
 mod Lifts
+mod Onward
 mod Outputs
 mod Puts
 mod Rounds

@@ -20,6 +20,7 @@ mod run;
 mod start;
 mod state;
 mod step;
+mod swift;
 mod turns;
 
 pub use end::End;

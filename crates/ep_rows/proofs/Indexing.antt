@@ -1,8 +1,9 @@
 -- Components of arrays, for the contract of `component`.
-use Rattle.std.proofs.Common.{◌≡◌, ℕ, ℤ, List, Option, Some, None, ◌<◌, true, ltb, length, get_or, slice_get, option_map, refl, rules}
+use Rattle.std.proofs.Common.{◌≡◌, ℕ, ℤ, ◌+◌, ◌*◌, List, ◌∷◌, Option, Some, None, IfSome, ◌<◌, Bool, true, false, cond, leb, ltb, length, get_or, slice_get, option_map, refl, rules}
 use Rattle.std.proofs.lemmas.Option.{slice_get_read}
 use Rattle.ep_memory.specs.Stores.{living}
-use Rattle.ep_object.specs.Operands.{Operand, word_on_place}
+use Rattle.ep_object.specs.Effects.{Continues}
+use Rattle.ep_object.specs.Operands.{Operand, word_on_place, Place as PlaceOf}
 use Rattle.ep_object.specs.Places.{index_row, component_of}
 use Rattle.ep_object.specs.State.{Segments, TypeTable}
 use Rattle.ep_object.specs.declared.state.Kind.TheVariants.{Array}
@@ -32,3 +33,26 @@ module _ (types : TypeTable) (segments : Segments) (st : List Operand) (w : ℤ)
       by_number : (s : Segment) (k : Option ℕ) → s.words ≡ words → component_of s p c of.size k rest ≡ component_of (record { type_number = 0; words = words }) p c of.size k rest
       by_number s None same = refl
       by_number s (Some k) same = rw same refl
+
+-- the component of a number whose end lies within the words
+pub component_there : (words : List ℤ) (p : Place) (c size k offset : ℕ) (st : List Operand)
+    → Some offset ≡ cond (leb (p.offset + k * size + size) (length words)) (Some (p.offset + k * size)) None
+    → component_of (record { type_number = 0; words = words }) p c size (Some k) st
+    ≡ Continues (PlaceOf (record { segment = p.segment; offset = offset; type_number = c }) ∷ st)
+component_there words p c size k offset st h = by_test (leb (p.offset + k * size + size) (length words)) refl
+  where
+    by_test : (b : Bool) → leb (p.offset + k * size + size) (length words) ≡ b
+        → component_of (record { type_number = 0; words = words }) p c size (Some k) st
+        ≡ Continues (PlaceOf (record { segment = p.segment; offset = offset; type_number = c }) ∷ st)
+    by_test true is =
+        let same : Some offset ≡ Some (p.offset + k * size) = rw is at h in
+        let e : offset ≡ p.offset + k * size = cc in
+        rw (is, e) refl
+    by_test false is =
+        let none : Some offset ≡ None = rw is at h in
+        cc
+
+-- what holds of a thing where there is one, by what holds of it besides
+pub if_some_then : {A : Type 0} (o : Option A) {P Q : A → Type 0} → ((a : A) → P a → Q a) → IfSome o P → IfSome o Q
+if_some_then None f h = tt
+if_some_then (Some a) f h = f a h

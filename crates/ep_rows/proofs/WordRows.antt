@@ -1,11 +1,11 @@
 -- The rows on variables, by their kinds.
-use Rattle.std.proofs.Common.{◌≡◌, ℕ, ℤ, true, List, [], ◌∷◌, Option, Some, None, slice_get, refl}
+use Rattle.std.proofs.Common.{◌≡◌, ℕ, ℤ, true, List, [], ◌∷◌, Option, Some, None, MatchOption, option_map, slice_get, refl, ap}
 use Rattle.std.proofs.lemmas.Bool.{lt-ltb}
 use Rattle.std.proofs.lemmas.Option.{slice_get_within}
 use Rattle.ep_memory.specs.Stores.{Store, cell_in, segment_at, with_word_at}
 use Rattle.ep_memory.specs.declared.answers.Cell.TheVariants as cell
 use Rattle.ep_object.specs.Effects.{Continues, having, having_weighed, light, provided}
-use Rattle.ep_object.specs.Operands.{Operand, Word, Place, Text, Value, Set}
+use Rattle.ep_object.specs.Operands.{Operand, Word, Place, Text, Value, Set, word_on_place}
 use Rattle.ep_object.specs.Places.{is_within, is_word_kind, kind_of, load_by, load_of, store_by, store_of, store_row}
 use Rattle.ep_object.specs.State.{Segments, TypeTable, bare_number}
 use Rattle.ep_object.specs.declared.state.Kind.{Kind}
@@ -98,3 +98,18 @@ module _ (kind : Kind) (m : Store) (p : PlaceOf) (w x : ℤ) (st : List Operand)
           gone : cell.Word x ≡ cell.Gone → ⊥
           gone h = cc
       by_segment (Some (Some s)) e = by_word s (slice_get s.words p.offset) e refl
+
+-- ---- a word on a place
+
+-- the word and the place that stood on top were taken off
+pub both_taken : (r : Option (ℤ × PlaceOf)) (st rest : List Operand) (w : ℤ) (p : PlaceOf) → ◌≡◌ {A = Option (ℤ × PlaceOf)} (Some (w, p)) (option_map (λ x. (x.0, x.1)) (word_on_place st))
+    → MatchOption r ((word_on_place st ≡ None) × (rest ≡ st)) (λ x. word_on_place st ≡ Some (x.0, x.1, rest)) → st ≡ Word w ∷ Place p ∷ rest
+both_taken None (Word x ∷ Place q ∷ st) rest w p top h = let none : word_on_place (Word x ∷ Place q ∷ st) ≡ None = h.0 in cc
+both_taken (Some y) (Word x ∷ Place q ∷ st) rest w p top h =
+    let top2 : ◌≡◌ {A = ℤ × PlaceOf} (w, p) (x, q) = cc in
+    let all : ◌≡◌ {A = ℤ × PlaceOf × List Operand} (x, q, st) (y.0, y.1, rest) = cc in
+    let a : w ≡ x = ap (λ z. z.0) top2 in
+    let b : p ≡ q = ap (λ z. z.1) top2 in
+    let c : st ≡ rest = ap (λ z. z.2) all in
+    rw (a, b, c) refl
+both_taken r st rest w p top h = cc

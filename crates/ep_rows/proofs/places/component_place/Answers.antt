@@ -1,0 +1,16 @@
+use Rattle.std.proofs.Common.{◌≡◌, ◌∷◌, Some, slice_get, refl, rules, sym}
+use Rattle.ep_object.specs.Operands.{Place, Word}
+use Rattle.ep_typed.specs.Bounds.{component_at}
+use Rattle.ep_rows.proofs.Indexing.{found, index_is, if_some_then}
+use Rattle.ep_rows.proofs.places.component_place.Goals as goal
+
+pub returns : goal.returns
+returns c =
+    let array = c.in-Some.ensures.lookup in
+    let entry = c.in-Some-get.ensures.lookup in
+    let segments = c.args.memory.now.segments in
+    let number : Some c.in-Some-component_at.number ≡ component_at c.in-Array.lo c.in-Array.hi c.args.w = search rules in
+    if_some_then c.component_in_words.result
+    (λ q h st.
+    rw (index_is c.args.types.now segments (Word c.args.w ∷ Place c.args.p ∷ st) c.args.w c.args.p st c.in-Array.lo c.in-Array.hi c.in-Array.type_number c.in-Some.array.now c.in-Some-get.entry.now c.in-Some-words_of.words.now (slice_get segments c.args.p.segment) refl (found _ _ _ array.0 array.1) c.in-Array.is (found _ _ _ entry.0 entry.1) refl (sym c.in-Some-words_of.ensures), ← number) (h st))
+    c.component_in_words.ensures
