@@ -1,57 +1,73 @@
 //! The words of types, and which types are the same.
 
+use Step::{Array, Initial, Ordinal, Record, Set, Text};
 use ep_base::{Boxed, List, NoMemory};
 use ep_typed::{Start, TypeValue, TypeValues, agree, size};
 use std::alloc::Global;
 use std::test::Fail;
 
-/// A type that is to be made.
-#[cycle(shape)]
+/// The head of a type. What it is made of stands behind it, so `[Array(1, 3), Set(0, 9)]` is an array of sets.
 #[derive(Clone, Copy, Drop)]
-enum Shape<'a> {
+enum Step {
     Ordinal(i64, i64),
     Text,
-    Array(i64, i64, &'a Shape<'a>),
-    Record(&'a [Shape<'a>]),
+    Array(i64, i64),
+    /// With so many components.
+    Record(u32),
     Set(i64, i64),
-    /// One with an initial state, which is this number.
-    Initial(&'a Shape<'a>, i64),
+    /// With an initial state, which is this number.
+    Initial(i64),
+}
+
+const INTEGER: Step = Ordinal(-9223372036854775807, 9223372036854775807);
+
+const CHAR: Step = Ordinal(0, 255);
+
+/// The type that was made last, and the type of texts where there is none.
+fn last(made: &mut TypeValues) -> TypeValue {
+    match made.pop() {
+        Some(of) => of,
+        None => TypeValue::Text,
+    }
+}
+
+/// Makes a type of those that were made before it.
+fn make(alloc: Global, made: &mut TypeValues, step: Step) -> Result<(), NoMemory> {
+    match step {
+        Ordinal(low, high) => made.push(TypeValue::Ordinal(low, high)),
+        Text => made.push(TypeValue::Text),
+        Array(low, high) => {
+            let of = Boxed::new(alloc, last(made))?;
+            made.push(TypeValue::Array(low, high, of))
+        }
+        Record(count) => {
+            let mut components = List::new(alloc);
+            for _ in 0..count {
+                components.push(last(made))?;
+            }
+            made.push(TypeValue::Record(components))
+        }
+        Set(low, high) => made.push(TypeValue::Set(low, high)),
+        Initial(start) => {
+            let of = Boxed::new(alloc, last(made))?;
+            made.push(TypeValue::Initial(of, Start::Simple(start)))
+        }
+    }
 }
 
 /// The type.
-#[cycle(made)]
-fn made(alloc: Global, shape: &Shape) -> Result<TypeValue, NoMemory> {
-    match shape {
-        Shape::Ordinal(low, high) => Ok(TypeValue::Ordinal(*low, *high)),
-        Shape::Text => Ok(TypeValue::Text),
-        Shape::Array(low, high, of) => Ok(TypeValue::Array(
-            *low,
-            *high,
-            Boxed::new(alloc, made(alloc, of)?)?,
-        )),
-        Shape::Record(components) => Ok(TypeValue::Record(made_each(alloc, components)?)),
-        Shape::Set(low, high) => Ok(TypeValue::Set(*low, *high)),
-        Shape::Initial(of, start) => Ok(TypeValue::Initial(
-            Boxed::new(alloc, made(alloc, of)?)?,
-            Start::Simple(*start),
-        )),
+fn type_of(alloc: Global, steps: &[Step]) -> Result<TypeValue, NoMemory> {
+    let mut made = List::new(alloc);
+    for step in steps.iter().rev() {
+        make(alloc, &mut made, *step)?;
     }
-}
-
-/// The types.
-#[cycle(made)]
-fn made_each(alloc: Global, shapes: &[Shape]) -> Result<TypeValues, NoMemory> {
-    let mut all = List::new(alloc);
-    for shape in shapes {
-        all.push(made(alloc, shape)?)?;
-    }
-    Ok(all)
+    Ok(last(&mut made))
 }
 
 /// The number of the first type of a table that has other words than it is to have, or of all.
-fn first_of_other_size(alloc: Global, table: &[(Shape, u64)]) -> Result<usize, NoMemory> {
-    for (number, (shape, words)) in table.iter().enumerate() {
-        let of = made(alloc, shape)?;
+fn first_of_other_size(alloc: Global, table: &[(&[Step], u64)]) -> Result<usize, NoMemory> {
+    for (number, (steps, words)) in table.iter().enumerate() {
+        let of = type_of(alloc, steps)?;
         if size(&of) != *words {
             return Ok(number);
         }
@@ -59,11 +75,11 @@ fn first_of_other_size(alloc: Global, table: &[(Shape, u64)]) -> Result<usize, N
     Ok(table.len())
 }
 
-/// The number of the first pair of types of a table that does not agree as it is to, in both orders, or of all.
-fn first_to_differ(alloc: Global, table: &[(Shape, Shape, bool)]) -> Result<usize, NoMemory> {
+/// The number of the first pair of a table that does not agree as it is to, in either order, or of all.
+fn first_to_differ(alloc: Global, table: &[(&[Step], &[Step], bool)]) -> Result<usize, NoMemory> {
     for (number, (one, other, same)) in table.iter().enumerate() {
-        let a = made(alloc, one)?;
-        let b = made(alloc, other)?;
+        let a = type_of(alloc, one)?;
+        let b = type_of(alloc, other)?;
         if agree(&a, &b) != *same || agree(&b, &a) != *same {
             return Ok(number);
         }
@@ -71,90 +87,80 @@ fn first_to_differ(alloc: Global, table: &[(Shape, Shape, bool)]) -> Result<usiz
     Ok(table.len())
 }
 
-const INTEGER: Shape = Shape::Ordinal(-9223372036854775807, 9223372036854775807);
-
-const CHAR: Shape = Shape::Ordinal(0, 255);
-
 #[test]
-fn of_all_forms(rt: HostRuntime) -> Result<(), Fail> {
-    let sized = first_of_other_size(
+fn types_have_their_words(rt: HostRuntime) -> Result<(), Fail> {
+    let found = first_of_other_size(
         rt.alloc(),
         &[
-            (INTEGER, 1),
-            (CHAR, 1),
-            (Shape::Text, 1),
-            (Shape::Array(-1, 1, &Shape::Array(0, 255, &CHAR)), 768),
-            (Shape::Array(1, 0, &INTEGER), 0),
+            (&[INTEGER], 1),
+            (&[CHAR], 1),
+            (&[Text], 1),
+            (&[Array(-1, 1), Array(0, 255), CHAR], 768),
+            (&[Array(1, 0), INTEGER], 0),
             // A field, the record of the tag, and those of two variants.
             (
-                Shape::Record(&[
+                &[
+                    Record(4),
                     INTEGER,
-                    Shape::Record(&[CHAR]),
-                    Shape::Record(&[INTEGER, Shape::Array(1, 3, &CHAR)]),
-                    Shape::Record(&[Shape::Set(0, 255)]),
-                ]),
+                    Record(1),
+                    CHAR,
+                    Record(2),
+                    INTEGER,
+                    Array(1, 3),
+                    CHAR,
+                    Record(1),
+                    Set(0, 255),
+                ],
                 14,
             ),
-            (Shape::Set(0, 9), 8),
-            (Shape::Array(1, 4, &Shape::Set(0, 9)), 32),
-            (Shape::Initial(&Shape::Array(1, 3, &INTEGER), 7), 3),
-            (Shape::Array(i64::MIN, i64::MAX, &CHAR), u64::MAX),
-            (
-                Shape::Array(1, i64::MAX, &Shape::Array(1, 4, &CHAR)),
-                u64::MAX,
-            ),
+            (&[Set(0, 9)], 8),
+            (&[Array(1, 4), Set(0, 9)], 32),
+            (&[Initial(7), Array(1, 3), INTEGER], 3),
+            (&[Array(i64::MIN, i64::MAX), CHAR], u64::MAX),
+            (&[Array(1, i64::MAX), Array(1, 4), CHAR], u64::MAX),
         ],
     )?;
-    let agreed = first_to_differ(
+    assert!(rt; found == 11);
+    Ok(())
+}
+
+#[test]
+fn types_agree_but_for_initial_states(rt: HostRuntime) -> Result<(), Fail> {
+    let found = first_to_differ(
         rt.alloc(),
         &[
-            (INTEGER, INTEGER, true),
-            (INTEGER, CHAR, false),
-            (Shape::Text, Shape::Text, true),
-            (Shape::Text, CHAR, false),
-            (Shape::Initial(&INTEGER, 3), INTEGER, true),
+            (&[INTEGER], &[INTEGER], true),
+            (&[INTEGER], &[CHAR], false),
+            (&[Text], &[Text], true),
+            (&[Text], &[CHAR], false),
+            (&[Initial(3), INTEGER], &[INTEGER], true),
+            (&[Initial(3), INTEGER], &[Initial(4), INTEGER], true),
+            (&[Initial(2), Initial(1), CHAR], &[Initial(2), CHAR], true),
+            (&[Initial(3), CHAR], &[Initial(3), INTEGER], false),
             (
-                Shape::Initial(&INTEGER, 3),
-                Shape::Initial(&INTEGER, 4),
+                &[Array(1, 3), Initial(65), CHAR],
+                &[Array(1, 3), CHAR],
+                true,
+            ),
+            (&[Array(1, 3), CHAR], &[Array(1, 4), CHAR], false),
+            (&[Array(1, 3), CHAR], &[Array(1, 3), INTEGER], false),
+            (
+                &[Record(2), INTEGER, Initial(1), CHAR],
+                &[Initial(0), Record(2), INTEGER, CHAR],
                 true,
             ),
             (
-                Shape::Initial(&Shape::Initial(&CHAR, 1), 2),
-                Shape::Initial(&INTEGER, 2),
+                &[Record(2), INTEGER, CHAR],
+                &[Record(2), CHAR, INTEGER],
                 false,
             ),
-            (
-                Shape::Array(1, 3, &Shape::Initial(&CHAR, 65)),
-                Shape::Array(1, 3, &CHAR),
-                true,
-            ),
-            (Shape::Array(1, 3, &CHAR), Shape::Array(1, 4, &CHAR), false),
-            (
-                Shape::Array(1, 3, &CHAR),
-                Shape::Array(1, 3, &INTEGER),
-                false,
-            ),
-            (
-                Shape::Record(&[INTEGER, Shape::Initial(&CHAR, 1)]),
-                Shape::Initial(&Shape::Record(&[INTEGER, CHAR]), 0),
-                true,
-            ),
-            (
-                Shape::Record(&[INTEGER, CHAR]),
-                Shape::Record(&[CHAR, INTEGER]),
-                false,
-            ),
-            (
-                Shape::Record(&[INTEGER, CHAR]),
-                Shape::Record(&[INTEGER]),
-                false,
-            ),
-            (Shape::Record(&[CHAR]), CHAR, false),
-            (Shape::Set(0, 9), Shape::Set(0, 9), true),
-            (Shape::Set(0, 9), Shape::Set(0, 8), false),
-            (Shape::Set(0, 9), Shape::Ordinal(0, 9), false),
+            (&[Record(2), INTEGER, CHAR], &[Record(1), INTEGER], false),
+            (&[Record(1), CHAR], &[CHAR], false),
+            (&[Set(0, 9)], &[Set(0, 9)], true),
+            (&[Set(0, 9)], &[Set(0, 8)], false),
+            (&[Set(0, 9)], &[Ordinal(0, 9)], false),
         ],
     )?;
-    assert_eq!(rt; (sized, agreed), (11, 17));
+    assert!(rt; found == 18);
     Ok(())
 }
