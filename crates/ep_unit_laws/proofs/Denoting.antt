@@ -9,17 +9,15 @@ use Rattle.ep_typed.specs.Operations.{is_integer, maxint}
 use Rattle.ep_typed.specs.Trees.{Array, Denoter, Denoters, Fixed, Required, Named, Subrange, Enumeration, Record, Set, next_denoter, no_denoter}
 use Rattle.ep_typed.specs.Valid as valid
 use Rattle.ep_typed.specs.Valid.{AreTyped, HasKind as HasValues, IsDenoter, IsOfKind, IsSetOf, IsStructured, IsTypeOf, IsTyped, IsValue, array, components, enumeration, named, next_typed, none_typed, required, set, subrange}
-use Rattle.ep_typed.proofs.Bares.{bare_among_values, bare_base}
 use Rattle.ep_typed.proofs.Typed.{typed_bare, typed_of_host, typed_set}
 use Rattle.ep_typed.specs.Results.{has_base}
 use Rattle.ep_typed.specs.Sets.{is_ordinal}
 use Rattle.ep_typed.specs.declared.denoter.RequiredType.{RequiredType}
 use Rattle.ep_typed.specs.declared.denoter.RequiredType.TheVariants as simple
 use Rattle.ep_typed.specs.declared.unit.UnitType.{UnitType}
-use Rattle.ep_typed.specs.TypeValues.{ComponentTypes, Ordinal, TypeValue, bare_each, bare_of, is_within, next_component, no_component}
+use Rattle.ep_typed.specs.TypeValues.{ComponentTypes, Ordinal, TypeValue, bare_each, bare_of, next_component, no_component}
 use Rattle.ep_typed.specs.TypeValues as type
 use Rattle.ep_typed.specs.declared.value.Value.{Value}
-use Rattle.ep_typed.specs.declared.value.Value.TheVariants as value
 use Rattle.ep_scope.specs.declared.kind.Kind.{Kind}
 use Rattle.ep_scope.specs.declared.kind.Kind.TheVariants as kind
 use Rattle.ep_scope.specs.declared.parameter.TypeName.TheVariants as type_name

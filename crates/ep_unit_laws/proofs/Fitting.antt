@@ -1,17 +1,17 @@
 -- What is found to fit lies in its type: a constant array or record whose components lie in the types that the scopes give them is a value of its type.
-use Rattle.std.proofs.Common.{◌≡◌, ◌∙◌, ℕ, ℤ, pos, zero, suc, Bool, true, false, List, [], ◌∷◌, ◌++◌, length, map, Option, Some, None, slice_get, option_map, IsTrue, inl, inr, refl, sym, ap, subst}
+use Rattle.std.proofs.Common.{◌≡◌, ◌∙◌, ℕ, ℤ, zero, suc, Bool, true, false, List, [], ◌∷◌, ◌++◌, length, map, Option, Some, None, slice_get, option_map, inl, inr, refl, sym, ap, subst}
 use Rattle.std.proofs.lemmas.List.Elements.{All-head, All-tail, All-weaker}
 use Rattle.std.proofs.lemmas.Option.{same_Some}
 use Rattle.std.proofs.lemmas.Slice.Eq.{bytes_eq-Decides}
-use Rattle.std.specs.Prelude.{All, ◌&&◌, ⊤, if◌then◌else◌, int_le}
+use Rattle.std.specs.Prelude.{All, ⊤, if◌then◌else◌}
 use Rattle.std.specs.Str.{bytes_eq}
 use Rattle.ep_outside.specs.Known.{IsPrefix}
-use Rattle.ep_typed.specs.Denoters.{bare_type_of, definition_of, denoter_at, found_of, set_over, set_type, type_of, type_within}
+use Rattle.ep_typed.specs.Denoters.{bare_type_of, definition_of, found_of, set_over, set_type, type_of, type_within}
 use Rattle.ep_typed.specs.Steps.{variant_number}
 use Rattle.ep_typed.specs.Trees as tree
-use Rattle.ep_typed.specs.Trees.{AtField, AtIndex, AtIndexes, AtRanges, Constant, Denoter, Denoters, Element, Elements, Expr, Named, Record, SameField, SetConstant, elements, next_denoter, next_element, no_denoter, no_element}
+use Rattle.ep_typed.specs.Trees.{AtField, AtIndex, AtIndexes, AtRanges, Constant, Denoter, Denoters, Elements, Expr, Named, SameField, SetConstant, elements, next_denoter, next_element, no_denoter, no_element}
 use Rattle.ep_typed.specs.TypeValues as type
-use Rattle.ep_typed.specs.TypeValues.{ComponentTypes, TypeValue, bare_each, bare_of, type_among}
+use Rattle.ep_typed.specs.TypeValues.{ComponentTypes, TypeValue, bare_each, bare_of}
 use Rattle.ep_typed.specs.Valid.{AllLieIn, AreStartsFor, AreTyped, Declarations, Gives, IsPlainIn, IsStartFor, IsTyped, LeadTo, LiesIn, field_given, none_given, ranges_given, same_given, set_start, structured_start, word_start}
 use Rattle.ep_typed.specs.Viewed.{constant_expr, element_of}
 use Rattle.ep_typed.specs.declared.tree.Element.{Element as Given}
@@ -22,7 +22,6 @@ use Rattle.ep_typed.proofs.Typed.{typed_bare, typed_components, typed_instance, 
 use Rattle.ep_scope.specs.Scopes.{Region, structure_in}
 use Rattle.ep_scope.specs.declared.parameter.TypeName.{TypeName}
 use Rattle.ep_scope.specs.declared.parameter.TypeName.TheVariants as type_name
-use Rattle.ep_scope.specs.declared.structure.ArrayType.{ArrayType}
 use Rattle.ep_scope.specs.declared.structure.Composition.{Composition}
 use Rattle.ep_scope.specs.declared.structure.Composition.TheVariants as composition
 use Rattle.ep_scope.specs.declared.structure.FieldType.{FieldType}
@@ -30,17 +29,16 @@ use Rattle.ep_scope.specs.declared.structure.StructuredType.{StructuredType}
 use Rattle.ep_scope.specs.declared.structure.TagType.{TagType}
 use Rattle.ep_scope.specs.declared.structure.VariantStep.{VariantStep}
 use Rattle.ep_scope.specs.declared.kind.Kind.{Kind}
-use Rattle.ep_check_expr.specs.Agreement.{AgreesBy, AreFields, Arrays, HasStructure, IsAlong, IsDenoterOf, IsFieldOf, IsListed, IsMadeOf, IsPartOf, Records, Structure, TypeValues}
+use Rattle.ep_check_expr.specs.Agreement.{AgreesBy, AreFields, Arrays, HasStructure, IsAlong, IsFieldOf, IsMadeOf, IsPartOf, Records, Structure, TypeValues}
 use Rattle.ep_rules.specs.ConstantAccesses.{value_of_field}
 use Rattle.ep_rules.specs.VariantSteps.{field_steps, part_steps}
 use Rattle.ep_check_expr.proofs.Betweens.{between_all}
 use Rattle.ep_check_expr.proofs.Leading.{among_bare, leads_once, record_among, step_leads}
 use Rattle.ep_check_expr.proofs.Listed.{structure_in-listed}
-use Rattle.ep_check_expr.proofs.Places.{made_so}
 use Rattle.ep_check_unit.specs.FittingConstants.{are_in, are_members_in, base_value, element_type, field_type, is_in, is_number_in, is_plain_in, members_of, type_among as field_among}
-use Rattle.ep_check_unit.specs.OrdinalTypes.{ordinal_value, value_of}
+use Rattle.ep_check_unit.specs.OrdinalTypes.{value_of}
 use Rattle.ep_unit_laws.proofs.Holds.{named_tree}
-use Rattle.ep_unit_laws.proofs.Ordinals.{definition_is, front_there, value_is}
+use Rattle.ep_unit_laws.proofs.Ordinals.{both_true, definition_is, front_there, value_is}
 
 -- ---- the values of set types by their own denoters
 
@@ -205,14 +203,6 @@ module _ (types : List UnitType) where
 
 -- ---- elements
 
-same_bytes : (a b : List ℕ) → bytes_eq a b ≡ true → a ≡ b
-same_bytes a b e = (bytes_eq-Decides a b).0 e
-
-both_hold : (a b : Bool) → a && b ≡ true → (a ≡ true) × (b ≡ true)
-both_hold true true e = (refl, refl)
-both_hold true false e = cc
-both_hold false b e = cc
-
 -- what is found of a component is what it is given
 gives_found : (es : Elements) (steps : List ℕ) (x : Expr) → value_of_field es steps ≡ Some x → Gives es steps x
 gives_found no_element steps x e = cc
@@ -223,7 +213,7 @@ gives_found (next_element (AtIndexes ds y) more) steps x e = gives_found more st
 gives_found (next_element (AtField own y) more) steps x e = chosen (bytes_eq own steps) refl (gives_found more steps x) e
   where
     chosen : (b : Bool) → bytes_eq own steps ≡ b → (value_of_field more steps ≡ Some x → Gives more steps x) → (if b then Some y else value_of_field more steps) ≡ Some x → Gives (next_element (AtField own y) more) steps x
-    chosen true same rest f = inl (same_bytes own steps same, same_Some y x f)
+    chosen true same rest f = inl ((bytes_eq-Decides own steps).0 same, same_Some y x f)
     chosen false same rest f = inr (rest f)
 
 module _ (types : List UnitType) where
@@ -240,7 +230,7 @@ module _ (types : List UnitType) where
       chosen : (b : Bool) → bytes_eq (field_steps f) steps ≡ b → IsNameOf t (field_among fs steps) → IsNameOf t (if b then Some f.of else field_among fs steps)
       chosen true same rest =
           let own = All-head (λ g. LeadsTo types ts g.of (field_steps g)) f fs all in
-          own.2 ∙ ap Some (leads_once ts steps own.0 t (subst (λ s. LeadTo ts s own.0) (same_bytes (field_steps f) steps same) own.1) lead)
+          own.2 ∙ ap Some (leads_once ts steps own.0 t (subst (λ s. LeadTo ts s own.0) ((bytes_eq-Decides (field_steps f) steps).0 same) own.1) lead)
       chosen false same rest = rest
 
   element_named : (c : Option Composition) (low high : ℤ) (of : TypeValue) → Suits types c (type.Array low high of) → IsNameOf of (element_type c)
@@ -279,13 +269,13 @@ module _ (types : List UnitType) where
       all_lie : (c : Option Composition) (t : TypeValue) (all es : Elements) → Suits types c t → AreStartsFor types t es → are_in few scopes c all es ≡ true → AllLieIn t all es
       all_lie c t all es s (none_given u) e = tt
       all_lie c t all es s (ranges_given low high h of ranges x more is_type has_range within start rest) e =
-          let both = both_hold (is_in few scopes (element_type c) x) (are_in few scopes c all more) e in
+          let both = both_true (is_in few scopes (element_type c) x) (are_in few scopes c all more) e in
           (constant_lies (element_type c) of x (element_named c low high of s) start both.0, all_lie c t all more s rest both.1)
       all_lie c t all es s (field_given ts steps of x more lead start rest) e =
-          let both = both_hold (is_in few scopes (field_type c steps) x) (are_in few scopes c all more) e in
+          let both = both_true (is_in few scopes (field_type c steps) x) (are_in few scopes c all more) e in
           ((of, lead, constant_lies (field_type c steps) of x (field_named c ts steps of s lead) start both.0), all_lie c t all more s rest both.1)
       all_lie c t all es s (same_given ts from to k more lead-from lead-to rest) e =
-          let both = both_hold (is_plain_in few (field_type c to) (value_of_field all from)) (are_in few scopes c all more) e in
+          let both = both_true (is_plain_in few (field_type c to) (value_of_field all from)) (are_in few scopes c all more) e in
           ((lead-to.0, lead-to.1, second_lies c ts all from to lead-to.0 (value_of_field all from) s lead-to.1 refl both.0), all_lie c t all more s rest both.1)
 
 -- The scopes of code of a unit whose list of types has these in front: what they say of a structured type suits its type value.

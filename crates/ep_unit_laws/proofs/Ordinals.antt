@@ -1,5 +1,5 @@
 -- Ordinal types that are written in a block: the values that the rules take of a type's own denoter are those of its type value in the unit that has the block's types.
-use Rattle.std.proofs.Common.{◌≡◌, ℕ, ℤ, pos, zero, suc, List, [], ◌∷◌, ◌++◌, length, Option, Some, None, slice_get, refl, sym, ap, ◌∙◌}
+use Rattle.std.proofs.Common.{◌≡◌, ℕ, ℤ, pos, zero, suc, Bool, true, false, ◌&&◌, List, [], ◌∷◌, ◌++◌, length, Option, Some, None, slice_get, refl, sym, ap, ◌∙◌}
 use Rattle.std.proofs.lemmas.Option.{same_Some}
 use Rattle.ep_outside.specs.Known.{IsPrefix}
 use Rattle.ep_typed.specs.Denoters.{definition_of, found_of, required_type, type_within}
@@ -60,6 +60,12 @@ pub index_valued : (w : Written) → Fits (λ v. IsValued w.kind (value_of w.blo
 index_valued w = host_valued w.kind (value_of w.block.types w.of)
 
 -- ---- type values
+
+-- where two tests say yes together, each of them does
+pub both_true : (a b : Bool) → (a && b) ≡ true → (a ≡ true) × (b ≡ true)
+both_true true true e = (refl, refl)
+both_true true false e = cc
+both_true false b e = cc
 
 -- what a list has, a longer one has
 pub front_there : {A : Type 0} (xs ys : List A) (n : ℕ) (x : A) → slice_get xs n ≡ Some x → slice_get (xs ++ ys) n ≡ Some x

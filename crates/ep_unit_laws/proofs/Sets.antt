@@ -1,5 +1,5 @@
 -- Set types that are written in a block: the unit that has the block's lists has them as valid types.
-use Rattle.std.proofs.Common.{◌≡◌, ℕ, ℤ, zero, suc, ◌<◌, Bool, true, false, ◌&&◌, List, [], ◌∷◌, length, Option, Some, None, option_map, slice_get, refl, sym, ap, ◌∙◌, subst, arith}
+use Rattle.std.proofs.Common.{◌≡◌, ℕ, ℤ, zero, suc, ◌<◌, Bool, true, false, List, [], ◌∷◌, length, Option, Some, None, option_map, slice_get, refl, sym, ap, ◌∙◌, subst, arith}
 use Rattle.std.proofs.lemmas.Option.{slice_get_within}
 use Rattle.std.specs.Prelude.{if◌then◌else◌}
 use Rattle.ep_typed.specs.Denoters.{definition_of, found_of, required_type, type_within}
@@ -28,7 +28,7 @@ use Rattle.ep_unit_laws.proofs.Denoting.{Denotes, DenotesSet, denotes_bounds, de
 use Rattle.ep_unit_laws.proofs.Holds.{HasTypeHere, Holds, ListsKind, holds_more, lists_kind_more, named_tree}
 use Rattle.ep_unit_laws.proofs.Leading.{Extends}
 use Rattle.ep_unit_laws.proofs.Open.{IsOpen}
-use Rattle.ep_unit_laws.proofs.Ordinals.{front_there, index_ordinal}
+use Rattle.ep_unit_laws.proofs.Ordinals.{both_true, front_there, index_ordinal}
 use Rattle.ep_unit_laws.proofs.Structures.{IsKnown, part_settles}
 use Rattle.ep_unit_laws.proofs.Types.{IsNext, Settles, Stood, Wrote, Writes, next_denotes}
 
@@ -64,11 +64,6 @@ module _ (types : List UnitType) where
   value_members n few (type_name.Required r) v p e m = required_members r v e m
   value_members n few (type_name.Entry number) v p e m =
       entry_members n number v (slice_get few number) (λ t at. ap (λ l. slice_get l number) p.is ∙ front_there few p.rest number t at) e m
-
-both_true : (a b : Bool) → (a && b) ≡ true → (a ≡ true) × (b ≡ true)
-both_true true true e = (refl, refl)
-both_true true false e = cc
-both_true false b e = cc
 
 module _ (u : TypedUnit) where
   -- ---- a set of a base type that stands
