@@ -12,7 +12,7 @@ use Rattle.ep_tree.specs.declared.operator.AddingOperator.TheVariants as adding
 use Rattle.ep_tree.specs.declared.operator.MultiplyingOperator.TheVariants as multiplying
 use Rattle.ep_tree.specs.declared.operator.RelationalOperator.TheVariants as relation
 use Rattle.ep_typed.specs.Trees.{Expr, Field, Accessed, Callee, Constant, Evaluated, FieldValue, Function, Indexed, IndexedValue, OfUnit, Own, Place, Read, Two, Step, Variable, next_actual, no_actual}
-use Rattle.ep_typed.specs.declared.operations.Binary.TheVariants as binary
+use Rattle.ep_values.specs.declared.operations.Binary.TheVariants as binary
 use Rattle.ep_typed.specs.declared.value.Value.TheVariants as value
 use Rattle.ep_scope.specs.Scopes.{Region, within}
 use Rattle.ep_scope.specs.declared.structure.Composition.TheVariants as composition

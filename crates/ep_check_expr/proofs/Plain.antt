@@ -10,10 +10,10 @@ use Rattle.ep_tree.specs.declared.operator.RelationalOperator.TheVariants as rel
 use Rattle.ep_tree.specs.declared.operator.Sign.{Sign}
 use Rattle.ep_typed.specs.Hosts.{is_of_host}
 use Rattle.ep_typed.specs.Trees.{Expr, Constant}
-use Rattle.ep_typed.specs.declared.operations.Unary.{Unary}
-use Rattle.ep_typed.specs.declared.operations.Binary.{Binary}
-use Rattle.ep_typed.specs.declared.operations.SetOperation.{SetOperation}
-use Rattle.ep_typed.specs.declared.operations.ShortOperation.{ShortOperation}
+use Rattle.ep_values.specs.declared.operations.Unary.{Unary}
+use Rattle.ep_values.specs.declared.operations.Binary.{Binary}
+use Rattle.ep_values.specs.declared.operations.SetOperation.{SetOperation}
+use Rattle.ep_values.specs.declared.operations.ShortOperation.{ShortOperation}
 use Rattle.ep_scope.specs.declared.kind.Host.{Host}
 use Rattle.ep_scope.specs.declared.kind.Kind.{Kind}
 use Rattle.ep_scope.specs.declared.kind.Kind.TheVariants as kind

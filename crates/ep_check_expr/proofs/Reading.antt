@@ -36,11 +36,11 @@ use Rattle.ep_rules.specs.Indexing.{component_access, component_depth, component
 use Rattle.ep_rules.specs.Judgements.{Judged, Accepts, Breaks, Typed, when_accepted}
 use Rattle.ep_rules.specs.Names.{call_declared, value_declared, value_named, value_required}
 use Rattle.ep_check_expr.proofs.Accepted.{accesses-fit, expressions-fit}
-use Rattle.ep_check_expr.proofs.Designated.{field-given}
-use Rattle.ep_check_expr.proofs.Indexed.{index-given}
+use Rattle.ep_check_expr.proofs.Selected.{field-given}
+use Rattle.ep_check_expr.proofs.Selected.{index-given}
 use Rattle.ep_check_expr.proofs.Plain.{deep-plain, spelled-plain, signed-plain, negated-plain, added-plain, multiplied-plain, compared-plain, applied_one-plain, applied_two-plain}
 use Rattle.ep_check_expr.proofs.Labels.{constructed-plain}
-use Rattle.ep_check_expr.proofs.Structures.{structure-any}
+use Rattle.ep_check_expr.proofs.AnyStructure.{structure-any}
 use Rattle.ep_check_expr.proofs.Keeping.{IsCalled, IsKept, Satisfies, if-satisfies}
 use Rattle.ep_check_expr.proofs.Nodes.{given-value}
 

@@ -1,8 +1,8 @@
 -- What is known of small constants that are sets or are made of them.
 use Rattle.std.proofs.Common.{◌≡◌, ℕ, pos, negsuc, List, [], ◌∷◌, Some, refl, codes}
-use Rattle.ep_typed.specs.Sets.{members}
+use Rattle.ep_values.specs.Sets.{members}
 use Rattle.ep_typed.specs.Trees.{Card, Constant, Designator, Expr, OnSets, Range, Read, SetConstant, SetOf, Single, Variable, designators}
-use Rattle.ep_typed.specs.declared.operations.SetOperation.TheVariants as on_sets
+use Rattle.ep_values.specs.declared.operations.SetOperation.TheVariants as on_sets
 use Rattle.ep_typed.specs.declared.value.Value.TheVariants as value
 use Rattle.ep_scope.specs.declared.kind.Host.TheVariants as host
 use Rattle.ep_scope.specs.declared.kind.Kind.{Kind}

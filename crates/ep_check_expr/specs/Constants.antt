@@ -9,12 +9,10 @@ use Rattle.ep_tree.specs.declared.expression.Factor.{Factor, out-Factor}
 use Rattle.ep_typed.specs.Trees.{Expr, Text}
 use Rattle.ep_typed.specs.declared.value.Value.{Value}
 use Rattle.ep_typed.specs.declared.value.Value.TheVariants as value
-use Rattle.ep_typed.specs.Valid.{Declarations}
-use Rattle.ep_scope.specs.Scopes.{Region, depth_in}
+use Rattle.ep_scope.specs.Scopes.{Region}
 use Rattle.ep_scope.specs.declared.kind.Kind.{Kind}
 use Rattle.ep_scope.specs.declared.kind.Kind.TheVariants as kind
 use Rattle.ep_scope.specs.declared.rule.TheConstants as rule
-use Rattle.ep_check_expr.specs.Agreement.{AgreesBy, IsConstantIf, TypeValues, structures_of}
 use Rattle.ep_check_expr.specs.Expressions.{judged, judged_value}
 use Rattle.ep_rules.specs.Judgements.{Judged, Accepts, Breaks, Typed, when_accepted}
 use Rattle.ep_check_expr.specs.StructuredConstants.{Constancy, constancy, value_in}
@@ -116,8 +114,3 @@ module _ (scopes : List Region) where
   -- an initial state, where a value of the structured type of this number is asked for, or of another type
   abbrev pub initial_state_judged : Option ℕ → ComponentValue → Judged ConstantForm
   initial_state_judged asked v = when_accepted (as_constant purpose.InitialState) (judged_value scopes v asked)
-
--- under all declarations that hold what the scopes declare, where each type has one type value, the constant is of its kind
-abbrev pub IsSoundConstant : List Region → ConstantForm → Type 0
-IsSoundConstant scopes c =
-    (declared : Declarations) (types : TypeValues) → AgreesBy declared types (structures_of scopes) (depth_in scopes) scopes → IsConstantIf c.built types declared.routine_types c.kind c.value

@@ -1,10 +1,6 @@
-pub mod Agreement
 pub mod Answers
 pub mod Constants
 pub mod Expressions
-pub mod Laws
-pub mod Origins
+pub mod Shapes
 pub mod StructuredConstants
 pub mod StructuredValues
-pub mod Shapes
-pub mod Public

@@ -6,7 +6,7 @@ use Rattle.std.specs.Str.{bytes_eq}
 use Rattle.ep_tree.specs.Shapes.{as_identifier, when_none}
 use Rattle.ep_tree.specs.declared.expression.Expression.{Expression}
 use Rattle.ep_tree.specs.declared.expression.Label.{Label as LabelTree, out-Label}
-use Rattle.ep_typed.specs.Operations.{is_apart}
+use Rattle.ep_typed.specs.CaseRanges.{is_apart}
 use Rattle.ep_typed.specs.Trees.{AtField, AtIndex, AtIndexes, AtRanges, Designator, Element, Expr, Range, SameField, SetOf, Single, Structured, designators, elements, no_member}
 use Rattle.ep_typed.specs.declared.tree.CaseRange.{CaseRange}
 use Rattle.ep_scope.specs.Fields.{field_number}

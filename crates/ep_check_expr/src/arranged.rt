@@ -3,7 +3,7 @@
 ghost use Rattle.std.specs.Prelude.{◌≡◌, ◌++◌, ◌∷◌, [], IfOk, map};
 ghost use Rattle.std.specs.Option.{option_map};
 ghost use Rattle.std.specs.List.{list_all};
-ghost use Rattle.ep_typed.specs.Operations.{is_apart};
+ghost use Rattle.ep_typed.specs.CaseRanges.{is_apart};
 ghost use Rattle.ep_typed.specs.Viewed.{designator_of, element_of, expr_of};
 ghost use Rattle.ep_rules.specs.Answers.{AnswersJudged, AnswersTyped, typed_of};
 ghost use Rattle.ep_check_expr.specs.Answers.{arranged_of, index_of, labels_of, ranges_of};
@@ -12,14 +12,9 @@ ghost use Rattle.ep_check_expr.specs.StructuredValues.{arranged, component_given
 
 use crate::structured::{added, structured};
 use ep_base::{Boxed, List, NoMemory};
-use ep_rules::{
-    Folded, Refusal, Typed, are_compatible, folded_form, given_value, has_index, number_in,
-    with_designator,
-};
+use ep_rules::{Folded, Refusal, Typed, are_compatible, folded_form, given_value, has_index, number_in, with_designator};
 use ep_scope::{ArrayType, Kind, rule};
-use ep_typed::{
-    CaseRange, CaseRanges, Element, Elements, MemberDesignator, MemberDesignators, TypedExpr,
-};
+use ep_typed::{CaseRange, CaseRanges, Element, Elements, MemberDesignator, MemberDesignators, TypedExpr};
 use std::alloc::Global;
 
 /// An index of an array: its form, where it is built, how deep it is, and its ordinal number where it is constant.

@@ -24,18 +24,9 @@ use crate::filled::{Filled, asked_first, label_places};
 use crate::shapes::{arguments_first, bare, field_first, single_label};
 use crate::structured::{asked_by, named_number};
 use ep_base::{Boxed, Name};
-use ep_rules::{
-    Members, Refusal, Taken, Typed, added, applied_to_one, applied_to_two, compared, designated,
-    indexed, multiplied, named, negated, qualified, signed, takes, undeclared,
-};
-use ep_scope::{
-    ArrayType, Composition, Declaration, Declared, FieldType, FormalParameter, Function, Host,
-    Meaning, Required, View, depth_in, meaning_of, rule, structure_of,
-};
-use ep_tree::{
-    Access, Addend, Argument, ComponentValue, Element, Expression, Factor, Label, Multiplier,
-    Selector, Simple, Term, Values,
-};
+use ep_rules::{Members, Refusal, Taken, Typed, added, applied_to_one, applied_to_two, compared, designated, indexed, multiplied, named, negated, qualified, signed, takes, undeclared};
+use ep_scope::{ArrayType, Composition, Declaration, Declared, FieldType, FormalParameter, Function, Host, Meaning, Required, View, depth_in, meaning_of, rule, structure_of};
+use ep_tree::{Access, Addend, Argument, ComponentValue, Element, Expression, Factor, Label, Multiplier, Selector, Simple, Term, Values};
 use std::alloc::Global;
 
 /// The typed form of an expression, or a rule that fails in it. The forms of the expression are all built.

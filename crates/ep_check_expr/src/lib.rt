@@ -8,18 +8,17 @@
 //! specs/StructuredConstants.antt and specs/Constants.antt. By `laws_of_expressions` what all of them accept is valid.
 #![tactic(auto)]
 
-mod answers;
 mod arranged;
+mod broken;
 mod chosen;
 mod constants;
 mod expressions;
 mod filled;
-mod laws;
 mod shapes;
 mod structured;
 mod structured_constants;
 
-pub use answers::{Broken, ExpressionRefusal, constant, expression};
+pub use broken::Broken;
 pub use constants::{
     ConstantForm, bound_value, constant_expression_value, constant_value, initial_state_value,
     label_value,
@@ -27,5 +26,4 @@ pub use constants::{
 pub use expressions::{
     typed_access, typed_arguments, typed_expression, typed_value, written_expression,
 };
-pub use laws::laws_of_expressions;
 pub use structured::asked_by;

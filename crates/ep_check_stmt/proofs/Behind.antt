@@ -2,7 +2,7 @@
 use Rattle.std.proofs.Common.{◌≡◌, ℕ, ◌+◌, List, Result, Ok, Err, length, refl, ap}
 use Rattle.std.specs.Result.{IfOk}
 use Rattle.ep_typed.specs.declared.unit.UnitVariable.{UnitVariable}
-use Rattle.ep_check_expr.specs.declared.answers.Broken.{Broken}
+use Rattle.ep_check_expr.specs.declared.broken.Broken.{Broken}
 use Rattle.ep_check_stmt.specs.Answers.{RefusesRow, numbered}
 use Rattle.ep_check_stmt.specs.Statements.{Context, Judgement, Passes, Waits, Fails, behind}
 use Rattle.ep_check_stmt.specs.declared.outcome.CheckRefusal.TheVariants as refusal

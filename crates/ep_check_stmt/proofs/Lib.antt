@@ -1,15 +1,14 @@
+pub mod Behind
 pub mod Branches
+pub mod BuiltParts
 pub mod Called
 pub mod CaseParts
 pub mod Compounds
 pub mod Examples
-pub mod BuiltParts
 pub mod Gathered
 pub mod judged
 pub mod Nested
-pub mod Behind
 pub mod Printing
 pub mod Rows
 pub mod TagExamples
 pub mod Threatening
-pub mod valid

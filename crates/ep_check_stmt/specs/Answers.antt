@@ -9,7 +9,7 @@ use Rattle.ep_tree.specs.declared.expression.Label.{Label}
 use Rattle.ep_tree.specs.declared.statement.Arm.{Arm, out-Arm}
 use Rattle.ep_typed.specs.Trees as tree
 use Rattle.ep_typed.specs.declared.tree.CaseArm.{CaseArm}
-use Rattle.ep_typed.specs.declared.operations.Print.{Print}
+use Rattle.ep_values.specs.declared.operations.Print.{Print}
 use Rattle.ep_typed.specs.declared.tree.TypedExpr.{TypedExpr}
 use Rattle.ep_typed.specs.declared.tree.TypedStmt.{TypedStmt}
 use Rattle.ep_typed.specs.declared.tree.WriteItem.{WriteItem}

@@ -5,7 +5,7 @@ use Rattle.std.specs.Prelude.{ℤ, int_le, Bool, true, false, List, [], ◌∷�
 use Rattle.std.specs.List.{list_all}
 use Rattle.ep_tree.specs.declared.expression.Expression.{Expression}
 use Rattle.ep_tree.specs.declared.expression.Label.{Label, out-Label}
-use Rattle.ep_typed.specs.Operations.{is_apart}
+use Rattle.ep_typed.specs.CaseRanges.{is_apart}
 use Rattle.ep_typed.specs.Trees.{Expr}
 use Rattle.ep_typed.specs.declared.tree.CaseRange.{CaseRange}
 use Rattle.ep_typed.specs.declared.value.Value.{Value}

@@ -1,7 +1,6 @@
 pub mod Answers
 pub mod Auxiliaries
 pub mod Cases
-pub mod Laws
 pub mod Outcomes
 pub mod RoutineForms
 pub mod Statements

@@ -24,8 +24,8 @@ use Rattle.ep_typed.specs.Auxiliaries.{with_variables, with_variables_in}
 use Rattle.ep_typed.specs.Hosts.{greatest, least}
 use Rattle.ep_typed.specs.Trees as tree
 use Rattle.ep_typed.specs.Trees.{Control, Entire, MemberControl, Tagging, Place, Expr, Item, Stmt, Stmts, Arm, Arms, Other}
-use Rattle.ep_typed.specs.declared.operations.Print.{Print}
-use Rattle.ep_typed.specs.declared.operations.Print.TheVariants as print
+use Rattle.ep_values.specs.declared.operations.Print.{Print}
+use Rattle.ep_values.specs.declared.operations.Print.TheVariants as print
 use Rattle.ep_typed.specs.declared.tree.StandardFile.{StandardFile}
 use Rattle.ep_typed.specs.declared.tree.StandardFile.TheVariants as file
 use Rattle.ep_typed.specs.declared.unit.UnitVariable.{UnitVariable}

@@ -4,7 +4,7 @@ ghost use Rattle.std.specs.Prelude.{◌≡◌, None, Some, List, Option, map};
 ghost use Rattle.std.specs.List.{list_all};
 ghost use Rattle.ep_built.specs.Built.{arm_unbuilt, expression_unbuilt, first_in, label_unbuilt};
 ghost use Rattle.ep_tree.specs.declared.expression.Label.{out-Label};
-ghost use Rattle.ep_typed.specs.Operations.{is_apart};
+ghost use Rattle.ep_typed.specs.CaseRanges.{is_apart};
 ghost use Rattle.ep_typed.specs.Trees as tree;
 ghost use Rattle.ep_typed.specs.Trees.{Arms, Expr, Other, Stmt, Stmts};
 ghost use Rattle.ep_typed.specs.Viewed.{arm_of, expr_of, other_of, stmt_of};

@@ -12,7 +12,6 @@
 
 mod auxiliaries;
 mod cases;
-mod laws;
 mod loops;
 mod members;
 mod numbering;
@@ -25,7 +24,6 @@ mod threats;
 mod writing;
 
 pub use auxiliaries::{has_for, has_for_in};
-pub use laws::laws_of_statements;
 pub use outcome::{CheckRefusal, Outcome, refused_at};
 pub use statements::{Context, FunctionResult, Locals, Row};
 pub use tags::assigns_tag;

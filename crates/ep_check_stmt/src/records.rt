@@ -23,10 +23,7 @@ use crate::threats::{Entire, place_threatens};
 use ep_base::{Boxed, Line, List, NoMemory};
 use ep_check_expr::typed_access;
 use ep_rules::{Access, Refusal, Typed};
-use ep_scope::{
-    Composition, FieldType, Inner, Kind, OpenRecord, Protection, RecordVariable, View, rule,
-    structure_of,
-};
+use ep_scope::{Composition, FieldType, Inner, Kind, OpenRecord, Protection, RecordVariable, View, rule, structure_of};
 use ep_typed::{EntireVariable, TypedPlace, TypedStmt, UnitRoutine};
 use std::alloc::{AllocError, Global};
 

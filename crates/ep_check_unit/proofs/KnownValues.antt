@@ -2,8 +2,8 @@
 use Rattle.std.proofs.Common.{◌≡◌, ℕ, ℤ, pos, false, List, Option, Some, None, ap, refl}
 use Rattle.std.specs.List.{list_all}
 use Rattle.std.specs.Prelude.{int_le, ◌&&◌}
-use Rattle.ep_typed.specs.TypeValues as type
-use Rattle.ep_typed.specs.TypeValues.{TypeValue}
+use Rattle.ep_values.specs.TypeValues as type
+use Rattle.ep_values.specs.TypeValues.{TypeValue}
 use Rattle.ep_scope.specs.declared.kind.Host.{Host}
 use Rattle.ep_rules.specs.Judgements.{Accepts}
 use Rattle.ep_rules.specs.declared.forms.Refusal.TheVariants.{Rule}

@@ -5,9 +5,9 @@ use Rattle.std.specs.Prelude.{ℤ, pos, ◌+ℤ◌, int_le, Bool, true, false, �
 use Rattle.std.specs.List.{list_all, list_any}
 use Rattle.ep_tree.specs.declared.expression.Expression.{Expression}
 use Rattle.ep_tree.specs.declared.expression.Label.{Label, out-Label}
-use Rattle.ep_typed.specs.Operations.{is_apart, is_in}
-use Rattle.ep_typed.specs.TypeValues.{TypeValue}
-use Rattle.ep_typed.specs.TypeValues as type
+use Rattle.ep_typed.specs.CaseRanges.{is_apart, is_in}
+use Rattle.ep_values.specs.TypeValues.{TypeValue}
+use Rattle.ep_values.specs.TypeValues as type
 use Rattle.ep_typed.specs.declared.tree.CaseRange.{CaseRange}
 use Rattle.ep_typed.specs.declared.value.Value.{Value}
 use Rattle.ep_typed.specs.declared.value.Value.TheVariants as value

@@ -2,7 +2,7 @@
 use Rattle.std.specs.Prelude.{List, slice_get, Option, Some, None}
 use Rattle.ep_typed.specs.Denoters.{enumeration_type, found_of, required_type, subrange_type}
 use Rattle.ep_typed.specs.Trees as tree
-use Rattle.ep_typed.specs.TypeValues.{TypeValue}
+use Rattle.ep_values.specs.TypeValues.{TypeValue}
 use Rattle.ep_typed.specs.declared.unit.UnitType.{UnitType}
 use Rattle.ep_scope.specs.declared.parameter.TypeName.{TypeName}
 use Rattle.ep_scope.specs.declared.parameter.TypeName.TheVariants as type_name

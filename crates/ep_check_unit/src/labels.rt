@@ -5,7 +5,7 @@ ghost use Rattle.std.specs.List.{list_all, list_any};
 ghost use Rattle.ep_built.specs.Built.{expression_unbuilt, first_in, label_unbuilt};
 ghost use Rattle.ep_tree.specs.declared.expression.Label.{out-Label};
 ghost use Rattle.ep_typed.specs.Denoters.{required_type};
-ghost use Rattle.ep_typed.specs.Operations.{is_in};
+ghost use Rattle.ep_typed.specs.CaseRanges.{is_in};
 ghost use Rattle.ep_typed.specs.Viewed.{denoter_of};
 ghost use Rattle.ep_rules.specs.Judgements.{Accepts};
 ghost use Rattle.ep_check_stmt.specs.Answers.{AnswersForm};
@@ -20,9 +20,7 @@ use ep_check_expr::{ConstantForm, constant_expression_value};
 use ep_rules::Refusal;
 use ep_scope::{Host, Kind, TypeName, View, rule, same_host};
 use ep_tree::{Expression, Label};
-use ep_typed::{
-    Bound, CaseRange, CaseRanges, Denoter, RequiredType, UnitType, Value, VariantLabels,
-};
+use ep_typed::{Bound, CaseRange, CaseRanges, Denoter, RequiredType, UnitType, Value, VariantLabels};
 use std::alloc::Global;
 use std::mem;
 

@@ -2,7 +2,7 @@
 
 ghost use Rattle.std.specs.Prelude.{◌≡◌, Some, IfOk};
 ghost use Rattle.ep_typed.specs.Denoters.{required_type};
-ghost use Rattle.ep_typed.specs.Sets.{is_ordinal};
+ghost use Rattle.ep_values.specs.Sets.{is_ordinal};
 ghost use Rattle.ep_typed.specs.Viewed.{denoter_of};
 ghost use Rattle.ep_check_stmt.specs.Answers.{AnswersForm};
 ghost use Rattle.ep_check_unit.specs.Answers.{named_in, written_in};

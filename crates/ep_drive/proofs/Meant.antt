@@ -2,20 +2,20 @@
 use Rattle.std.proofs.Common.{◌≡◌, length, ℕ, ◌+◌, ◌-◌, ◌*◌, ◌≤◌, zero, suc, false, if◌then◌else◌, slice_get, None, IsTrue, List, [], ◌∷◌, ◌++◌, ◌⊎◌, inl, inr, refl, sym, ap, ◌∙◌, subst, arith, Bool, true, map, Option, Some}
 use Rattle.std.specs.Option.{option_map}
 use Rattle.std.specs.Str.{bytes_eq}
-use Rattle.ep_object.specs.Follows.{end_of}
+use Rattle.ep_simulation.specs.Follows.{end_of}
 use Rattle.ep_object.specs.State.{Going, Running, Stopped, Normal, Halt, Error, Broken}
-use Rattle.ep_object.specs.Tells.{Tells}
-use Rattle.ep_typed.proofs.Lasting.{meanings_last}
+use Rattle.ep_simulation.specs.Tells.{Tells}
+use Rattle.ep_meaning.proofs.Lasting.{meanings_last}
 use Rattle.ep_typed.specs.Auxiliaries.{block_auxiliaries}
-use Rattle.ep_typed.specs.Calls.{Argument, Handler, activation_words, in_call}
+use Rattle.ep_meaning.specs.Calls.{Argument, Handler, activation_words, in_call}
 use Rattle.ep_typed.specs.Trees.{Callee}
-use Rattle.ep_typed.specs.Events.{Trace, Does}
-use Rattle.ep_typed.specs.Laws.{IsLonger}
-use Rattle.ep_typed.specs.Meaning.{activation, takes_all, make_all_own, results_given, routine_does, type_does, handler_of, meaning, make_all, exec, weights_of}
-use Rattle.ep_typed.specs.Printing.{Result}
+use Rattle.ep_values.specs.Events.{Trace, Does}
+use Rattle.ep_meaning.specs.Laws.{IsLonger}
+use Rattle.ep_meaning.specs.Meaning.{activation, takes_all, make_all_own, results_given, routine_does, type_does, handler_of, meaning, make_all, exec, weights_of}
+use Rattle.ep_values.specs.Printing.{Result}
 use Rattle.ep_typed.specs.Routines.{result_variable}
-use Rattle.ep_typed.specs.Steps.{Outcome, Gives, Ends, Cut, Computation, State, state_of, cut, stop, go_on, bind, spend, first_state}
-use Rattle.ep_typed.specs.Steps as meant
+use Rattle.ep_meaning.specs.Steps.{Outcome, Gives, Ends, Cut, Computation, State, state_of, cut, stop, go_on, bind, spend, first_state}
+use Rattle.ep_meaning.specs.Steps as meant
 use Rattle.ep_typed.specs.declared.unit.Unit.{Unit as TypedUnit}
 use Rattle.ep_typed.specs.declared.unit.UnitRoutine.{UnitRoutine}
 use Rattle.ep_check_unit.specs.Blocks.{RoutineForm, routine_form}

@@ -3,19 +3,19 @@ use Rattle.std.proofs.Common.{◌≡◌, ℕ, zero, suc, ◌+◌, ◌-◌, ◌*�
 use Rattle.std.specs.Fn.{iterate}
 use Rattle.ep_outside.specs.Known.{IsPrefix}
 use Rattle.ep_object.proofs.Views.{runs_agree}
-use Rattle.ep_object.specs.Follows.{end_of}
-use Rattle.ep_object.specs.Implements.{Implements}
+use Rattle.ep_simulation.specs.Follows.{end_of}
+use Rattle.ep_simulation.specs.Implements.{Implements}
 use Rattle.ep_object.specs.Laws.{settled, settled_going}
 use Rattle.ep_object.specs.Routines.{routine_of}
 use Rattle.ep_object.specs.Runs.{timed, begin, run_to, run_from, advance, trace_of, entering_next, entering, activation, Activation}
 use Rattle.ep_object.specs.State.{State, Going, Running, Stopped, End, Error, Broken, first_state}
-use Rattle.ep_object.specs.Tells.{Tells}
+use Rattle.ep_simulation.specs.Tells.{Tells}
 use Rattle.ep_object.specs.declared.code.Image.{Image}
 use Rattle.ep_object.specs.declared.code.ImageRoutine.{ImageRoutine}
-use Rattle.ep_typed.specs.Events.{Trace}
-use Rattle.ep_typed.specs.Meaning.{meaning}
-use Rattle.ep_typed.specs.Steps.{Outcome, Gives, Ends, Cut, state_of}
-use Rattle.ep_typed.specs.Steps as meant
+use Rattle.ep_values.specs.Events.{Trace}
+use Rattle.ep_meaning.specs.Meaning.{meaning}
+use Rattle.ep_meaning.specs.Steps.{Outcome, Gives, Ends, Cut, state_of}
+use Rattle.ep_meaning.specs.Steps as meant
 use Rattle.ep_typed.specs.declared.unit.Unit.{Unit as TypedUnit}
 use Rattle.ep_drive.specs.GoRuns.{run_within}
 

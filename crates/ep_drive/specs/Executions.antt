@@ -3,11 +3,11 @@ use Rattle.std.specs.Prelude.{ℕ, List, [], ◌∷◌, Option, Some, None}
 use Rattle.ep_machine.specs.Answers.{IsEnd}
 use Rattle.ep_machine.specs.declared.end.End.{End}
 use Rattle.ep_machine.specs.declared.end.End.TheVariants as end
-use Rattle.ep_object.specs.Implements.{Implements}
+use Rattle.ep_simulation.specs.Implements.{Implements}
 use Rattle.ep_object.specs.Runs.{trace_of}
 use Rattle.ep_object.specs.State.{Normal, Halt, Error, Broken, Going}
 use Rattle.ep_object.specs.declared.code.Image.{Image}
-use Rattle.ep_typed.specs.Events.{Outside, Does, DoesFront, DoesPart}
+use Rattle.ep_values.specs.Events.{Outside, Does, DoesFront, DoesPart}
 use Rattle.ep_typed.specs.declared.unit.Unit.{Unit as TypedUnit}
 use Rattle.ep_drive.specs.ProgramTexts.{IsProgramText}
 use Rattle.ep_drive.specs.Outcomes.{end_status, end_line, budget_line}

@@ -1,17 +1,17 @@
 -- What a run of texts within a budget comes to: by the machine, and by the meaning of the units that the texts join to.
 use Rattle.std.specs.Prelude.{◌≡◌, ℕ, ◌+◌, ◌*◌, ◌<◌, ◌≤◌, false, ◌⊎◌, List}
 use Rattle.ep_outside.specs.Known.{Appends}
-use Rattle.ep_object.specs.Follows.{end_of}
-use Rattle.ep_object.specs.Implements.{Implements}
+use Rattle.ep_simulation.specs.Follows.{end_of}
+use Rattle.ep_simulation.specs.Implements.{Implements}
 use Rattle.ep_object.specs.Runs.{begin, run_to, timed, trace_of}
 use Rattle.ep_object.specs.State.{Going}
 use Rattle.ep_object.specs.State as machine
-use Rattle.ep_object.specs.Tells.{GoesOn, RanOut}
+use Rattle.ep_simulation.specs.Tells.{GoesOn, RanOut}
 use Rattle.ep_object.specs.declared.code.Image.{Image}
-use Rattle.ep_typed.specs.Events.{Trace, Outside, Does, DoesFront, DoesPart}
-use Rattle.ep_typed.specs.Meaning.{meaning}
-use Rattle.ep_typed.specs.Steps.{State, Ends, state_of}
-use Rattle.ep_typed.specs.Steps as meaning
+use Rattle.ep_values.specs.Events.{Trace, Outside, Does, DoesFront, DoesPart}
+use Rattle.ep_meaning.specs.Meaning.{meaning}
+use Rattle.ep_meaning.specs.Steps.{State, Ends, state_of}
+use Rattle.ep_meaning.specs.Steps as meaning
 use Rattle.ep_typed.specs.declared.unit.Unit.{Unit as TypedUnit}
 use Rattle.ep_drive.specs.Outcomes.{run_status, run_line, IsReported, IsReportedPart, error_line, budget_line, end_status}
 use Rattle.ep_drive.specs.ProgramTexts.{Joins}

@@ -1,7 +1,7 @@
 -- What is seen of the outside at one moment of a call, and what a call may leave as it was.
 use Rattle.std.specs.Prelude.{◌≡◌, ℕ, ◌≤◌, List, Option}
 use Rattle.ep_outside.specs.Known.{Directory, Keeps}
-use Rattle.ep_typed.specs.Events.{Outside, Same}
+use Rattle.ep_values.specs.Events.{Outside, Same}
 
 -- what the output, the files, the input and the report tell of their bytes, and how many faults each has had
 pub record Seen : Type 0 where

@@ -2,8 +2,8 @@
 
 ghost use Rattle.std.specs.Prelude.{◌≡◌, ◌<◌, ◌≤◌, ◌^◌, ◌∷◌, [], ℕ, List, length, IfOk, MatchResult};
 ghost use Rattle.ep_machine.specs.Answers.{OnWriteFaultEnd, outside};
-ghost use Rattle.ep_object.specs.Implements.{Implements};
-ghost use Rattle.ep_typed.specs.Valid.{IsValid};
+ghost use Rattle.ep_simulation.specs.Implements.{Implements};
+ghost use Rattle.ep_meaning.specs.Valid.{IsValid};
 ghost use Rattle.ep_typed.specs.declared.unit.Unit.{Unit as TypedUnit};
 ghost use Rattle.ep_drive.specs.Executions.{CameTo, IsImageOf};
 ghost use Rattle.ep_drive.specs.GoRuns.{run_within};

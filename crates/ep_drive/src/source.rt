@@ -4,7 +4,7 @@ ghost use Rattle.std.specs.Prelude.{◌≡◌, ◌≢◌, ◌≤◌, List, [], �
 ghost use Rattle.ep_built.specs.Built.{component_unbuilt};
 ghost use Rattle.ep_check_unit.specs.Units.{IsTyped};
 ghost use Rattle.ep_typed.specs.Nodes.{unit_nodes};
-ghost use Rattle.ep_typed.specs.Valid.{IsValid};
+ghost use Rattle.ep_meaning.specs.Valid.{IsValid};
 ghost use Rattle.ep_typed.specs.declared.unit.Unit.{Unit as TypedUnit};
 ghost use Rattle.ep_drive.specs.ProgramTexts.{HasComponents, IsProgramText, components_unbuilt, node_limit, second_line};
 ghost use Rattle.ep_drive.specs.Refusals.{StopsComponent, StopsText, by_tokens, by_grammar, by_rules};

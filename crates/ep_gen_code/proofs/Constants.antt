@@ -1,7 +1,7 @@
 -- The machine follows constants: what is given is the constant, and its value is on top.
 use Rattle.std.proofs.Common.{◌≡◌, ℕ, ℤ, pos, zero, suc, ◌+◌, ◌*◌, ◌-◌, ◌≤◌, List, [], ◌∷◌, length, refl, ap, subst, arith}
-use Rattle.ep_object.specs.Follows.{After, Facts, Fragment, Inside, IsNotLeft, Lands, Operands, Point, point, state_at}
-use Rattle.ep_object.specs.Matching.{Injection, Memory, Slots}
+use Rattle.ep_simulation.specs.Follows.{After, Facts, Fragment, Inside, IsNotLeft, Lands, Operands, Point, point, state_at}
+use Rattle.ep_simulation.specs.Matching.{Injection, Memory, Slots}
 use Rattle.ep_object.specs.Operands.{Operand, Set, Word}
 use Rattle.ep_object.specs.Placing.{Placement, CodeStands}
 use Rattle.ep_object.specs.Sets.{IsSet, member_limit}
@@ -9,22 +9,22 @@ use Rattle.ep_object.specs.declared.code.Image.{Image}
 use Rattle.ep_object.specs.declared.code.Reference.{Reference}
 use Rattle.ep_object.specs.declared.op.TheConstants as op
 use Rattle.ep_object.proofs.SetWords.{AreOrdinals, all_members, few_members, set_ordinals, with_members}
-use Rattle.ep_object.proofs.following.Bind.{Met}
-use Rattle.ep_object.proofs.following.Fragments.{fragment_from, fragment_give, fragment_less, fragment_moves, fragment_one, fragment_to}
-use Rattle.ep_object.proofs.matching.Growing.{inside_here}
-use Rattle.ep_object.proofs.rows.Rows.{push_pushes}
-use Rattle.ep_object.proofs.rows.SetRows.{add_pushes, none_pushes}
-use Rattle.ep_typed.specs.Calls.{Handler}
-use Rattle.ep_typed.specs.Meaning.{eval}
-use Rattle.ep_typed.specs.Printing.{Result}
-use Rattle.ep_typed.specs.Printing as result
-use Rattle.ep_typed.specs.Results.{weight_of}
-use Rattle.ep_typed.specs.Sets.{with_member}
-use Rattle.ep_typed.specs.Steps.{Computation, give, spend}
-use Rattle.ep_typed.specs.Steps as meaning
+use Rattle.ep_simulation.proofs.following.Bind.{Met}
+use Rattle.ep_simulation.proofs.following.Fragments.{fragment_from, fragment_give, fragment_less, fragment_moves, fragment_one, fragment_to}
+use Rattle.ep_simulation.proofs.matching.Growing.{inside_here}
+use Rattle.ep_simulation.proofs.rows.Rows.{push_pushes}
+use Rattle.ep_simulation.proofs.rows.SetRows.{add_pushes, none_pushes}
+use Rattle.ep_meaning.specs.Calls.{Handler}
+use Rattle.ep_meaning.specs.Meaning.{eval}
+use Rattle.ep_values.specs.Printing.{Result}
+use Rattle.ep_values.specs.Printing as result
+use Rattle.ep_meaning.specs.Results.{weight_of}
+use Rattle.ep_values.specs.Sets.{with_member}
+use Rattle.ep_meaning.specs.Steps.{Computation, give, spend}
+use Rattle.ep_meaning.specs.Steps as meaning
 use Rattle.ep_typed.specs.Trees.{Constant, SetConstant}
-use Rattle.ep_typed.specs.TypeValues.{set_size}
-use Rattle.ep_typed.specs.Valid.{Declarations}
+use Rattle.ep_values.specs.TypeValues.{set_size}
+use Rattle.ep_meaning.specs.Valid.{Declarations}
 use Rattle.ep_gen_code.specs.Instructions.{bare, members_code, push}
 use Rattle.ep_gen_code.proofs.Waiting.{row_waits}
 

@@ -2,7 +2,7 @@
 use Rattle.std.proofs.Common.{◌≡◌, ℕ, pos, ◌+◌, ◌<◌, IsTrue, ltb, cond, List, [], ◌∷◌, ◌++◌, length, Some, slice_get, refl, ap, ◌∙◌, subst, arith}
 use Rattle.std.proofs.lemmas.Bool.{lt-ltb}
 use Rattle.ep_object.specs.Placing.{Span, moved, Placement, placed, placed_unit, CodeStands}
-use Rattle.ep_object.specs.Scene.{TextStands, VariableStands}
+use Rattle.ep_simulation.specs.Scene.{TextStands, VariableStands}
 use Rattle.ep_object.specs.declared.code.Image.{Image}
 use Rattle.ep_object.specs.declared.code.Instr.{Instr}
 use Rattle.ep_object.specs.declared.code.Reference.{Reference}

@@ -3,7 +3,7 @@ use Rattle.std.specs.Prelude.{◌≡◌, ℕ, zero, suc, ◌+◌, ◌^◌, ◌<�
 use Rattle.ep_outside.specs.Known.{IsPrefix}
 use Rattle.ep_gen_code.specs.Instructions.{reference}
 use Rattle.ep_gen_code.specs.Referring.{type_reference}
-use Rattle.ep_object.specs.Promises.{swap_routine}
+use Rattle.ep_simulation.specs.Promises.{swap_routine}
 use Rattle.ep_object.specs.declared.code.Instr.{Instr}
 use Rattle.ep_object.specs.declared.code.Reference.{Reference}
 use Rattle.ep_typed.specs.declared.unit.Unit.{Unit as TypedUnit}

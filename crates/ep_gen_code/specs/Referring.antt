@@ -2,9 +2,9 @@
 use Rattle.std.specs.Prelude.{◌≡◌, ℕ, ◌+◌, ◌<◌, List, length, Some, slice_get}
 use Rattle.ep_gen_code.specs.Instructions.{reference}
 use Rattle.ep_gen_code.specs.declared.references.TheConstants as routine
-use Rattle.ep_object.specs.Promises.{fill_routine, range_routine, spread_routine, swap_routine, type_routine}
+use Rattle.ep_simulation.specs.Promises.{fill_routine, range_routine, spread_routine, swap_routine, type_routine}
 use Rattle.ep_object.specs.declared.code.Reference.{Reference}
-use Rattle.ep_typed.specs.Valid.{Declarations}
+use Rattle.ep_meaning.specs.Valid.{Declarations}
 use Rattle.ep_typed.specs.declared.unit.UnitType.{UnitType}
 
 -- the reference to the routine that elaborates the type with this number

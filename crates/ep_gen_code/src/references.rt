@@ -3,7 +3,7 @@
 ghost use Rattle.std.specs.Prelude.{◌≡◌, IfOk, length, pos};
 ghost use Rattle.ep_gen_code.specs.Growth.{IsTable, in_row};
 ghost use Rattle.ep_gen_code.specs.Referring.{type_reference};
-ghost use Rattle.ep_object.specs.Promises.{swap_routine};
+ghost use Rattle.ep_simulation.specs.Promises.{swap_routine};
 
 use crate::jumps::{field_number, place_number};
 use ep_base::{List, NoMemory};

@@ -1,28 +1,28 @@
 -- The machine follows an operation, by the instruction that gives its answer.
 use Rattle.std.proofs.Common.{◌≡◌, ℕ, ℤ, suc, ◌+◌, ◌≤◌, IsTrue, List, length, refl, ap, ◌∙◌, arith}
-use Rattle.ep_object.specs.Follows.{point, Facts, Fragment, OnTop, PlaceOnTop, Inside}
-use Rattle.ep_object.specs.Matching.{Slots, Memory, Injection}
+use Rattle.ep_simulation.specs.Follows.{point, Facts, Fragment, OnTop, PlaceOnTop, Inside}
+use Rattle.ep_simulation.specs.Matching.{Slots, Memory, Injection}
 use Rattle.ep_object.specs.Runs.{unit_in}
 use Rattle.ep_object.specs.Operands.{Operand}
 use Rattle.ep_object.specs.Placing.{Placement}
 use Rattle.ep_object.specs.declared.code.Image.{Image}
 use Rattle.ep_object.specs.declared.code.Instr.{Instr}
-use Rattle.ep_object.proofs.following.Choices.{going_of, fragment_answer}
-use Rattle.ep_object.proofs.following.Fragments.{fragment_less}
-use Rattle.ep_object.proofs.matching.Growing.{inside_here}
-use Rattle.ep_object.proofs.rows.Rows.{RowAnswers}
-use Rattle.ep_typed.specs.Calls.{Handler}
+use Rattle.ep_simulation.proofs.following.Choices.{going_of, fragment_answer}
+use Rattle.ep_simulation.proofs.following.Fragments.{fragment_less}
+use Rattle.ep_simulation.proofs.matching.Growing.{inside_here}
+use Rattle.ep_simulation.proofs.rows.Rows.{RowAnswers}
+use Rattle.ep_meaning.specs.Calls.{Handler}
 use Rattle.ep_gen_code.specs.Credit.{least_credit}
-use Rattle.ep_typed.specs.Meaning.{answered, eval, place}
-use Rattle.ep_typed.specs.Results.{weight_of}
+use Rattle.ep_meaning.specs.Meaning.{answered, eval, place}
+use Rattle.ep_meaning.specs.Results.{weight_of}
 use Rattle.ep_typed.specs.Trees.{Place, Expr}
-use Rattle.ep_typed.specs.Operations.{Answer, Number}
-use Rattle.ep_typed.specs.Printing.{Result}
-use Rattle.ep_typed.specs.Printing as result
-use Rattle.ep_typed.specs.Steps.{Computation, give, bind, spend}
-use Rattle.ep_typed.specs.Valid.{Declarations, Kind, Ordinal}
+use Rattle.ep_values.specs.Operations.{Answer, Number}
+use Rattle.ep_values.specs.Printing.{Result}
+use Rattle.ep_values.specs.Printing as result
+use Rattle.ep_meaning.specs.Steps.{Computation, give, bind, spend}
+use Rattle.ep_meaning.specs.Valid.{Declarations, Kind, Ordinal}
 use Rattle.ep_typed.specs.Hosts.{Host, is_of_host}
-use Rattle.ep_typed.specs.TypeValues.{TypeValue}
+use Rattle.ep_values.specs.TypeValues.{TypeValue}
 
 -- The machine follows a computation of a result from one place of the code to another, where the result is on top of
 -- the operands; the credit is so many before, and after it so many and the weight of the result.

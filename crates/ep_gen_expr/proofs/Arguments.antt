@@ -3,33 +3,33 @@ use Rattle.std.proofs.Common.{◌≡◌, ℕ, ◌+◌, ◌≤◌, List, [], ◌�
 use Rattle.std.proofs.lemmas.Option.{same_Some}
 use Rattle.ep_gen_code.specs.Credit.{least_credit}
 use Rattle.ep_gen_expr.proofs.Answering.{IsFollowed, IsPlaceFollowed}
-use Rattle.ep_object.proofs.following.Fragments.{fragment_to, fragment_give, inside_bind, fragment_bind_place}
-use Rattle.ep_object.proofs.matching.Growing.{unit_in-same, is_spot-grown, describes-grown, inside_here}
-use Rattle.ep_object.specs.Follows.{Facts, Fragment, Inside, OnTop, Operands, point}
-use Rattle.ep_object.proofs.matching.Awaiting.{value-grown, value_on_top}
-use Rattle.ep_typed.proofs.ValueKinds.{kinds_are_one}
+use Rattle.ep_simulation.proofs.following.Fragments.{fragment_to, fragment_give, inside_bind, fragment_bind_place}
+use Rattle.ep_simulation.proofs.matching.Growing.{unit_in-same, is_spot-grown, describes-grown, inside_here}
+use Rattle.ep_simulation.specs.Follows.{Facts, Fragment, Inside, OnTop, Operands, point}
+use Rattle.ep_simulation.proofs.matching.Awaiting.{value-grown, value_on_top}
+use Rattle.ep_meaning.proofs.ValueKinds.{kinds_are_one}
 use Rattle.ep_typed.specs.Viewed.{denoter_of}
-use Rattle.ep_object.specs.Matching.{Memory, Injection, Slots, Grown}
+use Rattle.ep_simulation.specs.Matching.{Memory, Injection, Slots, Grown}
 use Rattle.ep_object.specs.Operands.{Operand}
 use Rattle.ep_object.specs.Operands as operand
 use Rattle.ep_object.specs.Placing.{Placement}
-use Rattle.ep_object.specs.Promises.{Passing, ByValue, ByReference, IsPassed, IsArgument, AreArguments}
+use Rattle.ep_simulation.specs.Promises.{Passing, ByValue, ByReference, IsPassed, IsArgument, AreArguments}
 use Rattle.ep_object.specs.Runs.{unit_in}
 use Rattle.ep_object.specs.declared.code.Image.{Image}
 use Rattle.ep_object.specs.declared.code.Instr.{Instr}
-use Rattle.ep_typed.proofs.Steady.{steady_bind, steady_give, steady_arguments}
-use Rattle.ep_typed.specs.Steady.{IsSteadyHandler}
-use Rattle.ep_typed.specs.Calls.{Argument, Value, Variable, Handler}
-use Rattle.ep_typed.specs.Meaning.{argument, arguments}
-use Rattle.ep_typed.specs.Results.{weight_of}
-use Rattle.ep_typed.specs.Steps.{give, bind}
+use Rattle.ep_meaning.proofs.Steady.{steady_bind, steady_give, steady_arguments}
+use Rattle.ep_meaning.specs.Steady.{IsSteadyHandler}
+use Rattle.ep_meaning.specs.Calls.{Argument, Value, Variable, Handler}
+use Rattle.ep_meaning.specs.Meaning.{argument, arguments}
+use Rattle.ep_meaning.specs.Results.{weight_of}
+use Rattle.ep_meaning.specs.Steps.{give, bind}
 use Rattle.ep_typed.specs.Trees.{Place, Expr, Actual, Evaluated, Accessed, Actuals, no_actual, next_actual}
-use Rattle.ep_typed.specs.Valid.{Declarations, Kind, IsExpr, IsVariableOf, IsGiven}
+use Rattle.ep_meaning.specs.Valid.{Declarations, Kind, IsExpr, IsVariableOf, IsGiven}
 use Rattle.ep_typed.specs.declared.interface.Formal.{Formal}
 use Rattle.ep_typed.specs.declared.interface.FormalMode.{FormalMode}
 use Rattle.ep_typed.specs.declared.interface.FormalMode.TheVariants as mode
 use Rattle.ep_typed.specs.declared.unit.UnitType.{UnitType}
-use Rattle.ep_typed.specs.TypeValues.{TypeValue}
+use Rattle.ep_values.specs.TypeValues.{TypeValue}
 
 -- an argument that lies on the operands goes on being one while memory grows
 argument_later : {untouched : Slots} {injection longer : Injection} {memory after : Memory} (k : Passing) (x : Argument) (o : Operand)

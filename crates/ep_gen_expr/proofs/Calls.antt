@@ -6,33 +6,33 @@ use Rattle.ep_gen_code.specs.Credit.{least_credit}
 use Rattle.ep_gen_expr.proofs.Answering.{IsFollowed}
 use Rattle.ep_gen_expr.proofs.Arguments.{AreArgumentsFollowed}
 use Rattle.ep_gen_code.proofs.Placed.{code_back, jump_has}
-use Rattle.ep_object.proofs.following.Fragments.{fragment_to, fragment_credit, fragment_less, fragment_one, fragment_paid, fragment_give, inside_bind}
-use Rattle.ep_object.proofs.following.Promising.{call_follows}
-use Rattle.ep_object.proofs.matching.Awaiting.{on_top}
-use Rattle.ep_typed.proofs.ValueKinds.{kinds_are_one}
-use Rattle.ep_object.proofs.matching.Growing.{grown_trans, inside_here, same_routine-trans, unit_in-same}
-use Rattle.ep_object.proofs.matching.Names.{callable}
-use Rattle.ep_object.proofs.rows.Rows.{jump_jumps}
-use Rattle.ep_object.specs.Activations.{KnowsNames}
-use Rattle.ep_object.specs.Follows.{Facts, Lasts, Fragment, SameRoutine, Inside, Operands, OnTop, point}
-use Rattle.ep_object.specs.Matching.{Memory, Injection, Slots, AreAmong, Grown, kept_slots}
+use Rattle.ep_simulation.proofs.following.Fragments.{fragment_to, fragment_credit, fragment_less, fragment_one, fragment_paid, fragment_give, inside_bind}
+use Rattle.ep_simulation.proofs.following.Promising.{call_follows}
+use Rattle.ep_simulation.proofs.matching.Awaiting.{on_top}
+use Rattle.ep_meaning.proofs.ValueKinds.{kinds_are_one}
+use Rattle.ep_simulation.proofs.matching.Growing.{grown_trans, inside_here, same_routine-trans, unit_in-same}
+use Rattle.ep_simulation.proofs.matching.Names.{callable}
+use Rattle.ep_simulation.proofs.rows.Rows.{jump_jumps}
+use Rattle.ep_simulation.specs.Activations.{KnowsNames}
+use Rattle.ep_simulation.specs.Follows.{Facts, Lasts, Fragment, SameRoutine, Inside, Operands, OnTop, point}
+use Rattle.ep_simulation.specs.Matching.{Memory, Injection, Slots, AreAmong, Grown, kept_slots}
 use Rattle.ep_object.specs.Operands.{Operand}
 use Rattle.ep_object.specs.Placing.{Placement, CodeStands}
-use Rattle.ep_object.specs.Promises.{AreArguments, AreResults, CallsAt, ResultsOnTop, RoutineKeeps, credit_of}
+use Rattle.ep_simulation.specs.Promises.{AreArguments, AreResults, CallsAt, ResultsOnTop, RoutineKeeps, credit_of}
 use Rattle.ep_object.specs.Runs.{unit_in}
 use Rattle.ep_object.specs.declared.code.Image.{Image}
 use Rattle.ep_object.specs.declared.code.Instr.{Instr}
 use Rattle.ep_object.specs.declared.code.Reference.{Reference}
 use Rattle.ep_object.specs.declared.op.TheConstants as op
-use Rattle.ep_typed.proofs.Steady.{steady_bind, steady_cut, steady_spend, steady_give}
-use Rattle.ep_typed.specs.Steady.{Steady, IsSteadyHandler}
-use Rattle.ep_typed.specs.Calls.{Argument, Handler}
-use Rattle.ep_typed.specs.Meaning.{arguments, one_result}
-use Rattle.ep_typed.specs.Results.{weight_of}
-use Rattle.ep_typed.specs.Printing.{Result}
-use Rattle.ep_typed.specs.Steps.{Computation, bind, give, spend}
+use Rattle.ep_meaning.proofs.Steady.{steady_bind, steady_cut, steady_spend, steady_give}
+use Rattle.ep_meaning.specs.Steady.{Steady, IsSteadyHandler}
+use Rattle.ep_meaning.specs.Calls.{Argument, Handler}
+use Rattle.ep_meaning.specs.Meaning.{arguments, one_result}
+use Rattle.ep_meaning.specs.Results.{weight_of}
+use Rattle.ep_values.specs.Printing.{Result}
+use Rattle.ep_meaning.specs.Steps.{Computation, bind, give, spend}
 use Rattle.ep_typed.specs.Trees.{Callee, Function, Actuals}
-use Rattle.ep_typed.specs.Valid.{Declarations, IsOfKind, Kind, IsDeclaredUp, IsFunction}
+use Rattle.ep_meaning.specs.Valid.{Declarations, IsOfKind, Kind, IsDeclaredUp, IsFunction}
 use Rattle.ep_typed.specs.Viewed.{denoter_of}
 use Rattle.ep_typed.specs.declared.interface.RoutineEntry.{RoutineEntry}
 use Rattle.ep_typed.specs.declared.interface.RoutineResult.{RoutineResult}

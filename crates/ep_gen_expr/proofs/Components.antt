@@ -2,8 +2,8 @@
 use Rattle.std.proofs.Common.{◌≡◌, ℕ, pos, suc, ◌+◌, ◌≤◌, List, [], ◌∷◌, length, Some, slice_get, refl, sym, ◌∙◌, subst, arith}
 use Rattle.ep_gen_code.specs.Instructions.{bare, instr}
 use Rattle.ep_gen_expr.specs.ExprCode.{steps_code}
-use Rattle.ep_object.specs.Follows.{Facts, Fragment, Inside, OnTop, PlaceOnTop, point}
-use Rattle.ep_object.specs.Matching.{Injection, IsLike, IsSpot, Memory, Slots, at as standing}
+use Rattle.ep_simulation.specs.Follows.{Facts, Fragment, Inside, OnTop, PlaceOnTop, point}
+use Rattle.ep_simulation.specs.Matching.{Injection, IsLike, IsSpot, Memory, Slots, at as standing}
 use Rattle.ep_object.specs.Operands.{Operand}
 use Rattle.ep_object.specs.Operands as operand
 use Rattle.ep_object.specs.Placing.{CodeStands, Placement}
@@ -12,22 +12,22 @@ use Rattle.ep_object.specs.declared.code.Image.{Image}
 use Rattle.ep_object.specs.declared.code.Reference.{Reference}
 use Rattle.ep_object.specs.declared.op.TheConstants as op
 use Rattle.ep_object.specs.declared.state.Place.{Place as PlaceOf}
-use Rattle.ep_object.proofs.following.Bind.{follows_give, follows_paid}
-use Rattle.ep_object.proofs.following.Choices.{ReadsResult, follows_read, fragment_using}
-use Rattle.ep_object.proofs.following.Fragments.{FailsWith, fragment_from, fragment_give, fragment_less, fragment_to, inside_bind, landed}
-use Rattle.ep_object.proofs.matching.Growing.{inside_here, not_left-here, unit_in-same}
-use Rattle.ep_object.proofs.rows.FieldRow.{IsAmong, among_there, field_does, field_fails}
-use Rattle.ep_object.proofs.rows.PlaceRows.{load_fails, load_reads}
-use Rattle.ep_typed.proofs.Steady.{steady_reached}
-use Rattle.ep_typed.specs.Calls.{Handler}
-use Rattle.ep_typed.specs.Meaning.{reached, read, selected}
-use Rattle.ep_typed.specs.Results.{result_of, weight_of}
-use Rattle.ep_typed.specs.Steady.{IsSteadyHandler}
-use Rattle.ep_typed.specs.Steps.{Component, component}
-use Rattle.ep_typed.specs.TypeValues as type
-use Rattle.ep_typed.specs.TypeValues.{ComponentTypes, TypeValue, type_among}
-use Rattle.ep_typed.specs.Valid.{Declarations, IsTypeOfKind, Kind, LeadTo}
-use Rattle.ep_typed.specs.declared.run_error.TheConstants as run_error
+use Rattle.ep_simulation.proofs.following.Bind.{follows_give, follows_paid}
+use Rattle.ep_simulation.proofs.following.Choices.{ReadsResult, follows_read, fragment_using}
+use Rattle.ep_simulation.proofs.following.Fragments.{FailsWith, fragment_from, fragment_give, fragment_less, fragment_to, inside_bind, landed}
+use Rattle.ep_simulation.proofs.matching.Growing.{inside_here, not_left-here, unit_in-same}
+use Rattle.ep_simulation.proofs.rows.FieldRow.{IsAmong, among_there, field_does, field_fails}
+use Rattle.ep_simulation.proofs.rows.PlaceRows.{load_fails, load_reads}
+use Rattle.ep_meaning.proofs.Steady.{steady_reached}
+use Rattle.ep_meaning.specs.Calls.{Handler}
+use Rattle.ep_meaning.specs.Meaning.{reached, read, selected}
+use Rattle.ep_meaning.specs.Results.{result_of, weight_of}
+use Rattle.ep_meaning.specs.Steady.{IsSteadyHandler}
+use Rattle.ep_meaning.specs.Steps.{Component, component}
+use Rattle.ep_values.specs.TypeValues as type
+use Rattle.ep_values.specs.TypeValues.{ComponentTypes, TypeValue, type_among}
+use Rattle.ep_meaning.specs.Valid.{Declarations, IsTypeOfKind, Kind, LeadTo}
+use Rattle.ep_values.specs.declared.run_error.TheConstants as run_error
 
 module _ {declared : Declarations} {G : Image} {untouched : Slots} {Here : Facts} (call : Handler) (g : ℕ) (unit : List ℕ) (line n : ℕ) where
   -- `Field`, with its step

@@ -9,12 +9,12 @@ use Rattle.ep_gen_code.proofs.Placed.{code_back, code_front}
 use Rattle.ep_gen_expr.proofs.Answering.{IsFollowed}
 use Rattle.ep_gen_expr.proofs.StructuredValues.{IsElementFollowed}
 use Rattle.ep_gen_expr.specs.ExprCode.{first_code, range_code, ranges_code}
-use Rattle.ep_object.specs.Follows.{Bare, Facts, Follows, Fragment, HasGrown, Inside, IsNotLeft, Lands, Lasts, OnTop, PlaceOnTop, point}
-use Rattle.ep_object.specs.Matching.{Injection, IsLike, IsSpot, Matches, Memory, Slots, at as standing, every_slot}
+use Rattle.ep_simulation.specs.Follows.{Bare, Facts, Follows, Fragment, HasGrown, Inside, IsNotLeft, Lands, Lasts, OnTop, PlaceOnTop, point}
+use Rattle.ep_simulation.specs.Matching.{Injection, IsLike, IsSpot, Matches, Memory, Slots, at as standing, every_slot}
 use Rattle.ep_object.specs.Operands.{Operand, Word}
 use Rattle.ep_object.specs.Operands as operand
 use Rattle.ep_object.specs.Placing.{CodeStands, Placement}
-use Rattle.ep_object.specs.Promises.{CallsAt, FillStands, IsValueOf}
+use Rattle.ep_simulation.specs.Promises.{CallsAt, FillStands, IsValueOf}
 use Rattle.ep_object.specs.Runs.{unit_in}
 use Rattle.ep_object.specs.State.{State}
 use Rattle.ep_object.specs.declared.code.Image.{Image}
@@ -22,36 +22,36 @@ use Rattle.ep_object.specs.declared.code.Instr.{Instr}
 use Rattle.ep_object.specs.declared.code.Reference.{Reference}
 use Rattle.ep_object.specs.declared.op.TheConstants as op
 use Rattle.ep_object.specs.declared.state.Place.{Place as PlaceOf}
-use Rattle.ep_object.proofs.following.Bind.{follows_bind, follows_changed, follows_credit, follows_from, follows_give, follows_less, follows_paid, follows_post, follows_stop, follows_waits, follows_wider}
-use Rattle.ep_object.proofs.following.Choices.{Finds, follows_fetched, follows_tested, fragment_using}
-use Rattle.ep_object.proofs.following.Filling.{FilledAt, among_every, fills_follow, gives_back}
-use Rattle.ep_object.proofs.following.Fragments.{FailsWith, fragment_credit, fragment_from, fragment_to, fragment_waits, inside_bind, landed}
-use Rattle.ep_object.proofs.following.Promising.{grown_fewer, same_routine-fewer}
-use Rattle.ep_object.proofs.matching.Assigned.{ended_keeps, value_got}
-use Rattle.ep_object.proofs.matching.Awaiting.{value-grown, value_on_top}
-use Rattle.ep_object.proofs.matching.BareValues.{suits_bare}
-use Rattle.ep_object.proofs.matching.Growing.{describes-grown, inside_here, inside_later, is_spot-grown, not_left-here, not_left-later, still_routine, unit_in-same}
-use Rattle.ep_object.proofs.matching.Indexes.{component_far, integer_between, range_inside}
-use Rattle.ep_object.proofs.matching.Standing.{int_le-trans, place_stands}
-use Rattle.ep_object.proofs.rows.ChangeRows.{may_take, value_does, value_ended, value_fails, variable_type}
-use Rattle.ep_object.proofs.rows.IndexRow.{array, component_place, component_spot, index_fails, index_leads, is_within_count, number_is}
-use Rattle.ep_object.proofs.rows.Rows.{outcome_at, push_pushes}
-use Rattle.ep_typed.proofs.Steady.{steady_bind, steady_eval, steady_fills_all, steady_given}
-use Rattle.ep_typed.specs.Bounds.{component_at, count_of, gap}
-use Rattle.ep_typed.specs.Calls.{Handler}
-use Rattle.ep_typed.specs.Meaning.{eval, given, located}
-use Rattle.ep_typed.specs.Nameless.{fills_all}
-use Rattle.ep_typed.specs.Operations.{is_integer}
-use Rattle.ep_typed.specs.Printing.{Result}
-use Rattle.ep_typed.specs.Results.{given_by, misfit, suits, value_of, weight_of}
-use Rattle.ep_typed.specs.Steady.{IsSteadyHandler}
-use Rattle.ep_typed.specs.Steps.{Component, Computation, assigned, bind, component, component_number, has_ended, type_at, value_at}
-use Rattle.ep_typed.specs.Steps as meaning
+use Rattle.ep_simulation.proofs.following.Bind.{follows_bind, follows_changed, follows_credit, follows_from, follows_give, follows_less, follows_paid, follows_post, follows_stop, follows_waits, follows_wider}
+use Rattle.ep_simulation.proofs.following.Choices.{Finds, follows_fetched, follows_tested, fragment_using}
+use Rattle.ep_simulation.proofs.following.Filling.{FilledAt, among_every, fills_follow, gives_back}
+use Rattle.ep_simulation.proofs.following.Fragments.{FailsWith, fragment_credit, fragment_from, fragment_to, fragment_waits, inside_bind, landed}
+use Rattle.ep_simulation.proofs.following.Promising.{grown_fewer, same_routine-fewer}
+use Rattle.ep_simulation.proofs.matching.Assigned.{ended_keeps, value_got}
+use Rattle.ep_simulation.proofs.matching.Awaiting.{value-grown, value_on_top}
+use Rattle.ep_simulation.proofs.matching.BareValues.{suits_bare}
+use Rattle.ep_simulation.proofs.matching.Growing.{describes-grown, inside_here, inside_later, is_spot-grown, not_left-here, not_left-later, still_routine, unit_in-same}
+use Rattle.ep_simulation.proofs.matching.Indexes.{component_far, integer_between, range_inside}
+use Rattle.ep_simulation.proofs.matching.Standing.{int_le-trans, place_stands}
+use Rattle.ep_simulation.proofs.rows.ChangeRows.{may_take, value_does, value_ended, value_fails, variable_type}
+use Rattle.ep_simulation.proofs.rows.IndexRow.{array, component_place, component_spot, index_fails, index_leads, is_within_count, number_is}
+use Rattle.ep_simulation.proofs.rows.Rows.{outcome_at, push_pushes}
+use Rattle.ep_meaning.proofs.Steady.{steady_bind, steady_eval, steady_fills_all, steady_given}
+use Rattle.ep_values.specs.Bounds.{component_at, count_of, gap}
+use Rattle.ep_meaning.specs.Calls.{Handler}
+use Rattle.ep_meaning.specs.Meaning.{eval, given, located}
+use Rattle.ep_meaning.specs.Nameless.{fills_all}
+use Rattle.ep_values.specs.Operations.{is_integer}
+use Rattle.ep_values.specs.Printing.{Result}
+use Rattle.ep_meaning.specs.Results.{given_by, misfit, suits, value_of, weight_of}
+use Rattle.ep_meaning.specs.Steady.{IsSteadyHandler}
+use Rattle.ep_meaning.specs.Steps.{Component, Computation, assigned, bind, component, component_number, has_ended, type_at, value_at}
+use Rattle.ep_meaning.specs.Steps as meaning
 use Rattle.ep_typed.specs.Trees.{AtRanges, Expr}
-use Rattle.ep_typed.specs.TypeValues.{TypeValue}
-use Rattle.ep_typed.specs.TypeValues as type
-use Rattle.ep_typed.specs.Valid.{Declarations, IsRangeWithin, IsTypeOfKind, Kind}
-use Rattle.ep_typed.specs.declared.run_error.TheConstants as run_error
+use Rattle.ep_values.specs.TypeValues.{TypeValue}
+use Rattle.ep_values.specs.TypeValues as type
+use Rattle.ep_meaning.specs.Valid.{Declarations, IsRangeWithin, IsTypeOfKind, Kind}
+use Rattle.ep_values.specs.declared.run_error.TheConstants as run_error
 use Rattle.ep_typed.specs.declared.tree.CaseRange.{CaseRange}
 
 -- facts that last where memory grows with some slots untouched hold where it has grown with all of them untouched

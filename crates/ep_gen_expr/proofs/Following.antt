@@ -1,52 +1,53 @@
 -- The machine follows the meaning of an expression through the code of the expression.
 use Rattle.std.proofs.Common.{◌≡◌, ℕ, ℤ, pos, zero, suc, Option, None, ◌+◌, ◌*◌, ◌<◌, ◌≤◌, Bool, IsTrue, List, [], ◌∷◌, ◌++◌, length, Some, slice_get, refl, sym, ap, ◌∙◌, subst, arith, append_assoc, length-append, true, false}
 use Rattle.std.specs.Bool.{⊤}
-use Rattle.ep_object.specs.Activations.{KnowsNames}
-use Rattle.ep_object.specs.Follows.{point, Facts, Lasts, Fragment, SameRoutine, Operands, OnTop, PlaceOnTop, Inside}
-use Rattle.ep_object.specs.Matching.{Slots, AreAmong, Grown, kept_slots, Memory, at, Injection, IsLike, IsSpot, HasType, HasOwnType, Matches}
-use Rattle.ep_object.specs.Matching.{at as standing}
+use Rattle.ep_simulation.specs.Activations.{KnowsNames}
+use Rattle.ep_simulation.specs.Follows.{point, Facts, Lasts, Fragment, SameRoutine, Operands, OnTop, PlaceOnTop, Inside}
+use Rattle.ep_simulation.specs.Matching.{Slots, AreAmong, Grown, kept_slots, Memory, at, Injection, IsLike, IsSpot, HasType, HasOwnType, Matches}
+use Rattle.ep_simulation.specs.Matching.{at as standing}
 use Rattle.ep_object.specs.Operands.{Operand}
 use Rattle.ep_object.specs.Operands as operand
 use Rattle.ep_object.specs.Placing.{Placement, CodeStands}
-use Rattle.ep_object.specs.Promises.{Passing, ByValue, ByReference, ArePassed, CallsAreKept, ArrayRoutinesStand, ResultsOnTop, RoutineKeeps, SwapStands, credit_of}
-use Rattle.ep_object.specs.Scene.{Scene, TextStands, VariableStands}
+use Rattle.ep_simulation.specs.Promises.{Passing, ByValue, ByReference, ArePassed, CallsAreKept, ArrayRoutinesStand, ResultsOnTop, RoutineKeeps, SwapStands, credit_of}
+use Rattle.ep_simulation.specs.Scene.{Scene, TextStands, VariableStands}
 use Rattle.ep_object.specs.Runs.{unit_in}
 use Rattle.ep_object.specs.declared.code.Image.{Image}
 use Rattle.ep_object.specs.declared.code.Instr.{Instr}
 use Rattle.ep_object.specs.declared.code.Reference.{Reference}
 use Rattle.ep_object.specs.declared.state.Place.{Place as PlaceOf}
-use Rattle.ep_object.proofs.following.Choices.{Reads, fragment_fetch, follows_fetch, fragment_using}
-use Rattle.ep_object.proofs.following.Fragments.{FailsWith, fragment_less, fragment_post, fragment_to, fragment_paid, fragment_give, fragment_credit, fragment_bind_place, fragment_bind_number}
-use Rattle.ep_object.proofs.matching.Growing.{unit_in-same, inside_here, is_spot-grown, describes-grown}
-use Rattle.ep_object.proofs.rows.IndexRow.{index_fails, index_reads}
-use Rattle.ep_object.proofs.rows.OwnRows.{own_reads, level_reads}
-use Rattle.ep_object.proofs.rows.PlaceRows.{unit_reads}
-use Rattle.ep_object.proofs.rows.TextRows.{text_pushes}
-use Rattle.ep_typed.specs.Steady.{Steady, IsSteadyHandler}
-use Rattle.ep_typed.specs.Calls.{Handler}
-use Rattle.ep_typed.proofs.Steady.{steady_bind, steady_if, steady_spend, steady_give, steady_answered, steady_eval, steady_read, steady_active, steady_indexed, steady_selected}
-use Rattle.ep_typed.specs.Meaning.{eval, arguments, place}
-use Rattle.ep_typed.specs.Results.{weight_of}
+use Rattle.ep_simulation.proofs.following.Choices.{Reads, fragment_fetch, follows_fetch, fragment_using}
+use Rattle.ep_simulation.proofs.following.Fragments.{FailsWith, fragment_less, fragment_post, fragment_to, fragment_paid, fragment_give, fragment_credit, fragment_bind_place, fragment_bind_number}
+use Rattle.ep_simulation.proofs.matching.Growing.{unit_in-same, inside_here, is_spot-grown, describes-grown}
+use Rattle.ep_simulation.proofs.rows.IndexRow.{index_fails, index_reads}
+use Rattle.ep_simulation.proofs.rows.OwnRows.{own_reads, level_reads}
+use Rattle.ep_simulation.proofs.rows.PlaceRows.{unit_reads}
+use Rattle.ep_simulation.proofs.rows.TextRows.{text_pushes}
+use Rattle.ep_meaning.specs.Steady.{Steady, IsSteadyHandler}
+use Rattle.ep_meaning.specs.Calls.{Handler}
+use Rattle.ep_meaning.proofs.Steady.{steady_bind, steady_if, steady_spend, steady_give, steady_answered, steady_eval, steady_read, steady_active, steady_indexed, steady_selected}
+use Rattle.ep_meaning.specs.Meaning.{eval, arguments, place}
+use Rattle.ep_meaning.specs.Results.{weight_of}
 use Rattle.ep_typed.specs.Nodes.{designators_count}
-use Rattle.ep_typed.specs.Operations.{decides, is_integer}
-use Rattle.ep_typed.specs.Printing.{Result, number_of}
-use Rattle.ep_typed.specs.Printing as result
+use Rattle.ep_values.specs.Operations.{decides, is_integer}
+use Rattle.ep_values.specs.Printing.{Result, number_of}
+use Rattle.ep_values.specs.Printing as result
 use Rattle.ep_typed.specs.Denoters.{bare_type_of}
-use Rattle.ep_typed.specs.Steps.{Component, Computation, bind, give, spend, component, component_number, type_at, own_variable, has_ended, variant_number}
-use Rattle.ep_typed.specs.Steps as meaning
+use Rattle.ep_meaning.specs.Steps.{Component, Computation, bind, give, spend, component, component_number, type_at, own_variable, has_ended}
+use Rattle.ep_typed.specs.Selections.{variant_number}
+use Rattle.ep_meaning.specs.Steps as meaning
 use Rattle.ep_typed.specs.Trees as tree
 use Rattle.ep_typed.specs.Trees.{Element, AtIndex, AtField, SameField, AtRanges, AtIndexes, Elements, no_element, next_element, Callee, Place, Variable, Own, Standard, Indexed, Field, Variant, Expr, Constant, Text, Read, One, Two, Short, Step, Function, IndexedValue, FieldValue, VariantValue, SetConstant, SetOf, OnSets, Card, Designator, Single, Range, Designators, no_member, next_member, Actual, Evaluated, Accessed, Actuals, no_actual, next_actual}
-use Rattle.ep_typed.specs.Valid.{Declarations, Kind, Ordinal, Bytes, Structured, Set, IsUnary, IsBinary, IsTypeOfKind, IsExpr, IsElement, AreElements, AreDesignators, AreGiven, IsDesignator, IsDeclaredUp, Level, variables_at, variables_up, tag_type}
+use Rattle.ep_meaning.specs.Valid.{Declarations, Kind, Ordinal, Bytes, Structured, Set, IsUnary, IsBinary, IsTypeOfKind, IsExpr, IsElement, AreElements, AreDesignators, AreGiven, IsDesignator, IsDeclaredUp, Level, variables_at, variables_up, tag_type}
 use Rattle.ep_typed.specs.declared.interface.Formal.{Formal}
 use Rattle.ep_typed.specs.declared.interface.RoutineEntry.{RoutineEntry}
 use Rattle.ep_typed.specs.declared.unit.UnitType.{UnitType}
-use Rattle.ep_typed.specs.declared.operations.Binary.{Binary}
-use Rattle.ep_typed.specs.declared.operations.ShortOperation.{ShortOperation}
-use Rattle.ep_typed.specs.declared.operations.Unary.{Unary}
+use Rattle.ep_values.specs.declared.operations.Binary.{Binary}
+use Rattle.ep_values.specs.declared.operations.ShortOperation.{ShortOperation}
+use Rattle.ep_values.specs.declared.operations.Unary.{Unary}
 use Rattle.ep_typed.specs.Hosts.{Host, least, greatest}
 use Rattle.ep_typed.specs.Hosts as host
-use Rattle.ep_typed.specs.TypeValues.{ComponentTypes, TypeValue, bare_of, type_among}
-use Rattle.ep_typed.specs.TypeValues as type
+use Rattle.ep_values.specs.TypeValues.{ComponentTypes, TypeValue, bare_of, type_among}
+use Rattle.ep_values.specs.TypeValues as type
 use Rattle.ep_typed.specs.declared.tree.Selection.{Selection}
 use Rattle.ep_typed.specs.declared.unit.UnitVariable.{UnitVariable}
 use Rattle.ep_gen_code.specs.Credit.{least_credit}
@@ -77,7 +78,7 @@ use Rattle.ep_gen_expr.proofs.StructuredValues.{AreElementsFollowed, IsElementFo
 use Rattle.ep_gen_expr.proofs.TwoOperands.{BinaryFollows, binary_follows}
 use Rattle.ep_gen_expr.proofs.ValueParts.{field_value_follows, indexed_value_follows}
 use Rattle.ep_object.specs.declared.op.TheConstants as op
-use Rattle.ep_typed.specs.declared.run_error.TheConstants as run_error
+use Rattle.ep_values.specs.declared.run_error.TheConstants as run_error
 
 -- `Index` of a variable that has ended, where the routine is one of the unit
 index_ends : (declared : Declarations) (G : Image) (unit : List ℕ) (at_place line : ℕ) (low high : ℤ) (of : TypeValue) (z : ℤ)

@@ -2,13 +2,13 @@
 use Rattle.std.proofs.Common.{◌≡◌, ℕ, ℤ, pos, ◌+◌, ◌<◌, ◌-◌, ◌^◌, length, slice_get, Some, arith, Bool, List, [], ◌∷◌, ◌++◌, refl, sym, ap, ◌∙◌, subst, append_assoc, append-nil, length-append}
 use Rattle.ep_object.specs.declared.code.Instr.{Instr}
 use Rattle.ep_object.specs.declared.code.Reference.{Reference}
-use Rattle.ep_typed.specs.Operations.{last_char}
+use Rattle.ep_values.specs.Operations.{last_char}
 use Rattle.ep_typed.specs.Trees.{Place, Variable, Own, Standard, Indexed, Field, Variant, Expr, Constant, Text, Read, One, Two, Short, Step, IndexedValue, FieldValue, VariantValue}
-use Rattle.ep_typed.specs.declared.operations.Unary.{Unary}
-use Rattle.ep_typed.specs.declared.operations.Unary.TheVariants as unary
-use Rattle.ep_typed.specs.declared.operations.Binary.{Binary}
-use Rattle.ep_typed.specs.declared.operations.ShortOperation.{ShortOperation}
-use Rattle.ep_typed.specs.declared.operations.ShortOperation.TheVariants as short
+use Rattle.ep_values.specs.declared.operations.Unary.{Unary}
+use Rattle.ep_values.specs.declared.operations.Unary.TheVariants as unary
+use Rattle.ep_values.specs.declared.operations.Binary.{Binary}
+use Rattle.ep_values.specs.declared.operations.ShortOperation.{ShortOperation}
+use Rattle.ep_values.specs.declared.operations.ShortOperation.TheVariants as short
 use Rattle.ep_typed.specs.declared.tree.Selection.{Selection}
 use Rattle.ep_typed.specs.declared.tree.StandardFile.{StandardFile}
 use Rattle.ep_gen_expr.specs.ExprCode.{IsPlaceCode, IsExprCode, standard_code, one_code, two_code, keep_code, count_code, step_code, variant_code, variant_part_code}
@@ -22,7 +22,7 @@ use Rattle.ep_gen_code.proofs.Pushed.{table_same, table_pushed, get_later, get_l
 use Rattle.ep_gen_code.proofs.Growing.{after_parts, after_two, grows_at, grows_none, grows_then}
 use Rattle.ep_gen_expr.proofs.Stays.{place_code_stays, expr_code_stays, place_code_short, expr_code_short}
 use Rattle.ep_object.specs.declared.op.TheConstants as op
-use Rattle.ep_typed.specs.declared.run_error.TheConstants as run_error
+use Rattle.ep_values.specs.declared.run_error.TheConstants as run_error
 
 -- what leaves a value as it is
 pub grows_kept : {a b c : Code} → Grows a b (bare a.line op.DUP ∷ []) → Grows b c (bare b.line op.DROP ∷ []) → Grows a c (bare a.line op.DUP ∷ bare a.line op.DROP ∷ [])

@@ -13,12 +13,12 @@ use Rattle.ep_gen_expr.proofs.SameFields.{swapped_follows}
 use Rattle.ep_gen_expr.proofs.StructuredValues.{IsElementFollowed, element_credit}
 use Rattle.ep_gen_expr.proofs.Stays.{spreads_length}
 use Rattle.ep_gen_expr.specs.ExprCode.{drops_code, given_code, spread_code, spreads_code, tested_code}
-use Rattle.ep_object.specs.Follows.{After, Bare, Facts, Follows, Fragment, Inside, IsNotLeft, Lands, Lasts, OnTop, PlaceOnTop, point}
-use Rattle.ep_object.specs.Matching.{Injection, IsLike, IsSpot, Matches, Memory, Slots, at as standing}
+use Rattle.ep_simulation.specs.Follows.{After, Bare, Facts, Follows, Fragment, Inside, IsNotLeft, Lands, Lasts, OnTop, PlaceOnTop, point}
+use Rattle.ep_simulation.specs.Matching.{Injection, IsLike, IsSpot, Matches, Memory, Slots, at as standing}
 use Rattle.ep_object.specs.Operands.{Operand, Word, weight}
 use Rattle.ep_object.specs.Operands as operand
 use Rattle.ep_object.specs.Placing.{CodeStands, Placement}
-use Rattle.ep_object.specs.Promises.{ArrayRoutinesStand, CallsAt, FillStands, IsValueOf, SwapStands}
+use Rattle.ep_simulation.specs.Promises.{ArrayRoutinesStand, CallsAt, FillStands, IsValueOf, SwapStands}
 use Rattle.ep_object.specs.Runs.{outcome, unit_in}
 use Rattle.ep_object.specs.State.{Running}
 use Rattle.ep_object.specs.declared.code.Image.{Image}
@@ -26,39 +26,39 @@ use Rattle.ep_object.specs.declared.code.Instr.{Instr}
 use Rattle.ep_object.specs.declared.code.Reference.{Reference}
 use Rattle.ep_object.specs.declared.op.TheConstants as op
 use Rattle.ep_object.specs.declared.state.Place.{Place as PlaceOf}
-use Rattle.ep_object.proofs.following.Bind.{follows_bind, follows_counted, follows_credit, follows_from, follows_give, follows_post, follows_waits, follows_wider}
-use Rattle.ep_object.proofs.following.Choices.{Finds, Misses, Reads, follows_fetched, fragment_branch, fragment_using}
-use Rattle.ep_object.proofs.following.Filling.{FilledAt, among_every, fills_follow, gives_back}
-use Rattle.ep_object.proofs.following.Fragments.{FailsWith, fragment_bind_number, fragment_credit, fragment_from, fragment_give, fragment_less, fragment_one, fragment_paid, fragment_to, fragment_waits, inside_bind}
-use Rattle.ep_object.proofs.following.Promising.{grown_fewer, same_routine-fewer}
-use Rattle.ep_object.proofs.following.Ranging.{range_follows, range_ticks}
-use Rattle.ep_object.proofs.following.Spreading.{spread_follows, spread_ticks}
-use Rattle.ep_object.proofs.following.Swapping.{swap_ticks}
-use Rattle.ep_object.proofs.matching.Awaiting.{on_top, value-grown, value_on_top, value_weight}
-use Rattle.ep_object.proofs.matching.Growing.{describes-grown, grown_refl, inside_here, inside_later, is_spot-grown, not_left-here, not_left-later, same_routine-refl, still_routine, unit_in-same}
-use Rattle.ep_object.proofs.matching.Indexes.{integer_between, range_inside}
-use Rattle.ep_object.proofs.rows.IndexRow.{index_fails, index_reads, number_is}
-use Rattle.ep_object.proofs.rows.NamelessRows.{matches_depth}
-use Rattle.ep_object.proofs.rows.Rows.{jump_false_jumps, jump_jumps, outcome_at}
-use Rattle.ep_typed.proofs.Steady.{steady_bind, steady_change, steady_eval, steady_fills_all, steady_give, steady_given, steady_given_at, steady_given_each, steady_given_from, steady_located, steady_ranging, steady_spend, grows_depth}
-use Rattle.ep_typed.specs.Bounds.{below, component_at, count_of, gap, one_more}
-use Rattle.ep_typed.specs.Calls.{Handler}
-use Rattle.ep_typed.specs.Events.{Trace}
+use Rattle.ep_simulation.proofs.following.Bind.{follows_bind, follows_counted, follows_credit, follows_from, follows_give, follows_post, follows_waits, follows_wider}
+use Rattle.ep_simulation.proofs.following.Choices.{Finds, Misses, Reads, follows_fetched, fragment_branch, fragment_using}
+use Rattle.ep_simulation.proofs.following.Filling.{FilledAt, among_every, fills_follow, gives_back}
+use Rattle.ep_simulation.proofs.following.Fragments.{FailsWith, fragment_bind_number, fragment_credit, fragment_from, fragment_give, fragment_less, fragment_one, fragment_paid, fragment_to, fragment_waits, inside_bind}
+use Rattle.ep_simulation.proofs.following.Promising.{grown_fewer, same_routine-fewer}
+use Rattle.ep_simulation.proofs.following.Ranging.{range_follows, range_ticks}
+use Rattle.ep_simulation.proofs.following.Spreading.{spread_follows, spread_ticks}
+use Rattle.ep_simulation.proofs.following.Swapping.{swap_ticks}
+use Rattle.ep_simulation.proofs.matching.Awaiting.{on_top, value-grown, value_on_top, value_weight}
+use Rattle.ep_simulation.proofs.matching.Growing.{describes-grown, grown_refl, inside_here, inside_later, is_spot-grown, not_left-here, not_left-later, same_routine-refl, still_routine, unit_in-same}
+use Rattle.ep_simulation.proofs.matching.Indexes.{integer_between, range_inside}
+use Rattle.ep_simulation.proofs.rows.IndexRow.{index_fails, index_reads, number_is}
+use Rattle.ep_simulation.proofs.rows.NamelessRows.{matches_depth}
+use Rattle.ep_simulation.proofs.rows.Rows.{jump_false_jumps, jump_jumps, outcome_at}
+use Rattle.ep_meaning.proofs.Steady.{steady_bind, steady_change, steady_eval, steady_fills_all, steady_give, steady_given, steady_given_at, steady_given_each, steady_given_from, steady_located, steady_ranging, steady_spend, grows_depth}
+use Rattle.ep_values.specs.Bounds.{below, component_at, count_of, gap, one_more}
+use Rattle.ep_meaning.specs.Calls.{Handler}
+use Rattle.ep_values.specs.Events.{Trace}
 use Rattle.ep_typed.specs.Hosts.{Host}
-use Rattle.ep_typed.specs.Meaning.{eval, given, given_at, given_each, indexes, located, ranging}
-use Rattle.ep_typed.specs.Nameless.{fills_all, with_depth}
+use Rattle.ep_meaning.specs.Meaning.{eval, given, given_at, given_each, indexes, located, ranging}
+use Rattle.ep_meaning.specs.Nameless.{fills_all, with_depth}
 use Rattle.ep_typed.specs.Nodes.{designators_count}
-use Rattle.ep_typed.specs.Operations.{is_integer, ordinal_of}
-use Rattle.ep_typed.specs.Printing.{Result, number_of}
-use Rattle.ep_typed.specs.Results.{suits, value_of, weight_of}
-use Rattle.ep_typed.specs.Steady.{IsSteadyHandler, Steady}
-use Rattle.ep_typed.specs.Steps.{Component, Computation, bind, change, component, component_number, give, has_ended, spend, type_at, value_at}
-use Rattle.ep_typed.specs.Steps as meaning
+use Rattle.ep_values.specs.Operations.{is_integer, ordinal_of}
+use Rattle.ep_values.specs.Printing.{Result, number_of}
+use Rattle.ep_meaning.specs.Results.{suits, value_of, weight_of}
+use Rattle.ep_meaning.specs.Steady.{IsSteadyHandler, Steady}
+use Rattle.ep_meaning.specs.Steps.{Component, Computation, bind, change, component, component_number, give, has_ended, spend, type_at, value_at}
+use Rattle.ep_meaning.specs.Steps as meaning
 use Rattle.ep_typed.specs.Trees.{AtIndexes, Designator, Designators, Expr, Range, Single, next_member, no_member}
-use Rattle.ep_typed.specs.TypeValues.{TypeValue}
-use Rattle.ep_typed.specs.TypeValues as type
-use Rattle.ep_typed.specs.Valid.{Declarations, IsTypeOfKind, Kind, Ordinal}
-use Rattle.ep_typed.specs.declared.run_error.TheConstants as run_error
+use Rattle.ep_values.specs.TypeValues.{TypeValue}
+use Rattle.ep_values.specs.TypeValues as type
+use Rattle.ep_meaning.specs.Valid.{Declarations, IsTypeOfKind, Kind, Ordinal}
+use Rattle.ep_values.specs.declared.run_error.TheConstants as run_error
 use Rattle.ep_typed.specs.declared.tree.CaseRange.{CaseRange}
 
 -- what a test finds

@@ -3,10 +3,10 @@ use Rattle.std.proofs.Common.{◌≡◌, ℕ, ℤ, pos, negsuc, zero, suc, ◌%�
 use Rattle.std.proofs.lemmas.Bool.Decides.{nat_tests}
 use Rattle.std.specs.Int.{int_rem_euclid}
 use Rattle.std.specs.Prelude.{if◌then◌else◌, ◌-ℤ◌, neg_ℤ, int_le, int_lt, int_div}
-use Rattle.ep_typed.specs.Operations.{Answer, Number, Fault, integer, is_integer, within, divided, modulo, is_same, is_true, ordinal_of}
+use Rattle.ep_values.specs.Operations.{Answer, Number, Fault, integer, is_integer, within, divided, modulo, is_same, is_true, ordinal_of}
 use Rattle.ep_typed.specs.Hosts.{Host, least, greatest, is_of_host}
 use Rattle.ep_typed.specs.Hosts as host
-use Rattle.ep_typed.specs.declared.run_error.TheConstants as run_error
+use Rattle.ep_values.specs.declared.run_error.TheConstants as run_error
 
 -- a number that is the answer
 pub given : (h : Host) (z w : ℤ) → IsTrue (is_of_host h z) → ◌≡◌ {A = Answer} (Number z) (Number w) → IsTrue (is_of_host h w)

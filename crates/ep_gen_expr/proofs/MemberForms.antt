@@ -1,10 +1,10 @@
 -- The code of what `for` statements over members are made of, from that of its parts.
 use Rattle.std.proofs.Common.{[], ◌∷◌}
 use Rattle.ep_object.specs.declared.op.TheConstants as op
-use Rattle.ep_typed.specs.Controls.{has_more, others}
+use Rattle.ep_meaning.specs.Controls.{has_more, others}
 use Rattle.ep_typed.specs.Trees.{MemberControl, entire, Read, One, SetOf, Single, no_member, next_member}
-use Rattle.ep_typed.specs.declared.operations.Unary.TheVariants as unary
-use Rattle.ep_typed.specs.declared.operations.SetOperation.TheVariants as set
+use Rattle.ep_values.specs.declared.operations.Unary.TheVariants as unary
+use Rattle.ep_values.specs.declared.operations.SetOperation.TheVariants as set
 use Rattle.ep_gen_code.specs.Instructions.{bare}
 use Rattle.ep_gen_expr.specs.ExprCode.{one_code, set_code}
 use Rattle.ep_gen_code.specs.Growth.{Grows}

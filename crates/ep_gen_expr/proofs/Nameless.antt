@@ -1,38 +1,40 @@
 -- The machine follows a variable without a name: it is made, and in the end its value is taken.
 use Rattle.std.proofs.Common.{◌≡◌, ℕ, pos, suc, ◌+◌, ◌*◌, ◌≤◌, ◌<◌, ◌⊎◌, inl, inr, List, [], ◌∷◌, Some, length, slice_get, false, refl, sym, subst, arith}
 use Rattle.ep_gen_code.specs.Instructions.{bare}
-use Rattle.ep_object.specs.Follows.{Facts, Follows, GivesUp, Inside, IsNotLeft, IsStructure, Lands, Lasts, Fragment, OnTop, point}
-use Rattle.ep_object.specs.Matching.{Describes, Injection, IsLike, IsSpot, Matches, Memory, Slots, at as standing}
+use Rattle.ep_simulation.specs.Follows.{Facts, Follows, GivesUp, Inside, IsNotLeft, IsStructure, Lands, Lasts, Fragment, OnTop, point}
+use Rattle.ep_simulation.specs.Matching.{Describes, Injection, IsLike, IsSpot, Matches, Memory, Slots, at as standing}
 use Rattle.ep_object.specs.Operands.{Operand, Word, weight}
 use Rattle.ep_object.specs.Operands as operand
-use Rattle.ep_object.specs.Promises.{CallsAt, IsSwap}
+use Rattle.ep_simulation.specs.Promises.{CallsAt, IsSwap}
 use Rattle.ep_object.specs.Runs.{outcome, unit_in}
-use Rattle.ep_object.specs.Starts.{AreStarts}
+use Rattle.ep_simulation.specs.Starts.{AreStarts}
 use Rattle.ep_object.specs.State.{Running}
 use Rattle.ep_object.specs.declared.code.Image.{Image}
 use Rattle.ep_object.specs.declared.op.TheConstants as op
 use Rattle.ep_object.specs.declared.state.Place.{Place as PlaceOf}
-use Rattle.ep_object.proofs.following.Bind.{follows_counted, follows_credit, follows_give, follows_gives_up, follows_paid, follows_waits}
-use Rattle.ep_object.proofs.following.Choices.{fragment_using}
-use Rattle.ep_object.proofs.following.Fragments.{Does, FailsWith, fragment_less, landed}
-use Rattle.ep_object.proofs.following.Swapping.{swap_follows, swap_ticks}
-use Rattle.ep_object.proofs.matching.Awaiting.{value-grown, value_weight}
-use Rattle.ep_object.proofs.matching.Growing.{grown_refl, not_left-here, same_routine-refl}
-use Rattle.ep_object.proofs.matching.Standing.{Stands, place_stands}
-use Rattle.ep_object.proofs.rows.NamelessRows.{NamelessOnTop, dispose_does, matches_depth, new_does}
-use Rattle.ep_object.proofs.rows.PlaceRows.{load_fails, structure_loads}
-use Rattle.ep_typed.proofs.Steady.{grows_ended, grows_nameless, steady_bind, steady_change, steady_give, steady_spend}
-use Rattle.ep_typed.specs.Calls.{Handler}
-use Rattle.ep_typed.specs.Meaning.{taken}
-use Rattle.ep_typed.specs.Nameless.{begins_nameless, made_nameless, newest_nameless, taken_and_ended, with_depth}
-use Rattle.ep_typed.specs.Printing.{Result, Structure}
-use Rattle.ep_typed.specs.Results.{result_of, weight_of}
-use Rattle.ep_typed.specs.Steps.{Computation, Value, bind, change, counted, found, give, fetch, has_ended, size_of, spend, whole, with_all_ended}
-use Rattle.ep_typed.specs.Steps as meaning
-use Rattle.ep_typed.specs.TypeValues.{TypeValue}
-use Rattle.ep_typed.specs.Valid.{Declarations, IsStructured, IsTypeValue}
-use Rattle.ep_typed.specs.Valid as kind
-use Rattle.ep_typed.specs.declared.run_error.TheConstants as run_error
+use Rattle.ep_simulation.proofs.following.Bind.{follows_counted, follows_credit, follows_give, follows_gives_up, follows_paid, follows_waits}
+use Rattle.ep_simulation.proofs.following.Choices.{fragment_using}
+use Rattle.ep_simulation.proofs.following.Fragments.{Does, FailsWith, fragment_less, landed}
+use Rattle.ep_simulation.proofs.following.Swapping.{swap_follows, swap_ticks}
+use Rattle.ep_simulation.proofs.matching.Awaiting.{value-grown, value_weight}
+use Rattle.ep_simulation.proofs.matching.Growing.{grown_refl, not_left-here, same_routine-refl}
+use Rattle.ep_simulation.proofs.matching.Standing.{Stands, place_stands}
+use Rattle.ep_simulation.proofs.rows.NamelessRows.{NamelessOnTop, dispose_does, matches_depth, new_does}
+use Rattle.ep_simulation.proofs.rows.PlaceRows.{load_fails, structure_loads}
+use Rattle.ep_meaning.proofs.Steady.{grows_ended, grows_nameless, steady_bind, steady_change, steady_give, steady_spend}
+use Rattle.ep_meaning.specs.Calls.{Handler}
+use Rattle.ep_meaning.specs.Meaning.{taken}
+use Rattle.ep_meaning.specs.Nameless.{begins_nameless, made_nameless, newest_nameless, taken_and_ended, with_depth}
+use Rattle.ep_values.specs.Printing.{Result, Structure}
+use Rattle.ep_meaning.specs.Results.{result_of, weight_of}
+use Rattle.ep_meaning.specs.Steps.{Computation, bind, change, counted, found, give, fetch, has_ended, spend, whole, with_all_ended}
+use Rattle.ep_values.specs.Values.{Value}
+use Rattle.ep_values.specs.TypeValues.{size_of}
+use Rattle.ep_meaning.specs.Steps as meaning
+use Rattle.ep_values.specs.TypeValues.{TypeValue}
+use Rattle.ep_meaning.specs.Valid.{Declarations, IsStructured, IsTypeValue}
+use Rattle.ep_meaning.specs.Valid as kind
+use Rattle.ep_values.specs.declared.run_error.TheConstants as run_error
 
 -- what the end of a structured value costs besides its weight
 abbrev pub end_ticks : TypeValue → ℕ

@@ -1,22 +1,22 @@
 -- The machine follows the operations with one operand.
 use Rattle.std.proofs.Common.{◌≡◌, ℕ, ℤ, pos, suc, ◌+◌, ◌%◌, IsTrue, List, ◌∷◌, length, refl, arith}
-use Rattle.ep_object.specs.Follows.{Facts}
+use Rattle.ep_simulation.specs.Follows.{Facts}
 use Rattle.std.specs.Prelude.{◌-ℤ◌, ◌*ℤ◌, neg_ℤ, unsigned_abs}
-use Rattle.ep_object.specs.Matching.{Slots, Memory, Injection}
+use Rattle.ep_simulation.specs.Matching.{Slots, Memory, Injection}
 use Rattle.ep_object.specs.Operands.{Operand, Word}
 use Rattle.ep_object.specs.Placing.{Placement, CodeStands}
 use Rattle.ep_object.specs.Runs.{unit_in}
 use Rattle.ep_object.specs.declared.code.Image.{Image}
 use Rattle.ep_object.specs.declared.code.Reference.{Reference}
-use Rattle.ep_object.proofs.following.Fragments.{fragment_less, fragment_to, fragment_one, fragment_give}
-use Rattle.ep_object.proofs.matching.Growing.{inside_here}
-use Rattle.ep_object.proofs.rows.Rows.{RowAnswers, push_pushes, neg_answers, abs_answers, sqr_answers, odd_answers, not_answers, check_answers}
-use Rattle.ep_object.proofs.rows.TextRows.{drop_drops, dup_pushes}
-use Rattle.ep_typed.specs.Calls.{Handler}
-use Rattle.ep_typed.specs.Operations.{Number, last_char, unary_answer}
-use Rattle.ep_typed.specs.Valid.{Declarations, Kind, Ordinal, IsUnary}
-use Rattle.ep_typed.specs.declared.operations.Unary.{Unary}
-use Rattle.ep_typed.specs.declared.operations.Unary.TheVariants as unary
+use Rattle.ep_simulation.proofs.following.Fragments.{fragment_less, fragment_to, fragment_one, fragment_give}
+use Rattle.ep_simulation.proofs.matching.Growing.{inside_here}
+use Rattle.ep_simulation.proofs.rows.Rows.{RowAnswers, push_pushes, neg_answers, abs_answers, sqr_answers, odd_answers, not_answers, check_answers}
+use Rattle.ep_simulation.proofs.rows.TextRows.{drop_drops, dup_pushes}
+use Rattle.ep_meaning.specs.Calls.{Handler}
+use Rattle.ep_values.specs.Operations.{Number, last_char, unary_answer}
+use Rattle.ep_meaning.specs.Valid.{Declarations, Kind, Ordinal, IsUnary}
+use Rattle.ep_values.specs.declared.operations.Unary.{Unary}
+use Rattle.ep_values.specs.declared.operations.Unary.TheVariants as unary
 use Rattle.ep_typed.specs.Hosts.{Host, is_of_host}
 use Rattle.ep_typed.specs.Hosts as host
 use Rattle.ep_gen_expr.specs.ExprCode.{one_code}
@@ -24,7 +24,7 @@ use Rattle.ep_gen_expr.proofs.Answering.{Evaluates, answering, answer_follows}
 use Rattle.ep_gen_code.proofs.Waiting.{row_waits}
 use Rattle.ep_gen_expr.proofs.Hosts.{given, integer_answer, within_answer, odd_boolean, not_boolean, host_integer}
 use Rattle.ep_gen_code.proofs.Placed.{instr_at}
-use Rattle.ep_typed.specs.declared.run_error.TheConstants as run_error
+use Rattle.ep_values.specs.declared.run_error.TheConstants as run_error
 
 module _ (declared : Declarations) (G : Image) (untouched : Slots) (Here : Facts) (ps : List Placement) (p : Placement) (references : List Reference) (call : Handler) (g : ℕ) (unit : List ℕ) (line : ℕ) where
   -- from the value of the operand, the machine follows the operation to the end of its code

@@ -3,19 +3,19 @@ use Rattle.std.proofs.Common.{◌≡◌, ◌∙◌, ℕ, ℤ, None, Option, Some
 use Rattle.std.proofs.lemmas.Option.{same_Some}
 use Rattle.std.specs.Bool.{⊤}
 use Rattle.ep_gen_expr.specs.Following.{HasPlaceType, IsValidPlace}
-use Rattle.ep_object.specs.Matching.{HasTypeUnder}
-use Rattle.ep_object.specs.Scene.{HaveValidTypes, HaveValidOwnTypes}
-use Rattle.ep_typed.proofs.Bares.{bare_among}
+use Rattle.ep_simulation.specs.Matching.{HasTypeUnder}
+use Rattle.ep_simulation.specs.Scene.{HaveValidTypes, HaveValidOwnTypes}
+use Rattle.ep_meaning.proofs.Bares.{bare_among}
 use Rattle.ep_typed.proofs.Denoters.{types_are_instances, instances_are_one}
-use Rattle.ep_typed.proofs.Typed.{HasComponents, HasParts, typed_among, typed_components, typed_instance, typed_of_host, typed_parts}
-use Rattle.ep_typed.proofs.ValueKinds.{typed_of_kind}
+use Rattle.ep_meaning.proofs.Typed.{HasComponents, HasParts, typed_among, typed_components, typed_instance, typed_of_host, typed_parts}
+use Rattle.ep_meaning.proofs.ValueKinds.{typed_of_kind}
 use Rattle.ep_typed.specs.Denoters.{ArrayParts, array_of, bare_type_of, denoter_at, host_of, record_of, type_of}
 use Rattle.ep_typed.specs.Hosts.{Host}
 use Rattle.ep_typed.specs.Trees.{Denoter, Denoters, Place, Variable, Own, Standard, Indexed, Field, Variant, Record, no_denoter, next_denoter, Expr}
-use Rattle.ep_typed.specs.TypeValues.{ComponentTypes, TypeValue, bare_each, bare_of, type_among}
-use Rattle.ep_typed.specs.TypeValues as type
-use Rattle.ep_typed.specs.Steps.{variant_number}
-use Rattle.ep_typed.specs.Valid.{Declarations, AreTyped, none_typed, next_typed, IsOfKind, IsSelection, Kind, Ordinal, IsTyped, IsTypeOf, IsTypeOfKind, IsExpr, IsPlaceWhere, IsVariableOf}
+use Rattle.ep_values.specs.TypeValues.{ComponentTypes, TypeValue, bare_each, bare_of, type_among}
+use Rattle.ep_values.specs.TypeValues as type
+use Rattle.ep_typed.specs.Selections.{variant_number}
+use Rattle.ep_meaning.specs.Valid.{Declarations, AreTyped, none_typed, next_typed, IsOfKind, IsSelection, Kind, Ordinal, IsTyped, IsTypeOf, IsTypeOfKind, IsExpr, IsPlaceWhere, IsVariableOf}
 use Rattle.ep_typed.specs.Viewed.{denoter_of}
 use Rattle.ep_typed.specs.declared.tree.Selection.{Selection}
 use Rattle.ep_typed.specs.declared.unit.UnitType.{UnitType}

@@ -1,23 +1,24 @@
 -- The machine follows tests of ranges, and of the labels of variants.
 use Rattle.std.proofs.Common.{◌≡◌, ℕ, ℤ, pos, suc, ◌+◌, ◌*◌, ◌-◌, ◌≤◌, ◌<◌, Bool, true, false, List, [], ◌∷◌, length, refl, sym, ap, ◌∙◌, subst, arith}
 use Rattle.std.specs.Prelude.{if◌then◌else◌}
-use Rattle.ep_object.specs.Follows.{point, Facts, After, Fragment}
-use Rattle.ep_object.specs.Matching.{Memory, Injection, at as standing}
+use Rattle.ep_simulation.specs.Follows.{point, Facts, After, Fragment}
+use Rattle.ep_simulation.specs.Matching.{Memory, Injection, at as standing}
 use Rattle.ep_object.specs.Operands.{Operand, Word}
 use Rattle.ep_object.specs.Placing.{Placement, CodeStands}
 use Rattle.ep_object.specs.State.{Running}
 use Rattle.ep_object.specs.declared.code.Image.{Image}
 use Rattle.ep_object.specs.declared.code.Instr.{Instr}
 use Rattle.ep_object.specs.declared.code.Reference.{Reference}
-use Rattle.ep_object.proofs.following.Choices.{fragment_branch_one}
-use Rattle.ep_object.proofs.following.Fragments.{fragment_from, fragment_less, fragment_credit, fragment_waits}
-use Rattle.ep_object.proofs.rows.Rows.{push_pushes, between_pushes, jump_jumps, jump_false_jumps}
-use Rattle.ep_object.proofs.rows.TextRows.{dup_pushes}
-use Rattle.ep_typed.specs.Calls.{Handler}
-use Rattle.ep_typed.specs.Meaning.{selecting, tried}
-use Rattle.ep_typed.specs.Operations.{is_in, is_true, ordinal_of}
-use Rattle.ep_typed.specs.Steps.{Computation, is_number, spend}
-use Rattle.ep_typed.specs.Valid.{Declarations}
+use Rattle.ep_simulation.proofs.following.Choices.{fragment_branch_one}
+use Rattle.ep_simulation.proofs.following.Fragments.{fragment_from, fragment_less, fragment_credit, fragment_waits}
+use Rattle.ep_simulation.proofs.rows.Rows.{push_pushes, between_pushes, jump_jumps, jump_false_jumps}
+use Rattle.ep_simulation.proofs.rows.TextRows.{dup_pushes}
+use Rattle.ep_meaning.specs.Calls.{Handler}
+use Rattle.ep_meaning.specs.Meaning.{selecting, tried}
+use Rattle.ep_typed.specs.CaseRanges.{is_in}
+use Rattle.ep_values.specs.Operations.{is_true, ordinal_of}
+use Rattle.ep_meaning.specs.Steps.{Computation, is_number, spend}
+use Rattle.ep_meaning.specs.Valid.{Declarations}
 use Rattle.ep_typed.specs.declared.tree.CaseRange.{CaseRange}
 use Rattle.ep_gen_code.specs.Instructions.{instr}
 use Rattle.ep_gen_expr.specs.ExprCode.{labels_code, labels_count, test_code, tests_code}

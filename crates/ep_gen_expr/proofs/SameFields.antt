@@ -8,37 +8,37 @@ use Rattle.ep_gen_code.proofs.Placed.{code_back, code_front}
 use Rattle.ep_gen_expr.specs.ExprCode.{reach_code, same_code, steps_code}
 use Rattle.ep_gen_expr.proofs.Components.{loaded_follows, reached_follows}
 use Rattle.ep_gen_expr.proofs.StructuredValues.{IsElementFollowed, store_given}
-use Rattle.ep_object.specs.Follows.{After, Bare, Facts, Fragment, Inside, Lasts, OnTop, PlaceOnTop, point}
-use Rattle.ep_object.specs.Matching.{Injection, IsLike, IsSpot, Memory, Slots}
+use Rattle.ep_simulation.specs.Follows.{After, Bare, Facts, Fragment, Inside, Lasts, OnTop, PlaceOnTop, point}
+use Rattle.ep_simulation.specs.Matching.{Injection, IsLike, IsSpot, Memory, Slots}
 use Rattle.ep_object.specs.Operands.{Operand}
 use Rattle.ep_object.specs.Operands as operand
 use Rattle.ep_object.specs.Placing.{CodeStands, Placement}
-use Rattle.ep_object.specs.Promises.{CallsAt, SwapStands}
+use Rattle.ep_simulation.specs.Promises.{CallsAt, SwapStands}
 use Rattle.ep_object.specs.Runs.{unit_in}
 use Rattle.ep_object.specs.declared.code.Image.{Image}
 use Rattle.ep_object.specs.declared.code.Instr.{Instr}
 use Rattle.ep_object.specs.declared.code.Reference.{Reference}
 use Rattle.ep_object.specs.declared.op.TheConstants as op
 use Rattle.ep_object.specs.declared.state.Place.{Place as PlaceOf}
-use Rattle.ep_object.proofs.following.Bind.{follows_counted}
-use Rattle.ep_object.proofs.following.Fragments.{fragment_credit, fragment_from, fragment_to, fragment_waits, inside_bind}
-use Rattle.ep_object.proofs.following.Swapping.{swap_follows, swap_ticks}
-use Rattle.ep_object.proofs.matching.Awaiting.{value_on_top}
-use Rattle.ep_object.proofs.matching.Growing.{describes-grown, grown_refl, is_spot-grown, same_routine-refl, unit_in-same}
-use Rattle.ep_object.proofs.rows.ChangeRows.{may_take}
-use Rattle.ep_object.proofs.rows.NamelessRows.{matches_depth}
-use Rattle.ep_object.proofs.rows.Rows.{outcome_at}
-use Rattle.ep_typed.proofs.Steady.{grows_depth, steady_bind, steady_change, steady_given, steady_reached, steady_read}
-use Rattle.ep_typed.specs.Calls.{Handler}
-use Rattle.ep_typed.specs.Meaning.{given, reached, read}
-use Rattle.ep_typed.specs.Nameless.{with_depth}
-use Rattle.ep_typed.specs.Results.{weight_of}
-use Rattle.ep_typed.specs.Steady.{IsSteadyHandler, Steady}
-use Rattle.ep_typed.specs.Steps.{Component, Computation, bind, change}
+use Rattle.ep_simulation.proofs.following.Bind.{follows_counted}
+use Rattle.ep_simulation.proofs.following.Fragments.{fragment_credit, fragment_from, fragment_to, fragment_waits, inside_bind}
+use Rattle.ep_simulation.proofs.following.Swapping.{swap_follows, swap_ticks}
+use Rattle.ep_simulation.proofs.matching.Awaiting.{value_on_top}
+use Rattle.ep_simulation.proofs.matching.Growing.{describes-grown, grown_refl, is_spot-grown, same_routine-refl, unit_in-same}
+use Rattle.ep_simulation.proofs.rows.ChangeRows.{may_take}
+use Rattle.ep_simulation.proofs.rows.NamelessRows.{matches_depth}
+use Rattle.ep_simulation.proofs.rows.Rows.{outcome_at}
+use Rattle.ep_meaning.proofs.Steady.{grows_depth, steady_bind, steady_change, steady_given, steady_reached, steady_read}
+use Rattle.ep_meaning.specs.Calls.{Handler}
+use Rattle.ep_meaning.specs.Meaning.{given, reached, read}
+use Rattle.ep_meaning.specs.Nameless.{with_depth}
+use Rattle.ep_meaning.specs.Results.{weight_of}
+use Rattle.ep_meaning.specs.Steady.{IsSteadyHandler, Steady}
+use Rattle.ep_meaning.specs.Steps.{Component, Computation, bind, change}
 use Rattle.ep_typed.specs.Trees.{SameField}
-use Rattle.ep_typed.specs.TypeValues.{ComponentTypes, TypeValue}
-use Rattle.ep_typed.specs.TypeValues as type
-use Rattle.ep_typed.specs.Valid.{Declarations, IsTypeOfKind, Kind, LeadToKind}
+use Rattle.ep_values.specs.TypeValues.{ComponentTypes, TypeValue}
+use Rattle.ep_values.specs.TypeValues as type
+use Rattle.ep_meaning.specs.Valid.{Declarations, IsTypeOfKind, Kind, LeadToKind}
 
 module _ (declared : Declarations) (G : Image) (untouched : Slots) (Here : Facts) (lasts : Lasts untouched Here) (ps : List Placement) (p : Placement) (references : List Reference) (call : Handler) (steady_call : IsSteadyHandler call) (g : ℕ) (unit : List ℕ) (line n : ℕ)
     (swap : SwapStands G ps unit (length (declared.routines unit))) (swap_referred : IsSwapReferred declared unit references) where

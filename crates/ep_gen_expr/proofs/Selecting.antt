@@ -1,8 +1,8 @@
 -- The machine follows the tests of the labels of variants, over the value of a tag and what has the variants.
 use Rattle.std.proofs.Common.{◌≡◌, ℕ, ℤ, pos, ◌+◌, ◌*◌, ◌≤◌, ◌<◌, Bool, true, false, ◌&&◌, List, ◌∷◌, length, Some, slice_get, refl, ap, ◌∙◌, subst, arith}
 use Rattle.std.specs.Prelude.{if◌then◌else◌}
-use Rattle.ep_object.specs.Follows.{point, Facts, After, Fragment}
-use Rattle.ep_object.specs.Matching.{Memory, Injection}
+use Rattle.ep_simulation.specs.Follows.{point, Facts, After, Fragment}
+use Rattle.ep_simulation.specs.Matching.{Memory, Injection}
 use Rattle.ep_object.specs.Operands.{Operand, Word}
 use Rattle.ep_object.specs.Placing.{Placement, CodeStands}
 use Rattle.ep_object.specs.Runs.{unit_in}
@@ -10,15 +10,16 @@ use Rattle.ep_object.specs.State.{Stopped, Error}
 use Rattle.ep_object.specs.declared.code.Image.{Image}
 use Rattle.ep_object.specs.declared.code.Instr.{Instr}
 use Rattle.ep_object.specs.declared.code.Reference.{Reference}
-use Rattle.ep_object.proofs.following.Fragments.{fragment_credit, fragment_from, fragment_stop, fragment_waits}
-use Rattle.ep_object.proofs.rows.Rows.{fail_fails, jump_jumps}
-use Rattle.ep_object.proofs.rows.TextRows.{drop_drops}
-use Rattle.ep_typed.specs.Calls.{Handler}
-use Rattle.ep_typed.specs.Meaning.{selects}
-use Rattle.ep_typed.specs.Steps.{Computation, is_number, stop, variant_number}
-use Rattle.ep_typed.specs.Steps as meaning
-use Rattle.ep_typed.specs.Valid.{Declarations}
-use Rattle.ep_typed.specs.declared.run_error.TheConstants as run_error
+use Rattle.ep_simulation.proofs.following.Fragments.{fragment_credit, fragment_from, fragment_stop, fragment_waits}
+use Rattle.ep_simulation.proofs.rows.Rows.{fail_fails, jump_jumps}
+use Rattle.ep_simulation.proofs.rows.TextRows.{drop_drops}
+use Rattle.ep_meaning.specs.Calls.{Handler}
+use Rattle.ep_meaning.specs.Meaning.{selects}
+use Rattle.ep_meaning.specs.Steps.{Computation, is_number, stop}
+use Rattle.ep_typed.specs.Selections.{variant_number}
+use Rattle.ep_meaning.specs.Steps as meaning
+use Rattle.ep_meaning.specs.Valid.{Declarations}
+use Rattle.ep_values.specs.declared.run_error.TheConstants as run_error
 use Rattle.ep_typed.specs.declared.tree.Selection.{Selection}
 use Rattle.ep_gen_code.specs.Instructions.{instr}
 use Rattle.ep_gen_expr.specs.ExprCode.{bad_place, ends_code, labels_code, labels_count, rest_code, selecting_code}

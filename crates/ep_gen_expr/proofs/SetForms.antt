@@ -5,7 +5,7 @@ use Rattle.ep_object.specs.declared.code.Instr.{Instr}
 use Rattle.ep_object.specs.declared.code.Reference.{Reference}
 use Rattle.ep_object.specs.declared.op.TheConstants as op
 use Rattle.ep_typed.specs.Trees.{Expr, SetConstant, SetOf, OnSets, Card, Designator, Single, Range, designators}
-use Rattle.ep_typed.specs.declared.operations.SetOperation.{SetOperation}
+use Rattle.ep_values.specs.declared.operations.SetOperation.{SetOperation}
 use Rattle.ep_gen_expr.specs.ExprCode.{IsDesignatorCode, AreDesignatorsCode, set_code}
 use Rattle.ep_gen_code.specs.Instructions.{bare, members_code, push}
 use Rattle.ep_gen_code.specs.Growth.{Grows}

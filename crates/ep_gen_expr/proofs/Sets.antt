@@ -1,48 +1,48 @@
 -- The machine follows set constructors and the operations on sets.
 use Rattle.std.proofs.Common.{◌≡◌, ℕ, ℤ, pos, suc, ◌+◌, ◌≤◌, not, IsTrue, List, [], ◌∷◌, ◌++◌, length, length-append, Bool, Some, slice_get, refl, sym, ap, ◌∙◌, subst, arith}
 use Rattle.std.proofs.lemmas.Bool.Decides.{nat_tests}
-use Rattle.ep_object.specs.Follows.{Facts, Fragment, Inside, OnTop, point}
-use Rattle.ep_object.specs.Matching.{Injection, Memory, Slots, at as standing}
+use Rattle.ep_simulation.specs.Follows.{Facts, Fragment, Inside, OnTop, point}
+use Rattle.ep_simulation.specs.Matching.{Injection, Memory, Slots, at as standing}
 use Rattle.ep_object.specs.Operands.{Operand, Set, Word}
 use Rattle.ep_object.specs.Placing.{Placement, CodeStands, placed}
-use Rattle.ep_object.specs.Promises.{IsValueOf}
+use Rattle.ep_simulation.specs.Promises.{IsValueOf}
 use Rattle.ep_object.specs.Runs.{unit_in}
 use Rattle.ep_object.specs.Sets.{IsSet, member_limit}
 use Rattle.ep_object.specs.declared.code.Image.{Image}
 use Rattle.ep_object.specs.declared.code.Instr.{Instr}
 use Rattle.ep_object.specs.declared.code.Reference.{Reference}
 use Rattle.ep_object.proofs.SetWords.{few_members, members_set, none_set}
-use Rattle.ep_object.proofs.following.Choices.{Reads, fragment_fetched}
-use Rattle.ep_object.proofs.following.Fragments.{fragment_bind_number, fragment_credit, fragment_from, fragment_give, fragment_less, fragment_one, fragment_to, inside_bind}
-use Rattle.ep_object.proofs.matching.Awaiting.{on_top, value-grown, value_on_top}
-use Rattle.ep_object.proofs.matching.Growing.{inside_here, unit_in-same}
-use Rattle.ep_object.proofs.rows.Rows.{RowPushes}
-use Rattle.ep_object.proofs.rows.SetRows.{MembersOnTop, add_reads, card_pushes, difference_pushes, in_pushes, intersection_pushes, none_pushes, other_pushes, same_pushes, span_reads, subset_pushes, superset_pushes, symmetric_difference_pushes, union_pushes}
-use Rattle.ep_typed.specs.Calls.{Handler}
+use Rattle.ep_simulation.proofs.following.Choices.{Reads, fragment_fetched}
+use Rattle.ep_simulation.proofs.following.Fragments.{fragment_bind_number, fragment_credit, fragment_from, fragment_give, fragment_less, fragment_one, fragment_to, inside_bind}
+use Rattle.ep_simulation.proofs.matching.Awaiting.{on_top, value-grown, value_on_top}
+use Rattle.ep_simulation.proofs.matching.Growing.{inside_here, unit_in-same}
+use Rattle.ep_simulation.proofs.rows.Rows.{RowPushes}
+use Rattle.ep_simulation.proofs.rows.SetRows.{MembersOnTop, add_reads, card_pushes, difference_pushes, in_pushes, intersection_pushes, none_pushes, other_pushes, same_pushes, span_reads, subset_pushes, superset_pushes, symmetric_difference_pushes, union_pushes}
+use Rattle.ep_meaning.specs.Calls.{Handler}
 use Rattle.ep_typed.specs.Hosts.{Host, is_of_host}
 use Rattle.ep_typed.specs.Hosts as host
-use Rattle.ep_typed.specs.Meaning.{collected, eval, extended}
-use Rattle.ep_typed.specs.Operations.{ordinal_of}
-use Rattle.ep_typed.specs.Printing.{Result, members_of, number_of}
-use Rattle.ep_typed.specs.Printing as result
-use Rattle.ep_typed.specs.Results.{weight_of}
-use Rattle.ep_typed.specs.SetOperations.{set_answer}
-use Rattle.ep_typed.specs.Sets.{difference, intersection, is_member, is_same_set, is_subset, symmetric_difference, union, with_number, with_numbers}
-use Rattle.ep_typed.specs.Steady.{IsSteadyHandler}
-use Rattle.ep_typed.specs.Steps.{bind, give, spend}
+use Rattle.ep_meaning.specs.Meaning.{collected, eval, extended}
+use Rattle.ep_values.specs.Operations.{ordinal_of}
+use Rattle.ep_values.specs.Printing.{Result, members_of, number_of}
+use Rattle.ep_values.specs.Printing as result
+use Rattle.ep_meaning.specs.Results.{weight_of}
+use Rattle.ep_values.specs.SetOperations.{set_answer}
+use Rattle.ep_values.specs.Sets.{difference, intersection, is_member, is_same_set, is_subset, symmetric_difference, union, with_number, with_numbers}
+use Rattle.ep_meaning.specs.Steady.{IsSteadyHandler}
+use Rattle.ep_meaning.specs.Steps.{bind, give, spend}
 use Rattle.ep_typed.specs.Trees.{Expr, SetOf, OnSets, Card, Designator, Single, Range, Designators, no_member, next_member}
-use Rattle.ep_typed.specs.Valid as kind
-use Rattle.ep_typed.specs.Valid.{Declarations, Kind, Ordinal, IsCombination, IsSetComparison, IsMembership, IsOnSets}
-use Rattle.ep_typed.specs.declared.operations.SetOperation.{SetOperation}
-use Rattle.ep_typed.specs.declared.operations.SetOperation.TheVariants as set
-use Rattle.ep_typed.proofs.Steady.{steady_bind, steady_collected, steady_eval, steady_fetch, steady_give, steady_spend}
+use Rattle.ep_meaning.specs.Valid as kind
+use Rattle.ep_meaning.specs.Valid.{Declarations, Kind, Ordinal, IsCombination, IsSetComparison, IsMembership, IsOnSets}
+use Rattle.ep_values.specs.declared.operations.SetOperation.{SetOperation}
+use Rattle.ep_values.specs.declared.operations.SetOperation.TheVariants as set
+use Rattle.ep_meaning.proofs.Steady.{steady_bind, steady_collected, steady_eval, steady_fetch, steady_give, steady_spend}
 use Rattle.ep_gen_code.specs.Credit.{least_credit}
 use Rattle.ep_gen_code.specs.Instructions.{bare}
 use Rattle.ep_gen_expr.specs.ExprCode.{set_code}
 use Rattle.ep_gen_expr.proofs.Answering.{Evaluates, IsFollowed}
 use Rattle.ep_gen_expr.proofs.Hosts.{ordinal_boolean}
 use Rattle.ep_object.specs.declared.op.TheConstants as op
-use Rattle.ep_typed.specs.declared.run_error.TheConstants as run_error
+use Rattle.ep_values.specs.declared.run_error.TheConstants as run_error
 
 -- ---- operations
 

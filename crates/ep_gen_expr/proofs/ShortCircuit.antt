@@ -2,8 +2,8 @@
 use Rattle.std.proofs.Common.{◌≡◌, ℕ, ℤ, pos, suc, ◌+◌, ◌≤◌, ◌<◌, Bool, true, false, not, IsTrue, List, [], ◌∷◌, ◌++◌, length, Some, slice_get, refl, sym, ap, ◌∙◌, arith}
 use Rattle.std.specs.Prelude.{if◌then◌else◌, ◌-ℤ◌}
 use Rattle.std.proofs.Math.Bool.{not-not}
-use Rattle.ep_object.specs.Follows.{Facts}
-use Rattle.ep_object.specs.Matching.{Slots, Memory, Injection, at as standing}
+use Rattle.ep_simulation.specs.Follows.{Facts}
+use Rattle.ep_simulation.specs.Matching.{Slots, Memory, Injection, at as standing}
 use Rattle.ep_object.specs.Operands.{Operand, Word}
 use Rattle.ep_object.specs.Placing.{Placement, CodeStands}
 use Rattle.ep_object.specs.Runs.{unit_in}
@@ -11,23 +11,23 @@ use Rattle.ep_object.specs.State.{Running}
 use Rattle.ep_object.specs.declared.code.Image.{Image}
 use Rattle.ep_object.specs.declared.code.Instr.{Instr}
 use Rattle.ep_object.specs.declared.code.Reference.{Reference}
-use Rattle.ep_object.proofs.following.Fragments.{fragment_less, fragment_to, fragment_from, fragment_one, fragment_waits, fragment_move, fragment_give, fragment_credit, fragment_bind_number}
-use Rattle.ep_object.proofs.matching.Growing.{inside_here}
-use Rattle.ep_object.proofs.rows.Rows.{jump_false_jumps, not_answers}
-use Rattle.ep_object.proofs.rows.TextRows.{drop_drops, dup_pushes}
-use Rattle.ep_typed.specs.Calls.{Handler}
-use Rattle.ep_typed.specs.Meaning.{eval}
-use Rattle.ep_typed.specs.Results.{weight_of}
-use Rattle.ep_typed.specs.Operations.{decides, is_true}
-use Rattle.ep_typed.specs.Printing.{Result}
-use Rattle.ep_typed.specs.Printing as result
-use Rattle.ep_typed.specs.Steady.{IsSteadyHandler}
-use Rattle.ep_typed.proofs.Steady.{steady_spend, steady_give}
-use Rattle.ep_typed.specs.Steps.{Computation, give, bind, spend}
+use Rattle.ep_simulation.proofs.following.Fragments.{fragment_less, fragment_to, fragment_from, fragment_one, fragment_waits, fragment_move, fragment_give, fragment_credit, fragment_bind_number}
+use Rattle.ep_simulation.proofs.matching.Growing.{inside_here}
+use Rattle.ep_simulation.proofs.rows.Rows.{jump_false_jumps, not_answers}
+use Rattle.ep_simulation.proofs.rows.TextRows.{drop_drops, dup_pushes}
+use Rattle.ep_meaning.specs.Calls.{Handler}
+use Rattle.ep_meaning.specs.Meaning.{eval}
+use Rattle.ep_meaning.specs.Results.{weight_of}
+use Rattle.ep_values.specs.Operations.{decides, is_true}
+use Rattle.ep_values.specs.Printing.{Result}
+use Rattle.ep_values.specs.Printing as result
+use Rattle.ep_meaning.specs.Steady.{IsSteadyHandler}
+use Rattle.ep_meaning.proofs.Steady.{steady_spend, steady_give}
+use Rattle.ep_meaning.specs.Steps.{Computation, give, bind, spend}
 use Rattle.ep_typed.specs.Trees.{Expr}
-use Rattle.ep_typed.specs.Valid.{Declarations, Ordinal}
-use Rattle.ep_typed.specs.declared.operations.ShortOperation.{ShortOperation}
-use Rattle.ep_typed.specs.declared.operations.ShortOperation.TheVariants as short
+use Rattle.ep_meaning.specs.Valid.{Declarations, Ordinal}
+use Rattle.ep_values.specs.declared.operations.ShortOperation.{ShortOperation}
+use Rattle.ep_values.specs.declared.operations.ShortOperation.TheVariants as short
 use Rattle.ep_typed.specs.Hosts.{is_of_host}
 use Rattle.ep_typed.specs.Hosts as host
 use Rattle.ep_gen_code.specs.Instructions.{instr, bare}

@@ -5,12 +5,12 @@ use Rattle.ep_outside.specs.Known.{IsPrefix}
 use Rattle.ep_object.specs.declared.code.Instr.{Instr}
 use Rattle.ep_object.specs.declared.code.Reference.{Reference}
 use Rattle.ep_typed.specs.Trees.{Structured, Element, AtIndex, AtField, SameField, AtRanges, AtIndexes, Elements, no_element, next_element, Place, Variable, Own, Standard, Indexed, Field, Variant, Expr, Constant, Text, Read, One, Two, Short, Step, Function, IndexedValue, FieldValue, VariantValue, SetConstant, SetOf, OnSets, Card, Designator, Single, Range, Designators, no_member, next_member, Actual, Evaluated, Accessed, Actuals, no_actual, next_actual}
-use Rattle.ep_typed.specs.declared.operations.Unary.{Unary}
-use Rattle.ep_typed.specs.declared.operations.Unary.TheVariants as unary
-use Rattle.ep_typed.specs.declared.operations.ShortOperation.{ShortOperation}
-use Rattle.ep_typed.specs.declared.operations.ShortOperation.TheVariants as short
+use Rattle.ep_values.specs.declared.operations.Unary.{Unary}
+use Rattle.ep_values.specs.declared.operations.Unary.TheVariants as unary
+use Rattle.ep_values.specs.declared.operations.ShortOperation.{ShortOperation}
+use Rattle.ep_values.specs.declared.operations.ShortOperation.TheVariants as short
 use Rattle.ep_typed.specs.Nodes.{place_nodes, expr_nodes, actual_nodes, actuals_nodes, element_nodes, elements_nodes, designator_nodes, designators_count, designators_nodes, labels_nodes}
-use Rattle.ep_typed.specs.Steps.{is_number}
+use Rattle.ep_meaning.specs.Steps.{is_number}
 use Rattle.ep_typed.specs.declared.tree.CaseRange.{CaseRange}
 use Rattle.ep_typed.specs.declared.tree.Selection.{Selection}
 use Rattle.ep_gen_expr.specs.ExprCode.{first_code, first_index, range_code, ranges_code, IsElementCode, AreElementsCode, IsRangeCode, AreIndexesCode, spread_code, spread_length, spreads_code, tested_code, end_code, IsPlaceCode, IsExprCode, IsActualCode, AreActualsCode, IsDesignatorCode, AreDesignatorsCode, one_code, set_code, two_code, keep_code, step_code, test_code, tests_code, bad_place, labels_code, labels_count, tag_code, tag_part_code, rest_code, ends_code, selecting_code, variant_code, variant_part_code, steps_code, reach_code, same_code}

@@ -1,19 +1,19 @@
 -- The machine follows `succ` and `pred`.
 use Rattle.std.proofs.Common.{◌≡◌, ℕ, ℤ, pos, ◌+◌, Bool, true, false, IsTrue, List, [], ◌∷◌, length, Some, slice_get, ap, ◌∙◌, arith}
-use Rattle.ep_object.specs.Follows.{Facts}
+use Rattle.ep_simulation.specs.Follows.{Facts}
 use Rattle.std.specs.Prelude.{◌+ℤ◌, neg_ℤ}
-use Rattle.ep_object.specs.Matching.{Slots, Memory, Injection}
+use Rattle.ep_simulation.specs.Matching.{Slots, Memory, Injection}
 use Rattle.ep_object.specs.Operands.{Operand, Word}
 use Rattle.ep_object.specs.Placing.{Placement, CodeStands}
 use Rattle.ep_object.specs.Runs.{unit_in}
 use Rattle.ep_object.specs.declared.code.Image.{Image}
 use Rattle.ep_object.specs.declared.code.Reference.{Reference}
-use Rattle.ep_object.proofs.following.Choices.{going_of}
-use Rattle.ep_object.proofs.following.Fragments.{fragment_to, fragment_from, fragment_credit}
-use Rattle.ep_object.proofs.rows.Rows.{instr, RowPushes, push_pushes, neg_answers, step_answers}
-use Rattle.ep_typed.specs.Calls.{Handler}
-use Rattle.ep_typed.specs.Operations.{step_answer}
-use Rattle.ep_typed.specs.Valid.{Declarations, Ordinal}
+use Rattle.ep_simulation.proofs.following.Choices.{going_of}
+use Rattle.ep_simulation.proofs.following.Fragments.{fragment_to, fragment_from, fragment_credit}
+use Rattle.ep_simulation.proofs.rows.Rows.{instr, RowPushes, push_pushes, neg_answers, step_answers}
+use Rattle.ep_meaning.specs.Calls.{Handler}
+use Rattle.ep_values.specs.Operations.{step_answer}
+use Rattle.ep_meaning.specs.Valid.{Declarations, Ordinal}
 use Rattle.ep_typed.specs.Hosts.{Host, least, greatest, is_of_host}
 use Rattle.ep_typed.specs.Hosts as host
 use Rattle.ep_gen_code.specs.Instructions.{push, bare}

@@ -6,38 +6,38 @@ use Rattle.ep_gen_code.proofs.Placed.{code_back, code_front}
 use Rattle.ep_gen_expr.proofs.Answering.{IsFollowed}
 use Rattle.ep_gen_expr.proofs.Components.{reached_follows}
 use Rattle.ep_gen_expr.specs.ExprCode.{reach_code, steps_code}
-use Rattle.ep_object.specs.Follows.{Bare, Facts, Fragment, Inside, Lasts, PlaceOnTop, point}
-use Rattle.ep_object.specs.Matching.{Injection, IsLike, IsSpot, Memory, Slots, at as standing}
+use Rattle.ep_simulation.specs.Follows.{Bare, Facts, Fragment, Inside, Lasts, PlaceOnTop, point}
+use Rattle.ep_simulation.specs.Matching.{Injection, IsLike, IsSpot, Memory, Slots, at as standing}
 use Rattle.ep_object.specs.Operands.{Operand, Word}
 use Rattle.ep_object.specs.Operands as operand
 use Rattle.ep_object.specs.Placing.{CodeStands, Placement}
-use Rattle.ep_object.specs.Promises.{IsValueOf}
+use Rattle.ep_simulation.specs.Promises.{IsValueOf}
 use Rattle.ep_object.specs.Runs.{unit_in}
 use Rattle.ep_object.specs.declared.code.Image.{Image}
 use Rattle.ep_object.specs.declared.code.Instr.{Instr}
 use Rattle.ep_object.specs.declared.code.Reference.{Reference}
 use Rattle.ep_object.specs.declared.op.TheConstants as op
 use Rattle.ep_object.specs.declared.state.Place.{Place as PlaceOf}
-use Rattle.ep_object.proofs.following.Choices.{Reads, follows_checked-spent, follows_fetched, fragment_using}
-use Rattle.ep_object.proofs.following.Fragments.{FailsWith, fragment_bind_number, fragment_credit, fragment_from, fragment_give, fragment_less, fragment_to, fragment_waits, inside_bind}
-use Rattle.ep_object.proofs.matching.Awaiting.{value_on_top}
-use Rattle.ep_object.proofs.matching.Growing.{describes-grown, inside_here, is_spot-grown, unit_in-same}
-use Rattle.ep_object.proofs.rows.ChangeRows.{MayTake, may_take, value_does, value_ended, value_fails}
-use Rattle.ep_object.proofs.rows.IndexRow.{index_fails, index_reads}
-use Rattle.ep_object.proofs.rows.Rows.{outcome_at}
-use Rattle.ep_typed.proofs.Steady.{steady_bind, steady_eval, steady_given, steady_gives_all, steady_located}
-use Rattle.ep_typed.specs.Steady.{IsSteadyHandler}
-use Rattle.ep_typed.specs.Calls.{Handler}
+use Rattle.ep_simulation.proofs.following.Choices.{Reads, follows_checked-spent, follows_fetched, fragment_using}
+use Rattle.ep_simulation.proofs.following.Fragments.{FailsWith, fragment_bind_number, fragment_credit, fragment_from, fragment_give, fragment_less, fragment_to, fragment_waits, inside_bind}
+use Rattle.ep_simulation.proofs.matching.Awaiting.{value_on_top}
+use Rattle.ep_simulation.proofs.matching.Growing.{describes-grown, inside_here, is_spot-grown, unit_in-same}
+use Rattle.ep_simulation.proofs.rows.ChangeRows.{MayTake, may_take, value_does, value_ended, value_fails}
+use Rattle.ep_simulation.proofs.rows.IndexRow.{index_fails, index_reads}
+use Rattle.ep_simulation.proofs.rows.Rows.{outcome_at}
+use Rattle.ep_meaning.proofs.Steady.{steady_bind, steady_eval, steady_given, steady_gives_all, steady_located}
+use Rattle.ep_meaning.specs.Steady.{IsSteadyHandler}
+use Rattle.ep_meaning.specs.Calls.{Handler}
 use Rattle.ep_typed.specs.Hosts.{Host}
-use Rattle.ep_typed.specs.Meaning.{eval, given, gives, gives_all}
-use Rattle.ep_typed.specs.Printing.{Result, number_of}
-use Rattle.ep_typed.specs.Results.{misfit, suits, value_of, weight_of}
-use Rattle.ep_typed.specs.Steps.{Component, assigned, bind, component, component_number, type_at}
+use Rattle.ep_meaning.specs.Meaning.{eval, given, gives, gives_all}
+use Rattle.ep_values.specs.Printing.{Result, number_of}
+use Rattle.ep_meaning.specs.Results.{misfit, suits, value_of, weight_of}
+use Rattle.ep_meaning.specs.Steps.{Component, assigned, bind, component, component_number, type_at}
 use Rattle.ep_typed.specs.Trees.{Element, Elements, AtField, AtIndex, Expr, next_element, no_element}
-use Rattle.ep_typed.specs.TypeValues.{ComponentTypes, TypeValue}
-use Rattle.ep_typed.specs.TypeValues as type
-use Rattle.ep_typed.specs.Valid.{Declarations, IsTypeOfKind, Kind, LeadTo, Ordinal}
-use Rattle.ep_typed.specs.declared.run_error.TheConstants as run_error
+use Rattle.ep_values.specs.TypeValues.{ComponentTypes, TypeValue}
+use Rattle.ep_values.specs.TypeValues as type
+use Rattle.ep_meaning.specs.Valid.{Declarations, IsTypeOfKind, Kind, LeadTo, Ordinal}
+use Rattle.ep_values.specs.declared.run_error.TheConstants as run_error
 
 -- what an element needs besides the least credit, for what stands before its value
 abbrev pub element_credit : ℕ

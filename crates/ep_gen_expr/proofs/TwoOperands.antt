@@ -1,20 +1,20 @@
 -- The machine follows the operations with two operands.
 use Rattle.std.proofs.Common.{◌≡◌, ℕ, ℤ, ◌+◌, not, ◌&&◌, ◌||◌, IsTrue, List, [], ◌∷◌, arith}
-use Rattle.ep_object.specs.Follows.{Facts}
+use Rattle.ep_simulation.specs.Follows.{Facts}
 use Rattle.std.specs.Prelude.{◌+ℤ◌, ◌-ℤ◌, ◌*ℤ◌, int_le, int_lt}
-use Rattle.ep_object.specs.Matching.{Slots, Memory, Injection}
+use Rattle.ep_simulation.specs.Matching.{Slots, Memory, Injection}
 use Rattle.ep_object.specs.Operands.{Operand, Word}
 use Rattle.ep_object.specs.Placing.{Placement, CodeStands}
 use Rattle.ep_object.specs.Runs.{unit_in}
 use Rattle.ep_object.specs.declared.code.Image.{Image}
 use Rattle.ep_object.specs.declared.code.Reference.{Reference}
-use Rattle.ep_object.proofs.following.Fragments.{fragment_to}
-use Rattle.ep_object.proofs.rows.Rows.{RowAnswers, add_answers, sub_answers, mul_answers, div_answers, mod_answers, and_answers, or_answers, equal_answers, unequal_answers, less_answers, greater_answers, at_most_answers, at_least_answers}
-use Rattle.ep_typed.specs.Calls.{Handler}
-use Rattle.ep_typed.specs.Operations.{Number, is_same, is_true, ordinal_of, binary_answer}
-use Rattle.ep_typed.specs.Valid.{Declarations, Kind, Ordinal, IsArithmetic, IsLogical, IsComparison, IsBinary}
-use Rattle.ep_typed.specs.declared.operations.Binary.{Binary}
-use Rattle.ep_typed.specs.declared.operations.Binary.TheVariants as binary
+use Rattle.ep_simulation.proofs.following.Fragments.{fragment_to}
+use Rattle.ep_simulation.proofs.rows.Rows.{RowAnswers, add_answers, sub_answers, mul_answers, div_answers, mod_answers, and_answers, or_answers, equal_answers, unequal_answers, less_answers, greater_answers, at_most_answers, at_least_answers}
+use Rattle.ep_meaning.specs.Calls.{Handler}
+use Rattle.ep_values.specs.Operations.{Number, is_same, is_true, ordinal_of, binary_answer}
+use Rattle.ep_meaning.specs.Valid.{Declarations, Kind, Ordinal, IsArithmetic, IsLogical, IsComparison, IsBinary}
+use Rattle.ep_values.specs.declared.operations.Binary.{Binary}
+use Rattle.ep_values.specs.declared.operations.Binary.TheVariants as binary
 use Rattle.ep_typed.specs.Hosts.{Host, is_of_host}
 use Rattle.ep_typed.specs.Hosts as host
 use Rattle.ep_gen_expr.specs.ExprCode.{two_code}

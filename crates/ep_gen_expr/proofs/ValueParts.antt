@@ -1,7 +1,7 @@
 -- The machine follows components of values.
 use Rattle.std.proofs.Common.{◌≡◌, ℕ, ℤ, pos, suc, Some, ◌+◌, ◌≤◌, List, [], ◌∷◌, ◌++◌, length, length-append, slice_get, sym, ap, ◌∙◌, subst, arith}
-use Rattle.ep_object.specs.Follows.{point, Facts, Inside, IsStructure, OnTop}
-use Rattle.ep_object.specs.Matching.{Injection, Matches, Memory, Slots, at as standing}
+use Rattle.ep_simulation.specs.Follows.{point, Facts, Inside, IsStructure, OnTop}
+use Rattle.ep_simulation.specs.Matching.{Injection, Matches, Memory, Slots, at as standing}
 use Rattle.ep_object.specs.Operands.{Operand}
 use Rattle.ep_object.specs.Operands as operand
 use Rattle.ep_object.specs.Placing.{Placement, CodeStands}
@@ -9,29 +9,29 @@ use Rattle.ep_object.specs.Runs.{unit_in}
 use Rattle.ep_object.specs.declared.code.Image.{Image}
 use Rattle.ep_object.specs.declared.code.Instr.{Instr}
 use Rattle.ep_object.specs.declared.code.Reference.{Reference}
-use Rattle.ep_object.proofs.following.Choices.{ReadsResult, follows_read, fragment_known}
-use Rattle.ep_object.proofs.following.Fragments.{FailsWith, fragment_bind_number, fragment_credit, fragment_less, fragment_to, inside_bind}
-use Rattle.ep_object.proofs.matching.Awaiting.{value-grown}
-use Rattle.ep_object.proofs.matching.Growing.{unit_in-same}
-use Rattle.ep_object.proofs.rows.PartRows.{field_part, index_part, index_part_fails}
-use Rattle.ep_typed.specs.Bounds.{component_at}
-use Rattle.ep_typed.specs.Calls.{Handler}
+use Rattle.ep_simulation.proofs.following.Choices.{ReadsResult, follows_read, fragment_known}
+use Rattle.ep_simulation.proofs.following.Fragments.{FailsWith, fragment_bind_number, fragment_credit, fragment_less, fragment_to, inside_bind}
+use Rattle.ep_simulation.proofs.matching.Awaiting.{value-grown}
+use Rattle.ep_simulation.proofs.matching.Growing.{unit_in-same}
+use Rattle.ep_simulation.proofs.rows.PartRows.{field_part, index_part, index_part_fails}
+use Rattle.ep_values.specs.Bounds.{component_at}
+use Rattle.ep_meaning.specs.Calls.{Handler}
 use Rattle.ep_typed.specs.Hosts.{Host}
-use Rattle.ep_typed.specs.Meaning.{eval, part, part_indexed}
-use Rattle.ep_typed.specs.Printing.{Result, number_of}
-use Rattle.ep_typed.specs.Results.{part_at, part_of, weight_of}
-use Rattle.ep_typed.specs.Steady.{Steady, IsSteadyHandler}
-use Rattle.ep_typed.specs.Steps.{bind}
-use Rattle.ep_typed.specs.Steps as meaning
+use Rattle.ep_meaning.specs.Meaning.{eval, part, part_indexed}
+use Rattle.ep_values.specs.Printing.{Result, number_of}
+use Rattle.ep_meaning.specs.Results.{part_at, part_of, weight_of}
+use Rattle.ep_meaning.specs.Steady.{Steady, IsSteadyHandler}
+use Rattle.ep_meaning.specs.Steps.{bind}
+use Rattle.ep_meaning.specs.Steps as meaning
 use Rattle.ep_typed.specs.Trees.{Expr, FieldValue, IndexedValue}
-use Rattle.ep_typed.specs.TypeValues as type
-use Rattle.ep_typed.specs.TypeValues.{ComponentTypes, TypeValue, type_among}
-use Rattle.ep_typed.specs.Valid.{Declarations, IsTypeOfKind, Kind, Ordinal, Structured}
-use Rattle.ep_typed.proofs.Steady.{steady_bind, steady_eval, steady_fetch, steady_give, steady_spend}
+use Rattle.ep_values.specs.TypeValues as type
+use Rattle.ep_values.specs.TypeValues.{ComponentTypes, TypeValue, type_among}
+use Rattle.ep_meaning.specs.Valid.{Declarations, IsTypeOfKind, Kind, Ordinal, Structured}
+use Rattle.ep_meaning.proofs.Steady.{steady_bind, steady_eval, steady_fetch, steady_give, steady_spend}
 use Rattle.ep_gen_code.specs.Instructions.{bare, instr}
 use Rattle.ep_gen_expr.proofs.Answering.{Evaluates, IsFollowed}
 use Rattle.ep_object.specs.declared.op.TheConstants as op
-use Rattle.ep_typed.specs.declared.run_error.TheConstants as run_error
+use Rattle.ep_values.specs.declared.run_error.TheConstants as run_error
 
 module _ (call : Handler) (g : ℕ) (unit : List ℕ) (line : ℕ) (r : Result) where
   steady_part : (k : ℕ) → Steady (part call g unit line r k)

@@ -1,8 +1,8 @@
 -- The machine follows variants of records.
 use Rattle.std.proofs.Common.{◌≡◌, ℕ, ℤ, pos, suc, ◌+◌, ◌-◌, ◌≤◌, ◌<◌, false, List, ◌∷◌, length, Option, Some, None, slice_get, refl, sym, ap, ◌∙◌, subst, arith}
 use Rattle.std.specs.Prelude.{if◌then◌else◌, is_some}
-use Rattle.ep_object.specs.Follows.{point, Facts, Follows, Fragment, Inside, IsNotLeft, Lands, PlaceOnTop}
-use Rattle.ep_object.specs.Matching.{Memory, Injection, IsLike, IsSpot, Matches, Slots, at as standing}
+use Rattle.ep_simulation.specs.Follows.{point, Facts, Follows, Fragment, Inside, IsNotLeft, Lands, PlaceOnTop}
+use Rattle.ep_simulation.specs.Matching.{Memory, Injection, IsLike, IsSpot, Matches, Slots, at as standing}
 use Rattle.ep_object.specs.Operands.{Operand, Word}
 use Rattle.ep_object.specs.Operands as operand
 use Rattle.ep_object.specs.Placing.{Placement, CodeStands}
@@ -12,25 +12,26 @@ use Rattle.ep_object.specs.WordRows.{bit}
 use Rattle.ep_object.specs.declared.code.Image.{Image}
 use Rattle.ep_object.specs.declared.code.Reference.{Reference}
 use Rattle.ep_object.specs.declared.state.Place.{Place as PlaceOf}
-use Rattle.ep_object.proofs.following.Bind.{Met, follows_credit, follows_from, follows_waits, follows_stop, follows_paid, follows_give}
-use Rattle.ep_object.proofs.following.Choices.{fragment_using}
-use Rattle.ep_object.proofs.following.Fragments.{FailsWith, landed, fragment_less, fragment_to, fragment_credit}
-use Rattle.ep_object.proofs.matching.Growing.{not_left-here}
-use Rattle.ep_object.proofs.rows.FieldRow.{IsAmong, LeadsTo, among_there, field_does, field_fails, field_leads_to}
-use Rattle.ep_object.proofs.rows.PlaceRows.{defined_tells, load_leads}
-use Rattle.ep_object.proofs.rows.Rows.{fail_fails, jump_false_jumps}
-use Rattle.ep_object.proofs.rows.TextRows.{dup_place}
-use Rattle.ep_typed.specs.Calls.{Handler}
-use Rattle.ep_typed.specs.Meaning.{active, chosen, selected, selects}
-use Rattle.ep_typed.specs.Operations.{is_true}
-use Rattle.ep_typed.specs.Printing.{Result, number_of}
-use Rattle.ep_typed.specs.Results.{result_of}
-use Rattle.ep_typed.specs.Steps.{Component, Computation, bind, component, fetch, fetch_or, found, has_ended, stop, tag_of, variant_number}
-use Rattle.ep_typed.specs.Steps as meaning
-use Rattle.ep_typed.specs.TypeValues.{ComponentTypes, TypeValue, type_among}
-use Rattle.ep_typed.specs.TypeValues as type
-use Rattle.ep_typed.specs.Valid.{Declarations, tag_type}
-use Rattle.ep_typed.specs.declared.run_error.TheConstants as run_error
+use Rattle.ep_simulation.proofs.following.Bind.{Met, follows_credit, follows_from, follows_waits, follows_stop, follows_paid, follows_give}
+use Rattle.ep_simulation.proofs.following.Choices.{fragment_using}
+use Rattle.ep_simulation.proofs.following.Fragments.{FailsWith, landed, fragment_less, fragment_to, fragment_credit}
+use Rattle.ep_simulation.proofs.matching.Growing.{not_left-here}
+use Rattle.ep_simulation.proofs.rows.FieldRow.{IsAmong, LeadsTo, among_there, field_does, field_fails, field_leads_to}
+use Rattle.ep_simulation.proofs.rows.PlaceRows.{defined_tells, load_leads}
+use Rattle.ep_simulation.proofs.rows.Rows.{fail_fails, jump_false_jumps}
+use Rattle.ep_simulation.proofs.rows.TextRows.{dup_place}
+use Rattle.ep_meaning.specs.Calls.{Handler}
+use Rattle.ep_meaning.specs.Meaning.{active, chosen, selected, selects}
+use Rattle.ep_values.specs.Operations.{is_true}
+use Rattle.ep_values.specs.Printing.{Result, number_of}
+use Rattle.ep_meaning.specs.Results.{result_of}
+use Rattle.ep_meaning.specs.Steps.{Component, Computation, bind, component, fetch, fetch_or, found, has_ended, stop, tag_of}
+use Rattle.ep_typed.specs.Selections.{variant_number}
+use Rattle.ep_meaning.specs.Steps as meaning
+use Rattle.ep_values.specs.TypeValues.{ComponentTypes, TypeValue, type_among}
+use Rattle.ep_values.specs.TypeValues as type
+use Rattle.ep_meaning.specs.Valid.{Declarations, tag_type}
+use Rattle.ep_values.specs.declared.run_error.TheConstants as run_error
 use Rattle.ep_typed.specs.declared.tree.Selection.{Selection}
 use Rattle.ep_gen_code.specs.Instructions.{bare, instr}
 use Rattle.ep_gen_expr.specs.ExprCode.{bad_place, selecting_code, variant_code}

@@ -1,8 +1,8 @@
 -- The machine follows variants of values.
 use Rattle.std.proofs.Common.{◌≡◌, ℕ, ℤ, pos, suc, ◌+◌, ◌*◌, ◌≤◌, ◌<◌, List, ◌∷◌, ◌++◌, length, length-append, Option, Some, None, slice_get, refl, sym, ap, ◌∙◌, subst, arith}
 use Rattle.std.specs.Prelude.{if◌then◌else◌, is_some}
-use Rattle.ep_object.specs.Follows.{point, Facts, Follows, Inside, IsNotLeft, IsStructure, Lands, OnTop}
-use Rattle.ep_object.specs.Matching.{Memory, Injection, Matches, Slots, at as standing}
+use Rattle.ep_simulation.specs.Follows.{point, Facts, Follows, Inside, IsNotLeft, IsStructure, Lands, OnTop}
+use Rattle.ep_simulation.specs.Matching.{Memory, Injection, Matches, Slots, at as standing}
 use Rattle.ep_object.specs.Operands.{Operand, Word}
 use Rattle.ep_object.specs.Operands as operand
 use Rattle.ep_object.specs.Placing.{Placement, CodeStands}
@@ -12,30 +12,31 @@ use Rattle.ep_object.specs.WordRows.{bit}
 use Rattle.ep_object.specs.declared.code.Image.{Image}
 use Rattle.ep_object.specs.declared.code.Instr.{Instr}
 use Rattle.ep_object.specs.declared.code.Reference.{Reference}
-use Rattle.ep_object.proofs.following.Bind.{follows_credit, follows_from, follows_less, follows_waits, follows_stop}
-use Rattle.ep_object.proofs.following.Choices.{ReadsResult, Nothing, Result_of, follows_read}
-use Rattle.ep_object.proofs.following.Fragments.{fragment_bind_number, fragment_credit, fragment_from, fragment_less, fragment_paid, fragment_to, inside_bind}
-use Rattle.ep_object.proofs.matching.Awaiting.{value-grown}
-use Rattle.ep_object.proofs.matching.Growing.{not_left-here, unit_in-same}
-use Rattle.ep_object.proofs.rows.PartRows.{defined_part, field_part}
-use Rattle.ep_object.proofs.rows.Rows.{fail_fails, jump_false_jumps}
-use Rattle.ep_object.proofs.rows.TextRows.{dup_value}
-use Rattle.ep_typed.specs.Calls.{Handler}
+use Rattle.ep_simulation.proofs.following.Bind.{follows_credit, follows_from, follows_less, follows_waits, follows_stop}
+use Rattle.ep_simulation.proofs.following.Choices.{ReadsResult, Nothing, Result_of, follows_read}
+use Rattle.ep_simulation.proofs.following.Fragments.{fragment_bind_number, fragment_credit, fragment_from, fragment_less, fragment_paid, fragment_to, inside_bind}
+use Rattle.ep_simulation.proofs.matching.Awaiting.{value-grown}
+use Rattle.ep_simulation.proofs.matching.Growing.{not_left-here, unit_in-same}
+use Rattle.ep_simulation.proofs.rows.PartRows.{defined_part, field_part}
+use Rattle.ep_simulation.proofs.rows.Rows.{fail_fails, jump_false_jumps}
+use Rattle.ep_simulation.proofs.rows.TextRows.{dup_value}
+use Rattle.ep_meaning.specs.Calls.{Handler}
 use Rattle.ep_typed.specs.Hosts.{Host}
-use Rattle.ep_typed.specs.Meaning.{active_part, chosen_part, part, selects, tag_read}
-use Rattle.ep_typed.specs.Operations.{is_true}
-use Rattle.ep_typed.specs.Printing.{Result, number_of}
-use Rattle.ep_typed.specs.Results.{part_of, weight_of}
-use Rattle.ep_typed.specs.Steady.{IsSteadyHandler}
-use Rattle.ep_typed.specs.Steps.{Computation, bind, give, spend, stop, variant_number}
-use Rattle.ep_typed.specs.Steps as meaning
+use Rattle.ep_meaning.specs.Meaning.{active_part, chosen_part, part, selects, tag_read}
+use Rattle.ep_values.specs.Operations.{is_true}
+use Rattle.ep_values.specs.Printing.{Result, number_of}
+use Rattle.ep_meaning.specs.Results.{part_of, weight_of}
+use Rattle.ep_meaning.specs.Steady.{IsSteadyHandler}
+use Rattle.ep_meaning.specs.Steps.{Computation, bind, give, spend, stop}
+use Rattle.ep_typed.specs.Selections.{variant_number}
+use Rattle.ep_meaning.specs.Steps as meaning
 use Rattle.ep_typed.specs.Trees.{Expr, VariantValue}
-use Rattle.ep_typed.specs.TypeValues as type
-use Rattle.ep_typed.specs.TypeValues.{ComponentTypes, TypeValue, type_among}
-use Rattle.ep_typed.specs.Valid.{Declarations, IsTypeOf, Ordinal, Structured, tag_type}
-use Rattle.ep_typed.specs.declared.run_error.TheConstants as run_error
+use Rattle.ep_values.specs.TypeValues as type
+use Rattle.ep_values.specs.TypeValues.{ComponentTypes, TypeValue, type_among}
+use Rattle.ep_meaning.specs.Valid.{Declarations, IsTypeOf, Ordinal, Structured, tag_type}
+use Rattle.ep_values.specs.declared.run_error.TheConstants as run_error
 use Rattle.ep_typed.specs.declared.tree.Selection.{Selection}
-use Rattle.ep_typed.proofs.Steady.{steady_active_part, steady_bind, steady_selecting_part, steady_tag_read}
+use Rattle.ep_meaning.proofs.Steady.{steady_active_part, steady_bind, steady_selecting_part, steady_tag_read}
 use Rattle.ep_gen_code.specs.Instructions.{bare, instr}
 use Rattle.ep_gen_expr.specs.ExprCode.{bad_place, selecting_code, variant_part_code}
 use Rattle.ep_gen_code.proofs.Placed.{instr_at, jump_false_has}

@@ -11,38 +11,39 @@ use Rattle.ep_gen_expr.specs.ExprCode.{begin_code, end_code}
 use Rattle.ep_gen_expr.proofs.Answering.{Evaluates, IsFollowed}
 use Rattle.ep_gen_expr.proofs.Nameless.{begins_follows, end_ticks, taken_follows}
 use Rattle.ep_gen_expr.proofs.StructuredValues.{AreElementsFollowed}
-use Rattle.ep_object.specs.Follows.{Bare, Facts, Fragment, Inside, Lasts, OnTop, TypeOnTop, point}
-use Rattle.ep_object.specs.Matching.{AreAmong, Injection, IsLike, IsOf, IsSpot, Memory, Slots, kept_slots}
+use Rattle.ep_simulation.specs.Follows.{Bare, Facts, Fragment, Inside, Lasts, OnTop, TypeOnTop, point}
+use Rattle.ep_simulation.specs.Matching.{AreAmong, Injection, IsLike, IsOf, IsSpot, Memory, Slots, kept_slots}
 use Rattle.ep_object.specs.Operands.{Operand, Word}
 use Rattle.ep_object.specs.Operands as operand
 use Rattle.ep_object.specs.Placing.{CodeStands, Placement}
 use Rattle.ep_object.specs.Pointers.{whole as place_of_whole}
-use Rattle.ep_object.specs.Promises.{CallsAreKept, CallsAt, SwapStands, TypeKeeps, type_credit}
+use Rattle.ep_simulation.specs.Promises.{CallsAreKept, CallsAt, SwapStands, TypeKeeps, type_credit}
 use Rattle.ep_object.specs.Runs.{unit_in}
 use Rattle.ep_object.specs.declared.code.Image.{Image}
 use Rattle.ep_object.specs.declared.code.Instr.{Instr}
 use Rattle.ep_object.specs.declared.code.Reference.{Reference}
 use Rattle.ep_object.specs.declared.op.TheConstants as op
 use Rattle.ep_object.specs.declared.state.Place.{Place as PlaceOf}
-use Rattle.ep_object.proofs.following.Fragments.{fragment_credit, fragment_from, fragment_to, fragment_waits, inside_bind}
-use Rattle.ep_object.proofs.following.Promising.{type_follows}
-use Rattle.ep_object.proofs.matching.Growing.{describes-grown, is_spot-grown, unit_in-same}
-use Rattle.ep_object.proofs.rows.NamelessRows.{NamelessOnTop, deref_pushes}
-use Rattle.ep_object.proofs.rows.Rows.{outcome_at}
-use Rattle.ep_typed.proofs.Bares.{bare_size, bare_twice, value_bare}
-use Rattle.ep_typed.proofs.Steady.{steady_begins_nameless, steady_bind, steady_gives_all, steady_taken}
-use Rattle.ep_typed.proofs.Typed.{typed_value}
-use Rattle.ep_typed.specs.Calls.{Handler}
-use Rattle.ep_typed.specs.Meaning.{eval, gives_all, taken}
-use Rattle.ep_typed.specs.Nameless.{begins_nameless}
-use Rattle.ep_typed.specs.Printing.{Result}
-use Rattle.ep_typed.specs.Results.{weight_of}
-use Rattle.ep_typed.specs.Steady.{IsSteadyHandler, Steady}
-use Rattle.ep_typed.specs.Steps.{Computation, bind, size_of, whole}
+use Rattle.ep_simulation.proofs.following.Fragments.{fragment_credit, fragment_from, fragment_to, fragment_waits, inside_bind}
+use Rattle.ep_simulation.proofs.following.Promising.{type_follows}
+use Rattle.ep_simulation.proofs.matching.Growing.{describes-grown, is_spot-grown, unit_in-same}
+use Rattle.ep_simulation.proofs.rows.NamelessRows.{NamelessOnTop, deref_pushes}
+use Rattle.ep_simulation.proofs.rows.Rows.{outcome_at}
+use Rattle.ep_meaning.proofs.Bares.{bare_size, bare_twice, value_bare}
+use Rattle.ep_meaning.proofs.Steady.{steady_begins_nameless, steady_bind, steady_gives_all, steady_taken}
+use Rattle.ep_meaning.proofs.Typed.{typed_value}
+use Rattle.ep_meaning.specs.Calls.{Handler}
+use Rattle.ep_meaning.specs.Meaning.{eval, gives_all, taken}
+use Rattle.ep_meaning.specs.Nameless.{begins_nameless}
+use Rattle.ep_values.specs.Printing.{Result}
+use Rattle.ep_meaning.specs.Results.{weight_of}
+use Rattle.ep_meaning.specs.Steady.{IsSteadyHandler, Steady}
+use Rattle.ep_meaning.specs.Steps.{Computation, bind, whole}
+use Rattle.ep_values.specs.TypeValues.{size_of}
 use Rattle.ep_typed.specs.Trees.{Elements, Named, Structured}
-use Rattle.ep_typed.specs.TypeValues.{TypeValue, bare_of}
-use Rattle.ep_typed.specs.Valid.{Declarations, IsStructured, IsTyped, IsTypeValue, named}
-use Rattle.ep_typed.specs.Valid as kind
+use Rattle.ep_values.specs.TypeValues.{TypeValue, bare_of}
+use Rattle.ep_meaning.specs.Valid.{Declarations, IsStructured, IsTyped, IsTypeValue, named}
+use Rattle.ep_meaning.specs.Valid as kind
 use Rattle.ep_typed.specs.declared.unit.UnitType.{UnitType}
 
 -- a name that has a type value is one of the list of types

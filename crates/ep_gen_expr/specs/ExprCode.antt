@@ -6,17 +6,18 @@ pub use Rattle.ep_object.specs.Table.{instr}
 use Rattle.ep_object.specs.declared.code.Instr.{Instr}
 use Rattle.ep_object.specs.declared.code.Reference.{Reference}
 use Rattle.ep_typed.specs.Nodes.{designators_count}
-use Rattle.ep_typed.specs.Operations.{last_char}
-use Rattle.ep_typed.specs.Steps.{is_number, variant_number}
+use Rattle.ep_values.specs.Operations.{last_char}
+use Rattle.ep_meaning.specs.Steps.{is_number}
+use Rattle.ep_typed.specs.Selections.{variant_number}
 use Rattle.ep_typed.specs.Trees.{Place, Variable, Own, Standard, Indexed, Field, Variant, Expr, Constant, Text, Read, One, Two, Short, Step, Function, IndexedValue, FieldValue, VariantValue, SetConstant, SetOf, OnSets, Card, Structured, Element, AtIndex, AtField, SameField, AtRanges, AtIndexes, Elements, no_element, next_element, Designator, Single, Range, Designators, no_member, next_member, Actual, Evaluated, Accessed, Actuals, no_actual, next_actual}
-use Rattle.ep_typed.specs.declared.operations.Unary.{Unary}
-use Rattle.ep_typed.specs.declared.operations.Unary.TheVariants as unary
-use Rattle.ep_typed.specs.declared.operations.Binary.{Binary}
-use Rattle.ep_typed.specs.declared.operations.Binary.TheVariants as binary
-use Rattle.ep_typed.specs.declared.operations.SetOperation.{SetOperation}
-use Rattle.ep_typed.specs.declared.operations.SetOperation.TheVariants as set
-use Rattle.ep_typed.specs.declared.operations.ShortOperation.{ShortOperation}
-use Rattle.ep_typed.specs.declared.operations.ShortOperation.TheVariants as short
+use Rattle.ep_values.specs.declared.operations.Unary.{Unary}
+use Rattle.ep_values.specs.declared.operations.Unary.TheVariants as unary
+use Rattle.ep_values.specs.declared.operations.Binary.{Binary}
+use Rattle.ep_values.specs.declared.operations.Binary.TheVariants as binary
+use Rattle.ep_values.specs.declared.operations.SetOperation.{SetOperation}
+use Rattle.ep_values.specs.declared.operations.SetOperation.TheVariants as set
+use Rattle.ep_values.specs.declared.operations.ShortOperation.{ShortOperation}
+use Rattle.ep_values.specs.declared.operations.ShortOperation.TheVariants as short
 use Rattle.ep_gen_code.specs.Instructions.{bare, instr, members_code, push, reference}
 use Rattle.ep_gen_code.specs.Referring.{type_reference}
 use Rattle.ep_gen_code.specs.declared.references.TheConstants as routine
@@ -27,7 +28,7 @@ use Rattle.ep_typed.specs.declared.tree.CaseRange.{CaseRange}
 use Rattle.ep_typed.specs.declared.tree.Selection.{Selection}
 use Rattle.ep_typed.specs.declared.tree.StandardFile.{StandardFile}
 use Rattle.ep_typed.specs.declared.tree.StandardFile.TheVariants as file
-use Rattle.ep_typed.specs.declared.run_error.TheConstants as run_error
+use Rattle.ep_values.specs.declared.run_error.TheConstants as run_error
 
 module _ (line : ℕ) where
   -- `Cmp`, which compares so

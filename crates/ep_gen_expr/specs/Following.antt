@@ -3,26 +3,27 @@ use Rattle.std.specs.Prelude.{◌≡◌, ℕ, ℤ, ◌+◌, ◌<◌, ◌≤◌, 
 use Rattle.ep_gen_code.specs.Credit.{least_credit}
 use Rattle.ep_gen_code.specs.Referring.{AreReferred, AreArraysReferred, IsSwapReferred}
 use Rattle.ep_gen_expr.specs.ExprCode.{IsPlaceCode, IsExprCode}
-use Rattle.ep_object.specs.Activations.{MatchesNames}
-use Rattle.ep_object.specs.Follows.{point, Since, Fragment, Inside, Operands, OnTop, PlaceOnTop}
-use Rattle.ep_object.specs.Matching.{Memory, Injection, Slots, AreAmong, kept_slots, HasType, HasOwnType}
+use Rattle.ep_simulation.specs.Activations.{MatchesNames}
+use Rattle.ep_simulation.specs.Follows.{point, Since, Fragment, Inside, Operands, OnTop, PlaceOnTop}
+use Rattle.ep_simulation.specs.Matching.{Memory, Injection, Slots, AreAmong, kept_slots, HasType, HasOwnType}
 use Rattle.ep_object.specs.Operands.{Operand}
 use Rattle.ep_object.specs.Placing.{Placement, CodeStands}
-use Rattle.ep_object.specs.Promises.{CallsAreKept}
+use Rattle.ep_simulation.specs.Promises.{CallsAreKept}
 use Rattle.ep_object.specs.Runs.{unit_in}
-use Rattle.ep_object.specs.Scene.{Scene}
+use Rattle.ep_simulation.specs.Scene.{Scene}
 use Rattle.ep_object.specs.declared.code.Image.{Image}
 use Rattle.ep_object.specs.declared.code.Instr.{Instr}
 use Rattle.ep_object.specs.declared.code.Reference.{Reference}
-use Rattle.ep_typed.specs.Steady.{IsSteadyHandler}
-use Rattle.ep_typed.specs.Calls.{Handler}
-use Rattle.ep_typed.specs.Meaning.{eval, place}
-use Rattle.ep_typed.specs.Results.{weight_of}
-use Rattle.ep_typed.specs.Steps.{State, Computation, variant_number}
+use Rattle.ep_meaning.specs.Steady.{IsSteadyHandler}
+use Rattle.ep_meaning.specs.Calls.{Handler}
+use Rattle.ep_meaning.specs.Meaning.{eval, place}
+use Rattle.ep_meaning.specs.Results.{weight_of}
+use Rattle.ep_meaning.specs.Steps.{State, Computation}
+use Rattle.ep_typed.specs.Selections.{variant_number}
 use Rattle.ep_typed.specs.Trees.{Place, Variable, Own, Standard, Indexed, Field, Variant, Expr}
-use Rattle.ep_typed.specs.Valid.{Declarations, Kind, IsExpr, IsPlaceWhere, variables_up}
+use Rattle.ep_meaning.specs.Valid.{Declarations, Kind, IsExpr, IsPlaceWhere, variables_up}
 use Rattle.ep_typed.specs.declared.unit.UnitVariable.{UnitVariable}
-use Rattle.ep_typed.specs.TypeValues.{ComponentTypes, TypeValue, Ordinal, Array, Record, no_component, next_component, type_among}
+use Rattle.ep_values.specs.TypeValues.{ComponentTypes, TypeValue, Ordinal, Array, Record, no_component, next_component, type_among}
 
 -- From every memory of a routine of the unit in which its own variables and those of the routines around it match, with any operands below and up to this number of steps, the machine follows the computation through the code at this place of the object. Behind the code the same routine runs, memory has grown, the slots that are named are untouched, and what held and lasts still does, what the computation gives lies on the operands below, and the credit has risen by this gain.
 abbrev pub IsFollowedThrough : {A : Type 0} → Declarations → Image → Placement → List ℕ → Slots → ℕ → ℕ → List Instr → Computation A → (List Operand → A → Operands) → (A → ℕ) → Type 0

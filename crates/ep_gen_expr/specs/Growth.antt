@@ -6,7 +6,7 @@ use Rattle.ep_typed.specs.Trees.{Element, Elements, Place, Expr, Actual, Actuals
 use Rattle.ep_gen_code.specs.Instructions.{bare}
 use Rattle.ep_gen_code.specs.Growth.{Grows}
 use Rattle.ep_gen_expr.specs.ExprCode.{IsElementCode, AreElementsCode, AreIndexesCode, IsRangeCode, keep_code, IsPlaceCode, IsExprCode, IsActualCode, AreActualsCode, IsDesignatorCode}
-use Rattle.ep_typed.specs.declared.operations.ShortOperation.{ShortOperation}
+use Rattle.ep_values.specs.declared.operations.ShortOperation.{ShortOperation}
 use Rattle.ep_object.specs.declared.op.TheConstants as op
 use Rattle.ep_typed.specs.Nodes.{place_nodes, expr_nodes}
 use Rattle.ep_gen_code.specs.declared.code.Code.{Code}

@@ -1,9 +1,9 @@
 //! The code of the expressions that `for` statements are made of.
 
 ghost use Rattle.std.specs.Prelude.{◌≡◌, OnOk, if◌then◌else◌};
-ghost use Rattle.ep_typed.specs.Controls.{has_more, in_order, next_value, others};
+ghost use Rattle.ep_meaning.specs.Controls.{has_more, in_order, next_value, others};
 ghost use Rattle.ep_typed.specs.Viewed.{control_of, member_control_of};
-ghost use Rattle.ep_typed.specs.declared.operations.Binary.TheVariants as binary;
+ghost use Rattle.ep_values.specs.declared.operations.Binary.TheVariants as binary;
 ghost use Rattle.ep_gen_expr.specs.ExprCode.{step_code};
 ghost use Rattle.ep_gen_expr.specs.Growth.{AppendsExpr};
 ghost use Rattle.ep_gen_code.specs.Growth.{Grows};
@@ -13,7 +13,8 @@ use crate::operations::{apply_binary, apply_on_sets, apply_step, apply_unary};
 use ep_base::NoMemory;
 use ep_gen_code::{Code, emit};
 use ep_object::op;
-use ep_typed::{Binary, ForControl, MemberControl, SetOperation, Unary};
+use ep_values::{Binary, SetOperation, Unary};
+use ep_typed::{ForControl, MemberControl};
 use std::alloc::Global;
 
 /// How the initial value is compared with the final one: whether the first may come before the second.

@@ -17,10 +17,8 @@ use crate::variants::{active_code, active_part_code};
 use ep_base::{Name, NoMemory};
 use ep_gen_code::{Code, emit, land, next_place};
 use ep_object::op;
-use ep_typed::{
-    Actual, Binary, Callee, CaseRange, Element, EntireVariable, MemberDesignator, Selection,
-    SetOperation, ShortOperation, TypedExpr, TypedPlace, Unary,
-};
+use ep_typed::{Actual, Callee, CaseRange, Element, EntireVariable, MemberDesignator, Selection, TypedExpr, TypedPlace};
+use ep_values::{Binary, SetOperation, ShortOperation, Unary};
 use std::alloc::Global;
 
 /// Appends the code of a place, which leaves the place.

@@ -10,7 +10,7 @@ ghost use Rattle.ep_object.specs.declared.op.TheConstants.{DROP, DUP};
 use ep_base::NoMemory;
 use ep_gen_code::{Code, emit, leave_hole};
 use ep_object::op;
-use ep_typed::{Binary, SetOperation, ShortOperation, Unary, run_error};
+use ep_values::{Binary, SetOperation, ShortOperation, Unary, run_error};
 
 /// How `Cmp` compares.
 const EQUAL: i64 = 0;

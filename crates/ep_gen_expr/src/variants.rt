@@ -4,7 +4,7 @@
 //! so the places behind them are known before the first one.
 
 ghost use Rattle.std.specs.Prelude.{◌≡◌, ◌&&◌, ◌+◌, ◌-◌, ◌^◌, ◌<◌, if◌then◌else◌, length, IfOk, OnOk};
-ghost use Rattle.ep_typed.specs.Steps.{is_number};
+ghost use Rattle.ep_meaning.specs.Steps.{is_number};
 ghost use Rattle.ep_gen_expr.specs.ExprCode.{bad_place, labels_code, labels_count, selecting_code, tag_code, tag_part_code, variant_code, variant_part_code};
 ghost use Rattle.ep_gen_code.specs.Growth.{Grows};
 
@@ -12,7 +12,8 @@ use crate::ranges::{TEST_LENGTH, tests_code};
 use ep_base::NoMemory;
 use ep_gen_code::{Code, emit, next_place, place_number};
 use ep_object::op;
-use ep_typed::{CaseRanges, Selection, run_error};
+use ep_typed::{CaseRanges, Selection};
+use ep_values::run_error;
 
 /// The instructions that take the value of a tag of a variable.
 const TAG_LENGTH: u32 = 7;

@@ -8,38 +8,38 @@ use Rattle.ep_gen_code.proofs.Placed.{code_front, code_back}
 use Rattle.ep_gen_type.specs.TypeCode.{ordinal_code, how_many, start_code, each_code, type_code}
 use Rattle.ep_gen_type.proofs.InitialStates.{start_follows}
 use Rattle.ep_object.specs.declared.code.Instr.{Instr}
-use Rattle.ep_object.specs.Follows.{point, Facts, Lasts, Fragment, Inside, TypeOnTop}
-use Rattle.ep_object.specs.Matching.{AreAmong, Slots, Memory, Injection, Describes, IsLike, kept_slots}
+use Rattle.ep_simulation.specs.Follows.{point, Facts, Lasts, Fragment, Inside, TypeOnTop}
+use Rattle.ep_simulation.specs.Matching.{AreAmong, Slots, Memory, Injection, Describes, IsLike, kept_slots}
 use Rattle.ep_object.specs.Operands.{Operand, Word}
 use Rattle.ep_object.specs.Placing.{Placement, CodeStands}
-use Rattle.ep_object.specs.Promises.{CallsAt, CallsAreKept, TypeKeeps, type_credit}
+use Rattle.ep_simulation.specs.Promises.{CallsAt, CallsAreKept, TypeKeeps, type_credit}
 use Rattle.ep_object.specs.Runs.{unit_in}
 use Rattle.ep_object.specs.declared.code.Image.{Image}
 use Rattle.ep_object.specs.declared.code.Reference.{Reference}
-use Rattle.ep_object.proofs.following.Fragments.{inside_bind, fragment_from, fragment_give, fragment_to, fragment_less, fragment_waits, fragment_credit}
-use Rattle.ep_object.proofs.following.Losing.{fragment_counted}
-use Rattle.ep_object.proofs.following.Promising.{type_follows}
-use Rattle.ep_object.proofs.matching.Growing.{described-longer, inside_here, unit_in-same}
-use Rattle.ep_object.specs.Starts.{AreStarts, AreStartsOfEach}
-use Rattle.ep_object.proofs.rows.NewTypes.{AreDescribed, stacked, ord_does, arr_does, rec_does, set_does}
-use Rattle.ep_object.proofs.rows.Rows.{push_pushes}
-use Rattle.ep_typed.specs.Steady.{IsSteadyHandler}
+use Rattle.ep_simulation.proofs.following.Fragments.{inside_bind, fragment_from, fragment_give, fragment_to, fragment_less, fragment_waits, fragment_credit}
+use Rattle.ep_simulation.proofs.following.Losing.{fragment_counted}
+use Rattle.ep_simulation.proofs.following.Promising.{type_follows}
+use Rattle.ep_simulation.proofs.matching.Growing.{described-longer, inside_here, unit_in-same}
+use Rattle.ep_simulation.specs.Starts.{AreStarts, AreStartsOfEach}
+use Rattle.ep_simulation.proofs.rows.NewTypes.{AreDescribed, stacked, ord_does, arr_does, rec_does, set_does}
+use Rattle.ep_simulation.proofs.rows.Rows.{push_pushes}
+use Rattle.ep_meaning.specs.Steady.{IsSteadyHandler}
 use Rattle.ep_typed.specs.declared.denoter.RequiredType.TheVariants as simple
-use Rattle.ep_typed.specs.Calls.{Handler}
-use Rattle.ep_typed.specs.Sets.{is_ordinal}
+use Rattle.ep_meaning.specs.Calls.{Handler}
+use Rattle.ep_values.specs.Sets.{is_ordinal}
 use Rattle.std.proofs.lemmas.Bool.Decides.{nat_tests}
 use Rattle.std.proofs.lemmas.Option.{slice_get_within}
-use Rattle.ep_typed.proofs.Steady.{grows_refl, steady_bind, steady_give, steady_elaborate, steady_elaborate_each, steady_begins_where, steady_elaborated, steady_elaborated_where, steady_eval}
-use Rattle.ep_typed.proofs.Bares.{bare_twice}
+use Rattle.ep_meaning.proofs.Steady.{grows_refl, steady_bind, steady_give, steady_elaborate, steady_elaborate_each, steady_begins_where, steady_elaborated, steady_elaborated_where, steady_eval}
+use Rattle.ep_meaning.proofs.Bares.{bare_twice}
 use Rattle.ep_typed.specs.Denoters.{array_over, array_type, set_over, set_type}
-use Rattle.ep_typed.specs.Results.{start_from}
-use Rattle.ep_typed.specs.Meaning.{elaborated, elaborated_where, elaborate, elaborate_each}
-use Rattle.ep_typed.specs.Operations.{last_char, maxint}
-use Rattle.ep_typed.specs.Steps.{Computation, bind, give, with_type}
-use Rattle.ep_typed.specs.Valid.{AreTyped, Declarations, IsTyped, array, components, enumeration, initial, named, next_typed, none_typed, required, set, subrange}
+use Rattle.ep_meaning.specs.Results.{start_from}
+use Rattle.ep_meaning.specs.Meaning.{elaborated, elaborated_where, elaborate, elaborate_each}
+use Rattle.ep_values.specs.Operations.{last_char, maxint}
+use Rattle.ep_meaning.specs.Steps.{Computation, bind, give, with_type}
+use Rattle.ep_meaning.specs.Valid.{AreTyped, Declarations, IsTyped, array, components, enumeration, initial, named, next_typed, none_typed, required, set, subrange}
 use Rattle.ep_typed.specs.Trees.{Denoter, Array, Denoters, Named, no_denoter}
-use Rattle.ep_typed.specs.TypeValues.{ComponentTypes, TypeValue, bare_each, bare_of}
-use Rattle.ep_typed.specs.TypeValues as type
+use Rattle.ep_values.specs.TypeValues.{ComponentTypes, TypeValue, bare_each, bare_of}
+use Rattle.ep_values.specs.TypeValues as type
 use Rattle.ep_typed.specs.declared.unit.UnitType.{UnitType}
 use Rattle.ep_object.specs.declared.op.TheConstants as op
 

@@ -12,37 +12,37 @@ use Rattle.ep_gen_expr.proofs.SameFields.{same_field_follows}
 use Rattle.ep_gen_expr.proofs.StructuredValues.{AreElementsFollowed, at_field_follows, next_element_follows, no_element_follows}
 use Rattle.ep_gen_expr.proofs.WholeStructures.{named_within, structured_spares, structured_follows}
 use Rattle.ep_gen_type.specs.TypeCode.{parts_code, start_code}
-use Rattle.ep_object.specs.Follows.{point, Facts, Lasts, Fragment, Inside, IsStructure, TypeOnTop}
-use Rattle.ep_object.specs.Matching.{AreAmong, Describes, Matches, Slots, Memory, Injection, kept_slots}
+use Rattle.ep_simulation.specs.Follows.{point, Facts, Lasts, Fragment, Inside, IsStructure, TypeOnTop}
+use Rattle.ep_simulation.specs.Matching.{AreAmong, Describes, Matches, Slots, Memory, Injection, kept_slots}
 use Rattle.ep_object.specs.Operands.{Operand, Word, weight}
 use Rattle.ep_object.specs.Operands as operand
 use Rattle.ep_object.specs.Placing.{Placement, CodeStands}
-use Rattle.ep_object.specs.Promises.{CallsAreKept}
+use Rattle.ep_simulation.specs.Promises.{CallsAreKept}
 use Rattle.ep_object.specs.Runs.{unit_in}
 use Rattle.ep_object.specs.declared.code.Image.{Image}
 use Rattle.ep_object.specs.declared.code.Instr.{Instr}
 use Rattle.ep_object.specs.declared.code.Reference.{Reference}
 use Rattle.ep_object.specs.declared.op.TheConstants as op
-use Rattle.ep_object.proofs.following.Fragments.{inside_bind, fragment_credit, fragment_post, fragment_to}
-use Rattle.ep_object.proofs.matching.Awaiting.{value_weight}
-use Rattle.ep_object.proofs.matching.Growing.{described-longer, unit_in-same}
-use Rattle.ep_object.proofs.rows.InitialRow.{IsTried, init_follows, set_begins, value_begins, word_begins}
-use Rattle.ep_typed.specs.Steady.{IsSteadyHandler}
-use Rattle.ep_typed.specs.Calls.{Handler}
-use Rattle.ep_typed.proofs.Bares.{bare_size}
-use Rattle.ep_typed.proofs.Steady.{steady_begins_where}
-use Rattle.ep_typed.proofs.Typed.{typed_bare, typed_value}
-use Rattle.ep_typed.specs.Meaning.{begins_where, eval}
-use Rattle.ep_typed.specs.Printing.{Result}
-use Rattle.ep_typed.specs.Results.{start_from, start_in, weight_of}
-use Rattle.ep_typed.specs.Steps.{Computation, bind}
-use Rattle.ep_typed.specs.Steps as meaning
+use Rattle.ep_simulation.proofs.following.Fragments.{inside_bind, fragment_credit, fragment_post, fragment_to}
+use Rattle.ep_simulation.proofs.matching.Awaiting.{value_weight}
+use Rattle.ep_simulation.proofs.matching.Growing.{described-longer, unit_in-same}
+use Rattle.ep_simulation.proofs.rows.InitialRow.{IsTried, init_follows, set_begins, value_begins, word_begins}
+use Rattle.ep_meaning.specs.Steady.{IsSteadyHandler}
+use Rattle.ep_meaning.specs.Calls.{Handler}
+use Rattle.ep_meaning.proofs.Bares.{bare_size}
+use Rattle.ep_meaning.proofs.Steady.{steady_begins_where}
+use Rattle.ep_meaning.proofs.Typed.{typed_bare, typed_value}
+use Rattle.ep_meaning.specs.Meaning.{begins_where, eval}
+use Rattle.ep_values.specs.Printing.{Result}
+use Rattle.ep_meaning.specs.Results.{start_from, start_in, weight_of}
+use Rattle.ep_meaning.specs.Steps.{Computation, bind}
+use Rattle.ep_meaning.specs.Steps as meaning
 use Rattle.ep_typed.specs.Trees.{AtField, AtRanges, Elements, Expr, Named, SameField}
 use Rattle.ep_typed.specs.Trees as tree
-use Rattle.ep_typed.specs.TypeValues.{Start, TypeValue, bare_of, size_of}
-use Rattle.ep_typed.specs.TypeValues as type
-use Rattle.ep_typed.specs.Valid.{AreStartsFor, Declarations, IsStartFor, IsStructured, IsTyped, IsTypeOfKind, Kind, Ordinal, Structured, field_given, none_given, ranges_given, same_given, set_start, structured_start, word_start}
-use Rattle.ep_typed.specs.Valid as kind
+use Rattle.ep_values.specs.TypeValues.{Start, TypeValue, bare_of, size_of}
+use Rattle.ep_values.specs.TypeValues as type
+use Rattle.ep_meaning.specs.Valid.{AreStartsFor, Declarations, IsStartFor, IsStructured, IsTyped, IsTypeOfKind, Kind, Ordinal, Structured, field_given, none_given, ranges_given, same_given, set_start, structured_start, word_start}
+use Rattle.ep_meaning.specs.Valid as kind
 use Rattle.ep_typed.specs.declared.unit.UnitType.{UnitType}
 
 -- the kind of a constant that may be the initial state of a type

@@ -8,8 +8,8 @@ use Rattle.ep_object.specs.declared.code.Instr.{Instr}
 use Rattle.ep_typed.specs.Denoters.{enumeration_type, required_type, subrange_type}
 use Rattle.ep_gen_expr.specs.ExprCode.{begin_code, end_code, first_code, first_index, ranges_code, reach_code, same_code}
 use Rattle.ep_typed.specs.Trees.{Expr, Constant, SetConstant, Structured, Element, AtIndex, AtField, SameField, AtRanges, AtIndexes, Elements, no_element, next_element, Denoter, Required, Named, Subrange, Enumeration, Array, Record, Set, Initial, Denoters, no_denoter, next_denoter}
-use Rattle.ep_typed.specs.TypeValues as type
-use Rattle.ep_typed.specs.TypeValues.{TypeValue}
+use Rattle.ep_values.specs.TypeValues as type
+use Rattle.ep_values.specs.TypeValues.{TypeValue}
 use Rattle.ep_object.specs.declared.op.TheConstants as op
 
 -- the bounds of an ordinal type, and the type

@@ -1,7 +1,7 @@
 -- The machine follows `if`, `while` and `repeat`.
 use Rattle.std.proofs.Common.{◌≡◌, ℕ, pos, suc, ◌+◌, ◌≤◌, ◌<◌, List, [], ◌∷◌, length, refl, sym, ap, ◌∙◌, arith}
-use Rattle.ep_object.specs.Follows.{Facts}
-use Rattle.ep_object.specs.Matching.{Slots}
+use Rattle.ep_simulation.specs.Follows.{Facts}
+use Rattle.ep_simulation.specs.Matching.{Slots}
 use Rattle.ep_gen_code.specs.Instructions.{instr}
 use Rattle.ep_gen_expr.specs.ExprCode.{IsExprCode}
 use Rattle.ep_gen_code.proofs.Placed.{jump_has, jump_false_has}
@@ -10,20 +10,20 @@ use Rattle.ep_object.specs.Placing.{Placement, CodeStands}
 use Rattle.ep_object.specs.declared.code.Image.{Image}
 use Rattle.ep_object.specs.declared.code.Instr.{Instr}
 use Rattle.ep_object.specs.declared.code.Reference.{Reference}
-use Rattle.ep_object.proofs.following.Choices.{fragment_branch, fragment_turns, fragment_turns_until}
-use Rattle.ep_object.proofs.following.Fragments.{fragment_give, fragment_to, fragment_from, fragment_less, fragment_credit, fragment_one, fragment_move, fragment_bind_number, fragment_bind_bare}
-use Rattle.ep_object.proofs.matching.Growing.{unit_in-same, grown_refl, same_routine-refl, inside_here}
-use Rattle.ep_object.proofs.rows.Rows.{jump_jumps, jump_false_jumps}
-use Rattle.ep_typed.specs.Steady.{IsSteadyHandler}
-use Rattle.ep_typed.specs.Calls.{Handler}
-use Rattle.ep_typed.proofs.Steady.{steady_bind, steady_spend, steady_give, steady_if, steady_eval, steady_exec, steady_exec_all}
-use Rattle.ep_typed.specs.Meaning.{exec, exec_all}
-use Rattle.ep_typed.specs.Results.{weight_of}
-use Rattle.ep_typed.specs.Operations.{is_true}
-use Rattle.ep_typed.specs.Printing.{number_of}
+use Rattle.ep_simulation.proofs.following.Choices.{fragment_branch, fragment_turns, fragment_turns_until}
+use Rattle.ep_simulation.proofs.following.Fragments.{fragment_give, fragment_to, fragment_from, fragment_less, fragment_credit, fragment_one, fragment_move, fragment_bind_number, fragment_bind_bare}
+use Rattle.ep_simulation.proofs.matching.Growing.{unit_in-same, grown_refl, same_routine-refl, inside_here}
+use Rattle.ep_simulation.proofs.rows.Rows.{jump_jumps, jump_false_jumps}
+use Rattle.ep_meaning.specs.Steady.{IsSteadyHandler}
+use Rattle.ep_meaning.specs.Calls.{Handler}
+use Rattle.ep_meaning.proofs.Steady.{steady_bind, steady_spend, steady_give, steady_if, steady_eval, steady_exec, steady_exec_all}
+use Rattle.ep_meaning.specs.Meaning.{exec, exec_all}
+use Rattle.ep_meaning.specs.Results.{weight_of}
+use Rattle.ep_values.specs.Operations.{is_true}
+use Rattle.ep_values.specs.Printing.{number_of}
 use Rattle.ep_typed.specs.Trees.{Expr, Stmt, Stmts, If, While, Repeat}
-use Rattle.ep_typed.specs.Valid as kind
-use Rattle.ep_typed.specs.Valid.{Declarations, IsExpr}
+use Rattle.ep_meaning.specs.Valid as kind
+use Rattle.ep_meaning.specs.Valid.{Declarations, IsExpr}
 use Rattle.ep_typed.specs.Hosts as host
 use Rattle.ep_object.specs.declared.op.TheConstants as op
 

@@ -1,7 +1,7 @@
 -- The machine follows `case`.
 use Rattle.std.proofs.Common.{◌≡◌, ℕ, ℤ, pos, suc, ◌+◌, ◌*◌, ◌≤◌, ◌<◌, List, [], ◌∷◌, length, refl, sym, ap, ◌∙◌, arith}
-use Rattle.ep_object.specs.Follows.{point, Facts, Fragment, Inside, Bare}
-use Rattle.ep_object.specs.Matching.{Slots, Memory, Injection}
+use Rattle.ep_simulation.specs.Follows.{point, Facts, Fragment, Inside, Bare}
+use Rattle.ep_simulation.specs.Matching.{Slots, Memory, Injection}
 use Rattle.ep_object.specs.Operands.{Operand, Word}
 use Rattle.ep_object.specs.Placing.{Placement, CodeStands}
 use Rattle.ep_object.specs.Runs.{unit_in}
@@ -9,23 +9,23 @@ use Rattle.ep_object.specs.State.{Stopped, Error}
 use Rattle.ep_object.specs.declared.code.Image.{Image}
 use Rattle.ep_object.specs.declared.code.Instr.{Instr}
 use Rattle.ep_object.specs.declared.code.Reference.{Reference}
-use Rattle.ep_object.proofs.following.Fragments.{fragment_give, fragment_stop, fragment_from, fragment_less, fragment_one, fragment_waits, fragment_move, fragment_bind_number, fragment_bind_bare}
-use Rattle.ep_object.proofs.matching.Growing.{unit_in-same, inside_here}
-use Rattle.ep_object.proofs.rows.Rows.{jump_jumps, fail_fails}
-use Rattle.ep_object.proofs.rows.TextRows.{drop_drops}
-use Rattle.ep_typed.specs.Calls.{Handler}
+use Rattle.ep_simulation.proofs.following.Fragments.{fragment_give, fragment_stop, fragment_from, fragment_less, fragment_one, fragment_waits, fragment_move, fragment_bind_number, fragment_bind_bare}
+use Rattle.ep_simulation.proofs.matching.Growing.{unit_in-same, inside_here}
+use Rattle.ep_simulation.proofs.rows.Rows.{jump_jumps, fail_fails}
+use Rattle.ep_simulation.proofs.rows.TextRows.{drop_drops}
+use Rattle.ep_meaning.specs.Calls.{Handler}
 use Rattle.ep_typed.specs.Hosts.{Host}
-use Rattle.ep_typed.specs.Meaning.{exec, exec_all, exec_arms, exec_other}
-use Rattle.ep_typed.specs.Results.{weight_of}
-use Rattle.ep_typed.specs.Printing.{number_of}
-use Rattle.ep_typed.specs.Steady.{IsSteadyHandler}
-use Rattle.ep_typed.specs.Steps.{Computation}
+use Rattle.ep_meaning.specs.Meaning.{exec, exec_all, exec_arms, exec_other}
+use Rattle.ep_meaning.specs.Results.{weight_of}
+use Rattle.ep_values.specs.Printing.{number_of}
+use Rattle.ep_meaning.specs.Steady.{IsSteadyHandler}
+use Rattle.ep_meaning.specs.Steps.{Computation}
 use Rattle.ep_typed.specs.Trees.{Expr, Stmt, Stmts, Arms, next_arm, Other, no_other, otherwise_do, Case}
-use Rattle.ep_typed.specs.Valid as kind
-use Rattle.ep_typed.specs.Valid.{Declarations, IsExpr}
-use Rattle.ep_typed.specs.declared.run_error.TheConstants as run_error
+use Rattle.ep_meaning.specs.Valid as kind
+use Rattle.ep_meaning.specs.Valid.{Declarations, IsExpr}
+use Rattle.ep_values.specs.declared.run_error.TheConstants as run_error
 use Rattle.ep_typed.specs.declared.tree.CaseRange.{CaseRange}
-use Rattle.ep_typed.proofs.Steady.{steady_spend, steady_give, steady_exec_arms, steady_exec_other}
+use Rattle.ep_meaning.proofs.Steady.{steady_spend, steady_give, steady_exec_arms, steady_exec_other}
 use Rattle.ep_gen_code.specs.Instructions.{instr, bare}
 use Rattle.ep_gen_expr.specs.ExprCode.{IsExprCode}
 use Rattle.ep_gen_code.proofs.Waiting.{row_waits}

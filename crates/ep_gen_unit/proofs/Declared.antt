@@ -4,14 +4,14 @@ use Rattle.std.proofs.lemmas.Option.{get_or_from_slice_get, slice_get_within}
 use Rattle.std.proofs.lemmas.Slice.Eq.{bytes_eq-Decides}
 use Rattle.std.specs.Prelude.{All, if◌then◌else◌}
 use Rattle.ep_gen_unit.specs.UnitLaws.{AreDeclared}
-use Rattle.ep_object.proofs.matching.Growing.{slice_get-prefix}
-use Rattle.ep_object.specs.Scene.{HaveValidTypes}
-use Rattle.ep_typed.proofs.Auxiliaries.{block_valid, withs_denoted}
+use Rattle.ep_simulation.proofs.matching.Growing.{slice_get-prefix}
+use Rattle.ep_simulation.specs.Scene.{HaveValidTypes}
+use Rattle.ep_meaning.proofs.Auxiliaries.{block_valid, withs_denoted}
 use Rattle.ep_typed.specs.Auxiliaries.{block_auxiliaries, with_variables}
 use Rattle.ep_typed.specs.Routines.{made_by_unit, unit_variables}
 use Rattle.ep_typed.specs.Trees.{Stmt}
 use Rattle.ep_typed.specs.declared.unit.UnitType.{UnitType}
-use Rattle.ep_typed.specs.Valid.{Declarations, IsDenoter, IsValid, IsVariable, own}
+use Rattle.ep_meaning.specs.Valid.{Declarations, IsDenoter, IsValid, IsVariable, own}
 use Rattle.ep_typed.specs.Viewed.{denoter_of, stmt_of}
 use Rattle.ep_typed.specs.declared.unit.UnitVariable.{UnitVariable}
 use Rattle.ep_typed.specs.declared.unit.Unit.{Unit as TypedUnit}

@@ -1,8 +1,8 @@
 -- The code of a `for`, from that of its parts.
 use Rattle.std.proofs.Common.{◌≡◌, ℕ, pos, ◌+◌, ◌<◌, List, [], ◌∷◌, ◌++◌, length, refl, ap, ◌∙◌, subst, append_assoc, arith}
 use Rattle.ep_object.specs.declared.code.Instr.{Instr}
-use Rattle.ep_typed.specs.declared.operations.Binary.TheVariants as binary
-use Rattle.ep_typed.specs.Controls.{in_order, next_value}
+use Rattle.ep_values.specs.declared.operations.Binary.TheVariants as binary
+use Rattle.ep_meaning.specs.Controls.{in_order, next_value}
 use Rattle.ep_typed.specs.Trees.{Entire, entire, Expr, Read, Control, Stmt, Assign, For}
 use Rattle.ep_gen_expr.specs.ExprCode.{IsExprCode, two_code}
 use Rattle.ep_gen_code.specs.Instructions.{bare, instr}

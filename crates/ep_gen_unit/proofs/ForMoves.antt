@@ -6,13 +6,13 @@ use Rattle.ep_gen_expr.specs.ExprCode.{two_code, IsExprCode}
 use Rattle.ep_gen_expr.proofs.PlaceTypes.{kind_place}
 use Rattle.ep_gen_code.proofs.Placed.{jump_has, jump_false_has}
 use Rattle.ep_gen_unit.proofs.Parts.{code_stands-parts, Moves, ExpressionsFollow, PlacesFollow, statement_credit, ordinal_of_host}
-use Rattle.ep_object.specs.Follows.{point, Facts, Lasts, Fragment, Follows, Lands, Inside, Bare, IsNotLeft}
-use Rattle.ep_object.specs.Matching.{Slots, Memory, Injection, IsLike, IsSpot, at as standing}
+use Rattle.ep_simulation.specs.Follows.{point, Facts, Lasts, Fragment, Follows, Lands, Inside, Bare, IsNotLeft}
+use Rattle.ep_simulation.specs.Matching.{Slots, Memory, Injection, IsLike, IsSpot, at as standing}
 use Rattle.ep_object.specs.Operands.{Operand, Word}
 use Rattle.ep_object.specs.Operands as operand
 use Rattle.ep_object.specs.Placing.{Placement, CodeStands}
 use Rattle.ep_object.specs.Runs.{outcome, unit_in}
-use Rattle.ep_object.specs.Scene.{Scene}
+use Rattle.ep_simulation.specs.Scene.{Scene}
 use Rattle.ep_object.specs.State.{Running}
 use Rattle.ep_object.specs.declared.code.Image.{Image}
 use Rattle.ep_object.specs.declared.code.Instr.{Instr}
@@ -20,34 +20,35 @@ use Rattle.ep_object.specs.declared.code.Reference.{Reference}
 use Rattle.ep_object.specs.declared.state.Place.{Place as PlaceOf}
 use Rattle.ep_gen_unit.specs.StmtCode.{IsAssignCode, AreBoundsCode, IsFirstCode, IsTestCode, IsUndefineCode, for_code}
 use Rattle.ep_gen_unit.proofs.Simple.{assigned_moves}
-use Rattle.ep_object.proofs.rows.ChangeRows.{ordinal_takes}
+use Rattle.ep_simulation.proofs.rows.ChangeRows.{ordinal_takes}
 use Rattle.ep_gen_unit.proofs.StmtStays.{for_length}
-use Rattle.ep_typed.specs.declared.run_error.TheConstants as run_error
-use Rattle.ep_typed.specs.Events.{Trace}
-use Rattle.ep_object.proofs.following.Bind.{follows_paid, follows_changed}
-use Rattle.ep_object.proofs.following.Choices.{fragment_branch, fragment_branch_one, fragment_using}
-use Rattle.ep_object.proofs.following.Fragments.{Does, FailsWith, landed, fragment_cut, fragment_give, fragment_to, fragment_from, fragment_less, fragment_credit, fragment_waits, fragment_move, fragment_bind_number, fragment_bind_bare, fragment_bind_place}
-use Rattle.ep_object.proofs.matching.Growing.{unit_in-same, inside_here, not_left-here}
-use Rattle.ep_object.proofs.rows.ChangeRows.{undefine_does, undefine_fails_ended}
-use Rattle.ep_object.proofs.rows.Rows.{jump_jumps, jump_false_jumps, unequal_answers}
-use Rattle.ep_object.proofs.rows.TextRows.{drop_drops, dup_pushes}
-use Rattle.ep_typed.specs.Controls.{in_order, next_value}
-use Rattle.ep_typed.specs.Steady.{Steady, IsSteadyHandler}
-use Rattle.ep_typed.specs.Calls.{Handler}
-use Rattle.ep_typed.proofs.Steady.{steady_bind, steady_spend, steady_give, steady_if, steady_using, steady_eval, steady_exec, steady_assigns, steady_undefined, steady_undefines, steady_turns_to, steady_counts}
-use Rattle.ep_typed.specs.Meaning.{eval, exec, assigns, undefines, turns_to, counts}
-use Rattle.ep_typed.specs.Results.{weight_of}
-use Rattle.ep_typed.specs.Operations.{is_same, is_true, ordinal_of}
-use Rattle.ep_typed.specs.Printing.{number_of}
-use Rattle.ep_typed.specs.Steps.{Component, Computation, Undefined, assigned, bind, change, give, spend, using, has_ended}
-use Rattle.ep_typed.specs.Steps as meaning
+use Rattle.ep_values.specs.declared.run_error.TheConstants as run_error
+use Rattle.ep_values.specs.Events.{Trace}
+use Rattle.ep_simulation.proofs.following.Bind.{follows_paid, follows_changed}
+use Rattle.ep_simulation.proofs.following.Choices.{fragment_branch, fragment_branch_one, fragment_using}
+use Rattle.ep_simulation.proofs.following.Fragments.{Does, FailsWith, landed, fragment_cut, fragment_give, fragment_to, fragment_from, fragment_less, fragment_credit, fragment_waits, fragment_move, fragment_bind_number, fragment_bind_bare, fragment_bind_place}
+use Rattle.ep_simulation.proofs.matching.Growing.{unit_in-same, inside_here, not_left-here}
+use Rattle.ep_simulation.proofs.rows.ChangeRows.{undefine_does, undefine_fails_ended}
+use Rattle.ep_simulation.proofs.rows.Rows.{jump_jumps, jump_false_jumps, unequal_answers}
+use Rattle.ep_simulation.proofs.rows.TextRows.{drop_drops, dup_pushes}
+use Rattle.ep_meaning.specs.Controls.{in_order, next_value}
+use Rattle.ep_meaning.specs.Steady.{Steady, IsSteadyHandler}
+use Rattle.ep_meaning.specs.Calls.{Handler}
+use Rattle.ep_meaning.proofs.Steady.{steady_bind, steady_spend, steady_give, steady_if, steady_using, steady_eval, steady_exec, steady_assigns, steady_undefined, steady_undefines, steady_turns_to, steady_counts}
+use Rattle.ep_meaning.specs.Meaning.{eval, exec, assigns, undefines, turns_to, counts}
+use Rattle.ep_meaning.specs.Results.{weight_of}
+use Rattle.ep_values.specs.Operations.{is_same, is_true, ordinal_of}
+use Rattle.ep_values.specs.Printing.{number_of}
+use Rattle.ep_meaning.specs.Steps.{Component, Computation, assigned, bind, change, give, spend, using, has_ended}
+use Rattle.ep_values.specs.Values.{Undefined}
+use Rattle.ep_meaning.specs.Steps as meaning
 use Rattle.ep_typed.specs.Trees.{Entire, entire, Expr, Read, Two, Control, Stmt, For}
-use Rattle.ep_typed.specs.Valid as kind
-use Rattle.ep_typed.specs.Valid.{Declarations, IsControl, IsExpr, IsPlace}
+use Rattle.ep_meaning.specs.Valid as kind
+use Rattle.ep_meaning.specs.Valid.{Declarations, IsControl, IsExpr, IsPlace}
 use Rattle.ep_typed.specs.Hosts as host
 use Rattle.ep_typed.specs.Hosts.{Host}
-use Rattle.ep_typed.specs.declared.operations.Binary.TheVariants as binary
-use Rattle.ep_typed.specs.TypeValues as type
+use Rattle.ep_values.specs.declared.operations.Binary.TheVariants as binary
+use Rattle.ep_values.specs.TypeValues as type
 use Rattle.ep_object.specs.declared.op.TheConstants as op
 
 -- ---- what a control is made of is valid

@@ -4,7 +4,7 @@ use Rattle.std.proofs.lemmas.List.{map_more}
 use Rattle.ep_object.specs.declared.code.Instr.{Instr}
 use Rattle.ep_object.specs.declared.code.Reference.{Reference}
 use Rattle.ep_typed.specs.Trees.{Expr, Item, Plain, Wide}
-use Rattle.ep_typed.specs.declared.operations.Print.{Print}
+use Rattle.ep_values.specs.declared.operations.Print.{Print}
 use Rattle.ep_gen_expr.specs.ExprCode.{IsExprCode}
 use Rattle.ep_gen_code.specs.Instructions.{bare, push}
 use Rattle.ep_gen_code.specs.Growth.{Grows}

@@ -7,12 +7,12 @@ use Rattle.ep_gen_unit.specs.StmtCode.{make_code, make_all_code}
 use Rattle.ep_gen_type.specs.TypeCode.{type_code}
 use Rattle.ep_gen_code.specs.Referring.{AreReferred, AreArraysReferred, IsSwapReferred}
 use Rattle.ep_gen_type.proofs.Elaborating.{elaborates}
-use Rattle.ep_object.specs.Promises.{CallsAreKept}
+use Rattle.ep_simulation.specs.Promises.{CallsAreKept}
 use Rattle.ep_gen_unit.specs.UnitLaws.{AreDeclared}
 use Rattle.ep_gen_unit.proofs.Sized.{fragment_sized, sized_gains}
 use Rattle.ep_gen_unit.proofs.Parts.{code_stands-parts}
-use Rattle.ep_object.specs.Follows.{point, Facts, Lasts, Fragment, Inside, Bare, SameRoutine, TypeOnTop}
-use Rattle.ep_object.specs.Matching.{AreAmong, Slots, Memory, Injection, Describes, HasType, kept_slots}
+use Rattle.ep_simulation.specs.Follows.{point, Facts, Lasts, Fragment, Inside, Bare, SameRoutine, TypeOnTop}
+use Rattle.ep_simulation.specs.Matching.{AreAmong, Slots, Memory, Injection, Describes, HasType, kept_slots}
 use Rattle.ep_object.specs.Operands.{Operand, Word}
 use Rattle.ep_object.specs.Placing.{Placement, CodeStands, HasDistinctNames}
 use Rattle.ep_object.specs.Runs.{unit_in}
@@ -20,23 +20,24 @@ use Rattle.ep_object.specs.State.{Frames}
 use Rattle.ep_object.specs.declared.code.Image.{Image}
 use Rattle.ep_object.specs.declared.code.ImageUnit.{ImageUnit}
 use Rattle.ep_object.specs.declared.code.Reference.{Reference}
-use Rattle.ep_object.proofs.following.Fragments.{inside_bind, fragment_bind_bare, fragment_credit, fragment_give, fragment_to}
-use Rattle.ep_object.proofs.matching.Growing.{inside_here, no_calls, unit_in-same}
-use Rattle.ep_object.specs.Starts.{AreStarts}
-use Rattle.ep_object.proofs.rows.MakeRow.{RunsInUnit, make_does}
-use Rattle.ep_object.specs.Scene.{HaveValidTypes}
+use Rattle.ep_simulation.proofs.following.Fragments.{inside_bind, fragment_bind_bare, fragment_credit, fragment_give, fragment_to}
+use Rattle.ep_simulation.proofs.matching.Growing.{inside_here, no_calls, unit_in-same}
+use Rattle.ep_simulation.specs.Starts.{AreStarts}
+use Rattle.ep_simulation.proofs.rows.MakeRow.{RunsInUnit, make_does}
+use Rattle.ep_simulation.specs.Scene.{HaveValidTypes}
 use Rattle.ep_object.specs.declared.code.Instr.{Instr}
-use Rattle.ep_typed.specs.Steady.{IsSteadyHandler}
-use Rattle.ep_typed.specs.Calls.{Handler}
+use Rattle.ep_meaning.specs.Steady.{IsSteadyHandler}
+use Rattle.ep_meaning.specs.Calls.{Handler}
 use Rattle.ep_typed.proofs.Denoters.{types_are_instances}
-use Rattle.ep_typed.proofs.Bares.{value_bare}
-use Rattle.ep_typed.proofs.Typed.{typed_bare, typed_value}
-use Rattle.ep_typed.proofs.Steady.{grows_made, steady_allocate, steady_make_all}
-use Rattle.ep_typed.specs.Meaning.{make, make_all}
-use Rattle.ep_typed.specs.Steps.{Computation, counted, made, allocate, size_of}
-use Rattle.ep_typed.specs.Valid.{Declarations, IsDenoter, IsTypeValue}
+use Rattle.ep_meaning.proofs.Bares.{value_bare}
+use Rattle.ep_meaning.proofs.Typed.{typed_bare, typed_value}
+use Rattle.ep_meaning.proofs.Steady.{grows_made, steady_allocate, steady_make_all}
+use Rattle.ep_meaning.specs.Meaning.{make, make_all}
+use Rattle.ep_meaning.specs.Steps.{Computation, counted, made, allocate}
+use Rattle.ep_values.specs.TypeValues.{size_of}
+use Rattle.ep_meaning.specs.Valid.{Declarations, IsDenoter, IsTypeValue}
 use Rattle.ep_typed.specs.Viewed.{denoter_of}
-use Rattle.ep_typed.specs.TypeValues.{TypeValue, bare_of}
+use Rattle.ep_values.specs.TypeValues.{TypeValue, bare_of}
 use Rattle.ep_typed.specs.declared.unit.UnitVariable.{UnitVariable}
 use Rattle.ep_object.specs.declared.op.TheConstants as op
 

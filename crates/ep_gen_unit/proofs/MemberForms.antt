@@ -1,7 +1,7 @@
 -- The code of a `for` over members, from that of its parts.
 use Rattle.std.proofs.Common.{◌≡◌, ℕ, pos, ◌+◌, ◌<◌, List, [], ◌∷◌, ◌++◌, length, refl, ◌∙◌, subst, arith}
 use Rattle.ep_object.specs.declared.code.Instr.{Instr}
-use Rattle.ep_typed.specs.Controls.{has_more, others}
+use Rattle.ep_meaning.specs.Controls.{has_more, others}
 use Rattle.ep_typed.specs.Trees.{entire, Expr, Read, MemberControl, Stmt, Assign, ForIn}
 use Rattle.ep_gen_expr.specs.ExprCode.{IsExprCode}
 use Rattle.ep_gen_code.specs.Instructions.{bare, instr, push}

@@ -10,40 +10,40 @@ use Rattle.ep_gen_unit.proofs.ForMoves.{undefine_moves}
 use Rattle.ep_gen_unit.proofs.Parts.{code_stands-parts, Moves, ExpressionsFollow, PlacesFollow, ordinal_of_host}
 use Rattle.ep_gen_unit.proofs.Simple.{assigned_moves, store_moves}
 use Rattle.ep_gen_unit.proofs.StmtStays.{for_in_length}
-use Rattle.ep_object.specs.Follows.{point, Facts, Lasts, Fragment, Inside, Bare, OnTop}
-use Rattle.ep_object.specs.Matching.{Slots, IsLike}
+use Rattle.ep_simulation.specs.Follows.{point, Facts, Lasts, Fragment, Inside, Bare, OnTop}
+use Rattle.ep_simulation.specs.Matching.{Slots, IsLike}
 use Rattle.ep_object.specs.Operands.{Operand, Word, Set}
 use Rattle.ep_object.specs.Operands as operand
 use Rattle.ep_object.specs.Placing.{Placement, CodeStands}
-use Rattle.ep_object.specs.Scene.{Scene}
+use Rattle.ep_simulation.specs.Scene.{Scene}
 use Rattle.ep_object.specs.declared.code.Image.{Image}
 use Rattle.ep_object.specs.declared.code.Instr.{Instr}
 use Rattle.ep_object.specs.declared.code.Reference.{Reference}
 use Rattle.ep_object.specs.declared.op.TheConstants as op
-use Rattle.ep_object.proofs.following.Choices.{fragment_turns}
-use Rattle.ep_object.proofs.following.Fragments.{fragment_bind_bare, fragment_bind_place, fragment_credit, fragment_from, fragment_to, fragment_waits, inside_bind}
-use Rattle.ep_object.proofs.matching.Awaiting.{value_on_top}
-use Rattle.ep_object.proofs.matching.Growing.{describes-grown, grown_refl, is_spot-grown, same_routine-refl, unit_in-same}
-use Rattle.ep_object.proofs.rows.ChangeRows.{may_take, ordinal_takes, set_takes}
-use Rattle.ep_object.proofs.rows.Rows.{jump_jumps, jump_false_jumps, push_pushes}
-use Rattle.ep_object.proofs.rows.SetRows.{least_pushes}
-use Rattle.ep_typed.proofs.Steady.{steady_assign, steady_bind, steady_eval, steady_exec, steady_member_turn, steady_place, steady_turns, steady_undefined, steady_undefines, steady_using}
-use Rattle.ep_typed.specs.Calls.{Handler}
-use Rattle.ep_typed.specs.Controls.{has_more, others}
+use Rattle.ep_simulation.proofs.following.Choices.{fragment_turns}
+use Rattle.ep_simulation.proofs.following.Fragments.{fragment_bind_bare, fragment_bind_place, fragment_credit, fragment_from, fragment_to, fragment_waits, inside_bind}
+use Rattle.ep_simulation.proofs.matching.Awaiting.{value_on_top}
+use Rattle.ep_simulation.proofs.matching.Growing.{describes-grown, grown_refl, is_spot-grown, same_routine-refl, unit_in-same}
+use Rattle.ep_simulation.proofs.rows.ChangeRows.{may_take, ordinal_takes, set_takes}
+use Rattle.ep_simulation.proofs.rows.Rows.{jump_jumps, jump_false_jumps, push_pushes}
+use Rattle.ep_simulation.proofs.rows.SetRows.{least_pushes}
+use Rattle.ep_meaning.proofs.Steady.{steady_assign, steady_bind, steady_eval, steady_exec, steady_member_turn, steady_place, steady_turns, steady_undefined, steady_undefines, steady_using}
+use Rattle.ep_meaning.specs.Calls.{Handler}
+use Rattle.ep_meaning.specs.Controls.{has_more, others}
 use Rattle.ep_typed.specs.Hosts as host
 use Rattle.ep_typed.specs.Hosts.{Host, is_of_host}
-use Rattle.ep_typed.specs.Meaning.{assign, eval, exec, member_turn, takes_least, turns, undefines}
-use Rattle.ep_typed.specs.Printing as result
-use Rattle.ep_typed.specs.Printing.{members_of}
-use Rattle.ep_typed.specs.Results.{weight_of}
-use Rattle.ep_typed.specs.Sets.{least_member}
-use Rattle.ep_typed.specs.Steady.{Steady, IsSteadyHandler}
-use Rattle.ep_typed.specs.Steps as meaning
-use Rattle.ep_typed.specs.Steps.{bind}
+use Rattle.ep_meaning.specs.Meaning.{assign, eval, exec, member_turn, takes_least, turns, undefines}
+use Rattle.ep_values.specs.Printing as result
+use Rattle.ep_values.specs.Printing.{members_of}
+use Rattle.ep_meaning.specs.Results.{weight_of}
+use Rattle.ep_values.specs.Sets.{least_member}
+use Rattle.ep_meaning.specs.Steady.{Steady, IsSteadyHandler}
+use Rattle.ep_meaning.specs.Steps as meaning
+use Rattle.ep_meaning.specs.Steps.{bind}
 use Rattle.ep_typed.specs.Trees.{Entire, entire, Expr, Read, MemberControl, Stmt, ForIn}
-use Rattle.ep_typed.specs.Valid as kind
-use Rattle.ep_typed.specs.Valid.{Declarations, IsExpr, IsMemberControl, IsPlace}
-use Rattle.ep_typed.specs.declared.run_error.TheConstants as run_error
+use Rattle.ep_meaning.specs.Valid as kind
+use Rattle.ep_meaning.specs.Valid.{Declarations, IsExpr, IsMemberControl, IsPlace}
+use Rattle.ep_values.specs.declared.run_error.TheConstants as run_error
 
 -- ---- what a control is made of is valid
 

@@ -11,48 +11,50 @@ use Rattle.ep_gen_code.specs.Referring.{AreReferred, AreArraysReferred, IsSwapRe
 use Rattle.ep_gen_type.proofs.Elaborating.{elaborates}
 use Rattle.ep_gen_unit.proofs.Sized.{fragment_sized}
 use Rattle.ep_gen_unit.proofs.Parts.{code_stands-parts}
-use Rattle.ep_object.specs.Activations.{InActivation}
-use Rattle.ep_object.specs.Follows.{point, Fragment, Lasts, StillRuns, Inside, TypeOnTop}
-use Rattle.ep_object.specs.Matching.{AreAmong, Slots, Memory, Injection, IsSpot, Describes, IsLike, HasOwnType, kept_slots}
+use Rattle.ep_simulation.specs.Activations.{InActivation}
+use Rattle.ep_simulation.specs.Follows.{point, Fragment, Lasts, StillRuns, Inside, TypeOnTop}
+use Rattle.ep_simulation.specs.Matching.{AreAmong, Slots, Memory, Injection, IsSpot, Describes, IsLike, HasOwnType, kept_slots}
 use Rattle.ep_object.specs.Calls.{argument_at}
 use Rattle.ep_object.specs.Operands.{Operand, Word}
 use Rattle.ep_object.specs.Operands as operand
-use Rattle.ep_object.specs.Promises.{CallsAreKept, Passing, ByValue, ByReference, IsPassed, ArePassed, IsArgument, IsValueOf}
+use Rattle.ep_simulation.specs.Promises.{CallsAreKept, Passing, ByValue, ByReference, IsPassed, ArePassed, IsArgument, IsValueOf}
 use Rattle.ep_object.specs.Runs.{unit_in}
 use Rattle.ep_object.specs.State.{Frame}
 use Rattle.ep_object.specs.declared.code.Instr.{Instr}
 use Rattle.ep_object.specs.declared.state.Place.{Place as PlaceOf}
 use Rattle.ep_object.specs.Placing.{Placement, CodeStands}
-use Rattle.ep_object.specs.Scene.{HaveValidOwnTypes}
+use Rattle.ep_simulation.specs.Scene.{HaveValidOwnTypes}
 use Rattle.ep_object.specs.declared.code.Image.{Image}
 use Rattle.ep_object.specs.declared.code.Reference.{Reference}
-use Rattle.ep_object.proofs.following.Fragments.{fragment_bind, fragment_credit, fragment_weaken, fragment_post, fragment_give, fragment_from, fragment_to, fragment_less}
-use Rattle.ep_object.proofs.matching.Growing.{same_routine-refl, still_routine, still_runs-trans, unit_in-still}
-use Rattle.ep_object.specs.Starts.{AreStarts}
-use Rattle.ep_object.proofs.matching.Awaiting.{arguments_in, AreAwaited, awaited-grown, awaited-taken, value-grown, without_argument}
-use Rattle.ep_object.proofs.rows.ArgumentRows.{Taken, taken-later, same_arguments, value_taken, variable_taken}
-use Rattle.ep_object.proofs.rows.OwnRows.{StillBare, MadeOwn, in_frame, make_own_does}
-use Rattle.ep_typed.specs.Steady.{IsSteadyHandler}
-use Rattle.ep_typed.specs.Calls.{Argument, Value, Handler}
-use Rattle.ep_typed.specs.Calls as argument_is
-use Rattle.ep_typed.proofs.Bares.{bare_size}
+use Rattle.ep_simulation.proofs.following.Fragments.{fragment_bind, fragment_credit, fragment_weaken, fragment_post, fragment_give, fragment_from, fragment_to, fragment_less}
+use Rattle.ep_simulation.proofs.matching.Growing.{same_routine-refl, still_routine, still_runs-trans, unit_in-still}
+use Rattle.ep_simulation.specs.Starts.{AreStarts}
+use Rattle.ep_simulation.proofs.matching.Awaiting.{arguments_in, AreAwaited, awaited-grown, awaited-taken, value-grown, without_argument}
+use Rattle.ep_simulation.proofs.rows.ArgumentRows.{Taken, taken-later, same_arguments, value_taken, variable_taken}
+use Rattle.ep_simulation.proofs.rows.OwnRows.{StillBare, MadeOwn, in_frame, make_own_does}
+use Rattle.ep_meaning.specs.Steady.{IsSteadyHandler}
+use Rattle.ep_meaning.specs.Calls.{Argument, Value, Handler}
+use Rattle.ep_meaning.specs.Calls as argument_is
+use Rattle.ep_meaning.proofs.Bares.{bare_size}
 use Rattle.ep_typed.specs.Denoters.{bare_type_of, type_of}
-use Rattle.ep_typed.specs.Printing.{Result}
-use Rattle.ep_typed.specs.Results.{weight_of}
-use Rattle.ep_typed.proofs.ValueKinds.{typed_of_kind}
+use Rattle.ep_values.specs.Printing.{Result}
+use Rattle.ep_meaning.specs.Results.{weight_of}
+use Rattle.ep_meaning.proofs.ValueKinds.{typed_of_kind}
 use Rattle.ep_typed.specs.declared.interface.Formal.{Formal}
 use Rattle.ep_typed.specs.declared.interface.FormalMode.{FormalMode}
 use Rattle.ep_typed.specs.declared.interface.FormalMode.TheVariants as mode
 use Rattle.ep_typed.proofs.Denoters.{types_are_instances}
-use Rattle.ep_typed.proofs.Bares.{value_bare}
-use Rattle.ep_typed.proofs.Typed.{typed_bare, typed_value}
-use Rattle.ep_typed.proofs.Steady.{grows_made_own, steady_bind, steady_allocate_own, steady_make_all_own, steady_initialized, steady_takes_all}
-use Rattle.ep_typed.specs.Meaning.{elaborate, make_own, make_all_own, initialized, takes_by, takes_all}
-use Rattle.ep_typed.specs.Steps.{Component, Computation, bind, spend, change, with_own_bound, counted, made_own, allocate_own, size_of}
-use Rattle.ep_typed.specs.Valid.{variables_up, Declarations, IsOfKind, IsTypeOfKind, Kind, IsTypeValue, IsDenoter, formal_variable}
-use Rattle.ep_typed.specs.Valid as kind
+use Rattle.ep_meaning.proofs.Bares.{value_bare}
+use Rattle.ep_meaning.proofs.Typed.{typed_bare, typed_value}
+use Rattle.ep_meaning.proofs.Steady.{grows_made_own, steady_bind, steady_allocate_own, steady_make_all_own, steady_initialized, steady_takes_all}
+use Rattle.ep_meaning.specs.Meaning.{elaborate, make_own, make_all_own, initialized, takes_by, takes_all}
+use Rattle.ep_meaning.specs.Steps.{Component, Computation, bind, spend, change, with_own_bound, counted, made_own, allocate_own}
+use Rattle.ep_values.specs.TypeValues.{size_of}
+use Rattle.ep_meaning.specs.Valid.{variables_up, Declarations, IsOfKind, IsTypeOfKind, Kind, IsTypeValue, IsDenoter}
+use Rattle.ep_typed.specs.Routines.{formal_variable}
+use Rattle.ep_meaning.specs.Valid as kind
 use Rattle.ep_typed.specs.Viewed.{denoter_of}
-use Rattle.ep_typed.specs.TypeValues.{TypeValue, bare_of}
+use Rattle.ep_values.specs.TypeValues.{TypeValue, bare_of}
 use Rattle.ep_typed.specs.declared.unit.UnitVariable.{UnitVariable}
 use Rattle.ep_object.specs.declared.op.TheConstants as op
 

@@ -5,28 +5,28 @@ use Rattle.ep_gen_expr.specs.Following.{HasPlaceType, IsValidPlace}
 use Rattle.ep_gen_expr.specs.ExprCode.{IsPlaceCode, IsExprCode, AreActualsCode}
 use Rattle.ep_gen_code.specs.Instructions.{instr, reference}
 use Rattle.ep_gen_code.proofs.Placed.{code_front, code_back}
-use Rattle.ep_object.specs.Follows.{point, Facts, Fragment, Inside, Bare, OnTop, PlaceOnTop, SameRoutine}
-use Rattle.ep_object.specs.Matching.{Slots, Memory, Injection, Grown}
+use Rattle.ep_simulation.specs.Follows.{point, Facts, Fragment, Inside, Bare, OnTop, PlaceOnTop, SameRoutine}
+use Rattle.ep_simulation.specs.Matching.{Slots, Memory, Injection, Grown}
 use Rattle.ep_object.specs.Operands.{Operand}
 use Rattle.ep_object.specs.Placing.{Placement, CodeStands}
-use Rattle.ep_object.specs.Promises.{ResultsOnTop, RoutineKeeps}
+use Rattle.ep_simulation.specs.Promises.{ResultsOnTop, RoutineKeeps}
 use Rattle.ep_object.specs.Runs.{unit_in}
 use Rattle.ep_object.specs.declared.code.Image.{Image}
 use Rattle.ep_object.specs.declared.code.Instr.{Instr}
 use Rattle.ep_object.specs.declared.code.Reference.{Reference}
 use Rattle.ep_object.specs.declared.op.TheConstants as op
-use Rattle.ep_typed.specs.Steady.{Steady}
-use Rattle.ep_typed.specs.Printing.{Result}
-use Rattle.ep_typed.specs.Calls.{Handler}
-use Rattle.ep_typed.specs.Meaning.{place, eval, arguments}
-use Rattle.ep_typed.specs.Results.{weight_of}
-use Rattle.ep_typed.specs.Steps.{Computation, bind}
+use Rattle.ep_meaning.specs.Steady.{Steady}
+use Rattle.ep_values.specs.Printing.{Result}
+use Rattle.ep_meaning.specs.Calls.{Handler}
+use Rattle.ep_meaning.specs.Meaning.{place, eval, arguments}
+use Rattle.ep_meaning.specs.Results.{weight_of}
+use Rattle.ep_meaning.specs.Steps.{Computation, bind}
 use Rattle.ep_typed.specs.Trees.{Callee, Place, Expr, Actuals}
-use Rattle.ep_typed.specs.Valid.{IsDeclaredUp, Declarations, Kind, IsExpr, IsTypeOf, AreGiven}
+use Rattle.ep_meaning.specs.Valid.{IsDeclaredUp, Declarations, Kind, IsExpr, IsTypeOf, AreGiven}
 use Rattle.ep_typed.specs.Hosts.{Host}
 use Rattle.ep_typed.specs.declared.interface.RoutineEntry.{RoutineEntry}
-use Rattle.ep_typed.specs.TypeValues.{TypeValue}
-use Rattle.ep_typed.specs.TypeValues as type
+use Rattle.ep_values.specs.TypeValues.{TypeValue}
+use Rattle.ep_values.specs.TypeValues as type
 
 -- two parts of code stand one after the other
 pub code_stands-parts : (G : Image) (ps : List Placement) (p : Placement) (references : List Reference) (at : ℕ) (xs ys : List Instr) → CodeStands G ps p references at (xs ++ ys) → CodeStands G ps p references at xs × CodeStands G ps p references (at + length xs) ys

@@ -5,22 +5,22 @@ use Rattle.ep_gen_code.specs.Instructions.{instr, reference}
 use Rattle.ep_gen_expr.proofs.Calls.{call_ends}
 use Rattle.ep_gen_code.proofs.Placed.{code_back}
 use Rattle.ep_gen_unit.proofs.Parts.{Moves, CallsFollow}
-use Rattle.ep_object.specs.Follows.{Facts}
-use Rattle.ep_object.specs.Matching.{Memory, Injection, Slots}
+use Rattle.ep_simulation.specs.Follows.{Facts}
+use Rattle.ep_simulation.specs.Matching.{Memory, Injection, Slots}
 use Rattle.ep_object.specs.Operands.{Operand}
 use Rattle.ep_object.specs.Placing.{Placement, CodeStands}
-use Rattle.ep_object.specs.Promises.{AreResults, CallsAreKept, ResultsOnTop}
+use Rattle.ep_simulation.specs.Promises.{AreResults, CallsAreKept, ResultsOnTop}
 use Rattle.ep_object.specs.declared.code.Image.{Image}
 use Rattle.ep_object.specs.declared.code.Instr.{Instr}
 use Rattle.ep_object.specs.declared.code.Reference.{Reference}
 use Rattle.ep_object.specs.declared.op.TheConstants as op
-use Rattle.ep_typed.proofs.Steady.{steady_spend, steady_give}
-use Rattle.ep_typed.specs.Calls.{Handler}
-use Rattle.ep_typed.specs.Meaning.{exec}
-use Rattle.ep_typed.specs.Printing.{Result}
-use Rattle.ep_typed.specs.Steps.{give, spend}
+use Rattle.ep_meaning.proofs.Steady.{steady_spend, steady_give}
+use Rattle.ep_meaning.specs.Calls.{Handler}
+use Rattle.ep_meaning.specs.Meaning.{exec}
+use Rattle.ep_values.specs.Printing.{Result}
+use Rattle.ep_meaning.specs.Steps.{give, spend}
 use Rattle.ep_typed.specs.Trees.{Callee, Actuals, Procedure}
-use Rattle.ep_typed.specs.Valid.{Declarations, Kind, IsStmt}
+use Rattle.ep_meaning.specs.Valid.{Declarations, Kind, IsStmt}
 use Rattle.ep_typed.specs.declared.interface.RoutineResult.{RoutineResult}
 use Rattle.ep_typed.specs.declared.unit.UnitType.{UnitType}
 

@@ -5,28 +5,28 @@ use Rattle.ep_gen_unit.specs.StmtCode.{make_all_code, return_code}
 use Rattle.ep_gen_unit.specs.UnitCode.{IsProgramCode, plain_at}
 use Rattle.ep_gen_unit.proofs.Routines.{routines_kept}
 use Rattle.ep_gen_unit.proofs.Units.{start_is, unit_simulates, routine_there as routine_of_object}
-use Rattle.ep_object.proofs.Alone.{placements_alone, stands-alone, distinct-alone}
-use Rattle.ep_object.proofs.matching.Beginning.{first_memory, first_injection, first_matches}
-use Rattle.ep_object.proofs.following.Bind.{follows_bind, follows_stop}
-use Rattle.ep_object.proofs.matching.Growing.{not_left-same}
-use Rattle.ep_object.proofs.following.Simulating.{simulation_follows, leaves_enters}
-use Rattle.ep_object.proofs.Tells.{Never, tells, tells_at_end, tells_close}
-use Rattle.ep_object.specs.Follows.{Follows, Bare, SameRoutine, IsNotLeft}
+use Rattle.ep_simulation.proofs.Alone.{placements_alone, stands-alone, distinct-alone}
+use Rattle.ep_simulation.proofs.matching.Beginning.{first_memory, first_injection, first_matches}
+use Rattle.ep_simulation.proofs.following.Bind.{follows_bind, follows_stop}
+use Rattle.ep_simulation.proofs.matching.Growing.{not_left-same}
+use Rattle.ep_simulation.proofs.following.Simulating.{simulation_follows, leaves_enters}
+use Rattle.ep_simulation.proofs.Tells.{Never, tells, tells_at_end, tells_close}
+use Rattle.ep_simulation.specs.Follows.{Follows, Bare, SameRoutine, IsNotLeft}
 use Rattle.ep_object.specs.Laws.{EndsAt}
-use Rattle.ep_object.specs.Matching.{kept_slots, at as standing}
+use Rattle.ep_simulation.specs.Matching.{kept_slots, at as standing}
 use Rattle.ep_object.specs.Placing.{alone, first_placement, moved, placed_routine}
 use Rattle.ep_object.specs.Routines.{routine_of as routine_there}
 use Rattle.ep_object.specs.Runs.{begin, outcome, enter, run_from}
-use Rattle.ep_object.specs.Simulates.{Enters, Leaves}
+use Rattle.ep_simulation.specs.Simulates.{Enters, Leaves}
 use Rattle.ep_object.specs.State.{State, Frames, End, Running, Stopped, Normal, first_frames}
-use Rattle.ep_object.specs.Tells.{Tells, TellsAtEnd, AreClose, spare_ticks}
+use Rattle.ep_simulation.specs.Tells.{Tells, TellsAtEnd, AreClose, spare_ticks}
 use Rattle.ep_object.specs.declared.code.Object.{Object}
-use Rattle.ep_typed.proofs.Steady.{steady_stop, steady_handler_of}
+use Rattle.ep_meaning.proofs.Steady.{steady_stop, steady_handler_of}
 use Rattle.ep_typed.specs.Routines.{made_by_unit}
-use Rattle.ep_typed.specs.Events.{Trace}
-use Rattle.ep_typed.specs.Meaning.{handler_of, starts_of, meaning as meaning_of}
-use Rattle.ep_typed.specs.Steps as meaning
-use Rattle.ep_typed.specs.Valid.{IsValid, own}
+use Rattle.ep_values.specs.Events.{Trace}
+use Rattle.ep_meaning.specs.Meaning.{handler_of, starts_of, meaning as meaning_of}
+use Rattle.ep_meaning.specs.Steps as meaning
+use Rattle.ep_meaning.specs.Valid.{IsValid, own}
 use Rattle.ep_typed.specs.declared.unit.Unit.{Unit as TypedUnit}
 
 module _ (u : TypedUnit) (o : Object) (is : IsProgramCode u o) where

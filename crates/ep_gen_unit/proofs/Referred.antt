@@ -8,9 +8,10 @@ use Rattle.ep_gen_code.specs.Referring.{AreReferred, AreArraysReferred, IsSwapRe
 use Rattle.ep_gen_code.specs.declared.references.TheConstants as routine
 use Rattle.ep_gen_unit.specs.UnitCode.{IsProgramCode}
 use Rattle.ep_gen_unit.proofs.Declared.{name_same}
-use Rattle.ep_object.specs.Promises.{fill_routine, range_routine, spread_routine, swap_routine, type_routine}
+use Rattle.ep_simulation.specs.Promises.{fill_routine, range_routine, spread_routine, swap_routine, type_routine}
 use Rattle.ep_object.specs.declared.code.Object.{Object}
-use Rattle.ep_typed.specs.Valid.{Declarations, heading_of, own}
+use Rattle.ep_meaning.specs.Valid.{Declarations, own}
+use Rattle.ep_typed.specs.Routines.{heading_of}
 use Rattle.ep_typed.specs.declared.unit.Unit.{Unit as TypedUnit}
 
 -- in the code of a program each of the first references is to one of the routines behind the stop

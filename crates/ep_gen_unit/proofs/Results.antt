@@ -4,24 +4,24 @@ use Rattle.std.specs.Prelude.{if◌then◌else◌, is_some}
 use Rattle.ep_gen_code.specs.Instructions.{instr, bare}
 use Rattle.ep_gen_code.proofs.Placed.{instr_at, jump_false_has}
 use Rattle.ep_gen_unit.specs.StmtCode.{result_code, structure_code}
-use Rattle.ep_object.proofs.following.Bind.{follows_credit, follows_give, follows_stop, follows_waits}
-use Rattle.ep_object.proofs.following.Choices.{Reads, ReadsResult, Nothing, Result_of, fragment_fetched, fragment_using}
-use Rattle.ep_object.proofs.following.Fragments.{FailsWith, fragment_bind, fragment_from, fragment_waits}
-use Rattle.ep_object.proofs.matching.Awaiting.{value_on_top}
-use Rattle.ep_object.proofs.matching.Growing.{not_left-here, still_routine, unit_in-same}
-use Rattle.ep_object.proofs.rows.ChangeRows.{variable_type}
-use Rattle.ep_object.proofs.rows.OwnRows.{own_reads}
-use Rattle.ep_object.proofs.rows.TextRows.{dup_place}
+use Rattle.ep_simulation.proofs.following.Bind.{follows_credit, follows_give, follows_stop, follows_waits}
+use Rattle.ep_simulation.proofs.following.Choices.{Reads, ReadsResult, Nothing, Result_of, fragment_fetched, fragment_using}
+use Rattle.ep_simulation.proofs.following.Fragments.{FailsWith, fragment_bind, fragment_from, fragment_waits}
+use Rattle.ep_simulation.proofs.matching.Awaiting.{value_on_top}
+use Rattle.ep_simulation.proofs.matching.Growing.{not_left-here, still_routine, unit_in-same}
+use Rattle.ep_simulation.proofs.rows.ChangeRows.{variable_type}
+use Rattle.ep_simulation.proofs.rows.OwnRows.{own_reads}
+use Rattle.ep_simulation.proofs.rows.TextRows.{dup_place}
 use Rattle.ep_gen_expr.proofs.VariantMoves.{follows_found}
-use Rattle.ep_object.proofs.rows.PlaceRows.{defined_fails, defined_tells, load_fails, load_reads, structure_found}
-use Rattle.ep_object.proofs.rows.Rows.{fail_fails, jump_false_jumps}
-use Rattle.ep_object.specs.Activations.{KnowsNames}
-use Rattle.ep_object.specs.Follows.{Facts, Follows, Fragment, Lands, Inside, OnTop, PlaceOnTop, IsNotLeft, point}
-use Rattle.ep_object.specs.Matching.{Memory, Injection, Matches, Slots, HasOwnType, IsLike, IsSpot, at as standing}
+use Rattle.ep_simulation.proofs.rows.PlaceRows.{defined_fails, defined_tells, load_fails, load_reads, structure_found}
+use Rattle.ep_simulation.proofs.rows.Rows.{fail_fails, jump_false_jumps}
+use Rattle.ep_simulation.specs.Activations.{KnowsNames}
+use Rattle.ep_simulation.specs.Follows.{Facts, Follows, Fragment, Lands, Inside, OnTop, PlaceOnTop, IsNotLeft, point}
+use Rattle.ep_simulation.specs.Matching.{Memory, Injection, Matches, Slots, HasOwnType, IsLike, IsSpot, at as standing}
 use Rattle.ep_object.specs.Operands.{Operand, Word}
 use Rattle.ep_object.specs.Operands as operand
 use Rattle.ep_object.specs.Placing.{Placement, CodeStands}
-use Rattle.ep_object.specs.Promises.{ResultsOnTop, credit_of}
+use Rattle.ep_simulation.specs.Promises.{ResultsOnTop, credit_of}
 use Rattle.ep_object.specs.Runs.{outcome, unit_in}
 use Rattle.ep_object.specs.State.{State, Running, Stopped, Error}
 use Rattle.ep_object.specs.WordRows.{bit}
@@ -29,22 +29,22 @@ use Rattle.ep_object.specs.declared.code.Image.{Image}
 use Rattle.ep_object.specs.declared.code.Reference.{Reference}
 use Rattle.ep_object.specs.declared.op.TheConstants as op
 use Rattle.ep_object.specs.declared.state.Place.{Place as PlaceOf}
-use Rattle.ep_typed.proofs.Bares.{bare_unresulting}
-use Rattle.ep_typed.proofs.Steady.{steady_bind, steady_fetch_or, steady_give, steady_using}
+use Rattle.ep_meaning.proofs.Bares.{bare_unresulting}
+use Rattle.ep_meaning.proofs.Steady.{steady_bind, steady_fetch_or, steady_give, steady_using}
 use Rattle.ep_typed.specs.Hosts.{Host}
-use Rattle.ep_typed.specs.Meaning.{result_at}
-use Rattle.ep_typed.specs.Operations.{is_true}
-use Rattle.ep_typed.specs.Printing.{Result}
-use Rattle.ep_typed.specs.Results.{result_of, unresulting, weight_of}
-use Rattle.ep_typed.specs.Printing as result
-use Rattle.ep_typed.specs.Steps.{Component, Computation, bind, fetch_or, found, give, using, own_variable, has_ended, type_at}
-use Rattle.ep_typed.specs.Steps as meaning
-use Rattle.ep_typed.specs.Valid as kind
-use Rattle.ep_typed.specs.Valid.{variables_up, Declarations, IsSetOf, IsStructured, IsTypeOf}
-use Rattle.ep_typed.specs.declared.run_error.TheConstants as run_error
+use Rattle.ep_meaning.specs.Meaning.{result_at}
+use Rattle.ep_values.specs.Operations.{is_true}
+use Rattle.ep_values.specs.Printing.{Result}
+use Rattle.ep_meaning.specs.Results.{result_of, unresulting, weight_of}
+use Rattle.ep_values.specs.Printing as result
+use Rattle.ep_meaning.specs.Steps.{Component, Computation, bind, fetch_or, found, give, using, own_variable, has_ended, type_at}
+use Rattle.ep_meaning.specs.Steps as meaning
+use Rattle.ep_meaning.specs.Valid as kind
+use Rattle.ep_meaning.specs.Valid.{variables_up, Declarations, IsSetOf, IsStructured, IsTypeOf}
+use Rattle.ep_values.specs.declared.run_error.TheConstants as run_error
 use Rattle.ep_typed.specs.declared.unit.UnitVariable.{UnitVariable}
-use Rattle.ep_typed.specs.TypeValues.{TypeValue, bare_of, size_of}
-use Rattle.ep_typed.specs.TypeValues as type
+use Rattle.ep_values.specs.TypeValues.{TypeValue, bare_of, size_of}
+use Rattle.ep_values.specs.TypeValues as type
 
 -- the value of the variable that has the result, or the error where it has none
 abbrev gives_result : List ℕ → ℕ → Component → Computation (List Result)

@@ -6,34 +6,34 @@ use Rattle.ep_gen_expr.specs.ExprCode.{IsPlaceCode, IsExprCode}
 use Rattle.ep_gen_unit.specs.StmtCode.{IsAssignCode}
 use Rattle.ep_gen_expr.proofs.PlaceTypes.{IsKindPlace, kind_place}
 use Rattle.ep_gen_unit.proofs.Parts.{Moves, ExpressionsFollow, PlacesFollow, code_stands-parts}
-use Rattle.ep_object.specs.Follows.{point, Facts, Lasts, Fragment, Inside, Bare, OnTop}
-use Rattle.ep_object.specs.Matching.{Slots, Memory, Injection, IsLike, IsSpot, at as standing}
+use Rattle.ep_simulation.specs.Follows.{point, Facts, Lasts, Fragment, Inside, Bare, OnTop}
+use Rattle.ep_simulation.specs.Matching.{Slots, Memory, Injection, IsLike, IsSpot, at as standing}
 use Rattle.ep_object.specs.Operands.{Operand}
 use Rattle.ep_object.specs.Operands as operand
 use Rattle.ep_object.specs.Placing.{Placement, CodeStands}
-use Rattle.ep_object.specs.Scene.{Scene}
-use Rattle.ep_object.specs.Promises.{IsValueOf}
+use Rattle.ep_simulation.specs.Scene.{Scene}
+use Rattle.ep_simulation.specs.Promises.{IsValueOf}
 use Rattle.ep_object.specs.Runs.{unit_in}
 use Rattle.ep_object.specs.declared.code.Image.{Image}
 use Rattle.ep_object.specs.declared.code.Instr.{Instr}
 use Rattle.ep_object.specs.declared.code.Reference.{Reference}
 use Rattle.ep_object.specs.declared.state.Place.{Place as PlaceOf}
-use Rattle.ep_object.proofs.rows.ChangeRows.{MayTake, value_does, value_ended, value_fails}
-use Rattle.ep_object.proofs.following.Choices.{follows_checked-weighed, fragment_using}
-use Rattle.ep_object.proofs.following.Fragments.{FailsWith, fragment_give, fragment_stop, fragment_to, fragment_less, fragment_credit, fragment_bind_place, inside_bind}
-use Rattle.ep_object.proofs.matching.Awaiting.{value_on_top}
-use Rattle.ep_object.proofs.matching.Growing.{unit_in-same, is_spot-grown, describes-grown, inside_here}
-use Rattle.ep_object.proofs.rows.Rows.{outcome_at}
-use Rattle.ep_typed.specs.Steady.{IsSteadyHandler}
-use Rattle.ep_typed.specs.Calls.{Handler}
-use Rattle.ep_typed.proofs.Steady.{steady_bind, steady_eval, steady_assign}
-use Rattle.ep_typed.specs.Meaning.{exec, assign, assigns}
-use Rattle.ep_typed.specs.Results.{misfit, suits, value_of, weight_of}
-use Rattle.ep_typed.specs.Printing.{Result}
-use Rattle.ep_typed.specs.Steps.{Component, assigned, type_at}
+use Rattle.ep_simulation.proofs.rows.ChangeRows.{MayTake, value_does, value_ended, value_fails}
+use Rattle.ep_simulation.proofs.following.Choices.{follows_checked-weighed, fragment_using}
+use Rattle.ep_simulation.proofs.following.Fragments.{FailsWith, fragment_give, fragment_stop, fragment_to, fragment_less, fragment_credit, fragment_bind_place, inside_bind}
+use Rattle.ep_simulation.proofs.matching.Awaiting.{value_on_top}
+use Rattle.ep_simulation.proofs.matching.Growing.{unit_in-same, is_spot-grown, describes-grown, inside_here}
+use Rattle.ep_simulation.proofs.rows.Rows.{outcome_at}
+use Rattle.ep_meaning.specs.Steady.{IsSteadyHandler}
+use Rattle.ep_meaning.specs.Calls.{Handler}
+use Rattle.ep_meaning.proofs.Steady.{steady_bind, steady_eval, steady_assign}
+use Rattle.ep_meaning.specs.Meaning.{exec, assign, assigns}
+use Rattle.ep_meaning.specs.Results.{misfit, suits, value_of, weight_of}
+use Rattle.ep_values.specs.Printing.{Result}
+use Rattle.ep_meaning.specs.Steps.{Component, assigned, type_at}
 use Rattle.ep_typed.specs.Trees.{Place, Expr, Empty, Halt}
-use Rattle.ep_typed.specs.Valid.{Declarations, IsExpr, IsOfKind, IsPlaceWhere, IsTypeOfKind, Kind}
-use Rattle.ep_typed.specs.TypeValues.{TypeValue}
+use Rattle.ep_meaning.specs.Valid.{Declarations, IsExpr, IsOfKind, IsPlaceWhere, IsTypeOfKind, Kind}
+use Rattle.ep_values.specs.TypeValues.{TypeValue}
 use Rattle.ep_object.specs.declared.op.TheConstants as op
 
 module _ {declared : Declarations} {G : Image} {untouched : Slots} {Here : Facts} (lasts : Lasts untouched Here) (ps : List Placement) (p : Placement) (texts : List (List ℕ)) (references : List Reference) (call : Handler) (steady_call : IsSteadyHandler call) (n : ℕ) (unit : List ℕ) where

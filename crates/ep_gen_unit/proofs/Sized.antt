@@ -1,18 +1,18 @@
 -- The making of a variable is followed, whatever words it has: one of no words takes one tick of the credit, and each word
 -- gives some.
 use Rattle.std.proofs.Common.{◌≡◌, ℕ, zero, suc, ◌+◌, ◌*◌, ◌≤◌, ◌⊎◌, inl, inr, refl, arith}
-use Rattle.ep_object.specs.Follows.{Point, state_at, GivesUp, Follows, Facts, Fragment, After, Lands, IsNotLeft}
-use Rattle.ep_object.specs.Matching.{Matches}
+use Rattle.ep_simulation.specs.Follows.{Point, state_at, GivesUp, Follows, Facts, Fragment, After, Lands, IsNotLeft}
+use Rattle.ep_simulation.specs.Matching.{Matches}
 use Rattle.ep_object.specs.declared.code.Image.{Image}
-use Rattle.ep_object.proofs.following.Bind.{follows_credit, follows_waits, follows_give, follows_counted, follows_gives_up}
-use Rattle.ep_object.proofs.following.Fragments.{Does, fragment_less, landed}
-use Rattle.ep_object.proofs.following.Losing.{fragment_counted}
-use Rattle.ep_object.proofs.matching.Growing.{not_left-here}
-use Rattle.ep_typed.proofs.Steady.{steady_change}
-use Rattle.ep_typed.specs.Steady.{Grows}
-use Rattle.ep_typed.specs.Steps.{bind, spend, change}
-use Rattle.ep_typed.specs.Steps as meaning
-use Rattle.ep_typed.specs.Valid.{Declarations}
+use Rattle.ep_simulation.proofs.following.Bind.{follows_credit, follows_waits, follows_give, follows_counted, follows_gives_up}
+use Rattle.ep_simulation.proofs.following.Fragments.{Does, fragment_less, landed}
+use Rattle.ep_simulation.proofs.following.Losing.{fragment_counted}
+use Rattle.ep_simulation.proofs.matching.Growing.{not_left-here}
+use Rattle.ep_meaning.proofs.Steady.{steady_change}
+use Rattle.ep_meaning.specs.Steady.{Grows}
+use Rattle.ep_meaning.specs.Steps.{bind, spend, change}
+use Rattle.ep_meaning.specs.Steps as meaning
+use Rattle.ep_meaning.specs.Valid.{Declarations}
 
 -- What is left may be all of the credit, where a variable has words, and else all but one tick.
 pub sized_gains : (d left size : ℕ) → left ≤ d → (size ≡ 0 → suc left ≤ d) → suc left ≤ d + 63 * size

@@ -6,25 +6,25 @@ use Rattle.ep_gen_unit.specs.UnitCode.{IsProgramCode}
 use Rattle.ep_gen_unit.proofs.Parts.{statement_credit, ExpressionsFollow, PlacesFollow, CallsFollow, code_stands-parts}
 use Rattle.ep_gen_unit.proofs.StmtMoves.{statement_moves}
 use Rattle.ep_gen_unit.proofs.WithMoves.{BindsFollow}
-use Rattle.ep_object.specs.Follows.{point, Facts, Lasts, Fragment, Inside, Bare}
-use Rattle.ep_object.specs.Matching.{Slots, Memory, Injection}
+use Rattle.ep_simulation.specs.Follows.{point, Facts, Lasts, Fragment, Inside, Bare}
+use Rattle.ep_simulation.specs.Matching.{Slots, Memory, Injection}
 use Rattle.ep_object.specs.Operands.{Operand}
 use Rattle.ep_object.specs.Placing.{Placement, CodeStands}
-use Rattle.ep_object.specs.Promises.{CallsAreKept}
-use Rattle.ep_object.specs.Scene.{Scene}
+use Rattle.ep_simulation.specs.Promises.{CallsAreKept}
+use Rattle.ep_simulation.specs.Scene.{Scene}
 use Rattle.ep_object.specs.Runs.{unit_in}
 use Rattle.ep_object.specs.State.{Frames}
 use Rattle.ep_object.specs.declared.code.Image.{Image}
 use Rattle.ep_object.specs.declared.code.Object.{Object}
-use Rattle.ep_object.proofs.following.Fragments.{fragment_bind_bare}
-use Rattle.ep_object.proofs.matching.Growing.{unit_in-same}
+use Rattle.ep_simulation.proofs.following.Fragments.{fragment_bind_bare}
+use Rattle.ep_simulation.proofs.matching.Growing.{unit_in-same}
 use Rattle.ep_typed.specs.Routines.{made_by_unit}
-use Rattle.ep_typed.specs.Steady.{IsSteadyHandler}
-use Rattle.ep_typed.specs.Calls.{Handler}
-use Rattle.ep_typed.proofs.Steady.{steady_exec}
-use Rattle.ep_typed.specs.Meaning.{make_all, exec}
-use Rattle.ep_typed.specs.Steps.{bind}
-use Rattle.ep_typed.specs.Valid.{Declarations, IsStmt}
+use Rattle.ep_meaning.specs.Steady.{IsSteadyHandler}
+use Rattle.ep_meaning.specs.Calls.{Handler}
+use Rattle.ep_meaning.proofs.Steady.{steady_exec}
+use Rattle.ep_meaning.specs.Meaning.{make_all, exec}
+use Rattle.ep_meaning.specs.Steps.{bind}
+use Rattle.ep_meaning.specs.Valid.{Declarations, IsStmt}
 use Rattle.ep_typed.specs.Viewed.{stmt_of}
 use Rattle.ep_typed.specs.declared.unit.Unit.{Unit as TypedUnit}
 

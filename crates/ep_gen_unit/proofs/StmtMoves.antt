@@ -1,12 +1,12 @@
 -- The machine follows statements.
 use Rattle.std.proofs.Common.{◌≡◌, ℕ, pos, ◌+◌, ◌≤◌, ◌<◌, List, [], ◌∷◌, ◌++◌, length, length-append, refl, sym, ap, ◌∙◌, subst, arith, ℤ, ◌*◌}
-use Rattle.ep_object.specs.Follows.{Facts, Lasts}
-use Rattle.ep_object.specs.Matching.{Slots}
+use Rattle.ep_simulation.specs.Follows.{Facts, Lasts}
+use Rattle.ep_simulation.specs.Matching.{Slots}
 use Rattle.ep_gen_code.specs.Instructions.{instr, bare}
 use Rattle.ep_gen_expr.specs.ExprCode.{tests_code}
 use Rattle.ep_gen_unit.specs.StmtCode.{IsStmtCode, AreStmtsCode, AreArmsCode, IsOtherCode}
 use Rattle.ep_gen_unit.proofs.Parts.{Moves, ExpressionsFollow, PlacesFollow, CallsFollow, code_stands-parts}
-use Rattle.ep_object.proofs.rows.ChangeRows.{may_take}
+use Rattle.ep_simulation.proofs.rows.ChangeRows.{may_take}
 use Rattle.ep_gen_unit.proofs.Simple.{empty_moves, halt_moves, assigned_moves}
 use Rattle.ep_gen_unit.proofs.Branching.{if_parts, repeat_parts, while_parts}
 use Rattle.ep_gen_unit.proofs.ForMoves.{for_stands, for_parts}
@@ -20,20 +20,20 @@ use Rattle.ep_gen_unit.proofs.TagMoves.{tag_parts}
 use Rattle.ep_gen_unit.proofs.WithMoves.{BindsFollow, with_parts}
 use Rattle.ep_gen_unit.proofs.Writing.{write_moves}
 use Rattle.ep_object.specs.Placing.{Placement, CodeStands}
-use Rattle.ep_object.specs.Promises.{CallsAreKept}
-use Rattle.ep_object.specs.Scene.{Scene}
+use Rattle.ep_simulation.specs.Promises.{CallsAreKept}
+use Rattle.ep_simulation.specs.Scene.{Scene}
 use Rattle.ep_object.specs.declared.code.Image.{Image}
 use Rattle.ep_object.specs.declared.code.Instr.{Instr}
 use Rattle.ep_object.specs.declared.code.Reference.{Reference}
-use Rattle.ep_object.proofs.following.Fragments.{fragment_to, fragment_bind_bare}
-use Rattle.ep_object.proofs.matching.Growing.{unit_in-same}
-use Rattle.ep_typed.specs.Steady.{IsSteadyHandler}
-use Rattle.ep_typed.specs.Calls.{Handler}
-use Rattle.ep_typed.proofs.Steady.{steady_exec_all}
-use Rattle.ep_typed.specs.Meaning.{exec, exec_all, exec_arms, exec_other}
+use Rattle.ep_simulation.proofs.following.Fragments.{fragment_to, fragment_bind_bare}
+use Rattle.ep_simulation.proofs.matching.Growing.{unit_in-same}
+use Rattle.ep_meaning.specs.Steady.{IsSteadyHandler}
+use Rattle.ep_meaning.specs.Calls.{Handler}
+use Rattle.ep_meaning.proofs.Steady.{steady_exec_all}
+use Rattle.ep_meaning.specs.Meaning.{exec, exec_all, exec_arms, exec_other}
 use Rattle.ep_typed.specs.Trees.{Stmt, Stmts, Empty, Compound, Assign, AssignTag, If, While, Repeat, For, ForIn, With, Procedure, Halt, Write, none, next, Case, Arms, no_arm, next_arm, Other, no_other, otherwise_do}
-use Rattle.ep_typed.specs.Valid.{Declarations, IsStmt, AreStmts, AreArms, IsOther}
-use Rattle.ep_typed.specs.Steps.{Computation}
+use Rattle.ep_meaning.specs.Valid.{Declarations, IsStmt, AreStmts, AreArms, IsOther}
+use Rattle.ep_meaning.specs.Steps.{Computation}
 use Rattle.ep_typed.specs.Hosts.{Host}
 use Rattle.ep_object.specs.declared.op.TheConstants as op
 

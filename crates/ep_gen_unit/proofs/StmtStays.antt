@@ -3,21 +3,21 @@ use Rattle.std.proofs.Common.{◌≡◌, ℕ, ℤ, pos, ◌+◌, ◌*◌, ◌≤
 use Rattle.ep_outside.specs.Known.{IsPrefix}
 use Rattle.ep_object.specs.declared.code.Instr.{Instr}
 use Rattle.ep_object.specs.declared.code.Reference.{Reference}
-use Rattle.ep_typed.specs.Controls.{has_more, in_order, next_value, others}
+use Rattle.ep_meaning.specs.Controls.{has_more, in_order, next_value, others}
 use Rattle.ep_typed.specs.Trees.{One, SetOf, Single, no_member, next_member, Entire, OfUnit, OfRoutine, entire, Place, Function, Item, Plain, Wide, Stmt, Stmts, Empty, Compound, Assign, AssignTag, Tagging, If, While, Repeat, Control, For, MemberControl, ForIn, With, Read, Expr, Procedure, Halt, Write, none, next, Case, Arms, no_arm, next_arm, Other, no_other, otherwise_do}
-use Rattle.ep_typed.specs.declared.operations.Print.{Print}
-use Rattle.ep_typed.specs.declared.operations.Print.TheVariants as print
+use Rattle.ep_values.specs.declared.operations.Print.{Print}
+use Rattle.ep_values.specs.declared.operations.Print.TheVariants as print
 use Rattle.std.specs.Prelude.{if◌then◌else◌}
 use Rattle.ep_gen_code.specs.Instructions.{bare, instr, push}
 use Rattle.ep_gen_expr.specs.ExprCode.{one_code, set_code, step_code, tests_code, two_code, IsPlaceCode, IsExprCode}
-use Rattle.ep_typed.specs.declared.operations.Binary.TheVariants as binary
-use Rattle.ep_typed.specs.declared.operations.Unary.TheVariants as unary
-use Rattle.ep_typed.specs.declared.operations.SetOperation.TheVariants as set_operation
+use Rattle.ep_values.specs.declared.operations.Binary.TheVariants as binary
+use Rattle.ep_values.specs.declared.operations.Unary.TheVariants as unary
+use Rattle.ep_values.specs.declared.operations.SetOperation.TheVariants as set_operation
 use Rattle.ep_gen_expr.proofs.Stays.{place_code_stays, expr_code_stays, place_code_short, expr_code_short, tests_length}
 use Rattle.ep_gen_unit.specs.StmtCode.{for_code, for_in_code, IsLeastCode, IsKeptCode, IsAssignCode, AreBoundsCode, IsFirstCode, IsTestCode, IsUndefineCode, IsBindCode, IsItemCode, AreItemsCode, IsStmtCode, AreStmtsCode, AreArmsCode, IsOtherCode, plain_code, before_width, wide_code}
 use Rattle.ep_gen_unit.specs.TagCode.{IsTriedCode, IsChangeCode, IsTakenCode, none_now, number_code, number_length, selected_code, selected_length, variants_code}
 use Rattle.ep_gen_unit.proofs.TagLengths.{number_code_length, selected_code_length, selections_short, variants_short}
-use Rattle.ep_typed.specs.declared.run_error.TheConstants as run_error
+use Rattle.ep_values.specs.declared.run_error.TheConstants as run_error
 use Rattle.ep_typed.specs.declared.tree.Selection.{Selection}
 use Rattle.ep_typed.specs.Nodes.{labels_nodes, place_nodes, expr_nodes, item_nodes, items_nodes, stmt_nodes, stmts_nodes, arms_nodes, other_nodes}
 use Rattle.ep_object.specs.declared.op.TheConstants as op

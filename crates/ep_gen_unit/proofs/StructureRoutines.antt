@@ -11,7 +11,7 @@ use Rattle.ep_gen_unit.proofs.Referred.{own_count, swap_referred}
 use Rattle.ep_gen_unit.proofs.TypeRoutines.{behind_list, call_placed}
 use Rattle.ep_gen_unit.proofs.Units.{moved_own, of_object, routine_there}
 use Rattle.ep_object.specs.Placing.{CodeStands, Placement, Stands, moved, placed, placed_routine}
-use Rattle.ep_object.specs.Promises.{ArrayRoutinesStand, IsFill, IsShuffle, IsSwap, StandFrom, SwapStands, fill_routine, filling_code, range_routine, ranging_code, spread_routine, spreading_code, swap_routine}
+use Rattle.ep_simulation.specs.Promises.{ArrayRoutinesStand, IsFill, IsShuffle, IsSwap, StandFrom, SwapStands, fill_routine, filling_code, range_routine, ranging_code, spread_routine, spreading_code, swap_routine}
 use Rattle.ep_object.specs.Routines.{routine_of}
 use Rattle.ep_object.specs.declared.code.CodeRoutine.{CodeRoutine}
 use Rattle.ep_object.specs.declared.code.Image.{Image}
@@ -19,7 +19,7 @@ use Rattle.ep_object.specs.declared.code.Instr.{Instr}
 use Rattle.ep_object.specs.declared.code.Object.{Object}
 use Rattle.ep_object.specs.declared.code.Reference.{Reference}
 use Rattle.ep_object.specs.declared.op.TheConstants as op
-use Rattle.ep_typed.specs.Valid.{own}
+use Rattle.ep_meaning.specs.Valid.{own}
 use Rattle.ep_typed.specs.declared.unit.Unit.{Unit as TypedUnit}
 
 -- code of an object stands in the image as it is placed

@@ -8,7 +8,7 @@ use Rattle.ep_gen_unit.specs.TagCode.{clear_code, cleared_code, clears_code, non
 use Rattle.ep_object.specs.declared.code.Instr.{Instr}
 use Rattle.ep_object.specs.declared.op.TheConstants as op
 use Rattle.ep_typed.specs.Nodes.{labels_nodes}
-use Rattle.ep_typed.specs.Steps.{variant_number}
+use Rattle.ep_typed.specs.Selections.{variant_number}
 use Rattle.ep_typed.specs.declared.tree.CaseRange.{CaseRange}
 use Rattle.ep_typed.specs.declared.tree.Selection.{Selection}
 

@@ -15,13 +15,13 @@ use Rattle.ep_gen_unit.specs.TagCode.{IsTriedCode, IsChangeCode, IsTakenCode, cl
 use Rattle.ep_gen_unit.proofs.Parts.{code_stands-parts, Moves, ExpressionsFollow, PlacesFollow, statement_credit}
 use Rattle.ep_gen_unit.proofs.Simple.{assigned_moves, store_moves}
 use Rattle.ep_gen_unit.proofs.TagLengths.{number_code_length, selected_code_length, selections_code_length}
-use Rattle.ep_object.specs.Follows.{point, Facts, After, Lasts, Follows, Fragment, Inside, Bare, IsNotLeft, Lands, Operands, PlaceOnTop}
-use Rattle.ep_object.specs.Matching.{Memory, Injection, IsLike, IsSpot, Matches, Slots, at as standing}
+use Rattle.ep_simulation.specs.Follows.{point, Facts, After, Lasts, Follows, Fragment, Inside, Bare, IsNotLeft, Lands, Operands, PlaceOnTop}
+use Rattle.ep_simulation.specs.Matching.{Memory, Injection, IsLike, IsSpot, Matches, Slots, at as standing}
 use Rattle.ep_object.specs.Operands.{Operand, Word}
 use Rattle.ep_object.specs.Operands as operand
 use Rattle.ep_object.specs.Placing.{Placement, CodeStands}
 use Rattle.ep_object.specs.Runs.{outcome, unit_in}
-use Rattle.ep_object.specs.Scene.{Scene}
+use Rattle.ep_simulation.specs.Scene.{Scene}
 use Rattle.ep_object.specs.State.{State, Going, Running, Stopped, Error}
 use Rattle.ep_object.specs.WordRows.{bit}
 use Rattle.ep_object.specs.declared.code.Image.{Image}
@@ -29,39 +29,41 @@ use Rattle.ep_object.specs.declared.code.Instr.{Instr}
 use Rattle.ep_object.specs.declared.code.Reference.{Reference}
 use Rattle.ep_object.specs.declared.op.TheConstants as op
 use Rattle.ep_object.specs.declared.state.Place.{Place as PlaceOf}
-use Rattle.ep_object.proofs.following.Bind.{follows_changed, follows_credit, follows_from, follows_give, follows_paid, follows_waits}
-use Rattle.ep_object.proofs.following.Choices.{fragment_branch, fragment_using, going_of}
-use Rattle.ep_object.proofs.following.Fragments.{Does, FailsWith, landed, fragment_bind_bare, fragment_bind_number, fragment_bind_place, fragment_credit, fragment_from, fragment_give, fragment_less, fragment_stop, fragment_to, fragment_waits, inside_bind}
-use Rattle.ep_object.proofs.matching.Growing.{describes-grown, inside_here, is_spot-grown, not_left-here, unit_in-same}
-use Rattle.ep_object.proofs.rows.ChangeRows.{ordinal_takes, undefine_does_any, variable_type}
-use Rattle.ep_object.proofs.rows.FieldRow.{IsAmong, LeadsTo, among_there, field_does, field_fails, field_leads_to}
-use Rattle.ep_object.proofs.rows.PlaceRows.{defined_fails, defined_tells, load_leads}
-use Rattle.ep_object.proofs.rows.Rows.{check_answers, jump_false_jumps, jump_jumps, push_pushes, unequal_answers}
-use Rattle.ep_object.proofs.rows.TextRows.{drop_drops, dup_place}
-use Rattle.ep_typed.proofs.Bares.{bare_size, bare_value}
-use Rattle.ep_typed.proofs.Typed.{HasComponents, typed_among, typed_components, typed_value}
+use Rattle.ep_simulation.proofs.following.Bind.{follows_changed, follows_credit, follows_from, follows_give, follows_paid, follows_waits}
+use Rattle.ep_simulation.proofs.following.Choices.{fragment_branch, fragment_using, going_of}
+use Rattle.ep_simulation.proofs.following.Fragments.{Does, FailsWith, landed, fragment_bind_bare, fragment_bind_number, fragment_bind_place, fragment_credit, fragment_from, fragment_give, fragment_less, fragment_stop, fragment_to, fragment_waits, inside_bind}
+use Rattle.ep_simulation.proofs.matching.Growing.{describes-grown, inside_here, is_spot-grown, not_left-here, unit_in-same}
+use Rattle.ep_simulation.proofs.rows.ChangeRows.{ordinal_takes, undefine_does_any, variable_type}
+use Rattle.ep_simulation.proofs.rows.FieldRow.{IsAmong, LeadsTo, among_there, field_does, field_fails, field_leads_to}
+use Rattle.ep_simulation.proofs.rows.PlaceRows.{defined_fails, defined_tells, load_leads}
+use Rattle.ep_simulation.proofs.rows.Rows.{check_answers, jump_false_jumps, jump_jumps, push_pushes, unequal_answers}
+use Rattle.ep_simulation.proofs.rows.TextRows.{drop_drops, dup_place}
+use Rattle.ep_meaning.proofs.Bares.{bare_size, bare_value}
+use Rattle.ep_meaning.proofs.Typed.{HasComponents, typed_among, typed_components, typed_value}
 use Rattle.ep_typed.specs.declared.unit.UnitType.{UnitType}
-use Rattle.ep_typed.proofs.Steady.{steady_assign, steady_assigns, steady_bind, steady_changes_variant, steady_clearing, steady_clears_all, steady_eval, steady_give, steady_if, steady_selected, steady_selected_by, steady_selected_now, steady_sets_tag, steady_stop, steady_tag_tested}
-use Rattle.ep_typed.specs.Calls.{Handler}
+use Rattle.ep_meaning.proofs.Steady.{steady_assign, steady_assigns, steady_bind, steady_changes_variant, steady_clearing, steady_clears_all, steady_eval, steady_give, steady_if, steady_selected, steady_selected_by, steady_selected_now, steady_sets_tag, steady_stop, steady_tag_tested}
+use Rattle.ep_meaning.specs.Calls.{Handler}
 use Rattle.ep_typed.specs.Denoters.{denoters_count}
 use Rattle.ep_typed.specs.Hosts as host
 use Rattle.ep_typed.specs.Hosts.{Host, is_of_host}
-use Rattle.ep_typed.specs.Meaning.{changes_variant, clears, clears_all, exec, is_another, looks, selected, selected_by, selected_now, selecting, selects, sets_tag, tag_tested}
-use Rattle.ep_typed.specs.Events.{Trace}
-use Rattle.ep_typed.specs.Operations.{Number, Fault, is_same, is_true, ordinal_of}
-use Rattle.ep_typed.specs.Printing as result
-use Rattle.ep_typed.specs.Printing.{Result, number_of}
-use Rattle.ep_typed.specs.Results.{result_of, weight_of}
-use Rattle.ep_typed.specs.Steady.{Steady, IsSteadyHandler}
-use Rattle.ep_typed.specs.Steps as meaning
-use Rattle.ep_typed.specs.Steps.{Component, Computation, Undefined, assigned, bind, change, component, fetch, give, has_ended, is_number, spend, stop, tag_of, type_at, variant_number, variants_count}
+use Rattle.ep_meaning.specs.Meaning.{changes_variant, clears, clears_all, exec, is_another, looks, selected, selected_by, selected_now, selecting, selects, sets_tag, tag_tested}
+use Rattle.ep_values.specs.Events.{Trace}
+use Rattle.ep_values.specs.Operations.{Number, Fault, is_same, is_true, ordinal_of}
+use Rattle.ep_values.specs.Printing as result
+use Rattle.ep_values.specs.Printing.{Result, number_of}
+use Rattle.ep_meaning.specs.Results.{result_of, weight_of}
+use Rattle.ep_meaning.specs.Steady.{Steady, IsSteadyHandler}
+use Rattle.ep_meaning.specs.Steps as meaning
+use Rattle.ep_meaning.specs.Steps.{Component, Computation, assigned, bind, change, component, fetch, give, has_ended, is_number, spend, stop, tag_of, type_at}
+use Rattle.ep_values.specs.Values.{Undefined}
+use Rattle.ep_typed.specs.Selections.{variant_number, variants_count}
 use Rattle.ep_typed.specs.Trees.{Denoter, Denoters, Expr, Place, Read, Record, Tagging, AssignTag, entire, next_denoter, no_denoter}
-use Rattle.ep_typed.specs.TypeValues as type
-use Rattle.ep_typed.specs.TypeValues.{ComponentTypes, TypeValue, bare_each, bare_of, is_within, size_of, type_among}
-use Rattle.ep_typed.specs.Valid as kind
-use Rattle.ep_typed.specs.Valid.{AreTyped, Declarations, HasRange, IsExpr, IsPlace, IsTagged, IsTagging, IsTyped, IsTypeValue, next_typed, none_typed, tag_type}
-use Rattle.ep_typed.specs.declared.operations.Binary.TheVariants as binary
-use Rattle.ep_typed.specs.declared.run_error.TheConstants as run_error
+use Rattle.ep_values.specs.TypeValues as type
+use Rattle.ep_values.specs.TypeValues.{ComponentTypes, TypeValue, bare_each, bare_of, is_within, size_of, type_among}
+use Rattle.ep_meaning.specs.Valid as kind
+use Rattle.ep_meaning.specs.Valid.{AreTyped, Declarations, HasRange, IsExpr, IsPlace, IsTagged, IsTagging, IsTyped, IsTypeValue, next_typed, none_typed, tag_type}
+use Rattle.ep_values.specs.declared.operations.Binary.TheVariants as binary
+use Rattle.ep_values.specs.declared.run_error.TheConstants as run_error
 use Rattle.ep_typed.specs.declared.tree.CaseRange.{CaseRange}
 use Rattle.ep_typed.specs.declared.tree.Selection.{Selection}
 

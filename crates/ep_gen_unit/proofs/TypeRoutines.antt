@@ -10,16 +10,16 @@ use Rattle.ep_gen_unit.proofs.Declared.{name_same, own_types, same_name}
 use Rattle.ep_gen_unit.proofs.Parts.{code_stands-parts}
 use Rattle.ep_gen_unit.proofs.Referred.{arrays_referred, own_count, swap_referred, types_referred}
 use Rattle.ep_gen_unit.proofs.Units.{moved_own, of_object, routine_there}
-use Rattle.ep_object.proofs.following.Fragments.{fragment_credit, fragment_cut, fragment_from, fragment_post}
-use Rattle.ep_object.proofs.following.Routines.{begun_memory, type_keeps}
-use Rattle.ep_object.proofs.matching.Growing.{among_same}
-use Rattle.ep_object.proofs.matching.OwnVariables.{in_activation-lasts}
-use Rattle.ep_object.specs.Activations.{InActivation}
-use Rattle.ep_object.specs.Follows.{Facts, Fragment, Inside, Since, TypeOnTop, point}
-use Rattle.ep_object.specs.Matching.{Injection, Memory, Slots, kept_slots}
+use Rattle.ep_simulation.proofs.following.Fragments.{fragment_credit, fragment_cut, fragment_from, fragment_post}
+use Rattle.ep_simulation.proofs.following.Routines.{begun_memory, type_keeps}
+use Rattle.ep_simulation.proofs.matching.Growing.{among_same}
+use Rattle.ep_simulation.proofs.matching.OwnVariables.{in_activation-lasts}
+use Rattle.ep_simulation.specs.Activations.{InActivation}
+use Rattle.ep_simulation.specs.Follows.{Facts, Fragment, Inside, Since, TypeOnTop, point}
+use Rattle.ep_simulation.specs.Matching.{Injection, Memory, Slots, kept_slots}
 use Rattle.ep_object.specs.Operands.{Operand}
 use Rattle.ep_object.specs.Placing.{CodeStands, Placement, Stands, moved, placed_call, placed_routine, placement_of}
-use Rattle.ep_object.specs.Promises.{CallsAreKept, CallsAt, TypeKeeps, type_credit, type_routine}
+use Rattle.ep_simulation.specs.Promises.{CallsAreKept, CallsAt, TypeKeeps, type_credit, type_routine}
 use Rattle.ep_object.specs.Routines.{routine_of as routine_there_in}
 use Rattle.ep_object.specs.Runs.{unit_in}
 use Rattle.ep_object.specs.declared.code.CodeRoutine.{CodeRoutine}
@@ -29,16 +29,16 @@ use Rattle.ep_object.specs.declared.code.Instr.{Instr}
 use Rattle.ep_object.specs.declared.code.Object.{Object}
 use Rattle.ep_object.specs.declared.op.TheConstants as op
 use Rattle.ep_object.specs.declared.state.FrameNumber.TheVariants as frame
-use Rattle.ep_typed.proofs.Steady.{steady_elaborate, steady_handler_of}
-use Rattle.ep_typed.specs.Calls.{Handler}
+use Rattle.ep_meaning.proofs.Steady.{steady_elaborate, steady_handler_of}
+use Rattle.ep_meaning.specs.Calls.{Handler}
 use Rattle.ep_typed.specs.Denoters.{definition_of}
-use Rattle.ep_typed.specs.Meaning.{elaborate, handler_of, line_where, type_does, type_in}
-use Rattle.ep_typed.specs.Steady.{IsSteadyHandler}
-use Rattle.ep_typed.specs.Steps.{Computation}
-use Rattle.ep_typed.specs.Steps as meaning
+use Rattle.ep_meaning.specs.Meaning.{elaborate, handler_of, line_where, type_does, type_in}
+use Rattle.ep_meaning.specs.Steady.{IsSteadyHandler}
+use Rattle.ep_meaning.specs.Steps.{Computation}
+use Rattle.ep_meaning.specs.Steps as meaning
 use Rattle.ep_typed.specs.Trees.{Named}
-use Rattle.ep_typed.specs.TypeValues.{TypeValue}
-use Rattle.ep_typed.specs.Valid.{IsTyped, named, own}
+use Rattle.ep_values.specs.TypeValues.{TypeValue}
+use Rattle.ep_meaning.specs.Valid.{IsTyped, named, own}
 use Rattle.ep_typed.specs.declared.unit.Unit.{Unit as TypedUnit}
 use Rattle.ep_typed.specs.declared.unit.UnitType.{UnitType}
 

@@ -13,26 +13,26 @@ use Rattle.ep_gen_unit.proofs.Makes.{VariablesAreFree, make_all_moves, same_fram
 use Rattle.ep_gen_unit.proofs.Parts.{code_stands-parts}
 use Rattle.ep_gen_unit.proofs.Starts.{MakesFollow, body_follows}
 use Rattle.ep_gen_unit.proofs.WithMoves.{BindsFollow, unit_binds_follow}
-use Rattle.ep_object.proofs.following.Bind.{follows_less, follows_post, follows_from, follows_give}
-use Rattle.ep_object.proofs.following.Fragments.{fragment_to, fragment_credit}
-use Rattle.ep_object.proofs.rows.MakeRow.{RunsInUnit}
-use Rattle.ep_object.proofs.matching.Names.{none_named}
-use Rattle.ep_object.proofs.matching.Growing.{among_same, inside_here, no_calls, since_here, since_lasts}
+use Rattle.ep_simulation.proofs.following.Bind.{follows_less, follows_post, follows_from, follows_give}
+use Rattle.ep_simulation.proofs.following.Fragments.{fragment_to, fragment_credit}
+use Rattle.ep_simulation.proofs.rows.MakeRow.{RunsInUnit}
+use Rattle.ep_simulation.proofs.matching.Names.{none_named}
+use Rattle.ep_simulation.proofs.matching.Growing.{among_same, inside_here, no_calls, since_here, since_lasts}
 use Rattle.ep_object.specs.Effects.{Returns, light}
 use Rattle.ep_object.specs.Table.{obey}
 use Rattle.ep_typed.specs.Routines.{made_by_unit, unit_variables}
 use Rattle.ep_typed.specs.Auxiliaries.{with_variables}
-use Rattle.ep_typed.specs.Events.{Trace}
-use Rattle.ep_object.specs.Activations.{KnowsNames}
-use Rattle.ep_object.specs.Follows.{Facts, Lasts, Since, Bare}
-use Rattle.ep_object.specs.Matching.{Memory, Injection, is_undeclared, is_hidden_in, kept_slots, at as standing}
+use Rattle.ep_values.specs.Events.{Trace}
+use Rattle.ep_simulation.specs.Activations.{KnowsNames}
+use Rattle.ep_simulation.specs.Follows.{Facts, Lasts, Since, Bare}
+use Rattle.ep_simulation.specs.Matching.{Memory, Injection, is_undeclared, is_hidden_in, kept_slots, at as standing}
 use Rattle.ep_object.specs.Operands.{Operand}
 use Rattle.ep_object.specs.Placing.{Placement, Span, CodeStands, IsPlacementOf, Stands, HasDistinctNames, moved, placed, placed_routine, placed_object_unit}
-use Rattle.ep_object.specs.Promises.{CallsAreKept}
+use Rattle.ep_simulation.specs.Promises.{CallsAreKept}
 use Rattle.ep_object.specs.Routines.{routine_of}
 use Rattle.ep_object.specs.Runs.{unit_in}
-use Rattle.ep_object.specs.Scene.{VariableStands, Scene}
-use Rattle.ep_object.specs.Simulates.{routine_credit, Enters, Simulates}
+use Rattle.ep_simulation.specs.Scene.{VariableStands, Scene}
+use Rattle.ep_simulation.specs.Simulates.{routine_credit, Enters, Simulates}
 use Rattle.ep_object.specs.State.{State, Frames}
 use Rattle.ep_object.specs.declared.code.CodeRoutine.{CodeRoutine}
 use Rattle.ep_object.specs.declared.code.Image.{Image}
@@ -41,12 +41,12 @@ use Rattle.ep_object.specs.declared.code.ImageUnit.{ImageUnit}
 use Rattle.ep_object.specs.declared.code.Instr.{Instr}
 use Rattle.ep_object.specs.declared.code.Object.{Object}
 use Rattle.ep_object.specs.declared.code.Reference.{Reference}
-use Rattle.ep_typed.specs.Steady.{IsSteadyHandler}
-use Rattle.ep_typed.specs.Calls.{Handler}
-use Rattle.ep_typed.specs.Meaning.{make_all, exec, start_of}
-use Rattle.ep_typed.specs.Steps.{Computation, bind, give}
-use Rattle.ep_typed.specs.Steps as meaning
-use Rattle.ep_typed.specs.Valid.{variables_up, Declarations, IsStmt, IsValid, own}
+use Rattle.ep_meaning.specs.Steady.{IsSteadyHandler}
+use Rattle.ep_meaning.specs.Calls.{Handler}
+use Rattle.ep_meaning.specs.Meaning.{make_all, exec, start_of}
+use Rattle.ep_meaning.specs.Steps.{Computation, bind, give}
+use Rattle.ep_meaning.specs.Steps as meaning
+use Rattle.ep_meaning.specs.Valid.{variables_up, Declarations, IsStmt, IsValid, own}
 use Rattle.ep_typed.specs.Viewed.{stmt_of}
 use Rattle.ep_typed.specs.declared.unit.UnitVariable.{UnitVariable}
 use Rattle.ep_typed.specs.declared.unit.Unit.{Unit as TypedUnit}

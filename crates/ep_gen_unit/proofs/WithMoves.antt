@@ -6,35 +6,35 @@ use Rattle.ep_gen_expr.proofs.PlaceTypes.{has_bare_type, valid_place, variable_t
 use Rattle.ep_gen_unit.specs.StmtCode.{IsBindCode, slot_of}
 use Rattle.ep_gen_unit.proofs.Makes.{VariablesAreFree}
 use Rattle.ep_gen_unit.proofs.Parts.{Moves, PlacesFollow, code_stands-parts}
-use Rattle.ep_object.specs.Activations.{InActivation}
-use Rattle.ep_object.specs.Follows.{point, Facts, Lasts, Fragment, Inside, Bare}
-use Rattle.ep_object.specs.Matching.{Slots, Memory, Injection, IsLike, IsSpot, HasType, HasOwnType, HasTypeUnder}
+use Rattle.ep_simulation.specs.Activations.{InActivation}
+use Rattle.ep_simulation.specs.Follows.{point, Facts, Lasts, Fragment, Inside, Bare}
+use Rattle.ep_simulation.specs.Matching.{Slots, Memory, Injection, IsLike, IsSpot, HasType, HasOwnType, HasTypeUnder}
 use Rattle.ep_object.specs.Operands.{Operand}
 use Rattle.ep_object.specs.Operands as operand
 use Rattle.ep_object.specs.Placing.{Placement, CodeStands, HasDistinctNames}
 use Rattle.ep_object.specs.Runs.{unit_in}
-use Rattle.ep_object.specs.Scene.{Scene}
+use Rattle.ep_simulation.specs.Scene.{Scene}
 use Rattle.ep_object.specs.declared.code.Image.{Image}
 use Rattle.ep_object.specs.declared.code.ImageUnit.{ImageUnit}
 use Rattle.ep_object.specs.declared.code.Instr.{Instr}
 use Rattle.ep_object.specs.declared.code.Reference.{Reference}
 use Rattle.ep_object.specs.declared.op.TheConstants as op
 use Rattle.ep_object.specs.declared.state.Place.{Place as PlaceOf}
-use Rattle.ep_object.proofs.following.Fragments.{fragment_bind_bare, fragment_bind_place, fragment_credit, fragment_effect, fragment_less, fragment_to}
-use Rattle.ep_object.proofs.matching.Growing.{unit_in-same}
-use Rattle.ep_object.proofs.rows.BindRow.{own_binds, unit_binds}
-use Rattle.ep_object.proofs.rows.MakeRow.{RunsInUnit}
-use Rattle.ep_typed.proofs.Steady.{steady_bind, steady_exec, steady_names}
-use Rattle.ep_typed.specs.Calls.{Handler}
+use Rattle.ep_simulation.proofs.following.Fragments.{fragment_bind_bare, fragment_bind_place, fragment_credit, fragment_effect, fragment_less, fragment_to}
+use Rattle.ep_simulation.proofs.matching.Growing.{unit_in-same}
+use Rattle.ep_simulation.proofs.rows.BindRow.{own_binds, unit_binds}
+use Rattle.ep_simulation.proofs.rows.MakeRow.{RunsInUnit}
+use Rattle.ep_meaning.proofs.Steady.{steady_bind, steady_exec, steady_names}
+use Rattle.ep_meaning.specs.Calls.{Handler}
 use Rattle.ep_typed.specs.Denoters.{bare_type_of}
-use Rattle.ep_typed.specs.Meaning.{exec, names}
-use Rattle.ep_typed.specs.Steady.{IsSteadyHandler}
-use Rattle.ep_typed.specs.Steps.{Component, change, spend, with_bound, with_own_bound}
-use Rattle.ep_typed.specs.Steps as meaning
+use Rattle.ep_meaning.specs.Meaning.{exec, names}
+use Rattle.ep_meaning.specs.Steady.{IsSteadyHandler}
+use Rattle.ep_meaning.specs.Steps.{Component, change, spend, with_bound, with_own_bound}
+use Rattle.ep_meaning.specs.Steps as meaning
 use Rattle.ep_typed.specs.Trees.{Entire, OfUnit, OfRoutine, Place, Stmt, With}
-use Rattle.ep_typed.specs.TypeValues.{TypeValue}
-use Rattle.ep_typed.specs.TypeValues as type
-use Rattle.ep_typed.specs.Valid.{Declarations, IsWith, Level, variables_up}
+use Rattle.ep_values.specs.TypeValues.{TypeValue}
+use Rattle.ep_values.specs.TypeValues as type
+use Rattle.ep_meaning.specs.Valid.{Declarations, IsWith, Level, variables_up}
 use Rattle.ep_typed.specs.Viewed.{denoter_of}
 use Rattle.ep_typed.specs.declared.unit.UnitType.{UnitType}
 use Rattle.ep_typed.specs.declared.unit.UnitVariable.{UnitVariable}

@@ -6,8 +6,8 @@ use Rattle.ep_gen_code.specs.Instructions.{bare}
 use Rattle.ep_gen_expr.specs.ExprCode.{IsExprCode}
 use Rattle.ep_gen_unit.specs.StmtCode.{plain_code, before_width, wide_code, line_end_code, IsItemCode, AreItemsCode}
 use Rattle.ep_gen_unit.proofs.Parts.{statement_credit, ExpressionsFollow, Moves, Writes, code_stands-parts}
-use Rattle.ep_object.specs.Follows.{point, Facts, Lasts, Fragment, Inside, Bare}
-use Rattle.ep_object.specs.Matching.{Slots, Memory, Injection, at as at_place}
+use Rattle.ep_simulation.specs.Follows.{point, Facts, Lasts, Fragment, Inside, Bare}
+use Rattle.ep_simulation.specs.Matching.{Slots, Memory, Injection, at as at_place}
 use Rattle.ep_object.specs.Operands.{Operand, Word, Text}
 use Rattle.ep_object.specs.Operands as operand
 use Rattle.ep_object.specs.Placing.{Placement, CodeStands}
@@ -16,27 +16,27 @@ use Rattle.ep_object.specs.Runs.{unit_in}
 use Rattle.ep_object.specs.declared.code.Image.{Image}
 use Rattle.ep_object.specs.declared.code.Instr.{Instr}
 use Rattle.ep_object.specs.declared.code.Reference.{Reference}
-use Rattle.ep_object.proofs.rows.ChangeRows.{put_does}
-use Rattle.ep_object.proofs.rows.Pieces.{piece_form}
-use Rattle.ep_object.proofs.following.Fragments.{fragment_to, fragment_from, fragment_less, fragment_credit, fragment_waits, fragment_effect, fragment_stop, fragment_move, fragment_give, fragment_bind_bare, fragment_bind_number, fragment_bind_text}
-use Rattle.ep_object.proofs.matching.Growing.{unit_in-same, inside_here}
-use Rattle.ep_object.proofs.rows.PlaceRows.{output_pushes}
-use Rattle.ep_object.proofs.rows.Rows.{RowPushes, push_pushes}
-use Rattle.ep_object.proofs.rows.TextRows.{RowFails, chars_pushes, form_integer, form_boolean, form_wide_integer, form_wide_boolean, form_wide_text, form_negative_integer, form_negative_boolean, form_negative_text}
-use Rattle.ep_typed.specs.Steady.{IsSteadyHandler}
-use Rattle.ep_typed.specs.Calls.{Handler}
-use Rattle.ep_typed.proofs.Steady.{steady_give, steady_spend, steady_write_items, steady_bind, steady_eval, steady_write_piece, steady_write_wide}
-use Rattle.ep_typed.specs.Meaning.{eval, write_piece, write_wide, write_item, write_items, exec}
-use Rattle.ep_typed.specs.Results.{weight_of}
-use Rattle.ep_typed.specs.Printing.{Result, Number, Bytes, number_of, line_end, plain_text, wide_text, piece_events}
-use Rattle.ep_typed.specs.Steps.{Computation, bind}
-use Rattle.ep_typed.specs.Steps as meaning
+use Rattle.ep_simulation.proofs.rows.ChangeRows.{put_does}
+use Rattle.ep_simulation.proofs.rows.Pieces.{piece_form}
+use Rattle.ep_simulation.proofs.following.Fragments.{fragment_to, fragment_from, fragment_less, fragment_credit, fragment_waits, fragment_effect, fragment_stop, fragment_move, fragment_give, fragment_bind_bare, fragment_bind_number, fragment_bind_text}
+use Rattle.ep_simulation.proofs.matching.Growing.{unit_in-same, inside_here}
+use Rattle.ep_simulation.proofs.rows.PlaceRows.{output_pushes}
+use Rattle.ep_simulation.proofs.rows.Rows.{RowPushes, push_pushes}
+use Rattle.ep_simulation.proofs.rows.TextRows.{RowFails, chars_pushes, form_integer, form_boolean, form_wide_integer, form_wide_boolean, form_wide_text, form_negative_integer, form_negative_boolean, form_negative_text}
+use Rattle.ep_meaning.specs.Steady.{IsSteadyHandler}
+use Rattle.ep_meaning.specs.Calls.{Handler}
+use Rattle.ep_meaning.proofs.Steady.{steady_give, steady_spend, steady_write_items, steady_bind, steady_eval, steady_write_piece, steady_write_wide}
+use Rattle.ep_meaning.specs.Meaning.{eval, write_piece, write_wide, write_item, write_items, exec}
+use Rattle.ep_meaning.specs.Results.{weight_of}
+use Rattle.ep_values.specs.Printing.{Result, Number, Bytes, number_of, line_end, plain_text, wide_text, piece_events}
+use Rattle.ep_meaning.specs.Steps.{Computation, bind}
+use Rattle.ep_meaning.specs.Steps as meaning
 use Rattle.ep_typed.specs.Trees.{Expr, Item, Plain, Wide, Write}
-use Rattle.ep_typed.specs.Valid as kind
-use Rattle.ep_typed.specs.Valid.{Declarations, IsExpr, IsItem, AreItems, WritesSomething}
+use Rattle.ep_meaning.specs.Valid as kind
+use Rattle.ep_meaning.specs.Valid.{Declarations, IsExpr, IsItem, AreItems, WritesSomething}
 use Rattle.ep_typed.specs.Hosts.{is_of_host}
-use Rattle.ep_typed.specs.declared.operations.Print.{Print}
-use Rattle.ep_typed.specs.declared.operations.Print.TheVariants as print
+use Rattle.ep_values.specs.declared.operations.Print.{Print}
+use Rattle.ep_values.specs.declared.operations.Print.TheVariants as print
 use Rattle.ep_typed.specs.Hosts as host
 use Rattle.ep_object.specs.declared.op.TheConstants as op
 

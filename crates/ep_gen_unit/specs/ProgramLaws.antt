@@ -5,12 +5,12 @@ use Rattle.ep_object.specs.Laws.{EndsAt}
 use Rattle.ep_object.specs.Placing.{alone}
 use Rattle.ep_object.specs.Runs.{begin, run_from}
 use Rattle.ep_object.specs.State.{End}
-use Rattle.ep_object.specs.Tells.{Tells, TellsAtEnd, AreClose}
+use Rattle.ep_simulation.specs.Tells.{Tells, TellsAtEnd, AreClose}
 use Rattle.ep_object.specs.declared.code.Object.{Object}
-use Rattle.ep_typed.specs.Meaning.{meaning}
-use Rattle.ep_typed.specs.Events.{Trace}
-use Rattle.ep_typed.specs.Steps as meant
-use Rattle.ep_typed.specs.Valid.{IsValid}
+use Rattle.ep_meaning.specs.Meaning.{meaning}
+use Rattle.ep_values.specs.Events.{Trace}
+use Rattle.ep_meaning.specs.Steps as meant
+use Rattle.ep_meaning.specs.Valid.{IsValid}
 use Rattle.ep_typed.specs.declared.unit.Unit.{Unit as TypedUnit}
 
 -- However many ticks a run of a program's image has spent, it tells the meaning of the program.

@@ -1,8 +1,8 @@
 -- Which instructions are the code of a statement, under given tables of texts and references. Jumps name places of
 -- the object, so the code of a statement depends on where it begins.
 use Rattle.std.specs.Prelude.{◌≡◌, ℕ, pos, suc, ◌+◌, Bool, true, false, List, [], ◌∷◌, ◌++◌, length, Option, Some, None, ◌*◌}
-use Rattle.ep_typed.specs.declared.operations.Binary.TheVariants as binary
-use Rattle.ep_typed.specs.Controls.{has_more, in_order, next_value, others}
+use Rattle.ep_values.specs.declared.operations.Binary.TheVariants as binary
+use Rattle.ep_meaning.specs.Controls.{has_more, in_order, next_value, others}
 use Rattle.ep_gen_code.specs.Instructions.{instr, bare, push}
 use Rattle.ep_gen_expr.specs.ExprCode.{two_code, standard_code, tests_code, IsPlaceCode, IsExprCode}
 use Rattle.ep_gen_code.specs.declared.code.TheConstants as code
@@ -14,9 +14,9 @@ use Rattle.ep_typed.specs.Trees.{Place, Expr, Read, Function, Item, Plain, Wide,
 use Rattle.ep_typed.specs.Denoters.{host_of}
 use Rattle.ep_typed.specs.Hosts.{Host}
 use Rattle.ep_typed.specs.Viewed.{denoter_of}
-use Rattle.ep_typed.specs.declared.operations.Print.{Print}
-use Rattle.ep_typed.specs.declared.operations.Print.TheVariants as print
-use Rattle.ep_typed.specs.declared.run_error.TheConstants as run_error
+use Rattle.ep_values.specs.declared.operations.Print.{Print}
+use Rattle.ep_values.specs.declared.operations.Print.TheVariants as print
+use Rattle.ep_values.specs.declared.run_error.TheConstants as run_error
 use Rattle.ep_typed.specs.declared.tree.StandardFile.TheVariants as file
 use Rattle.ep_typed.specs.declared.unit.UnitType.{UnitType}
 use Rattle.ep_typed.specs.declared.interface.Formal.{Formal}

@@ -13,7 +13,7 @@ use Rattle.ep_object.specs.declared.code.Instr.{Instr}
 use Rattle.ep_object.specs.declared.code.Object.{Object}
 use Rattle.ep_object.specs.declared.op.TheConstants as op
 use Rattle.ep_typed.specs.Auxiliaries.{block_auxiliaries}
-use Rattle.ep_typed.specs.Controls.{has_more}
+use Rattle.ep_meaning.specs.Controls.{has_more}
 use Rattle.ep_typed.specs.Nodes.{stmt_nodes}
 use Rattle.ep_typed.specs.Routines.{made_by_unit, made_variables, result_variable, variables_of}
 use Rattle.ep_typed.specs.Viewed.{stmt_of}

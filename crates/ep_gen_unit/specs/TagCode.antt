@@ -5,10 +5,10 @@ use Rattle.ep_gen_expr.specs.ExprCode.{tests_code, two_code, IsExprCode}
 use Rattle.ep_object.specs.declared.code.Instr.{Instr}
 use Rattle.ep_object.specs.declared.code.Reference.{Reference}
 use Rattle.ep_object.specs.declared.op.TheConstants as op
-use Rattle.ep_typed.specs.Steps.{variant_number}
+use Rattle.ep_typed.specs.Selections.{variant_number}
 use Rattle.ep_typed.specs.Trees.{Tagging, Read, entire}
-use Rattle.ep_typed.specs.declared.operations.Binary.TheVariants as binary
-use Rattle.ep_typed.specs.declared.run_error.TheConstants as run_error
+use Rattle.ep_values.specs.declared.operations.Binary.TheVariants as binary
+use Rattle.ep_values.specs.declared.run_error.TheConstants as run_error
 use Rattle.ep_typed.specs.declared.tree.CaseRange.{CaseRange}
 use Rattle.ep_typed.specs.declared.tree.Selection.{Selection}
 

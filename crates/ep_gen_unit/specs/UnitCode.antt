@@ -13,10 +13,10 @@ use Rattle.ep_object.specs.declared.code.Instr.{Instr}
 use Rattle.ep_object.specs.declared.code.Object.{Object}
 use Rattle.ep_object.specs.declared.code.Reference.{Reference}
 use Rattle.ep_object.specs.declared.op.TheConstants as op
-use Rattle.ep_object.specs.Promises.{filling_code, ranging_code, spreading_code, swap_routine}
+use Rattle.ep_simulation.specs.Promises.{filling_code, ranging_code, spreading_code, swap_routine}
 use Rattle.ep_outside.specs.Known.{IsPrefix}
 use Rattle.ep_typed.specs.Denoters.{definition_of}
-use Rattle.ep_typed.specs.Meaning.{line_where}
+use Rattle.ep_meaning.specs.Meaning.{line_where}
 use Rattle.ep_typed.specs.Routines.{made_by_unit, made_variables, unit_variables, variables_of}
 use Rattle.ep_typed.specs.Viewed.{stmt_of}
 use Rattle.ep_typed.specs.declared.unit.Unit.{Unit as TypedUnit}

@@ -1,18 +1,18 @@
 -- What holds of the code of every unit: wherever its object stands in an image, its routines simulate the start and the stop of the unit.
 use Rattle.std.specs.Prelude.{◌≡◌, ℕ, ◌+◌, List, [], ◌∷◌, Some, length, slice_get}
 use Rattle.ep_gen_unit.specs.UnitCode.{IsProgramCode}
-use Rattle.ep_object.specs.Follows.{Bare}
+use Rattle.ep_simulation.specs.Follows.{Bare}
 use Rattle.ep_object.specs.Placing.{Placement, Stands, HasDistinctNames, moved}
-use Rattle.ep_object.specs.Promises.{CallsAreKept}
-use Rattle.ep_object.specs.Scene.{Scene}
-use Rattle.ep_object.specs.Simulates.{Simulates}
+use Rattle.ep_simulation.specs.Promises.{CallsAreKept}
+use Rattle.ep_simulation.specs.Scene.{Scene}
+use Rattle.ep_simulation.specs.Simulates.{Simulates}
 use Rattle.ep_object.specs.declared.code.Image.{Image}
 use Rattle.ep_object.specs.declared.code.Object.{Object}
-use Rattle.ep_typed.specs.Steady.{IsSteadyHandler}
-use Rattle.ep_typed.specs.Calls.{Handler}
-use Rattle.ep_typed.specs.Meaning.{start_of, handler_of}
-use Rattle.ep_typed.specs.Steps.{Computation, give, spend}
-use Rattle.ep_typed.specs.Valid.{Declarations, IsStmt, IsValid, own}
+use Rattle.ep_meaning.specs.Steady.{IsSteadyHandler}
+use Rattle.ep_meaning.specs.Calls.{Handler}
+use Rattle.ep_meaning.specs.Meaning.{start_of, handler_of}
+use Rattle.ep_meaning.specs.Steps.{Computation, give, spend}
+use Rattle.ep_meaning.specs.Valid.{Declarations, IsStmt, IsValid, own}
 use Rattle.ep_typed.specs.Routines.{unit_variables}
 use Rattle.ep_typed.specs.Viewed.{stmt_of}
 use Rattle.ep_typed.specs.declared.unit.UnitVariable.{UnitVariable}

@@ -1,19 +1,17 @@
 //! The parts of the code of `for` statements. Each sets the line.
 
 ghost use Rattle.std.specs.Prelude.{OnOk};
-ghost use Rattle.ep_typed.specs.Controls.{next_value};
+ghost use Rattle.ep_meaning.specs.Controls.{next_value};
 ghost use Rattle.ep_typed.specs.Trees.{entire, Assign, Read};
 ghost use Rattle.ep_typed.specs.Viewed.{control_of, entire_of, expr_of, member_control_of};
 ghost use Rattle.ep_gen_unit.specs.StmtGrowth.{AppendsBounds, AppendsFirst, AppendsKept, AppendsLeast, AppendsMore, AppendsStmt, AppendsTest, AppendsUndefine};
 
 use ep_base::{Line, NoMemory};
 use ep_gen_code::{Code, emit};
-use ep_gen_expr::{
-    apply_binary, entire_code, entire_value_code, expression_code, has_more_code, in_order_code,
-    next_value_code, others_code,
-};
+use ep_gen_expr::{apply_binary, entire_code, entire_value_code, expression_code, has_more_code, in_order_code, next_value_code, others_code};
 use ep_object::op;
-use ep_typed::{Binary, EntireVariable, ForControl, MemberControl, TypedExpr};
+use ep_values::Binary;
+use ep_typed::{EntireVariable, ForControl, MemberControl, TypedExpr};
 use std::alloc::Global;
 
 /// Appends the code before the turns: the auxiliary variables get the bounds, and whether there is a turn is left.

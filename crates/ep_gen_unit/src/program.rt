@@ -6,12 +6,12 @@ ghost use Rattle.ep_gen_unit.specs.StmtCode.{function_end, result_code, make_cod
 ghost use Rattle.ep_gen_unit.specs.StmtGrowth.{AppendsArrays, AppendsEnd, AppendsFill, AppendsShuffle, AppendsStart, AppendsRoutine, AppendsRoutines, AppendsSwap, AppendsType, AppendsTypes, Follows, IsCompact, MakesBlock, MakesOwn, MakesResult, assembled};
 ghost use Rattle.ep_typed.specs.Auxiliaries.{block_auxiliaries, with_variables};
 ghost use Rattle.ep_typed.specs.Denoters.{host_of};
-ghost use Rattle.ep_typed.specs.Meaning.{line_where};
+ghost use Rattle.ep_meaning.specs.Meaning.{line_where};
 ghost use Rattle.ep_typed.specs.Viewed.{denoter_of, stmt_of};
 ghost use Rattle.ep_gen_unit.specs.UnitCode.{IsProgramCode, routine_at};
 ghost use Rattle.ep_gen_code.specs.declared.code.TheConstants as code_line;
 ghost use Rattle.ep_gen_code.specs.declared.references.TheConstants as routine;
-ghost use Rattle.ep_object.specs.Promises.{copying_code, first_code, next_code, ranging_code, row_code, spreading_code};
+ghost use Rattle.ep_simulation.specs.Promises.{copying_code, first_code, next_code, ranging_code, row_code, spreading_code};
 
 use crate::statements::statement_code;
 use ep_base::{Line, List, Name, NoMemory};
@@ -19,10 +19,8 @@ use ep_gen_code::{Code, NO_LINE, SWAP, emit, field_number, next_place};
 use ep_gen_expr::apply_binary;
 use ep_gen_type::{elaborate, is_ordinal};
 use ep_object::{CodeRoutine, CodeRoutines, Object, op};
-use ep_typed::{
-    Binary, Denoter, Formal, FormalMode, TypedStmt, Unit, UnitRoutine, UnitType, UnitVariable,
-    block_auxiliaries, first_for, first_for_in, run_error, with_count,
-};
+use ep_values::{Binary, run_error};
+use ep_typed::{Denoter, Formal, FormalMode, TypedStmt, Unit, UnitRoutine, UnitType, UnitVariable, block_auxiliaries, first_for, first_for_in, with_count};
 use std::alloc::{AllocError, Global};
 
 /// The object of a program. Its first routines are those of the program, by their numbers; the one after them makes

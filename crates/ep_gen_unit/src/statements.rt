@@ -20,10 +20,8 @@ use ep_base::{Line, NoMemory};
 use ep_gen_code::{Code, emit, land, leave_hole, next_place};
 use ep_gen_expr::{call_code, expression_code, place_code};
 use ep_object::op;
-use ep_typed::{
-    Actual, Callee, CaseArm, EntireVariable, ForControl, MemberControl, TypedExpr, TypedPlace,
-    TypedStmt, WriteItem, run_error,
-};
+use ep_typed::{Actual, Callee, CaseArm, EntireVariable, ForControl, MemberControl, TypedExpr, TypedPlace, TypedStmt, WriteItem};
+use ep_values::run_error;
 use std::alloc::Global;
 
 /// Appends the code of a statement. Where memory is wanting, or the code or a table would reach 2 ^ 32 entries, it is

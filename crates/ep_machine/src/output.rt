@@ -6,7 +6,7 @@ ghost use Rattle.ep_object.specs.Operands.{Operand};
 ghost use Rattle.ep_object.specs.Texts.{put_of, put_row, written};
 ghost use Rattle.ep_outside.specs.Known.{Keeps};
 ghost use Rattle.ep_outside.specs.Answers.{Writes, write_faults};
-ghost use Rattle.ep_typed.specs.Events.{Write};
+ghost use Rattle.ep_values.specs.Events.{Write};
 ghost use Rattle.ep_machine.specs.Outputs.{OnNoMemory, IsRefusal, UnlessDone, IsPut, OnFault, IsOfWriting, IsWriting, text_kind_in};
 
 use crate::step::Outward;
@@ -16,7 +16,7 @@ use ep_object::{Kind, OUTPUT_SEGMENT, Place, TypeEntry};
 use ep_outside::{Sink, WriteAnswer};
 use ep_rows::control::spend;
 use ep_rows::{Step, segments};
-use ep_typed::run_error;
+use ep_values::run_error;
 
 /// Writes a text, if it is not empty.
 #[tactic(auto, using(crate::proofs::Outputs::writing))]

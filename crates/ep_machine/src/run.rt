@@ -2,7 +2,7 @@
 
 ghost use Rattle.std.specs.Prelude.{◌≡◌, ◌≢◌, ◌⊎◌, ℕ, ◌<◌, ◌≤◌, ◌+◌, ◌^◌, length, List, [], Option, Some, None, IsTrue, IfOk, MatchOption};
 ghost use Rattle.ep_object.specs.Runs.{begin as beginning, timed};
-ghost use Rattle.ep_typed.specs.Events.{Trace, DoesFront, DoesPart, Outside};
+ghost use Rattle.ep_values.specs.Events.{Trace, DoesFront, DoesPart, Outside};
 ghost use Rattle.ep_memory.specs.Stores.{live};
 ghost use Rattle.ep_object.specs.State.{State};
 ghost use Rattle.ep_machine.specs.Answers.{Answers, UnlessStopped, OnNoMemoryEnd, OnWriteFaultEnd, IsEnd, outside};

@@ -16,8 +16,8 @@ use Rattle.ep_object.specs.declared.code.Image.{Image}
 use Rattle.ep_object.specs.declared.code.Instr.{Instr}
 use Rattle.ep_object.specs.declared.state.Place.{Place}
 use Rattle.ep_object.specs.declared.state.Segment.{Segment}
-use Rattle.ep_typed.specs.Events.{Trace}
-use Rattle.ep_typed.specs.declared.run_error.TheConstants as run_error
+use Rattle.ep_values.specs.Events.{Trace}
+use Rattle.ep_values.specs.declared.run_error.TheConstants as run_error
 
 module _ (Holds : State → Type 0) where
   -- it holds of the state that the effect leaves, where there is one

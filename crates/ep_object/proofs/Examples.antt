@@ -5,9 +5,9 @@ use Rattle.ep_object.specs.Runs.{begin, run_from, run_to, timed, trace_of}
 use Rattle.ep_object.specs.State.{Stopped, Normal, Error}
 use Rattle.ep_object.specs.declared.code.Image.{Image}
 use Rattle.ep_object.specs.declared.code.Instr.{Instr}
-use Rattle.ep_typed.specs.Events.{Write}
+use Rattle.ep_values.specs.Events.{Write}
 use Rattle.ep_object.specs.declared.op.TheConstants as op
-use Rattle.ep_typed.specs.declared.run_error.TheConstants as run_error
+use Rattle.ep_values.specs.declared.run_error.TheConstants as run_error
 
 abbrev instr : ℕ → ℤ → ℕ → Instr
 instr code a b = record { op = code; a = a; b = b; line = 7 }

@@ -8,7 +8,7 @@ use Rattle.ep_object.specs.Operands.{Operand, Set}
 use Rattle.ep_object.specs.Places.{set_loaded}
 use Rattle.ep_object.specs.Sets.{IsSet, bits_from, digit, has, member_limit, members, passing, put_where, set_in, set_size, tells, word_members, with_member, words_from, words_of_set}
 use Rattle.ep_object.proofs.Sets.{has_members, members_same}
-pub use Rattle.ep_typed.proofs.Sets.{few_members, members_set, none_set}
+pub use Rattle.ep_values.proofs.Sets.{few_members, members_set, none_set}
 
 -- the lowest bit of a number that is made so, and the others
 lowest : (b : Bool) (n : ℕ) → bit_at (digit b + 2 * n) 0 ≡ digit b

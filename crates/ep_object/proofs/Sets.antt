@@ -1,7 +1,7 @@
 -- How many ordinals below a number pass, and the least member from a number on. The laws of sets are those of ep_typed.
 use Rattle.std.proofs.Common.{◌≡◌, ℕ, ℤ, pos, negsuc, zero, suc, ◌+◌, ◌<◌, ◌≤◌, int_le, List, [], ◌∷◌, ◌++◌, length, Bool, true, false, cond, refl, sym, ap, ◌∙◌, arith, inl, inr}
 use Rattle.std.proofs.lemmas.Bool.{cases_lt}
-pub use Rattle.ep_typed.proofs.Sets.{between_no, between_yes, has_members, has_no_more, members_none, members_same, passing_more, subset_no, subset_yes}
+pub use Rattle.ep_values.proofs.Sets.{between_no, between_yes, has_members, has_no_more, members_none, members_same, passing_more, subset_no, subset_yes}
 use Rattle.ep_object.specs.Sets.{member_limit, members, passing, put_where}
 use Rattle.ep_object.specs.SetRows.{least_from}
 

@@ -7,7 +7,7 @@ use Rattle.ep_object.specs.State.{State, Going, Running, Stopped, End}
 use Rattle.ep_object.specs.declared.code.Image.{Image}
 use Rattle.ep_object.proofs.Limits.{still}
 use Rattle.ep_object.proofs.Views.{IsWhole, outcome_whole, run_more, run_waits, run_acts}
-use Rattle.ep_typed.specs.Events.{Trace}
+use Rattle.ep_values.specs.Events.{Trace}
 
 -- at the last tick of an instruction
 ends_now : (G : Image) (s : State) (ticks t : ℕ) (e : End) (trace : Trace) → (outcome G s).to ≡ Stopped e trace → ticks + suc (outcome G s).weight ≡ t → EndsAt G (Running 0 s) ticks t e trace

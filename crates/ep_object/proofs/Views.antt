@@ -12,7 +12,7 @@ use Rattle.ep_object.specs.declared.code.ImageRoutine.{ImageRoutine}
 use Rattle.ep_object.specs.declared.code.Instr.{Instr}
 use Rattle.ep_object.proofs.Grows.{run_grows}
 use Rattle.ep_object.proofs.Limits.{still}
-use Rattle.ep_typed.specs.Events.{Trace}
+use Rattle.ep_values.specs.Events.{Trace}
 
 -- a longer run goes on from a shorter one
 pub run_more : (G : Image) (t k : ℕ) (g : Going) → run_from G (t + k) g ≡ run_from G k (run_from G t g)

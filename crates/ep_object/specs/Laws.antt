@@ -4,7 +4,7 @@ use Rattle.ep_object.specs.Runs.{Timed, timed, run_to, run, run_from, trace_of}
 use Rattle.ep_object.specs.State.{State, Going, Running, Stopped, End}
 use Rattle.ep_object.specs.declared.code.Image.{Image}
 use Rattle.ep_outside.specs.Known.{IsPrefix}
-use Rattle.ep_typed.specs.Events.{Trace}
+use Rattle.ep_values.specs.Events.{Trace}
 
 -- a run that has come to rest within a limit waits for the rest of the ticks
 abbrev pub settled_going : ℕ → ℕ → Going → Going

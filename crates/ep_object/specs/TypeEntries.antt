@@ -12,7 +12,7 @@ use Rattle.ep_object.specs.declared.state.Kind.{Kind}
 use Rattle.ep_object.specs.declared.state.Kind.TheVariants.{Ord, Pointer, Text, Array, Record, Set}
 use Rattle.ep_object.specs.declared.state.RecordPart.{RecordPart}
 use Rattle.ep_object.specs.declared.state.TypeEntry.{TypeEntry}
-use Rattle.ep_typed.specs.TypeValues.{same_bounds}
+use Rattle.ep_values.specs.TypeValues.{same_bounds}
 
 -- ---- what a hasher gets
 

@@ -17,7 +17,7 @@ pub use code::{
     ImageUnit, ImageUnits, Instr, Instrs, Numbers, Object, ObjectImport, ObjectImports, Reference,
     References, Texts, Words,
 };
-pub use laws::{laws_of_calls, laws_of_runs, laws_of_simulations};
+pub use laws::laws_of_runs;
 pub use state::{
     FIRST_LIVE_WORDS, FrameNumber, INPUT_SEGMENT, Kind, OUTPUT_SEGMENT, Place, RecordPart,
     RecordParts, SET_MEMBERS, SET_WORDS, Segment, TEXT_TYPE, TypeEntry, WORD_MEMBERS,

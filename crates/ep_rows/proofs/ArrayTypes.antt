@@ -10,8 +10,8 @@ use Rattle.ep_object.specs.declared.state.TypeEntry.{TypeEntry}
 use Rattle.ep_rows.proofs.Meeting.{interned_anywhere}
 use Rattle.ep_rows.specs.Meeting.{over}
 use Rattle.ep_rows.specs.Parts.{typing}
-use Rattle.ep_typed.specs.Bounds.{count_of}
-use Rattle.ep_typed.specs.declared.run_error.TheConstants as run_error
+use Rattle.ep_values.specs.Bounds.{count_of}
+use Rattle.ep_values.specs.declared.run_error.TheConstants as run_error
 
 -- ---- words one behind the other, for `repeat`
 

@@ -8,7 +8,7 @@ use Rattle.ep_object.specs.Parts.{element_of, part_at, value_element}
 use Rattle.ep_object.specs.State.{TypeTable}
 use Rattle.ep_object.specs.declared.state.Kind.TheVariants.{Array}
 use Rattle.ep_object.specs.declared.state.TypeEntry.{TypeEntry}
-use Rattle.ep_typed.specs.Bounds.{component_at}
+use Rattle.ep_values.specs.Bounds.{component_at}
 
 -- what is at an index of a value whose type is that of an array with components of this type
 pub element_is : (types : TypeTable) (ws : List ℤ) (array c : ℕ) (z lo hi : ℤ) (a of : TypeEntry) (k : Option ℕ) (st : List Operand)

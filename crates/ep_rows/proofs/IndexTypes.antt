@@ -1,6 +1,6 @@
 -- Bounds of index types, for the contracts of src/bounds.rt.
 use Rattle.std.proofs.Common.{◌≡◌, ℕ, ℤ, pos, negsuc, zero, suc, ◌+◌, ◌-◌, ◌-ℤ◌, Some, None, true, false, cond, leb, ltb, int_le, unsigned_abs, refl, sym, ap, ◌∙◌, rules, arith}
-use Rattle.ep_typed.specs.Bounds.{gap, below, count_of, component_at}
+use Rattle.ep_values.specs.Bounds.{gap, below, count_of, component_at}
 
 -- how far a number is above another one
 abs_from : (a b : ℕ) → leb b a ≡ true → unsigned_abs (cond (ltb a b) (negsuc (b - suc a)) (pos (a - b))) ≡ a - b

@@ -10,7 +10,7 @@ use Rattle.ep_object.specs.declared.state.Kind.TheVariants.{Array}
 use Rattle.ep_object.specs.declared.state.Place.{Place}
 use Rattle.ep_object.specs.declared.state.Segment.{Segment}
 use Rattle.ep_object.specs.declared.state.TypeEntry.{TypeEntry}
-use Rattle.ep_typed.specs.Bounds.{component_at}
+use Rattle.ep_values.specs.Bounds.{component_at}
 
 -- a test of `get` that was passed
 pub found : {X : Type 0} (xs : List X) (i : ℕ) (x : X) → true ≡ ltb i (length xs) → x ≡ get_or xs i x → slice_get xs i ≡ Some x

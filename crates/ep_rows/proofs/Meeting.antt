@@ -13,7 +13,7 @@ use Rattle.ep_rows.specs.Parts.{typing}
 use Rattle.ep_rows.specs.Steps.{IsStep}
 use Rattle.ep_rows.specs.declared.step.Step.{Step}
 use Rattle.ep_rows.specs.declared.step.Step.TheVariants.{Next, Goto, Error, Broken, Full, NoMemory, Rare}
-use Rattle.ep_typed.specs.declared.run_error.TheConstants as error
+use Rattle.ep_values.specs.declared.run_error.TheConstants as error
 
 -- the number of a type is left
 number_left : (n : ℕ) (types : TypeTable) (m : Store) (st st2 : List Operand) (s : Step) → IsStep (push_row (pos n) st) s st2

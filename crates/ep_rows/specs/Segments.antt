@@ -1,7 +1,7 @@
 -- How rows end on segments that do not live.
 use Rattle.std.specs.Prelude.{Option, Some, None}
 use Rattle.ep_object.specs.declared.state.Segment.{Segment}
-use Rattle.ep_typed.specs.declared.run_error.TheConstants as run_error
+use Rattle.ep_values.specs.declared.run_error.TheConstants as run_error
 use Rattle.ep_rows.specs.declared.step.Step.{Step}
 use Rattle.ep_rows.specs.declared.step.Step.TheVariants.{Error, Broken}
 

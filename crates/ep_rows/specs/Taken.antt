@@ -9,7 +9,7 @@ use Rattle.ep_rows.specs.declared.parts.AtIndex.TheVariants as at_index
 use Rattle.ep_rows.specs.declared.parts.Found.{Found}
 use Rattle.ep_rows.specs.declared.parts.Part.{Part}
 use Rattle.ep_rows.specs.declared.parts.Part.TheVariants as part
-use Rattle.ep_typed.specs.declared.run_error.TheConstants as run_error
+use Rattle.ep_values.specs.declared.run_error.TheConstants as run_error
 
 -- what comes of a component with the type of this number whose words begin at an offset in those of a value
 abbrev pub part_told : List ℤ → ℕ → ℕ → Part → List Operand → Work (List Operand)

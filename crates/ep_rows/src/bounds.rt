@@ -2,7 +2,7 @@
 
 ghost use Rattle.std.specs.Prelude.{◌≡◌, ◌≤◌, ◌*◌, ◌^◌, cond, leb, Some, None};
 ghost use Rattle.ep_object.specs.State.{size_limit};
-ghost use Rattle.ep_typed.specs.Bounds.{component_at, count_of};
+ghost use Rattle.ep_values.specs.Bounds.{component_at, count_of};
 
 use ep_object::limit;
 

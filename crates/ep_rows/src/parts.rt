@@ -8,7 +8,7 @@ ghost use Rattle.ep_object.specs.Parts.{defined_any_row, field_any_row, index_an
 ghost use Rattle.ep_object.specs.Places.{loaded};
 ghost use Rattle.ep_object.specs.WordRows.{bit};
 ghost use Rattle.ep_rows.specs.Steps.{IsDone, IsStep};
-ghost use Rattle.ep_typed.specs.declared.run_error.TheConstants as run_error;
+ghost use Rattle.ep_values.specs.declared.run_error.TheConstants as run_error;
 ghost use Rattle.ep_rows.specs.Taken.{IsThere, OnThere, element_told, found_told, part_told, weight_of};
 
 use crate::bounds::component_at;
@@ -20,7 +20,7 @@ use crate::{members, places, sets, words};
 use ep_frames::{Members, Stack};
 use ep_memory::Memory;
 use ep_object::{Kind, TypeEntry};
-use ep_typed::run_error;
+use ep_values::run_error;
 
 /// What a component leaves of the value that it is taken out of.
 #[derive(Clone, Copy, Drop)]

@@ -12,7 +12,7 @@ use crate::step::Step;
 use ep_frames::Stack;
 use ep_memory::Memory;
 use ep_object::{INPUT_SEGMENT, OUTPUT_SEGMENT, Place, TypeEntry};
-use ep_typed::run_error;
+use ep_values::run_error;
 
 /// A new variable of the type on top, in the place of which comes its number.
 pub fn new(

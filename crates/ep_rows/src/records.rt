@@ -15,7 +15,7 @@ use ep_base::{List, NoMemory};
 use ep_frames::Stack;
 use ep_memory::Memory;
 use ep_object::{Kind, RecordPart, RecordParts, TypeEntry, Words, limit};
-use ep_typed::run_error;
+use ep_values::run_error;
 use std::alloc::{AllocError, Global};
 
 /// Takes so many words off, the lowest one first, where there are so many.

@@ -7,7 +7,7 @@ ghost use Rattle.ep_rows.specs.Segments.{gone_of};
 
 use crate::step::Step;
 use ep_memory::Memory;
-use ep_typed::run_error;
+use ep_values::run_error;
 
 /// How a row ends on a segment that does not live: by an error where it has ended.
 #[inline(always)]

@@ -21,7 +21,7 @@ use ep_decode::{Combination, Inclusion};
 use ep_frames::{Members, Stack};
 use ep_memory::{Memory, Stored};
 use ep_object::{Kind, Place, SET_MEMBERS, SET_WORDS, TypeEntry};
-use ep_typed::run_error;
+use ep_values::run_error;
 
 /// One more set.
 fn push_set(set: Members, stack: &mut Stack) -> Step

@@ -8,7 +8,7 @@ ghost use Rattle.ep_object.specs.Types.{Typing, init_row, initial_entry};
 ghost use Rattle.ep_rows.specs.Parts.{typing};
 ghost use Rattle.ep_rows.specs.Starts.{IsGiven, AreWords, AreWordsFor, given_of};
 ghost use Rattle.ep_rows.specs.Steps.{IsDone, IsRestored};
-ghost use Rattle.ep_typed.specs.declared.run_error.TheConstants as run_error;
+ghost use Rattle.ep_values.specs.declared.run_error.TheConstants as run_error;
 
 use crate::control::spend;
 use crate::step::Step;
@@ -20,7 +20,7 @@ use ep_base::{List, NoMemory};
 use ep_frames::{Members, Stack};
 use ep_memory::Memory;
 use ep_object::{Kind, TypeEntry, Words};
-use ep_typed::run_error;
+use ep_values::run_error;
 use std::alloc::Global;
 
 /// An initial state that stands on top, but for the value of an array or a record.

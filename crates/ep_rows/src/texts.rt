@@ -17,7 +17,7 @@ use crate::{places, sets, values, words};
 use ep_base::{Bytes, List};
 use ep_decode::Print;
 use ep_frames::Stack;
-use ep_typed::run_error;
+use ep_values::run_error;
 use itoa::Buffer;
 use std::alloc::{AllocError, Global};
 

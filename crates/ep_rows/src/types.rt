@@ -4,7 +4,7 @@ ghost use Rattle.std.specs.Prelude.{◌≡◌, ◌<◌, ◌≤◌, ◌+◌, ◌*
 ghost use Rattle.ep_object.specs.State.{bare_number as bare_of, plain as plain_of};
 ghost use Rattle.ep_object.specs.Types.{array_entry, array_over, entry_number, words_in as words_begun, words_of_entry as words_of_type, words_of_kind as words_of, ord_row, ordinal_entry as ordinal, repeated, set_entry as set_type, set_row, interned, interned_over, entry_of as type_of, bounds_of as kind_bounds, arr_row};
 ghost use Rattle.ep_rows.specs.Meeting.{IsMet, over};
-ghost use Rattle.ep_typed.specs.Bounds.{count_of};
+ghost use Rattle.ep_values.specs.Bounds.{count_of};
 ghost use Rattle.ep_rows.specs.Steps.{IsStep};
 ghost use Rattle.ep_rows.specs.Parts.{typing};
 
@@ -15,7 +15,7 @@ use ep_base::{List, NoMemory};
 use ep_frames::Stack;
 use ep_memory::Memory;
 use ep_object::{Kind, SET_WORDS, TypeEntry, Words, limit};
-use ep_typed::run_error;
+use ep_values::run_error;
 use std::alloc::Global;
 
 /// How many words a new type of this kind counts.

@@ -20,7 +20,7 @@ use crate::{segments, sets};
 use ep_frames::Stack;
 use ep_memory::{Memory, Stored};
 use ep_object::{Kind, Place, TypeEntry};
-use ep_typed::run_error;
+use ep_values::run_error;
 
 /// Whether variables of the kind have any number of words.
 pub(crate) fn is_structured(kind: &Kind) -> bool

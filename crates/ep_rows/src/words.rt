@@ -6,12 +6,12 @@ ghost use Rattle.ep_object.specs.Operands.{word, two_words, three_words, four_wo
 ghost use Rattle.ep_object.specs.WordRows.{bit as bit_of, compared, is_boolean, is_between, push_row, add_row, sub_row, mul_row, div_row, mod_row, neg_row, abs_row, sqr_row, odd_row, not_row, and_row, or_row, cmp_row, between_row, step_row, integer_row};
 ghost use Rattle.ep_decode.specs.Operations.{comparison_number, check_with};
 ghost use Rattle.ep_rows.specs.Steps.{IsStep};
-ghost use Rattle.ep_typed.specs.declared.run_error.TheConstants as run_error;
+ghost use Rattle.ep_values.specs.declared.run_error.TheConstants as run_error;
 
 use crate::step::Step;
 use ep_decode::Comparison;
 use ep_frames::Stack;
-use ep_typed::run_error;
+use ep_values::run_error;
 
 /// The number that a word is, of so many.
 #[inline(always)]

@@ -2,11 +2,11 @@
 use Rattle.std.proofs.Common.{◌≡◌, ℕ, ℤ, pos, negsuc, suc, ◌+◌, ◌<◌, ◌≤◌, ◌==◌, ◌||◌, ◌&&◌, ltb, int_lt, List, [], ◌∷◌, ◌++◌, get_or, Bool, true, false, Option, Some, None, cond, refl, sym, ap, ◌∙◌, arith}
 use Rattle.std.proofs.lemmas.Bool.Decides.{nat_tests}
 use Rattle.std.proofs.lemmas.Int.{ints}
-use Rattle.ep_typed.specs.Sets.{has, is_between, is_member, is_ordinal, member_limit, members, passing, put_where, with_member, with_number, with_numbers, with_span}
-use Rattle.ep_typed.specs.declared.operations.SetOperation.{SetOperation}
-use Rattle.ep_typed.specs.declared.operations.SetOperation.TheVariants as set
+use Rattle.ep_values.specs.Sets.{has, is_between, is_member, is_ordinal, member_limit, members, passing, put_where, with_member, with_number, with_numbers, with_span}
+use Rattle.ep_values.specs.declared.operations.SetOperation.{SetOperation}
+use Rattle.ep_values.specs.declared.operations.SetOperation.TheVariants as set
 use Rattle.ep_rules.specs.SetFolding.{combination, ordinal_at, takes_ordinal}
-use Rattle.ep_typed.proofs.Sets.{members_all, members_same, passing_more}
+use Rattle.ep_values.proofs.Sets.{members_all, members_same, passing_more}
 
 -- one ordinal more, where it passes and where it does not
 next_passing : (f : ℕ → Bool) (n : ℕ) (b : Bool) → f n ≡ b → passing f 0 (n + 1) ≡ passing f 0 n ++ put_where b n []

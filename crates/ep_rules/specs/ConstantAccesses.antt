@@ -4,7 +4,7 @@ use Rattle.std.specs.List.{list_all, list_any}
 use Rattle.std.specs.Option.{option_and_then, option_or}
 use Rattle.std.specs.Str.{bytes_eq}
 use Rattle.ep_typed.specs.Hosts.{is_of_host}
-use Rattle.ep_typed.specs.Operations.{is_in}
+use Rattle.ep_typed.specs.CaseRanges.{is_in}
 use Rattle.ep_typed.specs.Trees.{AtField, AtRanges, Constant, Elements, Expr, SameField, SetConstant, Structured, no_element, next_element}
 use Rattle.ep_typed.specs.declared.tree.CaseRange.{CaseRange}
 use Rattle.ep_scope.specs.declared.kind.Host.{Host}

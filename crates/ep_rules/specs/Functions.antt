@@ -3,8 +3,8 @@ use Rattle.std.specs.Prelude.{ℕ, pos, suc, max, Bool, true, false, ◌==◌, �
 use Rattle.std.specs.Option.{option_map}
 use Rattle.ep_typed.specs.Hosts.{least, greatest}
 use Rattle.ep_typed.specs.Trees.{Card, Constant, Step}
-use Rattle.ep_typed.specs.declared.operations.Unary.{Unary}
-use Rattle.ep_typed.specs.declared.operations.Unary.TheVariants as unary
+use Rattle.ep_values.specs.declared.operations.Unary.{Unary}
+use Rattle.ep_values.specs.declared.operations.Unary.TheVariants as unary
 use Rattle.ep_scope.specs.declared.kind.Host.{Host}
 use Rattle.ep_scope.specs.declared.kind.Kind.{Kind}
 use Rattle.ep_scope.specs.declared.kind.Kind.TheVariants.{Ordinal, Structured, Set, EmptySet, Text, File}

@@ -3,7 +3,7 @@ use Rattle.std.specs.Prelude.{ℕ, ℤ, ◌+◌, pos, nat_eq, Bool, true, false,
 use Rattle.std.specs.List.{list_any}
 use Rattle.std.specs.Str.{bytes_eq}
 use Rattle.ep_typed.specs.Hosts.{is_of_host}
-use Rattle.ep_typed.specs.Operations.{maxint, last_char}
+use Rattle.ep_values.specs.Operations.{maxint, last_char}
 use Rattle.ep_typed.specs.Trees.{Expr, Constant, Read, Place, Variable, Standard, entire}
 use Rattle.ep_typed.specs.Viewed.{constant_expr}
 use Rattle.ep_typed.specs.declared.value.Value.{Value}

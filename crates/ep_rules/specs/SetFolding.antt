@@ -1,8 +1,8 @@
 -- What the operations on two sets make of them.
 use Rattle.std.specs.Prelude.{ℕ, ℤ, pos, negsuc, ltb, List, Option, Some, None, Bool, false, cond, ◌&&◌, ◌||◌, not}
-use Rattle.ep_typed.specs.Sets.{difference, has, intersection, member_limit, members, symmetric_difference, union}
-use Rattle.ep_typed.specs.declared.operations.SetOperation.{SetOperation}
-use Rattle.ep_typed.specs.declared.operations.SetOperation.TheVariants as set
+use Rattle.ep_values.specs.Sets.{difference, has, intersection, member_limit, members, symmetric_difference, union}
+use Rattle.ep_values.specs.declared.operations.SetOperation.{SetOperation}
+use Rattle.ep_values.specs.declared.operations.SetOperation.TheVariants as set
 
 -- whether what is made of two sets has what the first and the second have or lack so
 abbrev pub takes : SetOperation → Bool → Bool → Bool

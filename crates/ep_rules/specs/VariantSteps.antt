@@ -1,7 +1,7 @@
 -- The steps from a record to its fields, those in variants among them, and the variants that values of tags select.
 use Rattle.std.specs.Prelude.{ℕ, ℤ, List, [], ◌∷◌, ◌++◌, length, map, Option, Some, None}
 use Rattle.std.specs.List.{position}
-use Rattle.ep_typed.specs.Steps.{variant_number}
+use Rattle.ep_typed.specs.Selections.{variant_number}
 use Rattle.ep_typed.specs.declared.tree.CaseRange.{CaseRange}
 use Rattle.ep_typed.specs.declared.tree.Selection.{Selection}
 use Rattle.ep_scope.specs.declared.structure.FieldType.{FieldType}

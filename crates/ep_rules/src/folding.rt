@@ -1,9 +1,9 @@
 //! What is known of typed forms as constants, by the operations that a run has.
 
 ghost use Rattle.std.specs.Prelude.{◌≡◌, IfOk, MatchOption, [], map, pos};
-ghost use Rattle.ep_typed.specs.Operations.{Number, ordinal_of, within, modulo, decides, unary_answer, binary_answer, step_answer};
-ghost use Rattle.ep_typed.specs.SetOperations.{set_answer};
-ghost use Rattle.ep_typed.specs.declared.run_error.TheConstants as run_error;
+ghost use Rattle.ep_values.specs.Operations.{Number, ordinal_of, within, modulo, decides, unary_answer, binary_answer, step_answer};
+ghost use Rattle.ep_values.specs.SetOperations.{set_answer};
+ghost use Rattle.ep_values.specs.declared.run_error.TheConstants as run_error;
 ghost use Rattle.ep_typed.specs.Trees.{designators};
 ghost use Rattle.ep_typed.specs.Viewed.{designator_of, expr_of};
 ghost use Rattle.ep_rules.specs.Folding as spec;
@@ -14,7 +14,8 @@ ghost use Rattle.ep_rules.specs.declared.folding.KnownValue.TheVariants as known
 
 use crate::sets;
 use ep_base::{Bytes, List, NoMemory};
-use ep_typed::{Binary, MemberDesignator, SetOperation, ShortOperation, TypedExpr, Unary};
+use ep_values::{Binary, SetOperation, ShortOperation, Unary};
+use ep_typed::{MemberDesignator, TypedExpr};
 use std::alloc::Global;
 
 /// A value that is known.

@@ -8,7 +8,7 @@ use crate::access::Access;
 use crate::forms::{Refusal, Typed};
 use crate::operators::is_integer;
 use ep_scope::{Function, Host, Kind, rule};
-use ep_typed::Unary;
+use ep_values::Unary;
 use std::alloc::Global;
 
 /// Whether a function takes so many arguments.

@@ -9,7 +9,7 @@ ghost use Rattle.ep_rules.specs.Operators.{signed, negated, arithmetic, logical,
 use crate::forms::{Refusal, Typed};
 use ep_scope::{Host, Kind, rule, same_host};
 use ep_tree::{AddingOperator, MultiplyingOperator, RelationalOperator, Sign};
-use ep_typed::{Binary, SetOperation, ShortOperation, Unary};
+use ep_values::{Binary, SetOperation, ShortOperation, Unary};
 use std::alloc::Global;
 
 /// Whether a value is an integer.

@@ -1,11 +1,11 @@
 //! Sets as constants, by the ordinal numbers of their members in rising order.
 
 ghost use Rattle.std.specs.Prelude.{◌≡◌, IfOk, []};
-ghost use Rattle.ep_typed.specs.Sets.{has, is_between as lies_between, is_member, is_ordinal, is_same_set, is_subset, with_number, with_numbers, with_span};
+ghost use Rattle.ep_values.specs.Sets.{has, is_between as lies_between, is_member, is_ordinal, is_same_set, is_subset, with_number, with_numbers, with_span};
 ghost use Rattle.ep_rules.specs.SetFolding.{combination, ordinal_at, takes, takes_ordinal};
 
 use ep_base::{Bytes, List, NoMemory};
-use ep_typed::SetOperation;
+use ep_values::SetOperation;
 use std::alloc::Global;
 
 /// How many ordinals may be members, from 0 on.

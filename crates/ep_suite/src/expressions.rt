@@ -2,7 +2,7 @@
 
 use crate::texts::parsed;
 use ep_base::Name;
-use ep_check_expr::{ExpressionRefusal, constant, expression};
+use ep_expr_laws::{ExpressionRefusal, constant, expression};
 use ep_scope::{Declaration, Declared, Host, Kind, Scope, Thing, TypeName};
 use ep_tree::{Component, ComponentValue, Expression, Statement};
 use ep_typed::{RequiredType, Value};

@@ -2,7 +2,7 @@
 
 use Step::{Array, Initial, Ordinal, Record, Set, Text};
 use ep_base::{Boxed, List, NoMemory};
-use ep_typed::{Start, TypeValue, TypeValues, agree, size};
+use ep_values::{Start, TypeValue, TypeValues, agree, size};
 use std::alloc::Global;
 use std::test::Fail;
 

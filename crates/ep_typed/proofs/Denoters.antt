@@ -5,8 +5,8 @@ use Rattle.ep_typed.specs.Denoters.{AreInstances, IsInstance, required, named, s
 use Rattle.ep_typed.specs.Laws.{TypesAreInstances, InstancesAreOne}
 use Rattle.ep_typed.specs.Trees.{Fixed, Denoter, Denoters, Required, Named, Subrange, Enumeration, Array, Record, Set, Initial, no_denoter, next_denoter}
 use Rattle.ep_typed.specs.declared.unit.UnitType.{UnitType}
-use Rattle.ep_typed.specs.TypeValues as type
-use Rattle.ep_typed.specs.TypeValues.{ComponentTypes, TypeValue, Ordinal, bare_of}
+use Rattle.ep_values.specs.TypeValues as type
+use Rattle.ep_values.specs.TypeValues.{ComponentTypes, TypeValue, Ordinal, bare_of}
 
 -- the type value of an array comes from that of its index type, which is ordinal, and that of its components
 over_index : (b : TypeValue) (p : Option TypeValue) (v : TypeValue) → array_over (Some b) p ≡ Some v

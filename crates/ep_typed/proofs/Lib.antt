@@ -1,15 +1,3 @@
-pub mod Agreement
-pub mod Auxiliaries
-pub mod Bares
 pub mod Denoters
 pub mod DesignatorCounts
-pub mod Done
-pub mod Examples
 pub mod Forms
-pub mod Lasting
-pub mod Levels
-pub mod Sets
-pub mod Sizes
-pub mod Steady
-pub mod Typed
-pub mod ValueKinds

@@ -5,7 +5,7 @@
 use Rattle.std.specs.Prelude.{codes, ℕ, pos, false, List, [], ◌∷◌, ◌++◌, Option, Some, None}
 use Rattle.std.specs.Option.{option_or}
 use Rattle.ep_typed.specs.Trees.{Stmt, Stmts, Empty, Compound, Assign, AssignTag, If, While, Repeat, For, ForIn, With, Procedure, Halt, Write, none, next, Case, Arms, no_arm, next_arm, Other, no_other, otherwise_do}
-use Rattle.ep_typed.specs.Sets.{last_member}
+use Rattle.ep_values.specs.Sets.{last_member}
 use Rattle.ep_typed.specs.declared.denoter.Bound.TheVariants as bound
 use Rattle.ep_typed.specs.declared.denoter.Denoter.TheVariants as denoter
 use Rattle.ep_typed.specs.declared.denoter.RequiredType.TheVariants as simple

@@ -2,14 +2,14 @@
 use Rattle.std.specs.Prelude.{◌≡◌, ℕ, ℤ, pos, neg_ℤ, zero, suc, List, [], ◌∷◌, length, slice_get, Option, Some, None, option_map}
 use Rattle.ep_typed.specs.Hosts as host
 use Rattle.ep_typed.specs.Hosts.{Host}
-use Rattle.ep_typed.specs.Operations.{maxint, last_char}
+use Rattle.ep_values.specs.Operations.{maxint, last_char}
 use Rattle.ep_typed.specs.Trees.{Bound, Expr, Fixed, Denoter, Required, Named, Subrange, Enumeration, Array, Record, Denoters, no_denoter, next_denoter, Set, Initial}
 use Rattle.ep_typed.specs.Viewed.{denoter_of}
 use Rattle.ep_typed.specs.declared.denoter.RequiredType.{RequiredType}
 use Rattle.ep_typed.specs.declared.denoter.RequiredType.TheVariants as simple
 use Rattle.ep_typed.specs.declared.unit.UnitType.{UnitType}
-use Rattle.ep_typed.specs.TypeValues as type
-use Rattle.ep_typed.specs.TypeValues.{TypeValue, ComponentTypes, Ordinal, Text, no_component, next_component, bare_of}
+use Rattle.ep_values.specs.TypeValues as type
+use Rattle.ep_values.specs.TypeValues.{TypeValue, ComponentTypes, Ordinal, Text, no_component, next_component, bare_of}
 
 -- the type value of a required type (ISO 10206, 6.4.2.2)
 abbrev pub required_type : RequiredType → TypeValue

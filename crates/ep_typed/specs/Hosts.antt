@@ -1,6 +1,6 @@
 -- The hosts of ordinal types: each subrange has the operations of its host (ISO 10206, 6.4.2.4).
 use Rattle.std.specs.Prelude.{ℕ, ℤ, pos, neg_ℤ, Bool, ◌&&◌, int_le}
-use Rattle.ep_typed.specs.Operations.{maxint, last_char}
+use Rattle.ep_values.specs.Operations.{maxint, last_char}
 
 -- an ordinal type that is no subrange; an enumeration by the ordinal number of its last constant
 pub data Host : Type 0 where

@@ -1,10 +1,10 @@
 -- Typed trees as plain data, on which meaning, validity and code are defined by recursion.
 use Rattle.std.specs.Prelude.{ℕ, ℤ, Bool, List, [], ◌∷◌, Option, Some, None}
-use Rattle.ep_typed.specs.declared.operations.Unary.{Unary}
-use Rattle.ep_typed.specs.declared.operations.Binary.{Binary}
-use Rattle.ep_typed.specs.declared.operations.ShortOperation.{ShortOperation}
-use Rattle.ep_typed.specs.declared.operations.Print.{Print}
-use Rattle.ep_typed.specs.declared.operations.SetOperation.{SetOperation}
+use Rattle.ep_values.specs.declared.operations.Unary.{Unary}
+use Rattle.ep_values.specs.declared.operations.Binary.{Binary}
+use Rattle.ep_values.specs.declared.operations.ShortOperation.{ShortOperation}
+use Rattle.ep_values.specs.declared.operations.Print.{Print}
+use Rattle.ep_values.specs.declared.operations.SetOperation.{SetOperation}
 use Rattle.ep_typed.specs.declared.denoter.RequiredType.{RequiredType}
 use Rattle.ep_typed.specs.declared.tree.CaseRange.{CaseRange}
 use Rattle.ep_typed.specs.declared.tree.Selection.{Selection}

@@ -13,7 +13,7 @@ use Rattle.ep_typed.specs.declared.denoter.RecordField.{RecordField, fold-Record
 use Rattle.ep_typed.specs.declared.denoter.Selector.{Selector, fold-Selector}
 use Rattle.ep_typed.specs.declared.denoter.Variant.{Variant, fold-Variant}
 use Rattle.ep_typed.specs.declared.denoter.VariantPart.{VariantPart, fold-VariantPart}
-use Rattle.ep_typed.specs.declared.operations.Print.{Print}
+use Rattle.ep_values.specs.declared.operations.Print.{Print}
 use Rattle.ep_typed.specs.declared.tree.Actual.{Actual}
 use Rattle.ep_typed.specs.declared.tree.Callee.{Callee}
 use Rattle.ep_typed.specs.declared.tree.TypedPlace.{TypedPlace}

@@ -11,11 +11,8 @@ mod denoter;
 mod interface;
 mod laws;
 mod nodes;
-mod operations;
-pub mod run_error;
 mod shared;
 mod tree;
-mod type_value;
 mod unit;
 mod value;
 
@@ -32,9 +29,8 @@ pub use interface::{
     NamePairs, RoutineEntries, RoutineEntry, RoutineResult, SchemaFormal, SchemaFormals,
     TypeEntries, TypeEntry, VariableEntries, VariableEntry,
 };
-pub use laws::{laws_of_denoters, laws_of_meanings};
+pub use laws::laws_of_denoters;
 pub use nodes::unit_nodes;
-pub use operations::{Binary, Print, SetOperation, ShortOperation, Unary};
 pub use shared::Shared;
 pub use tree::{
     Actual, Actuals, Callee, CaseArm, CaseArms, CaseRange, CaseRanges, ComponentSteps, Element,
@@ -42,7 +38,6 @@ pub use tree::{
     Selection, StandardFile, TagControl, TypedExpr, TypedExprs, TypedPlace, TypedStmt, TypedStmts,
     VariantLabels, WriteItem, WriteItems,
 };
-pub use type_value::{Start, Starts, TypeValue, TypeValues, agree, size};
 pub use unit::{
     RoutineNumbers, Unit, UnitRoutine, UnitRoutines, UnitType, UnitTypes, UnitVariable,
     UnitVariables,

@@ -1,6 +1,6 @@
 //! Typed trees: expressions, places and statements whose names, types and kinds are settled.
 
-use crate::operations::{Binary, Print, SetOperation, ShortOperation, Unary};
+use ep_values::{Binary, Print, SetOperation, ShortOperation, Unary};
 use crate::shared::Shared;
 use ep_base::{Boxed, Bytes, Line, List, Name};
 

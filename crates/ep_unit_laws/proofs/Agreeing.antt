@@ -5,9 +5,10 @@ use Rattle.std.proofs.lemmas.Slice.Eq.{bytes_eq-Decides}
 use Rattle.std.specs.Prelude.{All, drop, if◌then◌else◌}
 use Rattle.ep_typed.specs.Denoters.{host_of, bare_type_of}
 use Rattle.ep_typed.specs.Trees as tree
-use Rattle.ep_typed.specs.TypeValues.{TypeValue, bare_of}
-use Rattle.ep_typed.specs.Valid as valid
-use Rattle.ep_typed.specs.Valid.{Declarations, IsCallee, IsDeclaredUp, IsOfKind, IsPlace, around_in, heading_of, in_routine, levels_of, own}
+use Rattle.ep_values.specs.TypeValues.{TypeValue, bare_of}
+use Rattle.ep_meaning.specs.Valid as valid
+use Rattle.ep_meaning.specs.Valid.{Declarations, IsCallee, IsDeclaredUp, IsOfKind, IsPlace, around_in, in_routine, levels_of, own}
+use Rattle.ep_typed.specs.Routines.{heading_of}
 use Rattle.ep_typed.specs.Auxiliaries.{block_auxiliaries, with_variables}
 use Rattle.ep_typed.specs.Routines.{made_by_unit, unit_variables}
 use Rattle.ep_typed.specs.Viewed.{denoter_of, stmt_of}
@@ -32,12 +33,12 @@ use Rattle.ep_scope.specs.declared.thing.Declaration.TheVariants as declaration
 use Rattle.ep_scope.specs.declared.thing.Declared.{Declared}
 use Rattle.ep_scope.specs.declared.thing.Thing.{Thing}
 use Rattle.ep_scope.specs.declared.thing.Thing.TheVariants as thing
-use Rattle.ep_check_expr.specs.Agreement.{Agrees, AgreesBy, AreInterfaces, AreOpen, AreParameters, AreThings, Arrays, HasKind, HoldsStructure, IsConstantIn, IsConstantOf, IsDeclaration, IsDenoterOf, IsKind, IsListed, IsMadeOf, Records, Structure, IsFunctionWith, IsOfType, IsStoredIn, IsThing, structures_of}
+use Rattle.ep_expr_laws.specs.Agreement.{Agrees, AgreesBy, AreInterfaces, AreOpen, AreParameters, AreThings, Arrays, HasKind, HoldsStructure, IsConstantIn, IsConstantOf, IsDeclaration, IsDenoterOf, IsKind, IsListed, IsMadeOf, Records, Structure, IsFunctionWith, IsOfType, IsStoredIn, IsThing, structures_of}
 use Rattle.ep_rules.specs.Arguments.{callee_at, callee_levels}
 use Rattle.ep_rules.specs.Hosts.{typed_host}
 use Rattle.ep_check_unit.specs.Declarations.{scopes_of, type_denoter}
 use Rattle.ep_check_unit.specs.Routines.{formal_of}
-use Rattle.ep_check_stmt.specs.Laws.{IsResultAt, ResultsAreThere}
+use Rattle.ep_stmt_laws.specs.Laws.{IsResultAt, ResultsAreThere}
 use Rattle.ep_check_unit.specs.Blocks.{Block, around_of}
 use Rattle.ep_check_unit.specs.Functions.{assigned_function, assigned_functions, function_before}
 use Rattle.ep_check_unit.specs.declared.block.Enclosing.{Enclosing}

@@ -3,9 +3,9 @@ use Rattle.std.proofs.Common.{◌≡◌, ℕ, ℤ, suc, ◌<◌, ◌≤◌, [], 
 use Rattle.std.proofs.lemmas.Option.{slice_get_within}
 use Rattle.ep_typed.specs.Denoters.{ArrayParts, array_of}
 use Rattle.ep_typed.specs.Trees as tree
-use Rattle.ep_typed.specs.TypeValues as type
-use Rattle.ep_typed.specs.TypeValues.{TypeValue}
-use Rattle.ep_typed.specs.Valid.{IsTypeOf}
+use Rattle.ep_values.specs.TypeValues as type
+use Rattle.ep_values.specs.TypeValues.{TypeValue}
+use Rattle.ep_meaning.specs.Valid.{IsTypeOf}
 use Rattle.ep_typed.specs.Viewed.{denoter_of}
 use Rattle.ep_typed.specs.declared.unit.Unit.{Unit as TypedUnit}
 use Rattle.ep_typed.proofs.Forms.{array_is}
@@ -14,7 +14,7 @@ use Rattle.ep_scope.specs.declared.structure.Composition.TheVariants as composit
 use Rattle.ep_scope.specs.declared.structure.StructuredType.{StructuredType}
 use Rattle.ep_scope.specs.declared.kind.Host.{Host}
 use Rattle.ep_scope.specs.declared.kind.Kind.TheVariants as kind
-use Rattle.ep_check_expr.specs.Agreement.{Arrays, IsArrayValue}
+use Rattle.ep_expr_laws.specs.Agreement.{Arrays, IsArrayValue}
 use Rattle.ep_rules.specs.Hosts.{typed_host}
 use Rattle.ep_rules.specs.Judgements.{Accepts, when_accepted}
 use Rattle.ep_check_stmt.proofs.judged.Fits.{Fits, fits_then}

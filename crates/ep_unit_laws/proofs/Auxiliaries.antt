@@ -3,7 +3,7 @@ use Rattle.std.proofs.Common.{◌≡◌, ℕ, suc, ◌+◌, Bool, true, false, L
 use Rattle.std.proofs.lemmas.List.{length-append}
 use Rattle.std.specs.Prelude.{◌≤◌, All, is_some, if◌then◌else◌}
 use Rattle.ep_tree.specs.declared.statement.Compound.{Compound}
-use Rattle.ep_typed.proofs.Auxiliaries.{auxiliary_host, member_base}
+use Rattle.ep_meaning.proofs.Auxiliaries.{auxiliary_host, member_base}
 use Rattle.ep_typed.proofs.Forms.{named_is}
 use Rattle.ep_typed.specs.Auxiliaries.{auxiliary_variable, auxiliary_variables, block_auxiliaries, first_for_in_of, first_for_of, member_variable, member_variables, with_variable, with_variables, with_variables_of}
 use Rattle.ep_typed.specs.Denoters.{host_of, bare_type_of}
@@ -11,18 +11,18 @@ use Rattle.ep_typed.specs.Hosts as host
 use Rattle.ep_typed.specs.Routines.{made_by_unit, unit_variables}
 use Rattle.ep_typed.specs.Trees as tree
 use Rattle.ep_typed.specs.Trees.{Denoter, Stmts, entire}
-use Rattle.ep_typed.specs.Valid as given
-use Rattle.ep_typed.specs.Valid.{Declarations, IsOfKind, IsPlaceWhere, IsUnmade, first_with_in, own, variables_up}
+use Rattle.ep_meaning.specs.Valid as given
+use Rattle.ep_meaning.specs.Valid.{Declarations, IsOfKind, IsPlaceWhere, IsUnmade, first_with_in, own, variables_up}
 use Rattle.ep_typed.specs.Viewed.{denoter_of, stmt_of}
 use Rattle.ep_typed.specs.declared.unit.Unit.{Unit as TypedUnit}
 use Rattle.ep_typed.specs.declared.unit.UnitType.{UnitType}
 use Rattle.ep_typed.specs.declared.unit.UnitVariable.{UnitVariable}
 use Rattle.ep_scope.specs.declared.parameter.TypeName.TheVariants as type_name
 use Rattle.ep_scope.specs.declared.structure.StructuredType.{StructuredType}
-use Rattle.ep_check_expr.specs.Agreement.{HoldsStructure, TypeValues}
+use Rattle.ep_expr_laws.specs.Agreement.{HoldsStructure, TypeValues}
 use Rattle.ep_scope.specs.Scopes.{Region}
 use Rattle.ep_check_stmt.specs.Auxiliaries.{has_for_in}
-use Rattle.ep_check_stmt.specs.Laws.{AuxiliariesAreThere, MembersAreThere, WithsAreThere}
+use Rattle.ep_stmt_laws.specs.Laws.{AuxiliariesAreThere, MembersAreThere, WithsAreThere}
 use Rattle.ep_check_stmt.specs.Statements.{Locals, OfRoutine, OfUnit, block_variable}
 use Rattle.ep_check_unit.specs.Blocks.{Block, own_count}
 use Rattle.ep_check_unit.specs.Routines.{first_auxiliary, has_bounds, locals_in, locals_of, members_of, withs_of}

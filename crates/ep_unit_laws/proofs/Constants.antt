@@ -10,13 +10,13 @@ use Rattle.ep_tree.specs.declared.expression.ComponentValue.{ComponentValue}
 use Rattle.ep_typed.specs.Denoters.{bare_type_of, type_of}
 use Rattle.ep_typed.specs.Hosts as typed
 use Rattle.ep_typed.specs.Hosts.{greatest, is_of_host, least}
-use Rattle.ep_typed.specs.Sets.{IsSet, are_between, has, is_ordinal, last_member, member_limit}
+use Rattle.ep_values.specs.Sets.{IsSet, are_between, has, is_ordinal, last_member, member_limit}
 use Rattle.ep_typed.specs.Trees as tree
 use Rattle.ep_typed.specs.Trees.{Elements, elements}
-use Rattle.ep_typed.specs.TypeValues as type
-use Rattle.ep_typed.specs.TypeValues.{Ordinal, TypeValue, bare_of}
-use Rattle.ep_typed.specs.Valid as valid
-use Rattle.ep_typed.specs.Valid.{IsConstant, IsStartFor, IsStructured, IsTyped, LiesIn, structured_start}
+use Rattle.ep_values.specs.TypeValues as type
+use Rattle.ep_values.specs.TypeValues.{Ordinal, TypeValue, bare_of}
+use Rattle.ep_meaning.specs.Valid as valid
+use Rattle.ep_meaning.specs.Valid.{IsConstant, IsStartFor, IsStructured, IsTyped, LiesIn, structured_start}
 use Rattle.ep_typed.specs.Viewed.{constant_expr, denoter_of, element_of}
 use Rattle.ep_typed.specs.declared.denoter.Bound.TheVariants.{Constant as Fixed}
 use Rattle.ep_typed.specs.declared.denoter.Denoter.{Denoter}
@@ -27,8 +27,8 @@ use Rattle.ep_typed.specs.declared.unit.Unit.{Unit as TypedUnit}
 use Rattle.ep_typed.specs.declared.value.Value.{Value}
 use Rattle.ep_typed.specs.declared.value.Value.TheVariants as value
 use Rattle.ep_typed.proofs.Forms.{named_is, set_is, subrange_is}
-use Rattle.ep_typed.proofs.Sets.{between_yes, has_no_more}
-use Rattle.ep_typed.proofs.Typed.{typed_bare}
+use Rattle.ep_values.proofs.Sets.{between_yes, has_no_more}
+use Rattle.ep_meaning.proofs.Typed.{typed_bare}
 use Rattle.ep_scope.specs.Scopes.{depth_in}
 use Rattle.ep_scope.specs.declared.kind.Enumeration.{Enumeration}
 use Rattle.ep_scope.specs.declared.kind.Host.{Host}
@@ -37,11 +37,11 @@ use Rattle.ep_scope.specs.declared.kind.Kind.{Kind}
 use Rattle.ep_scope.specs.declared.kind.Kind.TheVariants as kind
 use Rattle.ep_scope.specs.declared.rule.TheConstants as rule
 use Rattle.ep_scope.specs.declared.thing.Declaration.TheVariants as declaration
-use Rattle.ep_check_expr.specs.Agreement.{IsConstantIf, IsConstantOf, IsSetOver, structures_of}
+use Rattle.ep_expr_laws.specs.Agreement.{IsConstantIf, IsConstantOf, IsSetOver, structures_of}
 use Rattle.ep_check_expr.specs.Constants.{constant_judged}
 use Rattle.ep_rules.specs.Hosts.{typed_host}
 use Rattle.ep_rules.specs.Judgements.{Judged, Accepts, Breaks}
-use Rattle.ep_check_expr.specs.Laws.{ConstantsAreSound, ConstantsAreKnown}
+use Rattle.ep_expr_laws.specs.Laws.{ConstantsAreSound, ConstantsAreKnown}
 use Rattle.ep_check_expr.specs.declared.constants.ConstantForm.{ConstantForm}
 use Rattle.ep_check_stmt.proofs.judged.Fits.{Any, Fits, fits_any, fits_both, fits_is, fits_then}
 use Rattle.ep_check_unit.specs.Declarations.{are_all_members, constant_definition, constant_entered, constant_fitting, entry_denoter, enumerated, host_denoter, members_denoter, own_thing, scopes_of, set_denoter, unused, with_constant, with_entry, with_name}

@@ -1,11 +1,11 @@
 -- All denoters: the unit that has a block's lists has those that are written in the block as valid types.
 use Rattle.std.proofs.Common.{◌≡◌, ℕ, ◌≤◌, length}
 use Rattle.ep_tree.specs.declared.types.TypeDenoter.{TypeDenoter}
-use Rattle.ep_typed.specs.Operations.{maxint}
+use Rattle.ep_values.specs.Operations.{maxint}
 use Rattle.ep_typed.specs.declared.unit.Unit.{Unit as TypedUnit}
 use Rattle.ep_check_expr.specs.Constants.{bound_judged}
 use Rattle.ep_rules.specs.Judgements.{Accepts}
-use Rattle.ep_check_expr.specs.Laws.{BoundsAreSound, BoundsAreKnown, InitialStatesAreSound}
+use Rattle.ep_expr_laws.specs.Laws.{BoundsAreSound, BoundsAreKnown, InitialStatesAreSound}
 use Rattle.ep_check_stmt.proofs.judged.Fits.{Fits, fits_both, fits_is}
 use Rattle.ep_check_unit.specs.Blocks.{Block}
 use Rattle.ep_check_unit.specs.Declarations.{denoter_part, range, scopes_of, settled_type, type_written}

@@ -5,23 +5,23 @@ use Rattle.std.specs.Prelude.{⊤, int_le}
 use Rattle.ep_typed.specs.Denoters.{ArrayParts, array_of, array_over, array_type, array_within, bare_type_of, base_within, definition_of, found_of, host_of, host_within, next_type, record_of, record_type, record_within, required_type, set_over, set_type, type_within, types_step}
 use Rattle.ep_typed.specs.Hosts as host
 use Rattle.ep_typed.specs.Hosts.{Host, least, greatest, is_of_host}
-use Rattle.ep_typed.specs.Operations.{is_integer, maxint}
+use Rattle.ep_values.specs.Operations.{is_integer, maxint}
 use Rattle.ep_typed.specs.Trees.{Array, Denoter, Denoters, Fixed, Required, Named, Subrange, Enumeration, Record, Set, next_denoter, no_denoter}
-use Rattle.ep_typed.specs.Valid as valid
-use Rattle.ep_typed.specs.Valid.{AreTyped, HasKind as HasValues, IsDenoter, IsOfKind, IsSetOf, IsStructured, IsTypeOf, IsTyped, IsValue, array, components, enumeration, named, next_typed, none_typed, required, set, subrange}
-use Rattle.ep_typed.proofs.Typed.{typed_bare, typed_of_host, typed_set}
-use Rattle.ep_typed.specs.Results.{has_base}
-use Rattle.ep_typed.specs.Sets.{is_ordinal}
+use Rattle.ep_meaning.specs.Valid as valid
+use Rattle.ep_meaning.specs.Valid.{AreTyped, HasKind as HasValues, IsDenoter, IsOfKind, IsSetOf, IsStructured, IsTypeOf, IsTyped, IsValue, array, components, enumeration, named, next_typed, none_typed, required, set, subrange}
+use Rattle.ep_meaning.proofs.Typed.{typed_bare, typed_of_host, typed_set}
+use Rattle.ep_meaning.specs.Results.{has_base}
+use Rattle.ep_values.specs.Sets.{is_ordinal}
 use Rattle.ep_typed.specs.declared.denoter.RequiredType.{RequiredType}
 use Rattle.ep_typed.specs.declared.denoter.RequiredType.TheVariants as simple
 use Rattle.ep_typed.specs.declared.unit.UnitType.{UnitType}
-use Rattle.ep_typed.specs.TypeValues.{ComponentTypes, Ordinal, TypeValue, bare_each, bare_of, next_component, no_component}
-use Rattle.ep_typed.specs.TypeValues as type
+use Rattle.ep_values.specs.TypeValues.{ComponentTypes, Ordinal, TypeValue, bare_each, bare_of, next_component, no_component}
+use Rattle.ep_values.specs.TypeValues as type
 use Rattle.ep_typed.specs.declared.value.Value.{Value}
 use Rattle.ep_scope.specs.declared.kind.Kind.{Kind}
 use Rattle.ep_scope.specs.declared.kind.Kind.TheVariants as kind
 use Rattle.ep_scope.specs.declared.parameter.TypeName.TheVariants as type_name
-use Rattle.ep_check_expr.specs.Agreement.{Arrays, HasKind, HasStructure, IsKind, IsValueOfKind, Records, Structure, TypeValues}
+use Rattle.ep_expr_laws.specs.Agreement.{Arrays, HasKind, HasStructure, IsKind, IsValueOfKind, Records, Structure, TypeValues}
 use Rattle.ep_rules.specs.Hosts.{typed_host}
 
 -- the numbers of the host are integers

@@ -7,18 +7,18 @@ use Rattle.std.specs.Prelude.{All, ⊤, if◌then◌else◌}
 use Rattle.std.specs.Str.{bytes_eq}
 use Rattle.ep_outside.specs.Known.{IsPrefix}
 use Rattle.ep_typed.specs.Denoters.{bare_type_of, definition_of, found_of, set_over, set_type, type_of, type_within}
-use Rattle.ep_typed.specs.Steps.{variant_number}
+use Rattle.ep_typed.specs.Selections.{variant_number}
 use Rattle.ep_typed.specs.Trees as tree
 use Rattle.ep_typed.specs.Trees.{AtField, AtIndex, AtIndexes, AtRanges, Constant, Denoter, Denoters, Elements, Expr, Named, SameField, SetConstant, elements, next_denoter, next_element, no_denoter, no_element}
-use Rattle.ep_typed.specs.TypeValues as type
-use Rattle.ep_typed.specs.TypeValues.{ComponentTypes, TypeValue, bare_each, bare_of}
-use Rattle.ep_typed.specs.Valid.{AllLieIn, AreStartsFor, AreTyped, Declarations, Gives, IsPlainIn, IsStartFor, IsTyped, LeadTo, LiesIn, field_given, none_given, ranges_given, same_given, set_start, structured_start, word_start}
+use Rattle.ep_values.specs.TypeValues as type
+use Rattle.ep_values.specs.TypeValues.{ComponentTypes, TypeValue, bare_each, bare_of}
+use Rattle.ep_meaning.specs.Valid.{AllLieIn, AreStartsFor, AreTyped, Declarations, Gives, IsPlainIn, IsStartFor, IsTyped, LeadTo, LiesIn, field_given, none_given, ranges_given, same_given, set_start, structured_start, word_start}
 use Rattle.ep_typed.specs.Viewed.{constant_expr, element_of}
 use Rattle.ep_typed.specs.declared.tree.Element.{Element as Given}
 use Rattle.ep_typed.specs.declared.unit.UnitType.{UnitType}
 use Rattle.ep_typed.specs.declared.value.Value.TheVariants as value
 use Rattle.ep_typed.proofs.Denoters.{instances_are_one, types_are_instances}
-use Rattle.ep_typed.proofs.Typed.{typed_bare, typed_components, typed_instance, typed_parts}
+use Rattle.ep_meaning.proofs.Typed.{typed_bare, typed_components, typed_instance, typed_parts}
 use Rattle.ep_scope.specs.Scopes.{Region, structure_in}
 use Rattle.ep_scope.specs.declared.parameter.TypeName.{TypeName}
 use Rattle.ep_scope.specs.declared.parameter.TypeName.TheVariants as type_name
@@ -29,12 +29,12 @@ use Rattle.ep_scope.specs.declared.structure.StructuredType.{StructuredType}
 use Rattle.ep_scope.specs.declared.structure.TagType.{TagType}
 use Rattle.ep_scope.specs.declared.structure.VariantStep.{VariantStep}
 use Rattle.ep_scope.specs.declared.kind.Kind.{Kind}
-use Rattle.ep_check_expr.specs.Agreement.{AgreesBy, AreFields, Arrays, HasStructure, IsAlong, IsFieldOf, IsMadeOf, IsPartOf, Records, Structure, TypeValues}
+use Rattle.ep_expr_laws.specs.Agreement.{AgreesBy, AreFields, Arrays, HasStructure, IsAlong, IsFieldOf, IsMadeOf, IsPartOf, Records, Structure, TypeValues}
 use Rattle.ep_rules.specs.ConstantAccesses.{value_of_field}
 use Rattle.ep_rules.specs.VariantSteps.{field_steps, part_steps}
-use Rattle.ep_check_expr.proofs.Betweens.{between_all}
-use Rattle.ep_check_expr.proofs.Leading.{among_bare, leads_once, record_among, step_leads}
-use Rattle.ep_check_expr.proofs.Listed.{structure_in-listed}
+use Rattle.ep_expr_laws.proofs.Betweens.{between_all}
+use Rattle.ep_expr_laws.proofs.Leading.{among_bare, leads_once, record_among, step_leads}
+use Rattle.ep_expr_laws.proofs.Listed.{structure_in-listed}
 use Rattle.ep_check_unit.specs.FittingConstants.{are_in, are_members_in, base_value, element_type, field_type, is_in, is_number_in, is_plain_in, members_of, type_among as field_among}
 use Rattle.ep_check_unit.specs.OrdinalTypes.{value_of}
 use Rattle.ep_unit_laws.proofs.Holds.{named_tree}

@@ -6,7 +6,8 @@ use Rattle.ep_typed.specs.Denoters.{ArrayParts, bare_type_of}
 use Rattle.ep_typed.specs.Hosts as typed
 use Rattle.ep_typed.specs.Hosts.{is_of_host}
 use Rattle.ep_typed.specs.Trees as tree
-use Rattle.ep_typed.specs.Valid.{IsAround, IsConstant, IsDenoter, IsFormal, IsFormalBy, IsProcedure, IsResult, IsStmt, IsType, IsVariable, Level, first_with_in, heading_of, in_routine, levels_of, own, variables_at, variables_in}
+use Rattle.ep_meaning.specs.Valid.{IsAround, IsConstant, IsDenoter, IsFormal, IsFormalBy, IsProcedure, IsResult, IsStmt, IsType, IsVariable, Level, first_with_in, in_routine, levels_of, own, variables_at, variables_in}
+use Rattle.ep_typed.specs.Routines.{heading_of}
 use Rattle.ep_typed.specs.Viewed.{denoter_of}
 use Rattle.ep_typed.specs.declared.denoter.Denoter.TheVariants as denoter
 use Rattle.ep_typed.proofs.Forms.{required_is, named_is}
@@ -18,7 +19,7 @@ use Rattle.ep_typed.specs.declared.interface.RoutineEntry.{RoutineEntry}
 use Rattle.ep_typed.specs.declared.unit.Unit.{Unit as TypedUnit}
 use Rattle.ep_typed.specs.declared.unit.UnitRoutine.{UnitRoutine}
 use Rattle.ep_typed.specs.declared.unit.UnitVariable.{UnitVariable}
-use Rattle.ep_typed.specs.TypeValues.{TypeValue}
+use Rattle.ep_values.specs.TypeValues.{TypeValue}
 use Rattle.ep_typed.specs.declared.value.Value.TheVariants as value
 use Rattle.ep_scope.specs.Scopes.{Entries, Region}
 use Rattle.ep_scope.specs.declared.structure.ArrayType.{ArrayType}
@@ -40,9 +41,9 @@ use Rattle.ep_scope.specs.declared.thing.Declaration.TheVariants as declaration
 use Rattle.ep_scope.specs.declared.thing.Declared.{Declared}
 use Rattle.ep_scope.specs.declared.thing.Thing.{Thing}
 use Rattle.ep_scope.specs.declared.thing.Thing.TheVariants as thing
-use Rattle.ep_check_expr.specs.Agreement.{AreFields, Arrays, HasStructure, IsConstantOf, IsHost, IsKind, IsValueMadeOf, Records, Structure, TypeValues}
+use Rattle.ep_expr_laws.specs.Agreement.{AreFields, Arrays, HasStructure, IsConstantOf, IsHost, IsKind, IsValueMadeOf, Records, Structure, TypeValues}
 use Rattle.ep_rules.specs.Hosts.{typed_host}
-use Rattle.ep_check_expr.specs.Origins.{IsKnownHost, IsKnownKind, IsRequiredHost, HasHost, DeclaresHost, ThingHasHost, CompositionHasHost, FieldsHaveHost, StructuresHaveHost, EntriesHaveHost, InterfacesHaveHost, RecordsHaveHost, ScopesHaveHost}
+use Rattle.ep_expr_laws.specs.Origins.{IsKnownHost, IsKnownKind, IsRequiredHost, HasHost, DeclaresHost, ThingHasHost, CompositionHasHost, FieldsHaveHost, StructuresHaveHost, EntriesHaveHost, InterfacesHaveHost, RecordsHaveHost, ScopesHaveHost}
 use Rattle.ep_check_unit.specs.Declarations.{host_denoter, scopes_of, type_denoter}
 use Rattle.ep_check_unit.specs.Routines.{formal_of}
 use Rattle.ep_check_unit.specs.Blocks.{Block, RoutineForm, around_of}

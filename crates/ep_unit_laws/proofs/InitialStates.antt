@@ -8,9 +8,9 @@ use Rattle.ep_typed.specs.Denoters.{bare_type_of, base_within, host_within, type
 use Rattle.ep_typed.specs.Hosts as typed
 use Rattle.ep_typed.specs.Hosts.{is_of_host}
 use Rattle.ep_typed.specs.Trees.{Constant, Denoter, Expr, Initial, Named, SetConstant}
-use Rattle.ep_typed.specs.TypeValues as type
-use Rattle.ep_typed.specs.TypeValues.{TypeValue}
-use Rattle.ep_typed.specs.Valid.{IsSetOf, IsStartFor, IsTypeOf, initial, set_start, word_start}
+use Rattle.ep_values.specs.TypeValues as type
+use Rattle.ep_values.specs.TypeValues.{TypeValue}
+use Rattle.ep_meaning.specs.Valid.{IsSetOf, IsStartFor, IsTypeOf, initial, set_start, word_start}
 use Rattle.ep_typed.specs.Viewed.{constant_expr, denoter_of}
 use Rattle.ep_typed.specs.declared.denoter.Denoter.TheVariants as denoter
 use Rattle.ep_typed.specs.declared.unit.Unit.{Unit as TypedUnit}
@@ -18,18 +18,18 @@ use Rattle.ep_typed.specs.declared.unit.UnitType.{UnitType}
 use Rattle.ep_typed.specs.declared.value.Value.{Value}
 use Rattle.ep_typed.specs.declared.value.Value.TheVariants as value
 use Rattle.ep_typed.proofs.Forms.{initial_is}
-use Rattle.ep_typed.proofs.Typed.{typed_bare, typed_of_host, typed_set}
+use Rattle.ep_meaning.proofs.Typed.{typed_bare, typed_of_host, typed_set}
 use Rattle.ep_scope.specs.declared.kind.Kind.{Kind}
 use Rattle.ep_scope.specs.declared.kind.Kind.TheVariants as kind
 use Rattle.ep_scope.specs.declared.rule.TheConstants as rule
-use Rattle.ep_check_expr.specs.Agreement.{Arrays, IsConstantIf, IsSetOver, Records, Structure}
+use Rattle.ep_expr_laws.specs.Agreement.{Arrays, IsConstantIf, IsSetOver, Records, Structure}
 use Rattle.ep_check_expr.specs.Constants.{initial_state_judged}
 use Rattle.ep_rules.specs.Hosts.{typed_host}
 use Rattle.ep_check_expr.specs.StructuredValues.{asked_by}
 use Rattle.ep_rules.specs.Judgements.{Accepts, Breaks}
-use Rattle.ep_check_expr.specs.Laws.{InitialStatesAreSound}
+use Rattle.ep_expr_laws.specs.Laws.{InitialStatesAreSound}
 use Rattle.ep_check_expr.specs.declared.constants.ConstantForm.{ConstantForm}
-use Rattle.ep_check_expr.proofs.SameHost.{host_same}
+use Rattle.ep_expr_laws.proofs.SameHost.{host_same}
 use Rattle.ep_check_stmt.proofs.judged.Fits.{Fits, fits_is, fits_then}
 use Rattle.ep_check_unit.specs.Blocks.{Block}
 use Rattle.ep_check_unit.specs.declared.block.Enclosing.{Enclosing}

@@ -4,8 +4,8 @@ use Rattle.std.proofs.lemmas.Option.{same_Some}
 use Rattle.ep_outside.specs.Known.{IsPrefix}
 use Rattle.ep_typed.specs.Denoters.{definition_of, found_of, required_type, type_within}
 use Rattle.ep_typed.specs.Trees as tree
-use Rattle.ep_typed.specs.TypeValues as type
-use Rattle.ep_typed.specs.TypeValues.{TypeValue, bare_of}
+use Rattle.ep_values.specs.TypeValues as type
+use Rattle.ep_values.specs.TypeValues.{TypeValue, bare_of}
 use Rattle.ep_typed.specs.declared.denoter.RequiredType.{RequiredType}
 use Rattle.ep_typed.specs.declared.denoter.RequiredType.TheVariants as simple
 use Rattle.ep_typed.specs.declared.unit.UnitType.{UnitType}

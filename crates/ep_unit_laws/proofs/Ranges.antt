@@ -8,8 +8,8 @@ use Rattle.std.specs.List.{list_all}
 use Rattle.ep_tree.specs.declared.expression.Expression.{Expression}
 use Rattle.ep_tree.specs.declared.expression.Label.{Label, out-Label}
 use Rattle.ep_typed.specs.Hosts.{Host, is_of_host}
-use Rattle.ep_typed.specs.Operations.{is_apart}
-use Rattle.ep_typed.specs.Valid.{AreApart, Declarations, HasRange, IsRange, labels_joined}
+use Rattle.ep_typed.specs.CaseRanges.{is_apart}
+use Rattle.ep_meaning.specs.Valid.{AreApart, Declarations, HasRange, IsRange, labels_joined}
 use Rattle.ep_typed.specs.declared.tree.CaseRange.{CaseRange}
 use Rattle.ep_typed.specs.declared.value.Value.{Value}
 use Rattle.ep_typed.specs.declared.value.Value.TheVariants as value
@@ -19,7 +19,7 @@ use Rattle.ep_scope.specs.declared.kind.Kind.{Kind}
 use Rattle.ep_scope.specs.declared.kind.Kind.TheVariants as kind
 use Rattle.ep_check_expr.specs.Constants.{constant_expression}
 use Rattle.ep_rules.specs.Judgements.{Accepts}
-use Rattle.ep_check_expr.proofs.Passing.{IfForm}
+use Rattle.ep_expr_laws.proofs.Passing.{IfForm}
 use Rattle.ep_check_stmt.proofs.judged.Fits.{Any, Fits, fits_any, fits_both, fits_then}
 use Rattle.ep_check_unit.specs.Declarations.{Tag}
 use Rattle.ep_check_unit.specs.Labels.{added, behind, end_judged, fitting, has_label, is_apart_from, label_taken, labels_taken, mislabelled, no_labels, range_judged, ranging, valued, variant_ended, variant_labelled}

@@ -13,12 +13,13 @@ use Rattle.ep_tree.specs.declared.routine.RoutineStart.{RoutineStart}
 use Rattle.ep_tree.specs.declared.statement.Compound.{Compound}
 use Rattle.ep_outside.specs.Known.{IsPrefix}
 use Rattle.ep_typed.specs.Auxiliaries.{block_auxiliaries, with_variables, with_variables_of}
-use Rattle.ep_typed.specs.Operations.{maxint}
+use Rattle.ep_values.specs.Operations.{maxint}
 use Rattle.ep_typed.specs.Routines.{result_name, result_variable}
 use Rattle.ep_typed.specs.Trees as tree
 use Rattle.ep_typed.specs.Trees.{Stmt, Stmts}
-use Rattle.ep_typed.specs.Valid as given
-use Rattle.ep_typed.specs.Valid.{AreStmts, IsStmt, IsVariable, formal_variable, in_routine, levels_of, own}
+use Rattle.ep_meaning.specs.Valid as given
+use Rattle.ep_meaning.specs.Valid.{AreStmts, IsStmt, IsVariable, in_routine, levels_of, own}
+use Rattle.ep_typed.specs.Routines.{formal_variable}
 use Rattle.ep_typed.specs.declared.interface.RoutineResult.{RoutineResult}
 use Rattle.ep_typed.specs.declared.unit.Unit.{Unit as TypedUnit}
 use Rattle.ep_typed.specs.declared.unit.UnitRoutine.{UnitRoutine}
@@ -29,11 +30,11 @@ use Rattle.ep_scope.specs.declared.parameter.FormalParameter.{FormalParameter}
 use Rattle.ep_scope.specs.declared.parameter.Protection.TheVariants as protection
 use Rattle.ep_scope.specs.declared.thing.Declaration.TheVariants as declaration
 use Rattle.ep_rules.specs.Judgements.{Judged, Accepts, Breaks}
-use Rattle.ep_check_expr.specs.Agreement.{structures_of}
-use Rattle.ep_check_expr.specs.Laws.{BoundsAreKnown, BoundsAreSound, ConstantsAreKnown, ConstantsAreSound, InitialStatesAreSound}
-use Rattle.ep_check_stmt.specs.Laws.{StatementsAreSound}
+use Rattle.ep_expr_laws.specs.Agreement.{structures_of}
+use Rattle.ep_expr_laws.specs.Laws.{BoundsAreKnown, BoundsAreSound, ConstantsAreKnown, ConstantsAreSound, InitialStatesAreSound}
+use Rattle.ep_stmt_laws.specs.Laws.{StatementsAreSound}
 use Rattle.ep_check_stmt.specs.Statements.{Judgement, Passes, Waits, Fails}
-use Rattle.ep_check_stmt.proofs.judged.Auxiliaries.{bounded_there, members_there}
+use Rattle.ep_stmt_laws.proofs.judged.Auxiliaries.{bounded_there, members_there}
 use Rattle.ep_check_stmt.proofs.judged.Fits.{Fits, fits_then}
 use Rattle.ep_check_unit.specs.Blocks.{Block, RoutineForm, around_of, own_count, result_count, routine_form}
 use Rattle.ep_check_unit.specs.Declarations.{Standing, Stands, Falls, and_then, at_line, entered, own_thing, scopes_of, type_definitions, type_denoter}

@@ -8,9 +8,9 @@ use Rattle.ep_tree.specs.declared.expression.Expression.{Expression}
 use Rattle.ep_typed.specs.Denoters.{definition_of}
 use Rattle.ep_typed.specs.Hosts as typed
 use Rattle.ep_typed.specs.Hosts.{is_of_host}
-use Rattle.ep_typed.specs.Operations.{maxint}
+use Rattle.ep_values.specs.Operations.{maxint}
 use Rattle.ep_typed.specs.Trees as tree
-use Rattle.ep_typed.specs.Valid.{IsType}
+use Rattle.ep_meaning.specs.Valid.{IsType}
 use Rattle.ep_typed.specs.Viewed.{denoter_of}
 use Rattle.ep_typed.specs.declared.denoter.Bound.TheVariants.{Constant as Fixed}
 use Rattle.ep_typed.specs.declared.denoter.Denoter.{Denoter}
@@ -19,8 +19,8 @@ use Rattle.ep_typed.specs.declared.denoter.RequiredType.{RequiredType}
 use Rattle.ep_typed.specs.declared.denoter.RequiredType.TheVariants as simple
 use Rattle.ep_typed.specs.declared.unit.Unit.{Unit as TypedUnit}
 use Rattle.ep_typed.specs.declared.unit.UnitType.{UnitType}
-use Rattle.ep_typed.specs.TypeValues.{TypeValue}
-use Rattle.ep_typed.specs.TypeValues.{Ordinal as Range}
+use Rattle.ep_values.specs.TypeValues.{TypeValue}
+use Rattle.ep_values.specs.TypeValues.{Ordinal as Range}
 use Rattle.ep_typed.specs.declared.value.Value.{Value}
 use Rattle.ep_typed.specs.declared.value.Value.TheVariants as value
 use Rattle.ep_scope.specs.Kinds.{same_host}
@@ -36,14 +36,14 @@ use Rattle.ep_scope.specs.declared.rule.TheConstants as rule
 use Rattle.ep_scope.specs.declared.thing.Declaration.{Declaration}
 use Rattle.ep_scope.specs.declared.thing.Declaration.TheVariants as declaration
 use Rattle.ep_scope.specs.declared.thing.Declared.{Declared}
-use Rattle.ep_check_expr.specs.Agreement.{IsConstantIf, IsConstantOf}
+use Rattle.ep_expr_laws.specs.Agreement.{IsConstantIf, IsConstantOf}
 use Rattle.ep_check_expr.specs.Constants.{bound_judged}
 use Rattle.ep_rules.specs.Hosts.{typed_host}
 use Rattle.ep_rules.specs.Judgements.{Accepts, Breaks}
-use Rattle.ep_check_expr.specs.Laws.{BoundsAreSound, BoundsAreKnown}
+use Rattle.ep_expr_laws.specs.Laws.{BoundsAreSound, BoundsAreKnown}
 use Rattle.ep_rules.specs.Names.{undeclared}
 use Rattle.ep_check_expr.specs.declared.constants.ConstantForm.{ConstantForm}
-use Rattle.ep_check_expr.proofs.SameHost.{host_same}
+use Rattle.ep_expr_laws.proofs.SameHost.{host_same}
 use Rattle.ep_check_stmt.proofs.judged.Fits.{Fits, fits_is, fits_pair, fits_then}
 use Rattle.ep_check_unit.specs.Declarations.{subrange_nodes, Written, common_host, declared_type, enumerated, enumeration, host_denoter, next_enumeration, next_type, noted, number_in, ordered, range, required_host, scopes_of, subrange, subrange_denoter, type_denoter, type_meant, type_named, with_type, written_type}
 use Rattle.ep_check_unit.specs.Blocks.{Block}

@@ -4,21 +4,21 @@ use Rattle.std.proofs.lemmas.List.Elements.{All-nil, All-same}
 use Rattle.ep_outside.specs.Known.{IsPrefix}
 use Rattle.ep_tree.specs.declared.component.Component.TheVariants as component_is
 use Rattle.ep_tree.specs.declared.component.Program.{Program}
-use Rattle.ep_typed.specs.Operations.{maxint}
+use Rattle.ep_values.specs.Operations.{maxint}
 use Rattle.ep_typed.specs.Trees.{Stmts}
-use Rattle.ep_typed.specs.Valid as given
-use Rattle.ep_typed.specs.Valid.{IsConstant, IsRoutine, IsStmt, IsType, IsValid, IsVariable, in_routine, levels_of, own}
+use Rattle.ep_meaning.specs.Valid as given
+use Rattle.ep_meaning.specs.Valid.{IsConstant, IsRoutine, IsStmt, IsType, IsValid, IsVariable, in_routine, levels_of, own}
 use Rattle.ep_typed.specs.Viewed.{stmt_of}
 use Rattle.ep_typed.specs.declared.unit.Unit.{Unit as TypedUnit}
 use Rattle.ep_typed.specs.declared.unit.UnitRoutine.{UnitRoutine}
 use Rattle.ep_rules.specs.Judgements.{Judged, Accepts, Breaks}
-use Rattle.ep_check_expr.specs.Laws.{BoundsAreKnown, BoundsAreSound, ConstantsAreKnown, ConstantsAreSound, InitialStatesAreSound}
+use Rattle.ep_expr_laws.specs.Laws.{BoundsAreKnown, BoundsAreSound, ConstantsAreKnown, ConstantsAreSound, InitialStatesAreSound}
 use Rattle.ep_unit_laws.proofs.Auxiliaries.{AreBehind, auxiliaries_of, for_auxiliaries, for_in_auxiliaries, unit_behind, unit_unmade, with_auxiliaries}
 use Rattle.ep_scope.specs.Scopes.{depth_in}
-use Rattle.ep_check_expr.specs.Agreement.{AgreesBy, structures_of}
-use Rattle.ep_check_stmt.specs.Laws.{ResultsAreThere, StatementsAreSound}
+use Rattle.ep_expr_laws.specs.Agreement.{AgreesBy, structures_of}
+use Rattle.ep_stmt_laws.specs.Laws.{ResultsAreThere, StatementsAreSound}
 use Rattle.ep_check_stmt.specs.Statements.{Judgement, Passes, Waits, Fails, after}
-use Rattle.ep_check_stmt.proofs.judged.Auxiliaries.{bounded_there, members_there}
+use Rattle.ep_stmt_laws.proofs.judged.Auxiliaries.{bounded_there, members_there}
 use Rattle.ep_check_stmt.proofs.judged.Fits.{Fits}
 use Rattle.ep_check_unit.specs.Declarations.{Standing, Stands, Falls, and_then, at_line, scopes_of}
 use Rattle.ep_check_unit.specs.Functions.{assigned_functions}

@@ -1,8 +1,8 @@
 -- The law of typed units: what the static rules accept is valid.
 use Rattle.std.specs.Prelude.{◌≤◌, length, ⊤}
 use Rattle.ep_tree.specs.declared.component.Component.{Component}
-use Rattle.ep_typed.specs.Operations.{maxint}
-use Rattle.ep_typed.specs.Valid.{IsValid}
+use Rattle.ep_values.specs.Operations.{maxint}
+use Rattle.ep_meaning.specs.Valid.{IsValid}
 use Rattle.ep_typed.specs.declared.unit.Unit.{Unit as TypedUnit}
 use Rattle.ep_check_unit.specs.Units.{IsTyped}
 use Rattle.ep_check_unit.specs.declared.component.Checked.{Checked}

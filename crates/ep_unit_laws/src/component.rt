@@ -4,7 +4,7 @@ ghost use Rattle.std.specs.Prelude.{◌≡◌, ◌≤◌, None, length, IfOk};
 ghost use Rattle.std.specs.Result.{IfErr};
 ghost use Rattle.ep_built.specs.Built.{component_unbuilt};
 ghost use Rattle.ep_check_unit.specs.Checks.{IsChecked, IsRefusal};
-ghost use Rattle.ep_typed.specs.Operations.{maxint};
+ghost use Rattle.ep_values.specs.Operations.{maxint};
 ghost use Rattle.ep_unit_laws.specs.Laws.{HasValidUnit};
 
 use crate::laws_of_typed_units;

@@ -9,8 +9,8 @@ ghost use Rattle.ep_unit_laws.specs.Laws.{UnitsAreValid};
 mod component;
 
 pub use component::check;
-use ep_check_expr::laws_of_expressions;
-use ep_check_stmt::laws_of_statements;
+use ep_expr_laws::laws_of_expressions;
+use ep_stmt_laws::laws_of_statements;
 
 /// Does nothing: its contract states that a typed unit that the static rules give is valid.
 pub fn laws_of_typed_units()

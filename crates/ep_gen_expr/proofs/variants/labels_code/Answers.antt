@@ -1,6 +1,6 @@
 use Rattle.std.proofs.Common.{◌∙◌, ap, length, refl, rules, arith}
 use Rattle.std.specs.Prelude.{if◌then◌else◌}
-use Rattle.ep_typed.specs.Steps.{is_number}
+use Rattle.ep_meaning.specs.Steps.{is_number}
 use Rattle.ep_gen_expr.proofs.RangeForms.{labels_more}
 use Rattle.ep_gen_expr.proofs.variants.labels_code.Goals as goal
 

@@ -1,7 +1,7 @@
 use Rattle.std.proofs.Common.{◌≡◌, ◌+◌, ◌∙◌, ap, w64, length, arith}
 use Rattle.std.specs.Prelude.{if◌then◌else◌}
 use Rattle.std.proofs.lemmas.Int.{to_z_pos}
-use Rattle.ep_typed.specs.Steps.{variant_number}
+use Rattle.ep_typed.specs.Selections.{variant_number}
 use Rattle.ep_gen_expr.specs.ExprCode.{bad_place}
 use Rattle.ep_gen_code.proofs.Growing.{on_ok}
 use Rattle.ep_gen_expr.proofs.RangeForms.{grows_selecting}

@@ -1,4 +1,4 @@
-use Rattle.ep_typed.specs.Controls.{next_value}
+use Rattle.ep_meaning.specs.Controls.{next_value}
 use Rattle.ep_typed.specs.Trees.{entire}
 use Rattle.ep_typed.specs.Viewed.{control_of}
 use Rattle.ep_gen_code.proofs.Growing.{on_ok}

@@ -1,5 +1,5 @@
 use Rattle.ep_gen_unit.proofs.ProgramForms.{appends_shuffle, grows_ranging}
-use Rattle.ep_object.specs.Promises.{ranging_code}
+use Rattle.ep_simulation.specs.Promises.{ranging_code}
 use Rattle.ep_gen_unit.proofs.program.range_code.Goals as goal
 
 pub returns : goal.returns

@@ -1,5 +1,5 @@
 use Rattle.std.proofs.Common.{◌≡◌, ◌<◌, ◌*◌, Some, None, length, sym, ◌∙◌, rules}
-use Rattle.ep_typed.specs.Bounds.{component_at}
+use Rattle.ep_values.specs.Bounds.{component_at}
 use Rattle.ep_rows.proofs.Elements.{element_is, past}
 use Rattle.ep_rows.proofs.Indexing.{found}
 use Rattle.ep_rows.proofs.parts.element_found.Goals as goal

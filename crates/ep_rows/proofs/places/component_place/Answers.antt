@@ -1,6 +1,6 @@
 use Rattle.std.proofs.Common.{◌≡◌, ◌∷◌, Some, slice_get, refl, rules, sym}
 use Rattle.ep_object.specs.Operands.{Place, Word}
-use Rattle.ep_typed.specs.Bounds.{component_at}
+use Rattle.ep_values.specs.Bounds.{component_at}
 use Rattle.ep_rows.proofs.Indexing.{found, index_is, if_some_then}
 use Rattle.ep_rows.proofs.places.component_place.Goals as goal
 

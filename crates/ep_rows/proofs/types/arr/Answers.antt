@@ -6,7 +6,7 @@ use Rattle.ep_rows.proofs.ArrayTypes.{array_row}
 use Rattle.ep_rows.proofs.types.arr.Goals as goal
 use Rattle.ep_rows.specs.Meeting.{over}
 use Rattle.ep_rows.specs.Parts.{typing}
-use Rattle.ep_typed.specs.Bounds.{count_of}
+use Rattle.ep_values.specs.Bounds.{count_of}
 
 pub returns-clause-done : goal.returns-clause-done
 returns-clause-done c =

@@ -1,5 +1,5 @@
 use Rattle.std.proofs.Common.{◌≡◌, ◌∙◌, arith}
-use Rattle.ep_typed.specs.Sets.{member_limit}
+use Rattle.ep_values.specs.Sets.{member_limit}
 use Rattle.ep_rules.specs.SetFolding.{takes_ordinal}
 use Rattle.ep_rules.proofs.Taking.{all_taken, combination_is}
 use Rattle.ep_rules.proofs.sets.combined.Goals as goal

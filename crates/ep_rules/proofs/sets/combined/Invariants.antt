@@ -1,5 +1,5 @@
 use Rattle.std.proofs.Common.{◌≡◌}
-use Rattle.ep_typed.specs.Sets.{passing}
+use Rattle.ep_values.specs.Sets.{passing}
 use Rattle.ep_rules.specs.SetFolding.{takes_ordinal}
 use Rattle.ep_rules.proofs.sets.combined.Given as goal
 

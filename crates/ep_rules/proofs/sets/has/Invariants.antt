@@ -1,5 +1,5 @@
 use Rattle.std.proofs.Common.{◌≡◌, drop}
-use Rattle.ep_typed.specs.Sets.{has}
+use Rattle.ep_values.specs.Sets.{has}
 use Rattle.ep_rules.proofs.sets.has.Given as goal
 
 abbrev pub invariant-loop-member : goal.invariant-loop-member

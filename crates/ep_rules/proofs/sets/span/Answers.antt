@@ -1,6 +1,6 @@
 use Rattle.std.proofs.Common.{◌≡◌, ◌||◌, [], pos, arith, w64}
 use Rattle.std.proofs.lemmas.Int.{to_z-of_z}
-use Rattle.ep_typed.specs.Sets.{has, is_between, member_limit}
+use Rattle.ep_values.specs.Sets.{has, is_between, member_limit}
 use Rattle.ep_rules.proofs.Taking.{all_taken}
 use Rattle.ep_rules.proofs.sets.span.Goals as goal
 

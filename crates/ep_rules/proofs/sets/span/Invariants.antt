@@ -1,5 +1,5 @@
 use Rattle.std.proofs.Common.{◌≡◌, ◌||◌, [], pos}
-use Rattle.ep_typed.specs.Sets.{has, is_between, passing}
+use Rattle.ep_values.specs.Sets.{has, is_between, passing}
 use Rattle.ep_rules.proofs.sets.span.Given as goal
 
 abbrev pub invariant-loop-ordinal : goal.invariant-loop-ordinal

@@ -1,6 +1,6 @@
 use Rattle.std.proofs.Common.{◌≡◌, true, rules, refl}
 use Rattle.std.specs.List.{list_all}
-use Rattle.ep_typed.specs.Operations.{is_apart}
+use Rattle.ep_typed.specs.CaseRanges.{is_apart}
 use Rattle.ep_check_stmt.proofs.cases.Labels.add.Goals as goal
 
 pub returns : goal.returns

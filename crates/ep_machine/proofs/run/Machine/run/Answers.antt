@@ -1,6 +1,6 @@
 use Rattle.std.proofs.Common.{◌+◌, [], refl, subst}
 use Rattle.ep_object.specs.Runs.{run_to, trace_of}
-use Rattle.ep_typed.specs.Events.{DoesFront}
+use Rattle.ep_values.specs.Events.{DoesFront}
 use Rattle.ep_machine.specs.Answers.{Answers, OnNoMemoryEnd, outside}
 use Rattle.ep_machine.specs.Machines.{standing}
 use Rattle.ep_machine.specs.Views.{state_at}

@@ -1,7 +1,0 @@
-use Rattle.ep_check_expr.proofs.answers.constant.Goals as goal
-
-pub returns-clause-judged : goal.returns-clause-judged
-returns-clause-judged c = rw c.of.ensures at c.constant_in_view.ensures.judged
-
-pub returns-clause-valid : goal.returns-clause-valid
-returns-clause-valid c = rw c.of.ensures at c.constant_in_view.ensures.valid

@@ -1,4 +1,0 @@
-use Rattle.ep_check_expr.proofs.answers.expression.Goals as goal
-
-pub returns-clause-valid : goal.returns-clause-valid
-returns-clause-valid c = rw c.of.ensures at c.expression_in_view.ensures.valid

@@ -1,0 +1,9 @@
+pub mod Calls
+pub mod Controls
+pub mod Laws
+pub mod Meaning
+pub mod Nameless
+pub mod Results
+pub mod Steady
+pub mod Steps
+pub mod Valid

@@ -1,5 +1,0 @@
-use Rattle.ep_object.proofs.following.Promising.{calls_answer}
-use Rattle.ep_object.proofs.laws.laws_of_calls.Goals as goal
-
-pub returns : goal.returns
-returns c = record { calls = calls_answer }

@@ -1,0 +1,9 @@
+pub mod Activations
+pub mod Follows
+pub mod Implements
+pub mod Matching
+pub mod Promises
+pub mod Scene
+pub mod Simulates
+pub mod Starts
+pub mod Tells

@@ -1,0 +1,11 @@
+-- The variants of a record among its components (ISO 10206, 6.4.3.4).
+use Rattle.std.specs.Prelude.{ℕ, suc, ◌+◌, ◌-◌, ◌&&◌, ◌||◌, [], ◌∷◌, ◌++◌, length, if◌then◌else◌}
+use Rattle.ep_typed.specs.declared.tree.Selection.{Selection}
+
+-- the number of the component that is the variant with this number
+abbrev pub variant_number : Selection → ℕ → ℕ
+variant_number s k = suc (s.tag + k)
+
+-- how many variants there are
+abbrev pub variants_count : Selection → ℕ
+variants_count s = length s.labels + (if s.completed then 1 else 0)

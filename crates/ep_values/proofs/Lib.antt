@@ -1,0 +1,4 @@
+pub mod Agreement
+pub mod Done
+pub mod Sets
+pub mod Sizes

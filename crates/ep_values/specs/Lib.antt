@@ -1,0 +1,9 @@
+pub mod Bounds
+pub mod Events
+pub mod Operations
+pub mod Printing
+pub mod SetOperations
+pub mod Sets
+pub mod TypeValues
+pub mod Values
+pub mod ViewedTypes
