@@ -1,2 +1,2 @@
-pub mod Cases
-pub mod Rests
+mod Cases
+mod Rests

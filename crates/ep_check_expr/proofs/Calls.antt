@@ -3,7 +3,7 @@ use Rattle.std.proofs.Common.{◌≡◌, ◌≤◌, ◌<◌, ℕ, true, false, L
 use Rattle.std.specs.Result.{IsErrAnd}
 use Rattle.std.proofs.lemmas.Result.{err_from_is_err_and}
 use Rattle.ep_scope.specs.declared.required.Function.{Function}
-use Rattle.ep_rules.proofs.Breaking.{IsIn, IsIn-first, IsIn-second}
+use Rattle.ep_rules.proofs.public.Breaking.{IsIn, IsIn-first, IsIn-second}
 use Rattle.ep_rules.specs.Answers.{AnswersJudged, AnswersTyped, AnswersGiven}
 use Rattle.ep_rules.specs.declared.forms.Typed as code
 use Rattle.ep_rules.specs.declared.forms.Refusal.{Refusal}

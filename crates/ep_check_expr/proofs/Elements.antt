@@ -29,8 +29,8 @@ use Rattle.ep_check_expr.specs.Expressions.{Addition, Multiplication, Relation, 
 use Rattle.ep_rules.specs.Functions.{Given}
 use Rattle.ep_rules.specs.Judgements.{Judged, Accepts, Typed, breaks, when_accepted}
 use Rattle.ep_check_expr.specs.StructuredValues.{Arranged, Choice, Components, Filled, Index, IndexLabels, Labelled, One, Ranges, Valued, VariantNumbers, Written, alone_labels, array_element, asked_by, asked_first, choice, chosen_written, fields_element, fields_filled, given_by, given_then, index_judged, label_name, label_places, labelled_element, labels_judged, many_labels, named_element, range_labelled, ranges_labelled, record_element, second_index, single_label, values_chosen, with_labels, with_range}
-use Rattle.ep_rules.proofs.Breaking.{when_accepted-part}
-use Rattle.ep_check_expr.proofs.Rows.{left-cons}
+use Rattle.ep_rules.proofs.public.Breaking.{when_accepted-part}
+use Rattle.ep_check_expr.proofs.public.Rows.{left-cons}
 
 -- ---- the name that an expression is alone
 

@@ -35,7 +35,7 @@ use Rattle.ep_scope.specs.declared.thing.Declaration.{Declaration}
 use Rattle.ep_scope.specs.declared.thing.Declaration.TheVariants as declaration
 use Rattle.ep_scope.specs.declared.thing.Thing.{Thing}
 use Rattle.ep_scope.specs.declared.thing.Thing.TheVariants as thing
-use Rattle.ep_check_expr.proofs.Nodes.{expression-judged, comparison-judged, simple-judged, addend-judged, term-judged, multiplier-judged, name-judged, field-judged, indexes-judged, arguments-judged, argument-judged, wide-judged, number-judged, parenthesized-judged, string-judged}
+use Rattle.ep_check_expr.proofs.public.Nodes.{expression-judged, comparison-judged, simple-judged, addend-judged, term-judged, multiplier-judged, name-judged, field-judged, indexes-judged, arguments-judged, argument-judged, wide-judged, number-judged, parenthesized-judged, string-judged}
 use Rattle.ep_rules.specs.declared.access.Access.TheVariants as access
 use Rattle.ep_rules.specs.Arguments.{given_to}
 use Rattle.ep_check_expr.specs.Constants.{constant_expression, bound_judged}

@@ -2,9 +2,9 @@
 use Rattle.std.proofs.Common.{◌≡◌, ◌<◌, ℕ, true, suc, ◌+◌, max, List, [], ◌∷◌, ◌++◌, map, drop, length, get_or, Option, Some, None, refl, sym, ap, ap₂, ◌∙◌, append_assoc, arith}
 use Rattle.ep_typed.specs.Trees.{Actual}
 use Rattle.ep_scope.specs.declared.parameter.FormalParameter.{FormalParameter}
-use Rattle.ep_rules.proofs.Breaking.{IsIn, both-first, both-second, when_accepted-part}
+use Rattle.ep_rules.proofs.public.Breaking.{IsIn, both-first, both-second, when_accepted-part}
 use Rattle.ep_check_expr.proofs.Calls.{unless_faults-in}
-use Rattle.ep_check_expr.proofs.Rows.{left-cons}
+use Rattle.ep_check_expr.proofs.public.Rows.{left-cons}
 use Rattle.ep_rules.specs.Arguments.{Taken, argument_judged, argument_taken, arguments_judged, joined}
 use Rattle.ep_rules.specs.Functions.{Given, given_faults, unless_faults}
 use Rattle.ep_rules.specs.Judgements.{Judged, Accepts, Breaks, Typed, both, breaks, when_accepted}

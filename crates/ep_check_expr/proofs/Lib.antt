@@ -1,20 +1,11 @@
-pub mod Accepted
-pub mod AnyStructure
-pub mod Calls
-pub mod Elements
-pub mod Examples
-pub mod Folds
-pub mod Gathering
-pub mod Joining
-pub mod Keeping
-pub mod Labels
-pub mod Nodes
-pub mod Parts
-pub mod Plain
-pub mod Reading
-pub mod Rows
-pub mod Selected
-pub mod Selectors
-pub mod SetExamples
-pub mod VariantExamples
-pub mod Written
+mod Calls
+mod Elements
+mod Examples
+mod Gathering
+mod Joining
+mod Parts
+pub mod public
+mod Reading
+mod Selectors
+mod SetExamples
+mod VariantExamples

@@ -14,7 +14,7 @@ use Rattle.ep_rules.specs.Indexing.{indexed, indexed_all}
 use Rattle.ep_rules.specs.Judgements.{Judged, Accepts, Breaks, Typed, both, when_accepted}
 use Rattle.ep_rules.specs.Names.{call_required, call_named, is_nothing, qualified_value, value_named}
 use Rattle.ep_rules.specs.Operators.{compared}
-use Rattle.ep_check_expr.proofs.Keeping.{AreGiven, IsCalled, IsKept, Satisfies, if-satisfies}
+use Rattle.ep_check_expr.proofs.public.Keeping.{AreGiven, IsCalled, IsKept, Satisfies, if-satisfies}
 
 module _ (Q : Typed → Type 0) where
   -- a rule of two operands that keeps the property

@@ -35,14 +35,14 @@ use Rattle.ep_rules.specs.Functions.{Given}
 use Rattle.ep_rules.specs.Indexing.{component_access, component_depth, component_form, component_typed, element_form}
 use Rattle.ep_rules.specs.Judgements.{Judged, Accepts, Breaks, Typed, when_accepted}
 use Rattle.ep_rules.specs.Names.{call_declared, value_declared, value_named, value_required}
-use Rattle.ep_check_expr.proofs.Accepted.{accesses-fit, expressions-fit}
-use Rattle.ep_check_expr.proofs.Selected.{field-given}
-use Rattle.ep_check_expr.proofs.Selected.{index-given}
-use Rattle.ep_check_expr.proofs.Plain.{deep-plain, spelled-plain, signed-plain, negated-plain, added-plain, multiplied-plain, compared-plain, applied_one-plain, applied_two-plain}
-use Rattle.ep_check_expr.proofs.Labels.{constructed-plain}
-use Rattle.ep_check_expr.proofs.AnyStructure.{structure-any}
-use Rattle.ep_check_expr.proofs.Keeping.{IsCalled, IsKept, Satisfies, if-satisfies}
-use Rattle.ep_check_expr.proofs.Nodes.{given-value}
+use Rattle.ep_check_expr.proofs.public.Accepted.{accesses-fit, expressions-fit}
+use Rattle.ep_check_expr.proofs.public.Selected.{field-given}
+use Rattle.ep_check_expr.proofs.public.Selected.{index-given}
+use Rattle.ep_check_expr.proofs.public.Plain.{deep-plain, spelled-plain, signed-plain, negated-plain, added-plain, multiplied-plain, compared-plain, applied_one-plain, applied_two-plain}
+use Rattle.ep_check_expr.proofs.public.Labels.{constructed-plain}
+use Rattle.ep_check_expr.proofs.public.AnyStructure.{structure-any}
+use Rattle.ep_check_expr.proofs.public.Keeping.{IsCalled, IsKept, Satisfies, if-satisfies}
+use Rattle.ep_check_expr.proofs.public.Nodes.{given-value}
 
 abbrev IsPlaced : Typed → Type 0
 IsPlaced t = IsReading t.access t.form

@@ -30,10 +30,10 @@ use Rattle.ep_rules.specs.Indexing.{indexed, indexed_all}
 use Rattle.ep_rules.specs.Judgements.{Judged, Accepts, Typed, both, breaks, when_accepted}
 use Rattle.ep_rules.specs.Names.{call_named, qualified_value, value_named}
 use Rattle.ep_check_expr.specs.Shapes.{arguments_first, field_first}
-use Rattle.ep_rules.proofs.Breaking.{both-first, both-second, when_accepted-part}
-use Rattle.ep_check_expr.proofs.Folds.{name_judged-is}
-use Rattle.ep_check_expr.proofs.Nodes.{arguments-judged, field-judged, indexes-judged}
-use Rattle.ep_check_expr.proofs.Rows.{and_first, and_second, at_node-built, at_node-inner, left-cons, or-first, or-second}
+use Rattle.ep_rules.proofs.public.Breaking.{both-first, both-second, when_accepted-part}
+use Rattle.ep_check_expr.proofs.public.Folds.{name_judged-is}
+use Rattle.ep_check_expr.proofs.public.Nodes.{arguments-judged, field-judged, indexes-judged}
+use Rattle.ep_check_expr.proofs.public.Rows.{and_first, and_second, at_node-built, at_node-inner, left-cons, or-first, or-second}
 
 -- ---- indexes and fields
 

@@ -18,7 +18,7 @@ use Rattle.ep_check_expr.specs.Expressions.{judged}
 use Rattle.ep_rules.specs.Judgements.{Accepts, Breaks}
 use Rattle.ep_rules.specs.Operators.{integer}
 use Rattle.ep_check_expr.proofs.Examples.{bare, call, color, declares, field, function_of, of_program, plain, plain_field, written}
-use Rattle.ep_check_expr.proofs.Nodes.{argument-judged, arguments-judged, expression-judged, field-judged, name-judged, simple-judged, term-judged}
+use Rattle.ep_check_expr.proofs.public.Nodes.{argument-judged, arguments-judged, expression-judged, field-judged, name-judged, simple-judged, term-judged}
 
 -- a tag of a color, behind one component, which selects a variant for red and one for all others
 abbrev by_color : Selection

@@ -265,7 +265,7 @@ impl Drop for Arranged {
 }
 
 /// Ranges behind others.
-#[tactic(auto, using(crate::proofs::Rows::pushed_left))]
+#[tactic(auto, using(crate::proofs::public::Rows::pushed_left))]
 fn joined(ranges: CaseRanges, more: &[CaseRange]) -> Result<CaseRanges, NoMemory>
     ensures { IfOk result (λ now. now ≡ ranges ++ more.now) }
 {

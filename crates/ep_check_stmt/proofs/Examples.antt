@@ -29,7 +29,7 @@ use Rattle.ep_scope.specs.declared.thing.Declaration.TheVariants as declaration
 use Rattle.ep_scope.specs.declared.thing.Declared.{Declared}
 use Rattle.ep_scope.specs.declared.thing.Thing.TheVariants as thing
 use Rattle.ep_rules.specs.declared.access.Access.TheVariants as access
-use Rattle.ep_check_expr.proofs.Nodes.{access-judged, argument-judged, expression-judged, indexes-judged, simple-judged, term-judged, name-judged, number-judged}
+use Rattle.ep_check_expr.proofs.public.Nodes.{access-judged, argument-judged, expression-judged, indexes-judged, simple-judged, term-judged, name-judged, number-judged}
 use Rattle.ep_check_expr.specs.Expressions.{judged}
 use Rattle.ep_rules.specs.Judgements.{Judged, Accepts, Breaks, both}
 use Rattle.ep_check_stmt.specs.RoutineForms.{RoutineForm}

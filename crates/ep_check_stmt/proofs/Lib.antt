@@ -1,14 +1,14 @@
-pub mod Behind
-pub mod Branches
-pub mod BuiltParts
-pub mod Called
-pub mod CaseParts
-pub mod Compounds
-pub mod Examples
-pub mod Gathered
-pub mod judged
-pub mod Nested
-pub mod Printing
-pub mod Rows
-pub mod TagExamples
-pub mod Threatening
+mod Behind
+mod Branches
+mod BuiltParts
+mod Called
+mod CaseParts
+mod Compounds
+mod Examples
+mod Gathered
+mod Nested
+mod Printing
+pub mod public
+mod Rows
+mod TagExamples
+mod Threatening

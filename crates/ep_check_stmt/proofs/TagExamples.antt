@@ -29,7 +29,7 @@ use Rattle.ep_scope.specs.declared.thing.Thing.{Thing}
 use Rattle.ep_scope.specs.declared.thing.Thing.TheVariants as thing
 use Rattle.ep_check_expr.specs.Expressions.{judged}
 use Rattle.ep_rules.specs.Judgements.{Judged, Accepts, Breaks, both}
-use Rattle.ep_check_expr.proofs.Nodes.{access-judged, expression-judged, field-judged, name-judged, simple-judged, term-judged}
+use Rattle.ep_check_expr.proofs.public.Nodes.{access-judged, expression-judged, field-judged, name-judged, simple-judged, term-judged}
 use Rattle.ep_check_stmt.specs.Statements.{Context, OfUnit, assigned, target_judged}
 use Rattle.ep_check_stmt.specs.Tags.{is_tag}
 

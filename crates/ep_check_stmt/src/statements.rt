@@ -262,7 +262,7 @@ impl<'a> Context<'a> {
     }
 
     #[cycle(statements)]
-    #[tactic(auto, using(crate::proofs::judged::Rounds::rest_of))]
+    #[tactic(auto, using(crate::proofs::public::judged::Rounds::rest_of))]
     fn statement(&self, s: &Statement, controls: &[Entire<'a>]) -> Row<Boxed<TypedStmt>>
         requires { statement_unbuilt s.now ≡ None }
         ensures { AnswersRow stmt_of result

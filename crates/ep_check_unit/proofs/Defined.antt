@@ -12,7 +12,7 @@ use Rattle.ep_check_expr.specs.declared.constants.ConstantForm.{ConstantForm}
 use Rattle.ep_rules.specs.declared.forms.Refusal.{Refusal}
 use Rattle.ep_rules.specs.declared.forms.Refusal.TheVariants.{Rule, NoMemory}
 use Rattle.ep_check_stmt.specs.Answers.{Refuses}
-use Rattle.ep_check_stmt.proofs.judged.Refusing.{from_judged, first_refused, both_accepted}
+use Rattle.ep_check_stmt.proofs.public.judged.Refusing.{from_judged, first_refused, both_accepted}
 use Rattle.ep_check_unit.specs.Declarations.{constant_definition, constant_entered, constant_fitting, noted, scopes_of, unused, with_constant}
 use Rattle.ep_check_unit.specs.FittingConstants.{fits, unless_outside}
 use Rattle.ep_check_unit.specs.Blocks.{Block}

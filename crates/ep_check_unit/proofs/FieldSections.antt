@@ -8,8 +8,8 @@ use Rattle.ep_tree.specs.declared.types.TypeDenoter.{TypeDenoter}
 use Rattle.ep_rules.specs.Judgements.{Judged, Accepts, when_accepted}
 use Rattle.ep_rules.specs.declared.forms.Refusal.{Refusal}
 use Rattle.ep_check_stmt.specs.Answers.{Refuses}
-use Rattle.ep_check_stmt.proofs.judged.Refusing.{part_refused}
-use Rattle.ep_check_stmt.proofs.judged.Rounds.{next_item}
+use Rattle.ep_check_stmt.proofs.public.judged.Refusing.{part_refused}
+use Rattle.ep_check_stmt.proofs.public.judged.Rounds.{next_item}
 use Rattle.ep_check_unit.specs.Answers.{field_in, field_named, fields_in, named_in}
 use Rattle.ep_check_unit.specs.Blocks.{Block}
 use Rattle.ep_check_unit.specs.Declarations.{Fielded, ListJudged, Part, PartJudged, Section, VariantJudged, Written, at_core, at_field_section, at_fields, at_plain, at_structure, at_type_denoter, at_variant, at_variant_part, denoter_part, field_of, fields_named, section_part, section_written, sections_written, settled_part}

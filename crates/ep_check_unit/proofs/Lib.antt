@@ -1,17 +1,16 @@
-pub mod Bodies
-pub mod Defined
-pub mod Denoters
-pub mod Examples
-pub mod Forms
-pub mod Indexes
-pub mod InitialStates
-pub mod Kept
-pub mod OwnFields
-pub mod Parameters
-pub mod Programs
-pub mod Refusing
-pub mod FieldSections
-pub mod Rounds
-pub mod Subranges
-pub mod VariantParts
-pub mod KnownValues
+mod Bodies
+mod Defined
+mod Examples
+mod FieldSections
+mod Indexes
+mod InitialStates
+mod Kept
+mod KnownValues
+mod OwnFields
+mod Parameters
+mod Programs
+pub mod public
+mod Refusing
+mod Rounds
+mod Subranges
+mod VariantParts

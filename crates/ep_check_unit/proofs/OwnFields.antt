@@ -1,7 +1,7 @@
 -- The fields of a list that are in none of its variants are taken one after another.
 use Rattle.std.proofs.Common.{◌≡◌, ℕ, suc, ◌+◌, ◌<◌, List, [], ◌∷◌, ◌++◌, map, length, drop, get_or, None, sym, ap, ◌∙◌, append_assoc, arith}
 use Rattle.ep_scope.specs.declared.structure.FieldType.{FieldType}
-use Rattle.ep_check_stmt.proofs.judged.Rounds.{next_item}
+use Rattle.ep_check_stmt.proofs.public.judged.Rounds.{next_item}
 use Rattle.ep_check_unit.specs.Answers.{field_in}
 use Rattle.ep_check_unit.specs.Declarations.{Field, own_fields}
 use Rattle.ep_check_unit.specs.declared.records.WrittenField.{WrittenField}

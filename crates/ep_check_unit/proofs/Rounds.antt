@@ -5,8 +5,8 @@ use Rattle.ep_rules.specs.declared.forms.Refusal.{Refusal}
 use Rattle.ep_check_stmt.specs.Answers.{Refuses}
 use Rattle.ep_check_stmt.specs.Outcomes.{refused_at}
 use Rattle.ep_check_stmt.specs.declared.outcome.CheckRefusal.{CheckRefusal}
-use Rattle.ep_check_stmt.proofs.judged.Refusing.{part_refused}
-use Rattle.ep_check_stmt.proofs.judged.Rounds.{next_item}
+use Rattle.ep_check_stmt.proofs.public.judged.Refusing.{part_refused}
+use Rattle.ep_check_stmt.proofs.public.judged.Rounds.{next_item}
 use Rattle.ep_check_unit.specs.Answers.{RefusesItems}
 use Rattle.ep_check_unit.specs.Declarations.{Standing, and_then, at_line}
 use Rattle.ep_check_unit.specs.Blocks.{Block}

@@ -9,7 +9,7 @@ use Rattle.ep_rules.specs.Judgements.{Judged, Accepts, when_accepted, both}
 use Rattle.ep_check_expr.specs.declared.constants.ConstantForm.{ConstantForm}
 use Rattle.ep_rules.specs.declared.forms.Refusal.{Refusal}
 use Rattle.ep_check_stmt.specs.Answers.{Refuses}
-use Rattle.ep_check_stmt.proofs.judged.Refusing.{from_judged, first_refused, second_refused, both_refused, part_refused, rest_refused, both_accepted}
+use Rattle.ep_check_stmt.proofs.public.judged.Refusing.{from_judged, first_refused, second_refused, both_refused, part_refused, rest_refused, both_accepted}
 use Rattle.ep_check_unit.specs.Declarations.{Written, common_host, ordered, range, scopes_of, subrange}
 use Rattle.ep_check_unit.specs.Blocks.{Block}
 

@@ -17,7 +17,7 @@ use Rattle.ep_scope.specs.declared.structure.FieldType.{FieldType}
 use Rattle.ep_rules.specs.Judgements.{Accepts, when_accepted}
 use Rattle.ep_rules.specs.declared.forms.Refusal.{Refusal}
 use Rattle.ep_check_stmt.specs.Answers.{Refuses}
-use Rattle.ep_check_stmt.proofs.judged.Refusing.{first_refused, part_refused, second_refused}
+use Rattle.ep_check_stmt.proofs.public.judged.Refusing.{first_refused, part_refused, second_refused}
 use Rattle.ep_check_unit.specs.Blocks.{Block}
 use Rattle.ep_check_unit.specs.Declarations.{Field, Fielded, Gathered, Labelled, ListJudged, Listed, Part, PartJudged, Section, Tag, VariantJudged, all_fields, at_core, at_field_section, at_fields, at_plain, at_structure, at_type_denoter, at_variant, at_variant_part, bounds_nodes, completing_written, counted, fields_judged, fields_nodes, labels_noted, none_gathered, record_field, selection_of, tag_written, unless_left_out, variant_added, variant_judged, variant_list, variant_listing, variant_part, variant_part_written, variant_written, variants_after, variants_judged, variants_written}
 use Rattle.ep_check_unit.specs.Labels.{end_judged, range_judged, ranging}

@@ -12,12 +12,12 @@ use Rattle.ep_object.specs.Runs.{Timed, timed, begin, run_to, trace_of}
 use Rattle.ep_object.specs.State.{State, Going, Running, Stopped, Normal, Halt, Error, Broken}
 use Rattle.ep_object.specs.declared.code.Image.{Image}
 use Rattle.ep_object.specs.declared.code.Object.{Object}
-use Rattle.ep_values.proofs.Done.{does_part-front, does_part-all, does_front-front, does_front-all}
+use Rattle.ep_values.proofs.public.Done.{does_part-front, does_part-all, does_front-front, does_front-all}
 use Rattle.ep_values.specs.Events.{Trace, Outside, Does, DoesFront, DoesPart}
 use Rattle.ep_meaning.specs.Meaning.{meaning}
 use Rattle.ep_meaning.specs.Valid.{IsValid}
 use Rattle.ep_typed.specs.declared.unit.Unit.{Unit as TypedUnit}
-use Rattle.ep_gen_unit.proofs.Programs.{program_tells}
+use Rattle.ep_gen_unit.proofs.public.Programs.{program_tells}
 use Rattle.ep_gen_unit.specs.UnitCode.{IsProgramCode}
 use Rattle.ep_drive.specs.Executions.{answer_status, answer_line, CameTo}
 use Rattle.ep_drive.specs.GoRuns.{run_within, Ran, IsRun, IsBeginning, IsUnwritten, IsUntold, GoPart, GoFront}

@@ -3,7 +3,7 @@ use Rattle.std.proofs.Common.{◌≡◌, ℕ, ◌<◌, ◌^◌, List, [], ◌∷
 use Rattle.std.proofs.KnownBytes.{Keeps-refl}
 use Rattle.ep_object.specs.State.{Going}
 use Rattle.ep_outside.specs.Known.{Directory, KeepsFiles}
-use Rattle.ep_values.proofs.Done.{does-nil, does-trans, does_part-after, does_front-after}
+use Rattle.ep_values.proofs.public.Done.{does-nil, does-trans, does_part-after, does_front-after}
 use Rattle.ep_values.specs.Events.{Trace, Outside, Does, DoesFront, DoesPart}
 use Rattle.ep_typed.specs.declared.unit.Unit.{Unit as TypedUnit}
 use Rattle.ep_drive.specs.Commands.{Go, WordsOf, IsWordRow, option, joined, named, IsBudget}

@@ -1,16 +1,16 @@
-pub mod Causes
-pub mod Clauses
-pub mod Executing
-pub mod Going
-pub mod Jobs
-pub mod Lines
-pub mod Loaded
-pub mod Meant
-pub mod Numbers
-pub mod Placed
-pub mod Refused
-pub mod Ruled
-pub mod Runs
-pub mod Sources
-pub mod Verdicts
-pub mod WordRows
+mod Causes
+mod Clauses
+mod Executing
+mod Going
+mod Jobs
+mod Lines
+mod Loaded
+mod Meant
+mod Numbers
+mod Placed
+mod Refused
+mod Ruled
+mod Runs
+mod Sources
+mod Verdicts
+mod WordRows

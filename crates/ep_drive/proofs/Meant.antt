@@ -5,7 +5,7 @@ use Rattle.std.specs.Str.{bytes_eq}
 use Rattle.ep_simulation.specs.Follows.{end_of}
 use Rattle.ep_object.specs.State.{Going, Running, Stopped, Normal, Halt, Error, Broken}
 use Rattle.ep_simulation.specs.Tells.{Tells}
-use Rattle.ep_meaning.proofs.Lasting.{meanings_last}
+use Rattle.ep_meaning.proofs.public.Lasting.{meanings_last}
 use Rattle.ep_typed.specs.Auxiliaries.{block_auxiliaries}
 use Rattle.ep_meaning.specs.Calls.{Argument, Handler, activation_words, in_call}
 use Rattle.ep_typed.specs.Trees.{Callee}

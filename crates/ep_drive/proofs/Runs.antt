@@ -2,7 +2,7 @@
 use Rattle.std.proofs.Common.{◌≡◌, ℕ, zero, suc, ◌+◌, ◌-◌, ◌*◌, ◌≤◌, List, [], inl, inr, Option, Some, None, refl, sym, ap, ◌∙◌, subst, arith, append-nil}
 use Rattle.std.specs.Fn.{iterate}
 use Rattle.ep_outside.specs.Known.{IsPrefix}
-use Rattle.ep_object.proofs.Views.{runs_agree}
+use Rattle.ep_object.proofs.public.Views.{runs_agree}
 use Rattle.ep_simulation.specs.Follows.{end_of}
 use Rattle.ep_simulation.specs.Implements.{Implements}
 use Rattle.ep_object.specs.Laws.{settled, settled_going}

@@ -26,8 +26,8 @@ use Rattle.ep_rules.specs.KnownFields.{are_selected, field_known}
 use Rattle.ep_rules.specs.VariantSteps.{field_steps, part_steps, variant_step}
 use Rattle.ep_rules.specs.declared.folding.Folded.{Folded}
 use Rattle.ep_rules.specs.declared.folding.Folded.TheVariants.{Known, Varies, Errs}
-use Rattle.ep_expr_laws.proofs.Leading.{Leads, leads_once, step_leads}
-use Rattle.ep_expr_laws.proofs.Betweens.{between_all}
+use Rattle.ep_expr_laws.proofs.public.Leading.{Leads, leads_once, step_leads}
+use Rattle.ep_expr_laws.proofs.public.Betweens.{between_all}
 
 same_bytes : (a b : List ℕ) → bytes_eq a b ≡ true → a ≡ b
 same_bytes a b e = (bytes_eq-Decides a b).0 e

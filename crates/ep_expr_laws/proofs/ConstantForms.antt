@@ -33,9 +33,9 @@ use Rattle.ep_rules.specs.declared.folding.KnownValue.TheVariants as known_value
 use Rattle.ep_check_expr.specs.declared.structured_constants.ConstantValue.{ConstantValue}
 use Rattle.ep_check_expr.specs.declared.structured_constants.ConstantValue.TheVariants as constant
 use Rattle.ep_check_expr.specs.declared.structured_constants.NoConstant.TheVariants as reason
-use Rattle.ep_check_expr.proofs.Keeping.{Satisfies}
+use Rattle.ep_check_expr.proofs.public.Keeping.{Satisfies}
 use Rattle.ep_expr_laws.proofs.Known.{OfKind, known-of_kind}
-use Rattle.ep_expr_laws.proofs.Passing.{structured-expr}
+use Rattle.ep_expr_laws.proofs.public.Passing.{structured-expr}
 use Rattle.ep_expr_laws.proofs.SetsOver.{empty-over}
 use Rattle.ep_expr_laws.proofs.StructuredConstants.{constancy-starts}
 

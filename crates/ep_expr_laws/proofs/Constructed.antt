@@ -14,9 +14,9 @@ use Rattle.ep_rules.specs.Constructors.{Label, Members, extended, joined_by, may
 use Rattle.ep_rules.specs.Hosts.{typed_host}
 use Rattle.ep_rules.specs.Judgements.{Accepts, Typed}
 use Rattle.ep_rules.specs.Operators.{are_compatible, map_both}
-use Rattle.ep_check_expr.proofs.Labels.{set-has}
-use Rattle.ep_check_expr.proofs.Keeping.{AreLabels, Satisfies}
-use Rattle.ep_expr_laws.proofs.SameHost.{host_same}
+use Rattle.ep_check_expr.proofs.public.Labels.{set-has}
+use Rattle.ep_check_expr.proofs.public.Keeping.{AreLabels, Satisfies}
+use Rattle.ep_expr_laws.proofs.public.SameHost.{host_same}
 use Rattle.ep_expr_laws.proofs.Sound.{Fits, compatible-form, form-host, within_depth-fits}
 
 -- one designator more

@@ -18,12 +18,12 @@ use Rattle.ep_rules.specs.Judgements.{Judged, Accepts, Breaks, Typed}
 use Rattle.ep_rules.specs.declared.access.Access.{Access}
 use Rattle.ep_rules.specs.declared.access.Access.TheVariants as access
 use Rattle.ep_rules.specs.declared.forms.TheConstants as limit
-use Rattle.ep_expr_laws.proofs.Components.{HasComponents, built-form, component-type, field-component, known-field, unbuilt-form}
+use Rattle.ep_expr_laws.proofs.public.Components.{HasComponents, built-form, component-type, field-component, known-field, unbuilt-form}
 use Rattle.ep_expr_laws.proofs.FieldPlaces.{field-place, field-tagged, read-access, some-field, unread-access}
-use Rattle.ep_check_expr.proofs.Keeping.{Satisfies, if-satisfies}
-use Rattle.ep_expr_laws.proofs.Passing.{IsForm}
-use Rattle.ep_expr_laws.proofs.Places.{made_so, structure_in-holds}
-use Rattle.ep_check_expr.proofs.Selected.{field-given}
+use Rattle.ep_check_expr.proofs.public.Keeping.{Satisfies, if-satisfies}
+use Rattle.ep_expr_laws.proofs.public.Passing.{IsForm}
+use Rattle.ep_expr_laws.proofs.public.Places.{made_so, structure_in-holds}
+use Rattle.ep_check_expr.proofs.public.Selected.{field-given}
 
 -- ---- valid forms
 module _ (declared : Declarations) (types : TypeValues) (structures : List StructuredType) where

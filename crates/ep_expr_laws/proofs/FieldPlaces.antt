@@ -17,7 +17,7 @@ use Rattle.ep_scope.specs.declared.structure.VariantStep.{VariantStep}
 use Rattle.ep_expr_laws.specs.Agreement.{HasKind, HoldsStructure, IsAccessOf, IsAlong, IsDenoterOf, IsFieldOf, IsMadeOf, IsOfType, IsPartOf, IsStructuredAt, IsTaggedIf, Records, Arrays, Structure, TypeValues}
 use Rattle.ep_rules.specs.FieldDesignators.{along, component_place, reached, variable_access}
 use Rattle.ep_rules.specs.Hosts.{typed_host}
-use Rattle.ep_expr_laws.proofs.Places.{IsComponentAt, IsFieldWhere, IsStructured, IsVariantWhere, made_so, place_wider, record_parts}
+use Rattle.ep_expr_laws.proofs.public.Places.{IsComponentAt, IsFieldWhere, IsStructured, IsVariantWhere, made_so, place_wider, record_parts}
 
 -- what holds of all holds of the one of a number
 pub all_there : {X : Type 0} (P : X → Type 0) (xs : List X) (number : ℕ) (x : X) → All P xs → slice_get xs number ≡ Some x → P x

@@ -50,11 +50,11 @@ use Rattle.ep_rules.specs.Indexing.{component_depth, component_typed}
 use Rattle.ep_rules.specs.Judgements.{Judged, Accepts, Breaks, Typed, unbuilt, when_accepted}
 use Rattle.ep_rules.specs.Operators.{added, are_compatible, are_sets, combined, joint_kind, may_be_in, on_sets_typed, related, sum_typed, arithmetic, binary_typed, boolean, character, compared, comparison, integer, is_boolean, is_integer, is_string, logical, misfit, multiplied, short_circuit, short_typed, sign_of, signed, unary_typed, unbuilt_typed, within_depth}
 use Rattle.ep_expr_laws.specs.Origins.{CompositionHasHost, DeclaresHost, EntriesHaveHost, FieldsHaveHost, HasHost, StructuresHaveHost, InterfacesHaveHost, IsKnownHost, IsKnownKind, RecordsHaveHost, ScopesHaveHost, ThingHasHost}
-use Rattle.ep_check_expr.proofs.Labels.{set-has}
-use Rattle.ep_check_expr.proofs.Selected.{field-given}
-use Rattle.ep_check_expr.proofs.Selected.{index-given}
-use Rattle.ep_check_expr.proofs.AnyStructure.{structure-any}
-use Rattle.ep_check_expr.proofs.Keeping.{AreLabels, IsCalled, IsKept, Satisfies, if-satisfies}
+use Rattle.ep_check_expr.proofs.public.Labels.{set-has}
+use Rattle.ep_check_expr.proofs.public.Selected.{field-given}
+use Rattle.ep_check_expr.proofs.public.Selected.{index-given}
+use Rattle.ep_check_expr.proofs.public.AnyStructure.{structure-any}
+use Rattle.ep_check_expr.proofs.public.Keeping.{AreLabels, IsCalled, IsKept, Satisfies, if-satisfies}
 
 -- ---- names
 

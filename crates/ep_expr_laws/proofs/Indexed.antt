@@ -19,12 +19,12 @@ use Rattle.ep_rules.specs.Judgements.{Judged, Accepts, Breaks, Typed}
 use Rattle.ep_rules.specs.Operators.{are_compatible, character, unbuilt_typed}
 use Rattle.ep_rules.specs.declared.access.Access.{Access}
 use Rattle.ep_rules.specs.declared.forms.TheConstants as limit
-use Rattle.ep_expr_laws.proofs.Components.{IsComponentForm, built-component, element-known, indexed-component, unbuilt-component}
-use Rattle.ep_check_expr.proofs.Keeping.{Satisfies, if-satisfies}
-use Rattle.ep_expr_laws.proofs.Passing.{IsForm}
-use Rattle.ep_expr_laws.proofs.Places.{component-place, made_so, some-component, some-list, structure_in-holds}
+use Rattle.ep_expr_laws.proofs.public.Components.{IsComponentForm, built-component, element-known, indexed-component, unbuilt-component}
+use Rattle.ep_check_expr.proofs.public.Keeping.{Satisfies, if-satisfies}
+use Rattle.ep_expr_laws.proofs.public.Passing.{IsForm}
+use Rattle.ep_expr_laws.proofs.public.Places.{component-place, made_so, some-component, some-list, structure_in-holds}
 use Rattle.ep_expr_laws.proofs.Sound.{compatible-form}
-use Rattle.ep_check_expr.proofs.Selected.{index-given}
+use Rattle.ep_check_expr.proofs.public.Selected.{index-given}
 
 -- ---- valid forms
 module _ (declared : Declarations) (types : TypeValues) (structures : List StructuredType) where

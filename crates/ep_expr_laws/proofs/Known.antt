@@ -19,7 +19,7 @@ use Rattle.ep_values.specs.declared.operations.SetOperation.{SetOperation}
 use Rattle.ep_values.specs.declared.operations.SetOperation.TheVariants as on_sets
 use Rattle.ep_values.specs.declared.operations.ShortOperation.{ShortOperation}
 use Rattle.ep_values.specs.declared.run_error.TheConstants as run_error
-use Rattle.ep_values.proofs.Sets.{few_members}
+use Rattle.ep_values.proofs.public.Sets.{few_members}
 use Rattle.ep_expr_laws.specs.Agreement.{IsSetOver}
 use Rattle.ep_rules.specs.Folding.{answered, as_known, folded, folded_member, folded_members, joined, members_in, number_in, one_folded, result_of, set_found, short_folded, two_folded}
 use Rattle.ep_rules.specs.declared.folding.Folded.{Folded}

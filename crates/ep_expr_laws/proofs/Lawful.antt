@@ -35,20 +35,20 @@ use Rattle.ep_check_expr.specs.declared.constants.Purpose.{Purpose}
 use Rattle.ep_check_expr.specs.declared.constants.Purpose.TheVariants as purpose
 use Rattle.ep_check_expr.specs.declared.structured_constants.ConstantValue.{ConstantValue}
 use Rattle.ep_check_expr.specs.declared.structured_constants.NoConstant.TheVariants as reason
-use Rattle.ep_check_expr.proofs.Plain.{spelled-plain, signed-plain, negated-plain, added-plain, multiplied-plain, compared-plain, applied_one-plain, applied_two-plain}
-use Rattle.ep_expr_laws.proofs.Passing.{IsForm, arguments-fit}
-use Rattle.ep_check_expr.proofs.Nodes.{given-value}
-use Rattle.ep_check_expr.proofs.Accepted.{accesses-fit, expressions-fit, values-fit}
+use Rattle.ep_check_expr.proofs.public.Plain.{spelled-plain, signed-plain, negated-plain, added-plain, multiplied-plain, compared-plain, applied_one-plain, applied_two-plain}
+use Rattle.ep_expr_laws.proofs.public.Passing.{IsForm, arguments-fit}
+use Rattle.ep_check_expr.proofs.public.Nodes.{given-value}
+use Rattle.ep_check_expr.proofs.public.Accepted.{accesses-fit, expressions-fit, values-fit}
 use Rattle.ep_expr_laws.proofs.Hosted.{IsKnown, knowledge_is_kept}
 use Rattle.ep_expr_laws.proofs.Designated.{designated-fits}
 use Rattle.ep_expr_laws.proofs.Indexed.{indexed-fits}
-use Rattle.ep_check_expr.proofs.Keeping.{AreGiven, IsKept, Satisfies, if-satisfies, pair-satisfies, weaker-satisfies}
+use Rattle.ep_check_expr.proofs.public.Keeping.{AreGiven, IsKept, Satisfies, if-satisfies, pair-satisfies, weaker-satisfies}
 use Rattle.ep_expr_laws.proofs.ConstantForms.{IsJudgedConstant, as_constant-fits}
-use Rattle.ep_expr_laws.proofs.Meant.{called-fits, meant-declared, meant_in-declared, value_named-fits}
-use Rattle.ep_check_expr.proofs.Labels.{constructed-plain, labels-weaker}
+use Rattle.ep_expr_laws.proofs.public.Meant.{called-fits, meant-declared, meant_in-declared, value_named-fits}
+use Rattle.ep_check_expr.proofs.public.Labels.{constructed-plain, labels-weaker}
 use Rattle.ep_expr_laws.proofs.Constructed.{constructed-fits}
 use Rattle.ep_expr_laws.proofs.Structures.{components-weaker, structure-fits}
-use Rattle.ep_check_expr.proofs.AnyStructure.{structure-any}
+use Rattle.ep_check_expr.proofs.public.AnyStructure.{structure-any}
 use Rattle.ep_check_expr.specs.StructuredConstants.{Constancy, constancy, value_in}
 use Rattle.ep_check_expr.specs.StructuredValues.{structure_judged}
 use Rattle.ep_expr_laws.proofs.Sound.{Fits, signed-fits, negated-fits, added-fits, multiplied-fits, compared-fits, applied_one-fits, applied_two-fits}

@@ -1,24 +1,17 @@
-pub mod Betweens
-pub mod Components
-pub mod ConstantAccesses
-pub mod ConstantForms
-pub mod Constructed
-pub mod Designated
-pub mod FieldPlaces
-pub mod Hosted
-pub mod Indexed
-pub mod Known
-pub mod Lawful
-pub mod Leading
-pub mod Listed
-pub mod Meant
-pub mod Passing
-pub mod Places
-pub mod SameHost
-pub mod SameType
-pub mod SetForms
-pub mod SetsOver
-pub mod Sound
-pub mod Starts
-pub mod StructuredConstants
-pub mod Structures
+mod ConstantAccesses
+mod ConstantForms
+mod Constructed
+mod Designated
+mod FieldPlaces
+mod Hosted
+mod Indexed
+mod Known
+mod Lawful
+pub mod public
+mod SameType
+mod SetForms
+mod SetsOver
+mod Sound
+mod Starts
+mod StructuredConstants
+mod Structures

@@ -17,7 +17,7 @@ use Rattle.ep_scope.specs.declared.structure.StructuredType.{StructuredType}
 use Rattle.ep_expr_laws.specs.Agreement.{IsFormOf, IsHost, TypeValues}
 use Rattle.ep_rules.specs.Hosts.{typed_host}
 use Rattle.ep_rules.specs.Operators.{are_sets, boolean, integer, joint_kind, map_both, may_be_in}
-use Rattle.ep_expr_laws.proofs.SameHost.{host_same}
+use Rattle.ep_expr_laws.proofs.public.SameHost.{host_same}
 
 module _ (declared : Declarations) (types : TypeValues) (structures : List StructuredType) where
   -- a valid form of a kind

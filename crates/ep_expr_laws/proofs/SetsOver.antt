@@ -7,7 +7,7 @@ use Rattle.ep_typed.specs.Hosts.{Host, greatest, is_of_host, least}
 use Rattle.ep_values.specs.Sets.{has, is_between, is_ordinal, member_limit, members, with_member, with_number, with_numbers, with_span}
 use Rattle.ep_values.specs.declared.operations.SetOperation.{SetOperation}
 use Rattle.ep_values.specs.declared.operations.SetOperation.TheVariants as set
-use Rattle.ep_values.proofs.Sets.{between_at, between_yes, has_members, has_no_more, members_set, none_set}
+use Rattle.ep_values.proofs.public.Sets.{between_at, between_yes, has_members, has_no_more, members_set, none_set}
 use Rattle.ep_expr_laws.specs.Agreement.{IsSetOver}
 use Rattle.ep_rules.specs.SetFolding.{takes, takes_ordinal}
 

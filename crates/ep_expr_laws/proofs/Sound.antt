@@ -38,8 +38,8 @@ use Rattle.ep_rules.specs.Judgements.{Judged, Accepts, Breaks, Typed}
 use Rattle.ep_rules.specs.Operators.{integer, boolean, is_integer, is_boolean, is_string, are_compatible, map_both, within_depth, unary_typed, binary_typed, short_typed, unbuilt_typed, signed, negated, arithmetic, logical, short_circuit, sum_typed, added, multiplied, comparison, compared, are_sets, combined, joint_kind, may_be_in, membership, misfit, on_sets_typed, related}
 use Rattle.ep_rules.specs.declared.access.Access.TheVariants as access
 use Rattle.ep_rules.specs.declared.forms.TheConstants as limit
-use Rattle.ep_check_expr.proofs.Keeping.{Satisfies}
-use Rattle.ep_expr_laws.proofs.SameHost.{host_same}
+use Rattle.ep_check_expr.proofs.public.Keeping.{Satisfies}
+use Rattle.ep_expr_laws.proofs.public.SameHost.{host_same}
 use Rattle.ep_expr_laws.proofs.SetForms.{IsCombining, IsRelating, card-form, combined-form, empty_card-form, membership-form, related-form}
 
 -- the kind of a typed tree

@@ -1,6 +1,6 @@
 -- What may begin a type is a valid expression of its kind.
 use Rattle.std.proofs.Common.{◌≡◌, ◌∙◌, ℕ, List, [], refl, sym, ap, subst}
-use Rattle.ep_meaning.proofs.Typed.{typed_bare}
+use Rattle.ep_meaning.proofs.public.Typed.{typed_bare}
 use Rattle.ep_typed.specs.Trees as tree
 use Rattle.ep_typed.specs.Trees.{AtField, AtRanges, Constant, Elements, Expr, Named, SameField, SetConstant, next_element, no_element}
 use Rattle.ep_values.specs.TypeValues as type

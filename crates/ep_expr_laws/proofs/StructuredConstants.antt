@@ -4,7 +4,7 @@ use Rattle.std.proofs.lemmas.Bool.Decides.{nat_tests}
 use Rattle.std.proofs.lemmas.List.Elements.{All-cons, All-nil}
 use Rattle.std.proofs.lemmas.Option.{same_Some}
 use Rattle.std.specs.Prelude.{All, ⊤, int_le, option_to_list, ◌&&◌, if◌then◌else◌}
-use Rattle.ep_meaning.proofs.Typed.{typed_bare}
+use Rattle.ep_meaning.proofs.public.Typed.{typed_bare}
 use Rattle.ep_typed.specs.Hosts.{Host}
 use Rattle.ep_typed.specs.Trees as tree
 use Rattle.ep_typed.specs.Trees.{Expr, Text, AtIndex, AtField, SameField, AtRanges, AtIndexes, Elements, no_element, next_element, elements, no_member, next_member, Named}
@@ -34,9 +34,9 @@ use Rattle.ep_check_expr.specs.declared.structured_constants.ConstantValue.{Cons
 use Rattle.ep_check_expr.specs.declared.structured_constants.ConstantValue.TheVariants as constant
 use Rattle.ep_check_expr.specs.declared.structured_constants.NoConstant.TheVariants as reason
 use Rattle.ep_expr_laws.proofs.Known.{OfKind, known-of_kind}
-use Rattle.ep_expr_laws.proofs.Listed.{listed-made, structure_in-listed}
-use Rattle.ep_expr_laws.proofs.Places.{made_so}
-use Rattle.ep_check_expr.proofs.Rows.{and_first, and_second}
+use Rattle.ep_expr_laws.proofs.public.Listed.{listed-made, structure_in-listed}
+use Rattle.ep_expr_laws.proofs.public.Places.{made_so}
+use Rattle.ep_check_expr.proofs.public.Rows.{and_first, and_second}
 
 -- ---- constants as plain data
 

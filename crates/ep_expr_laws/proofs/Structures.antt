@@ -31,17 +31,17 @@ use Rattle.ep_rules.specs.declared.forms.TheConstants as limit
 use Rattle.ep_check_expr.specs.StructuredValues.{empty_if, Arranged, Choice, Chosen, Components, Filled, Index, IndexLabels, Labelled, Many, One, Ranges, Valued, VariantNumbers, Written, WrittenRow, all_arranged, all_given, alone_labels, are_given, arranged, array_begun, array_element, array_elements, array_judged, asked_by, asked_first, bounded_index, choice, choice_at, choice_by, chosen_filled, chosen_within, completes, component_given, composed, constant_in, fields_element, fields_filled, filled, filled_from, first_form, first_given, given_by, given_then, index_form, index_judged, is_arranged, is_same_kind, is_named, is_tag_value, joined_ranges, label_places, labelled_element, labels_judged, many_labels, named_element, next_written, no_ranges, no_written, nothing_filled, of_kind, part_filled, range_labelled, ranges_form, ranges_given, ranges_labelled, ranging, record_element, record_elements, record_judged, row_filled, row_of, same_filled, same_form, same_given, same_if, second_index, structure_judged, structured, tag_constant, tag_filled, tag_given, tag_place, tag_valued, unfit, values_filled, with_elements, with_field, with_index, with_label, with_labels, with_range, with_ranges, with_span, within_bounds}
 use Rattle.ep_rules.specs.VariantSteps.{field_steps}
 use Rattle.ep_expr_laws.proofs.Constructed.{more_designators}
-use Rattle.ep_check_expr.proofs.Labels.{labels-weaker}
-use Rattle.ep_check_expr.proofs.Rows.{and_first, and_second}
-use Rattle.ep_check_expr.proofs.Keeping.{AreComponents, AreLabels, AreWritten, IsHigh, IsRow, IsValued, IsValuedIf, IsWritten, Satisfies, any-satisfies, if-satisfies, then-satisfies, weaker-satisfies}
+use Rattle.ep_check_expr.proofs.public.Labels.{labels-weaker}
+use Rattle.ep_check_expr.proofs.public.Rows.{and_first, and_second}
+use Rattle.ep_check_expr.proofs.public.Keeping.{AreComponents, AreLabels, AreWritten, IsHigh, IsRow, IsValued, IsValuedIf, IsWritten, Satisfies, any-satisfies, if-satisfies, then-satisfies, weaker-satisfies}
 use Rattle.ep_expr_laws.proofs.FieldPlaces.{all_there}
-use Rattle.ep_expr_laws.proofs.Leading.{Leads, listed-lead}
-use Rattle.ep_expr_laws.proofs.Listed.{all-held, listed-made, listed-value, structure_in-listed}
-use Rattle.ep_expr_laws.proofs.Passing.{IfForm, given-fits, one-value, set-fits, structured-fits}
-use Rattle.ep_expr_laws.proofs.SameHost.{host_same}
+use Rattle.ep_expr_laws.proofs.public.Leading.{Leads, listed-lead}
+use Rattle.ep_expr_laws.proofs.public.Listed.{all-held, listed-made, listed-value, structure_in-listed}
+use Rattle.ep_expr_laws.proofs.public.Passing.{IfForm, given-fits, one-value, set-fits, structured-fits}
+use Rattle.ep_expr_laws.proofs.public.SameHost.{host_same}
 use Rattle.ep_expr_laws.proofs.Sound.{compatible-form}
-use Rattle.ep_expr_laws.proofs.Places.{made_so, same_number}
-use Rattle.ep_check_expr.proofs.AnyStructure.{unless-unfit}
+use Rattle.ep_expr_laws.proofs.public.Places.{made_so, same_number}
+use Rattle.ep_check_expr.proofs.public.AnyStructure.{unless-unfit}
 
 self_le : (z : ℤ) → IsTrue (int_le z z)
 self_le (pos n) = grind (arith, nat_tests)

@@ -11,11 +11,11 @@ use Rattle.ep_gen_code.specs.Growth.{Grows}
 use Rattle.ep_gen_expr.specs.Growth.{NumbersReference, AppendsPlace, AppendsExpr, AppendsActual, AppendsActuals}
 use Rattle.ep_gen_code.specs.Jumps.{IsNextPlace}
 use Rattle.ep_gen_code.specs.declared.code.Code.{Code}
-use Rattle.ep_gen_code.proofs.Landing.{grows_length}
-use Rattle.ep_gen_code.proofs.Growing.{grows_none, grows_then, grows_at}
+use Rattle.ep_gen_code.proofs.public.Landing.{grows_length}
+use Rattle.ep_gen_code.proofs.public.Growing.{grows_none, grows_then, grows_at}
 use Rattle.ep_gen_expr.proofs.Forms.{whole_expr}
-use Rattle.ep_gen_code.proofs.Pushed.{get_later}
-use Rattle.ep_gen_expr.proofs.Stays.{actuals_code_stays}
+use Rattle.ep_gen_code.proofs.public.Pushed.{get_later}
+use Rattle.ep_gen_expr.proofs.public.Stays.{actuals_code_stays}
 
 -- a value
 pub appends_value : {a b : Code} (x : Expr) → AppendsExpr a b x → AppendsActual a b (Evaluated x)

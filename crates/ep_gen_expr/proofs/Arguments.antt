@@ -2,12 +2,12 @@
 use Rattle.std.proofs.Common.{◌≡◌, ℕ, ◌+◌, ◌≤◌, List, [], ◌∷◌, ◌++◌, length, refl, sym, ap, ◌∙◌, subst, arith, length-append}
 use Rattle.std.proofs.lemmas.Option.{same_Some}
 use Rattle.ep_gen_code.specs.Credit.{least_credit}
-use Rattle.ep_gen_expr.proofs.Answering.{IsFollowed, IsPlaceFollowed}
-use Rattle.ep_simulation.proofs.following.Fragments.{fragment_to, fragment_give, inside_bind, fragment_bind_place}
-use Rattle.ep_simulation.proofs.matching.Growing.{unit_in-same, is_spot-grown, describes-grown, inside_here}
+use Rattle.ep_gen_expr.proofs.public.Answering.{IsFollowed, IsPlaceFollowed}
+use Rattle.ep_simulation.proofs.public.following.Fragments.{fragment_to, fragment_give, inside_bind, fragment_bind_place}
+use Rattle.ep_simulation.proofs.public.matching.Growing.{unit_in-same, is_spot-grown, describes-grown, inside_here}
 use Rattle.ep_simulation.specs.Follows.{Facts, Fragment, Inside, OnTop, Operands, point}
-use Rattle.ep_simulation.proofs.matching.Awaiting.{value-grown, value_on_top}
-use Rattle.ep_meaning.proofs.ValueKinds.{kinds_are_one}
+use Rattle.ep_simulation.proofs.public.matching.Awaiting.{value-grown, value_on_top}
+use Rattle.ep_meaning.proofs.public.ValueKinds.{kinds_are_one}
 use Rattle.ep_typed.specs.Viewed.{denoter_of}
 use Rattle.ep_simulation.specs.Matching.{Memory, Injection, Slots, Grown}
 use Rattle.ep_object.specs.Operands.{Operand}
@@ -17,7 +17,7 @@ use Rattle.ep_simulation.specs.Promises.{Passing, ByValue, ByReference, IsPassed
 use Rattle.ep_object.specs.Runs.{unit_in}
 use Rattle.ep_object.specs.declared.code.Image.{Image}
 use Rattle.ep_object.specs.declared.code.Instr.{Instr}
-use Rattle.ep_meaning.proofs.Steady.{steady_bind, steady_give, steady_arguments}
+use Rattle.ep_meaning.proofs.public.Steady.{steady_bind, steady_give, steady_arguments}
 use Rattle.ep_meaning.specs.Steady.{IsSteadyHandler}
 use Rattle.ep_meaning.specs.Calls.{Argument, Value, Variable, Handler}
 use Rattle.ep_meaning.specs.Meaning.{argument, arguments}

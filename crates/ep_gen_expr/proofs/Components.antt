@@ -12,13 +12,13 @@ use Rattle.ep_object.specs.declared.code.Image.{Image}
 use Rattle.ep_object.specs.declared.code.Reference.{Reference}
 use Rattle.ep_object.specs.declared.op.TheConstants as op
 use Rattle.ep_object.specs.declared.state.Place.{Place as PlaceOf}
-use Rattle.ep_simulation.proofs.following.Bind.{follows_give, follows_paid}
-use Rattle.ep_simulation.proofs.following.Choices.{ReadsResult, follows_read, fragment_using}
-use Rattle.ep_simulation.proofs.following.Fragments.{FailsWith, fragment_from, fragment_give, fragment_less, fragment_to, inside_bind, landed}
-use Rattle.ep_simulation.proofs.matching.Growing.{inside_here, not_left-here, unit_in-same}
-use Rattle.ep_simulation.proofs.rows.FieldRow.{IsAmong, among_there, field_does, field_fails}
-use Rattle.ep_simulation.proofs.rows.PlaceRows.{load_fails, load_reads}
-use Rattle.ep_meaning.proofs.Steady.{steady_reached}
+use Rattle.ep_simulation.proofs.public.following.Bind.{follows_give, follows_paid}
+use Rattle.ep_simulation.proofs.public.following.Choices.{ReadsResult, follows_read, fragment_using}
+use Rattle.ep_simulation.proofs.public.following.Fragments.{FailsWith, fragment_from, fragment_give, fragment_less, fragment_to, inside_bind, landed}
+use Rattle.ep_simulation.proofs.public.matching.Growing.{inside_here, not_left-here, unit_in-same}
+use Rattle.ep_simulation.proofs.public.rows.FieldRow.{IsAmong, among_there, field_does, field_fails}
+use Rattle.ep_simulation.proofs.public.rows.PlaceRows.{load_fails, load_reads}
+use Rattle.ep_meaning.proofs.public.Steady.{steady_reached}
 use Rattle.ep_meaning.specs.Calls.{Handler}
 use Rattle.ep_meaning.specs.Meaning.{reached, read, selected}
 use Rattle.ep_meaning.specs.Results.{result_of, weight_of}

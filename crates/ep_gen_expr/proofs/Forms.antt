@@ -17,10 +17,10 @@ use Rattle.ep_gen_code.specs.Growth.{IsNowhere, Grows}
 use Rattle.ep_gen_expr.specs.Growth.{NumbersText, NumbersReference, KeepsOperand, AppendsPlace, AppendsExpr}
 use Rattle.ep_gen_code.specs.Jumps.{LeavesHole, landed}
 use Rattle.ep_gen_code.specs.declared.code.Code.{Code}
-use Rattle.ep_gen_code.proofs.Landing.{grows_length, grows_landed}
-use Rattle.ep_gen_code.proofs.Pushed.{table_same, table_pushed, get_later, get_last}
-use Rattle.ep_gen_code.proofs.Growing.{after_parts, after_two, grows_at, grows_none, grows_then}
-use Rattle.ep_gen_expr.proofs.Stays.{place_code_stays, expr_code_stays, place_code_short, expr_code_short}
+use Rattle.ep_gen_code.proofs.public.Landing.{grows_length, grows_landed}
+use Rattle.ep_gen_code.proofs.public.Pushed.{table_same, table_pushed, get_later, get_last}
+use Rattle.ep_gen_code.proofs.public.Growing.{after_parts, after_two, grows_at, grows_none, grows_then}
+use Rattle.ep_gen_expr.proofs.public.Stays.{place_code_stays, expr_code_stays, place_code_short, expr_code_short}
 use Rattle.ep_object.specs.declared.op.TheConstants as op
 use Rattle.ep_values.specs.declared.run_error.TheConstants as run_error
 

@@ -6,12 +6,12 @@ use Rattle.std.specs.Prelude.{if◌then◌else◌, int_le}
 use Rattle.ep_gen_code.specs.Instructions.{bare, instr}
 use Rattle.ep_gen_code.specs.Referring.{AreArraysReferred, IsSwapReferred}
 use Rattle.ep_gen_code.specs.declared.references.TheConstants as routine
-use Rattle.ep_gen_code.proofs.Placed.{code_back, code_front, instr_at, jump_false_has, jump_has}
-use Rattle.ep_gen_expr.proofs.Answering.{IsFollowed}
-use Rattle.ep_gen_expr.proofs.FilledRanges.{Stored, first_given, holds_grown}
-use Rattle.ep_gen_expr.proofs.SameFields.{swapped_follows}
-use Rattle.ep_gen_expr.proofs.StructuredValues.{IsElementFollowed, element_credit}
-use Rattle.ep_gen_expr.proofs.Stays.{spreads_length}
+use Rattle.ep_gen_code.proofs.public.Placed.{code_back, code_front, instr_at, jump_false_has, jump_has}
+use Rattle.ep_gen_expr.proofs.public.Answering.{IsFollowed}
+use Rattle.ep_gen_expr.proofs.public.FilledRanges.{Stored, first_given, holds_grown}
+use Rattle.ep_gen_expr.proofs.public.SameFields.{swapped_follows}
+use Rattle.ep_gen_expr.proofs.public.StructuredValues.{IsElementFollowed, element_credit}
+use Rattle.ep_gen_expr.proofs.public.Stays.{spreads_length}
 use Rattle.ep_gen_expr.specs.ExprCode.{drops_code, given_code, spread_code, spreads_code, tested_code}
 use Rattle.ep_simulation.specs.Follows.{After, Bare, Facts, Follows, Fragment, Inside, IsNotLeft, Lands, Lasts, OnTop, PlaceOnTop, point}
 use Rattle.ep_simulation.specs.Matching.{Injection, IsLike, IsSpot, Matches, Memory, Slots, at as standing}
@@ -26,21 +26,21 @@ use Rattle.ep_object.specs.declared.code.Instr.{Instr}
 use Rattle.ep_object.specs.declared.code.Reference.{Reference}
 use Rattle.ep_object.specs.declared.op.TheConstants as op
 use Rattle.ep_object.specs.declared.state.Place.{Place as PlaceOf}
-use Rattle.ep_simulation.proofs.following.Bind.{follows_bind, follows_counted, follows_credit, follows_from, follows_give, follows_post, follows_waits, follows_wider}
-use Rattle.ep_simulation.proofs.following.Choices.{Finds, Misses, Reads, follows_fetched, fragment_branch, fragment_using}
-use Rattle.ep_simulation.proofs.following.Filling.{FilledAt, among_every, fills_follow, gives_back}
-use Rattle.ep_simulation.proofs.following.Fragments.{FailsWith, fragment_bind_number, fragment_credit, fragment_from, fragment_give, fragment_less, fragment_one, fragment_paid, fragment_to, fragment_waits, inside_bind}
-use Rattle.ep_simulation.proofs.following.Promising.{grown_fewer, same_routine-fewer}
-use Rattle.ep_simulation.proofs.following.Ranging.{range_follows, range_ticks}
-use Rattle.ep_simulation.proofs.following.Spreading.{spread_follows, spread_ticks}
-use Rattle.ep_simulation.proofs.following.Swapping.{swap_ticks}
-use Rattle.ep_simulation.proofs.matching.Awaiting.{on_top, value-grown, value_on_top, value_weight}
-use Rattle.ep_simulation.proofs.matching.Growing.{describes-grown, grown_refl, inside_here, inside_later, is_spot-grown, not_left-here, not_left-later, same_routine-refl, still_routine, unit_in-same}
-use Rattle.ep_simulation.proofs.matching.Indexes.{integer_between, range_inside}
-use Rattle.ep_simulation.proofs.rows.IndexRow.{index_fails, index_reads, number_is}
-use Rattle.ep_simulation.proofs.rows.NamelessRows.{matches_depth}
-use Rattle.ep_simulation.proofs.rows.Rows.{jump_false_jumps, jump_jumps, outcome_at}
-use Rattle.ep_meaning.proofs.Steady.{steady_bind, steady_change, steady_eval, steady_fills_all, steady_give, steady_given, steady_given_at, steady_given_each, steady_given_from, steady_located, steady_ranging, steady_spend, grows_depth}
+use Rattle.ep_simulation.proofs.public.following.Bind.{follows_bind, follows_counted, follows_credit, follows_from, follows_give, follows_post, follows_waits, follows_wider}
+use Rattle.ep_simulation.proofs.public.following.Choices.{Finds, Misses, Reads, follows_fetched, fragment_branch, fragment_using}
+use Rattle.ep_simulation.proofs.public.following.Filling.{FilledAt, among_every, fills_follow, gives_back}
+use Rattle.ep_simulation.proofs.public.following.Fragments.{FailsWith, fragment_bind_number, fragment_credit, fragment_from, fragment_give, fragment_less, fragment_one, fragment_paid, fragment_to, fragment_waits, inside_bind}
+use Rattle.ep_simulation.proofs.public.following.Promising.{grown_fewer, same_routine-fewer}
+use Rattle.ep_simulation.proofs.public.following.Ranging.{range_follows, range_ticks}
+use Rattle.ep_simulation.proofs.public.following.Spreading.{spread_follows, spread_ticks}
+use Rattle.ep_simulation.proofs.public.following.Swapping.{swap_ticks}
+use Rattle.ep_simulation.proofs.public.matching.Awaiting.{on_top, value-grown, value_on_top, value_weight}
+use Rattle.ep_simulation.proofs.public.matching.Growing.{describes-grown, grown_refl, inside_here, inside_later, is_spot-grown, not_left-here, not_left-later, same_routine-refl, still_routine, unit_in-same}
+use Rattle.ep_simulation.proofs.public.matching.Indexes.{integer_between, range_inside}
+use Rattle.ep_simulation.proofs.public.rows.IndexRow.{index_fails, index_reads, number_is}
+use Rattle.ep_simulation.proofs.public.rows.NamelessRows.{matches_depth}
+use Rattle.ep_simulation.proofs.public.rows.Rows.{jump_false_jumps, jump_jumps, outcome_at}
+use Rattle.ep_meaning.proofs.public.Steady.{steady_bind, steady_change, steady_eval, steady_fills_all, steady_give, steady_given, steady_given_at, steady_given_each, steady_given_from, steady_located, steady_ranging, steady_spend, grows_depth}
 use Rattle.ep_values.specs.Bounds.{below, component_at, count_of, gap, one_more}
 use Rattle.ep_meaning.specs.Calls.{Handler}
 use Rattle.ep_values.specs.Events.{Trace}

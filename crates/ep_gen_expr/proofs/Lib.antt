@@ -1,32 +1,22 @@
-pub mod Found
-pub mod Stays
-pub mod Forms
-pub mod ShortCircuit
-pub mod ActualForms
-pub mod SetForms
-pub mod StructuredForms
-pub mod RangeIndexes
-pub mod MemberForms
-pub mod Sets
-pub mod Nameless
-pub mod Components
-pub mod StructuredValues
-pub mod SameFields
-pub mod FilledRanges
-pub mod GivenRanges
-pub mod WholeStructures
-pub mod PlaceTypes
-pub mod Arguments
-pub mod Calls
-pub mod Following
-pub mod Hosts
-pub mod Answering
-pub mod OneOperand
-pub mod TwoOperands
-pub mod Stepping
-pub mod ValueParts
-pub mod RangeForms
-pub mod RangeMoves
-pub mod Selecting
-pub mod VariantMoves
-pub mod VariantValues
+mod ActualForms
+mod Arguments
+mod Components
+mod Forms
+mod Found
+mod GivenRanges
+mod Hosts
+mod MemberForms
+mod Nameless
+mod OneOperand
+pub mod public
+mod RangeForms
+mod RangeIndexes
+mod Selecting
+mod SetForms
+mod Sets
+mod ShortCircuit
+mod Stepping
+mod StructuredForms
+mod TwoOperands
+mod ValueParts
+mod VariantValues

@@ -12,16 +12,16 @@ use Rattle.ep_object.specs.State.{Running}
 use Rattle.ep_object.specs.declared.code.Image.{Image}
 use Rattle.ep_object.specs.declared.op.TheConstants as op
 use Rattle.ep_object.specs.declared.state.Place.{Place as PlaceOf}
-use Rattle.ep_simulation.proofs.following.Bind.{follows_counted, follows_credit, follows_give, follows_gives_up, follows_paid, follows_waits}
-use Rattle.ep_simulation.proofs.following.Choices.{fragment_using}
-use Rattle.ep_simulation.proofs.following.Fragments.{Does, FailsWith, fragment_less, landed}
-use Rattle.ep_simulation.proofs.following.Swapping.{swap_follows, swap_ticks}
-use Rattle.ep_simulation.proofs.matching.Awaiting.{value-grown, value_weight}
-use Rattle.ep_simulation.proofs.matching.Growing.{grown_refl, not_left-here, same_routine-refl}
-use Rattle.ep_simulation.proofs.matching.Standing.{Stands, place_stands}
-use Rattle.ep_simulation.proofs.rows.NamelessRows.{NamelessOnTop, dispose_does, matches_depth, new_does}
-use Rattle.ep_simulation.proofs.rows.PlaceRows.{load_fails, structure_loads}
-use Rattle.ep_meaning.proofs.Steady.{grows_ended, grows_nameless, steady_bind, steady_change, steady_give, steady_spend}
+use Rattle.ep_simulation.proofs.public.following.Bind.{follows_counted, follows_credit, follows_give, follows_gives_up, follows_paid, follows_waits}
+use Rattle.ep_simulation.proofs.public.following.Choices.{fragment_using}
+use Rattle.ep_simulation.proofs.public.following.Fragments.{Does, FailsWith, fragment_less, landed}
+use Rattle.ep_simulation.proofs.public.following.Swapping.{swap_follows, swap_ticks}
+use Rattle.ep_simulation.proofs.public.matching.Awaiting.{value-grown, value_weight}
+use Rattle.ep_simulation.proofs.public.matching.Growing.{grown_refl, not_left-here, same_routine-refl}
+use Rattle.ep_simulation.proofs.public.matching.Standing.{Stands, place_stands}
+use Rattle.ep_simulation.proofs.public.rows.NamelessRows.{NamelessOnTop, dispose_does, matches_depth, new_does}
+use Rattle.ep_simulation.proofs.public.rows.PlaceRows.{load_fails, structure_loads}
+use Rattle.ep_meaning.proofs.public.Steady.{grows_ended, grows_nameless, steady_bind, steady_change, steady_give, steady_spend}
 use Rattle.ep_meaning.specs.Calls.{Handler}
 use Rattle.ep_meaning.specs.Meaning.{taken}
 use Rattle.ep_meaning.specs.Nameless.{begins_nameless, made_nameless, newest_nameless, taken_and_ended, with_depth}

@@ -8,10 +8,10 @@ use Rattle.ep_object.specs.Placing.{Placement, CodeStands}
 use Rattle.ep_object.specs.Runs.{unit_in}
 use Rattle.ep_object.specs.declared.code.Image.{Image}
 use Rattle.ep_object.specs.declared.code.Reference.{Reference}
-use Rattle.ep_simulation.proofs.following.Fragments.{fragment_less, fragment_to, fragment_one, fragment_give}
-use Rattle.ep_simulation.proofs.matching.Growing.{inside_here}
-use Rattle.ep_simulation.proofs.rows.Rows.{RowAnswers, push_pushes, neg_answers, abs_answers, sqr_answers, odd_answers, not_answers, check_answers}
-use Rattle.ep_simulation.proofs.rows.TextRows.{drop_drops, dup_pushes}
+use Rattle.ep_simulation.proofs.public.following.Fragments.{fragment_less, fragment_to, fragment_one, fragment_give}
+use Rattle.ep_simulation.proofs.public.matching.Growing.{inside_here}
+use Rattle.ep_simulation.proofs.public.rows.Rows.{RowAnswers, push_pushes, neg_answers, abs_answers, sqr_answers, odd_answers, not_answers, check_answers}
+use Rattle.ep_simulation.proofs.public.rows.TextRows.{drop_drops, dup_pushes}
 use Rattle.ep_meaning.specs.Calls.{Handler}
 use Rattle.ep_values.specs.Operations.{Number, last_char, unary_answer}
 use Rattle.ep_meaning.specs.Valid.{Declarations, Kind, Ordinal, IsUnary}
@@ -20,10 +20,10 @@ use Rattle.ep_values.specs.declared.operations.Unary.TheVariants as unary
 use Rattle.ep_typed.specs.Hosts.{Host, is_of_host}
 use Rattle.ep_typed.specs.Hosts as host
 use Rattle.ep_gen_expr.specs.ExprCode.{one_code}
-use Rattle.ep_gen_expr.proofs.Answering.{Evaluates, answering, answer_follows}
-use Rattle.ep_gen_code.proofs.Waiting.{row_waits}
+use Rattle.ep_gen_expr.proofs.public.Answering.{Evaluates, answering, answer_follows}
+use Rattle.ep_gen_code.proofs.public.Waiting.{row_waits}
 use Rattle.ep_gen_expr.proofs.Hosts.{given, integer_answer, within_answer, odd_boolean, not_boolean, host_integer}
-use Rattle.ep_gen_code.proofs.Placed.{instr_at}
+use Rattle.ep_gen_code.proofs.public.Placed.{instr_at}
 use Rattle.ep_values.specs.declared.run_error.TheConstants as run_error
 
 module _ (declared : Declarations) (G : Image) (untouched : Slots) (Here : Facts) (ps : List Placement) (p : Placement) (references : List Reference) (call : Handler) (g : ℕ) (unit : List ℕ) (line : ℕ) where

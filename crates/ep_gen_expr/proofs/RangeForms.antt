@@ -12,9 +12,9 @@ use Rattle.ep_gen_expr.specs.ExprCode.{test_code, tests_code, bad_place, labels_
 use Rattle.ep_gen_code.specs.Growth.{Grows}
 use Rattle.ep_gen_code.specs.Jumps.{IsNextPlace}
 use Rattle.ep_gen_code.specs.declared.code.Code.{Code}
-use Rattle.ep_gen_code.proofs.Growing.{grows_at}
-use Rattle.ep_gen_code.proofs.Landing.{grows_length}
-use Rattle.ep_gen_expr.proofs.Stays.{tests_length, labels_length}
+use Rattle.ep_gen_code.proofs.public.Growing.{grows_at}
+use Rattle.ep_gen_code.proofs.public.Landing.{grows_length}
+use Rattle.ep_gen_expr.proofs.public.Stays.{tests_length, labels_length}
 use Rattle.ep_object.specs.declared.op.TheConstants as op
 
 -- ---- the tests of ranges

@@ -12,10 +12,10 @@ use Rattle.ep_gen_code.specs.Growth.{Grows}
 use Rattle.ep_gen_code.specs.declared.references.TheConstants as routine
 use Rattle.ep_gen_expr.specs.Growth.{AppendsElement, AppendsExpr, AppendsIndexes, AppendsRange}
 use Rattle.ep_gen_code.specs.declared.code.Code.{Code}
-use Rattle.ep_gen_code.proofs.Landing.{grows_length}
-use Rattle.ep_gen_code.proofs.Growing.{after_parts, grows_at, grows_none, grows_then}
+use Rattle.ep_gen_code.proofs.public.Landing.{grows_length}
+use Rattle.ep_gen_code.proofs.public.Growing.{after_parts, grows_at, grows_none, grows_then}
 use Rattle.ep_gen_expr.proofs.Forms.{first_part, second_part}
-use Rattle.ep_gen_expr.proofs.Stays.{indexes_code_stays, spreads_length}
+use Rattle.ep_gen_expr.proofs.public.Stays.{indexes_code_stays, spreads_length}
 
 -- ---- instructions alone
 

@@ -10,9 +10,9 @@ use Rattle.ep_object.specs.State.{Stopped, Error}
 use Rattle.ep_object.specs.declared.code.Image.{Image}
 use Rattle.ep_object.specs.declared.code.Instr.{Instr}
 use Rattle.ep_object.specs.declared.code.Reference.{Reference}
-use Rattle.ep_simulation.proofs.following.Fragments.{fragment_credit, fragment_from, fragment_stop, fragment_waits}
-use Rattle.ep_simulation.proofs.rows.Rows.{fail_fails, jump_jumps}
-use Rattle.ep_simulation.proofs.rows.TextRows.{drop_drops}
+use Rattle.ep_simulation.proofs.public.following.Fragments.{fragment_credit, fragment_from, fragment_stop, fragment_waits}
+use Rattle.ep_simulation.proofs.public.rows.Rows.{fail_fails, jump_jumps}
+use Rattle.ep_simulation.proofs.public.rows.TextRows.{drop_drops}
 use Rattle.ep_meaning.specs.Calls.{Handler}
 use Rattle.ep_meaning.specs.Meaning.{selects}
 use Rattle.ep_meaning.specs.Steps.{Computation, is_number, stop}
@@ -23,10 +23,10 @@ use Rattle.ep_values.specs.declared.run_error.TheConstants as run_error
 use Rattle.ep_typed.specs.declared.tree.Selection.{Selection}
 use Rattle.ep_gen_code.specs.Instructions.{instr}
 use Rattle.ep_gen_expr.specs.ExprCode.{bad_place, ends_code, labels_code, labels_count, rest_code, selecting_code}
-use Rattle.ep_gen_code.proofs.Waiting.{row_waits}
-use Rattle.ep_gen_code.proofs.Placed.{code_front, code_back, instr_at, jump_has}
-use Rattle.ep_gen_expr.proofs.RangeMoves.{labels_follow}
-use Rattle.ep_gen_expr.proofs.Stays.{labels_length, selecting_length}
+use Rattle.ep_gen_code.proofs.public.Waiting.{row_waits}
+use Rattle.ep_gen_code.proofs.public.Placed.{code_front, code_back, instr_at, jump_has}
+use Rattle.ep_gen_expr.proofs.public.RangeMoves.{labels_follow}
+use Rattle.ep_gen_expr.proofs.public.Stays.{labels_length, selecting_length}
 use Rattle.ep_object.specs.declared.op.TheConstants as op
 
 module _ (G : Image) (ps : List Placement) (p : Placement) (references : List Reference) (line at number : ℕ) (s : Selection)

@@ -11,10 +11,10 @@ use Rattle.ep_gen_code.specs.Instructions.{bare, members_code, push}
 use Rattle.ep_gen_code.specs.Growth.{Grows}
 use Rattle.ep_gen_expr.specs.Growth.{AppendsExpr, AppendsDesignator}
 use Rattle.ep_gen_code.specs.declared.code.Code.{Code}
-use Rattle.ep_gen_code.proofs.Landing.{grows_length}
-use Rattle.ep_gen_code.proofs.Growing.{after_parts, grows_at, grows_then}
+use Rattle.ep_gen_code.proofs.public.Landing.{grows_length}
+use Rattle.ep_gen_code.proofs.public.Growing.{after_parts, grows_at, grows_then}
 use Rattle.ep_gen_expr.proofs.Forms.{first_part, second_part, whole_expr}
-use Rattle.ep_gen_expr.proofs.Stays.{designators_code_stays}
+use Rattle.ep_gen_expr.proofs.public.Stays.{designators_code_stays}
 
 -- a constant that is a set, of no members
 pub constant_none : {a b : Code} → Grows a b (bare a.line op.SET_NONE ∷ []) → AppendsExpr a b (SetConstant [])

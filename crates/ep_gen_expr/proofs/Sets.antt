@@ -11,13 +11,13 @@ use Rattle.ep_object.specs.Sets.{IsSet, member_limit}
 use Rattle.ep_object.specs.declared.code.Image.{Image}
 use Rattle.ep_object.specs.declared.code.Instr.{Instr}
 use Rattle.ep_object.specs.declared.code.Reference.{Reference}
-use Rattle.ep_object.proofs.SetWords.{few_members, members_set, none_set}
-use Rattle.ep_simulation.proofs.following.Choices.{Reads, fragment_fetched}
-use Rattle.ep_simulation.proofs.following.Fragments.{fragment_bind_number, fragment_credit, fragment_from, fragment_give, fragment_less, fragment_one, fragment_to, inside_bind}
-use Rattle.ep_simulation.proofs.matching.Awaiting.{on_top, value-grown, value_on_top}
-use Rattle.ep_simulation.proofs.matching.Growing.{inside_here, unit_in-same}
-use Rattle.ep_simulation.proofs.rows.Rows.{RowPushes}
-use Rattle.ep_simulation.proofs.rows.SetRows.{MembersOnTop, add_reads, card_pushes, difference_pushes, in_pushes, intersection_pushes, none_pushes, other_pushes, same_pushes, span_reads, subset_pushes, superset_pushes, symmetric_difference_pushes, union_pushes}
+use Rattle.ep_object.proofs.public.SetWords.{few_members, members_set, none_set}
+use Rattle.ep_simulation.proofs.public.following.Choices.{Reads, fragment_fetched}
+use Rattle.ep_simulation.proofs.public.following.Fragments.{fragment_bind_number, fragment_credit, fragment_from, fragment_give, fragment_less, fragment_one, fragment_to, inside_bind}
+use Rattle.ep_simulation.proofs.public.matching.Awaiting.{on_top, value-grown, value_on_top}
+use Rattle.ep_simulation.proofs.public.matching.Growing.{inside_here, unit_in-same}
+use Rattle.ep_simulation.proofs.public.rows.Rows.{RowPushes}
+use Rattle.ep_simulation.proofs.public.rows.SetRows.{MembersOnTop, add_reads, card_pushes, difference_pushes, in_pushes, intersection_pushes, none_pushes, other_pushes, same_pushes, span_reads, subset_pushes, superset_pushes, symmetric_difference_pushes, union_pushes}
 use Rattle.ep_meaning.specs.Calls.{Handler}
 use Rattle.ep_typed.specs.Hosts.{Host, is_of_host}
 use Rattle.ep_typed.specs.Hosts as host
@@ -35,11 +35,11 @@ use Rattle.ep_meaning.specs.Valid as kind
 use Rattle.ep_meaning.specs.Valid.{Declarations, Kind, Ordinal, IsCombination, IsSetComparison, IsMembership, IsOnSets}
 use Rattle.ep_values.specs.declared.operations.SetOperation.{SetOperation}
 use Rattle.ep_values.specs.declared.operations.SetOperation.TheVariants as set
-use Rattle.ep_meaning.proofs.Steady.{steady_bind, steady_collected, steady_eval, steady_fetch, steady_give, steady_spend}
+use Rattle.ep_meaning.proofs.public.Steady.{steady_bind, steady_collected, steady_eval, steady_fetch, steady_give, steady_spend}
 use Rattle.ep_gen_code.specs.Credit.{least_credit}
 use Rattle.ep_gen_code.specs.Instructions.{bare}
 use Rattle.ep_gen_expr.specs.ExprCode.{set_code}
-use Rattle.ep_gen_expr.proofs.Answering.{Evaluates, IsFollowed}
+use Rattle.ep_gen_expr.proofs.public.Answering.{Evaluates, IsFollowed}
 use Rattle.ep_gen_expr.proofs.Hosts.{ordinal_boolean}
 use Rattle.ep_object.specs.declared.op.TheConstants as op
 use Rattle.ep_values.specs.declared.run_error.TheConstants as run_error

@@ -11,10 +11,10 @@ use Rattle.ep_object.specs.State.{Running}
 use Rattle.ep_object.specs.declared.code.Image.{Image}
 use Rattle.ep_object.specs.declared.code.Instr.{Instr}
 use Rattle.ep_object.specs.declared.code.Reference.{Reference}
-use Rattle.ep_simulation.proofs.following.Fragments.{fragment_less, fragment_to, fragment_from, fragment_one, fragment_waits, fragment_move, fragment_give, fragment_credit, fragment_bind_number}
-use Rattle.ep_simulation.proofs.matching.Growing.{inside_here}
-use Rattle.ep_simulation.proofs.rows.Rows.{jump_false_jumps, not_answers}
-use Rattle.ep_simulation.proofs.rows.TextRows.{drop_drops, dup_pushes}
+use Rattle.ep_simulation.proofs.public.following.Fragments.{fragment_less, fragment_to, fragment_from, fragment_one, fragment_waits, fragment_move, fragment_give, fragment_credit, fragment_bind_number}
+use Rattle.ep_simulation.proofs.public.matching.Growing.{inside_here}
+use Rattle.ep_simulation.proofs.public.rows.Rows.{jump_false_jumps, not_answers}
+use Rattle.ep_simulation.proofs.public.rows.TextRows.{drop_drops, dup_pushes}
 use Rattle.ep_meaning.specs.Calls.{Handler}
 use Rattle.ep_meaning.specs.Meaning.{eval}
 use Rattle.ep_meaning.specs.Results.{weight_of}
@@ -22,7 +22,7 @@ use Rattle.ep_values.specs.Operations.{decides, is_true}
 use Rattle.ep_values.specs.Printing.{Result}
 use Rattle.ep_values.specs.Printing as result
 use Rattle.ep_meaning.specs.Steady.{IsSteadyHandler}
-use Rattle.ep_meaning.proofs.Steady.{steady_spend, steady_give}
+use Rattle.ep_meaning.proofs.public.Steady.{steady_spend, steady_give}
 use Rattle.ep_meaning.specs.Steps.{Computation, give, bind, spend}
 use Rattle.ep_typed.specs.Trees.{Expr}
 use Rattle.ep_meaning.specs.Valid.{Declarations, Ordinal}
@@ -33,10 +33,10 @@ use Rattle.ep_typed.specs.Hosts as host
 use Rattle.ep_gen_code.specs.Instructions.{instr, bare}
 use Rattle.ep_gen_expr.specs.ExprCode.{keep_code}
 use Rattle.ep_gen_code.specs.Credit.{least_credit}
-use Rattle.ep_gen_expr.proofs.Answering.{Evaluates, IsFollowed}
-use Rattle.ep_gen_code.proofs.Waiting.{row_waits}
+use Rattle.ep_gen_expr.proofs.public.Answering.{Evaluates, IsFollowed}
+use Rattle.ep_gen_code.proofs.public.Waiting.{row_waits}
 use Rattle.ep_gen_expr.proofs.Hosts.{not_true}
-use Rattle.ep_gen_code.proofs.Placed.{instr_at, jump_false_has}
+use Rattle.ep_gen_code.proofs.public.Placed.{instr_at, jump_false_has}
 use Rattle.ep_object.specs.declared.op.TheConstants as op
 
 -- what is left to do after the left operand, by whether it decides

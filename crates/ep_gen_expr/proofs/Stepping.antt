@@ -8,9 +8,9 @@ use Rattle.ep_object.specs.Placing.{Placement, CodeStands}
 use Rattle.ep_object.specs.Runs.{unit_in}
 use Rattle.ep_object.specs.declared.code.Image.{Image}
 use Rattle.ep_object.specs.declared.code.Reference.{Reference}
-use Rattle.ep_simulation.proofs.following.Choices.{going_of}
-use Rattle.ep_simulation.proofs.following.Fragments.{fragment_to, fragment_from, fragment_credit}
-use Rattle.ep_simulation.proofs.rows.Rows.{instr, RowPushes, push_pushes, neg_answers, step_answers}
+use Rattle.ep_simulation.proofs.public.following.Choices.{going_of}
+use Rattle.ep_simulation.proofs.public.following.Fragments.{fragment_to, fragment_from, fragment_credit}
+use Rattle.ep_simulation.proofs.public.rows.Rows.{instr, RowPushes, push_pushes, neg_answers, step_answers}
 use Rattle.ep_meaning.specs.Calls.{Handler}
 use Rattle.ep_values.specs.Operations.{step_answer}
 use Rattle.ep_meaning.specs.Valid.{Declarations, Ordinal}
@@ -18,10 +18,10 @@ use Rattle.ep_typed.specs.Hosts.{Host, least, greatest, is_of_host}
 use Rattle.ep_typed.specs.Hosts as host
 use Rattle.ep_gen_code.specs.Instructions.{push, bare}
 use Rattle.ep_gen_expr.specs.ExprCode.{step_code}
-use Rattle.ep_gen_expr.proofs.Answering.{Evaluates, answering, answer_follows}
-use Rattle.ep_gen_code.proofs.Waiting.{row_waits}
+use Rattle.ep_gen_expr.proofs.public.Answering.{Evaluates, answering, answer_follows}
+use Rattle.ep_gen_code.proofs.public.Waiting.{row_waits}
 use Rattle.ep_gen_expr.proofs.Hosts.{bounded_answer, negated}
-use Rattle.ep_gen_code.proofs.Placed.{instr_at}
+use Rattle.ep_gen_code.proofs.public.Placed.{instr_at}
 use Rattle.ep_object.specs.declared.op.TheConstants as op
 
 -- `Neg` of an integer has no error

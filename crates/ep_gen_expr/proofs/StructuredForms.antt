@@ -13,10 +13,10 @@ use Rattle.ep_gen_code.specs.declared.references.TheConstants as routine
 use Rattle.ep_gen_code.specs.Growth.{Grows}
 use Rattle.ep_gen_expr.specs.Growth.{AppendsExpr, AppendsElement, AppendsElements}
 use Rattle.ep_gen_code.specs.declared.code.Code.{Code}
-use Rattle.ep_gen_code.proofs.Landing.{grows_length}
-use Rattle.ep_gen_code.proofs.Growing.{grows_none, grows_then, grows_at}
+use Rattle.ep_gen_code.proofs.public.Landing.{grows_length}
+use Rattle.ep_gen_code.proofs.public.Growing.{grows_none, grows_then, grows_at}
 use Rattle.ep_gen_expr.proofs.Forms.{second_part, whole_expr}
-use Rattle.ep_gen_expr.proofs.Stays.{elements_code_stays}
+use Rattle.ep_gen_expr.proofs.public.Stays.{elements_code_stays}
 
 -- what comes before the components, and after them
 pub grows_begun : {a b c d e : Code} (number : ℕ) → Grows a b (instr op.CALL (pos (type_reference number)) 0 a.line ∷ []) → Grows b c (bare b.line op.NEW ∷ []) → Grows c d (bare c.line op.DUP ∷ []) → Grows d e (bare d.line op.DEREF ∷ []) → Grows a e (begin_code a.line number)

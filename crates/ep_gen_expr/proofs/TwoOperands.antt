@@ -8,8 +8,8 @@ use Rattle.ep_object.specs.Placing.{Placement, CodeStands}
 use Rattle.ep_object.specs.Runs.{unit_in}
 use Rattle.ep_object.specs.declared.code.Image.{Image}
 use Rattle.ep_object.specs.declared.code.Reference.{Reference}
-use Rattle.ep_simulation.proofs.following.Fragments.{fragment_to}
-use Rattle.ep_simulation.proofs.rows.Rows.{RowAnswers, add_answers, sub_answers, mul_answers, div_answers, mod_answers, and_answers, or_answers, equal_answers, unequal_answers, less_answers, greater_answers, at_most_answers, at_least_answers}
+use Rattle.ep_simulation.proofs.public.following.Fragments.{fragment_to}
+use Rattle.ep_simulation.proofs.public.rows.Rows.{RowAnswers, add_answers, sub_answers, mul_answers, div_answers, mod_answers, and_answers, or_answers, equal_answers, unequal_answers, less_answers, greater_answers, at_most_answers, at_least_answers}
 use Rattle.ep_meaning.specs.Calls.{Handler}
 use Rattle.ep_values.specs.Operations.{Number, is_same, is_true, ordinal_of, binary_answer}
 use Rattle.ep_meaning.specs.Valid.{Declarations, Kind, Ordinal, IsArithmetic, IsLogical, IsComparison, IsBinary}
@@ -18,7 +18,7 @@ use Rattle.ep_values.specs.declared.operations.Binary.TheVariants as binary
 use Rattle.ep_typed.specs.Hosts.{Host, is_of_host}
 use Rattle.ep_typed.specs.Hosts as host
 use Rattle.ep_gen_expr.specs.ExprCode.{two_code}
-use Rattle.ep_gen_expr.proofs.Answering.{Evaluates, answering, answer_follows}
+use Rattle.ep_gen_expr.proofs.public.Answering.{Evaluates, answering, answer_follows}
 use Rattle.ep_gen_expr.proofs.Hosts.{given, integer_answer, divided_answer, modulo_answer, ordinal_boolean}
 
 module _ (declared : Declarations) (G : Image) (untouched : Slots) (Here : Facts) (ps : List Placement) (p : Placement) (references : List Reference) (call : Handler) (g : ℕ) (unit : List ℕ) (line : ℕ) where

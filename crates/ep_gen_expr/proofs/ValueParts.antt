@@ -9,11 +9,11 @@ use Rattle.ep_object.specs.Runs.{unit_in}
 use Rattle.ep_object.specs.declared.code.Image.{Image}
 use Rattle.ep_object.specs.declared.code.Instr.{Instr}
 use Rattle.ep_object.specs.declared.code.Reference.{Reference}
-use Rattle.ep_simulation.proofs.following.Choices.{ReadsResult, follows_read, fragment_known}
-use Rattle.ep_simulation.proofs.following.Fragments.{FailsWith, fragment_bind_number, fragment_credit, fragment_less, fragment_to, inside_bind}
-use Rattle.ep_simulation.proofs.matching.Awaiting.{value-grown}
-use Rattle.ep_simulation.proofs.matching.Growing.{unit_in-same}
-use Rattle.ep_simulation.proofs.rows.PartRows.{field_part, index_part, index_part_fails}
+use Rattle.ep_simulation.proofs.public.following.Choices.{ReadsResult, follows_read, fragment_known}
+use Rattle.ep_simulation.proofs.public.following.Fragments.{FailsWith, fragment_bind_number, fragment_credit, fragment_less, fragment_to, inside_bind}
+use Rattle.ep_simulation.proofs.public.matching.Awaiting.{value-grown}
+use Rattle.ep_simulation.proofs.public.matching.Growing.{unit_in-same}
+use Rattle.ep_simulation.proofs.public.rows.PartRows.{field_part, index_part, index_part_fails}
 use Rattle.ep_values.specs.Bounds.{component_at}
 use Rattle.ep_meaning.specs.Calls.{Handler}
 use Rattle.ep_typed.specs.Hosts.{Host}
@@ -27,9 +27,9 @@ use Rattle.ep_typed.specs.Trees.{Expr, FieldValue, IndexedValue}
 use Rattle.ep_values.specs.TypeValues as type
 use Rattle.ep_values.specs.TypeValues.{ComponentTypes, TypeValue, type_among}
 use Rattle.ep_meaning.specs.Valid.{Declarations, IsTypeOfKind, Kind, Ordinal, Structured}
-use Rattle.ep_meaning.proofs.Steady.{steady_bind, steady_eval, steady_fetch, steady_give, steady_spend}
+use Rattle.ep_meaning.proofs.public.Steady.{steady_bind, steady_eval, steady_fetch, steady_give, steady_spend}
 use Rattle.ep_gen_code.specs.Instructions.{bare, instr}
-use Rattle.ep_gen_expr.proofs.Answering.{Evaluates, IsFollowed}
+use Rattle.ep_gen_expr.proofs.public.Answering.{Evaluates, IsFollowed}
 use Rattle.ep_object.specs.declared.op.TheConstants as op
 use Rattle.ep_values.specs.declared.run_error.TheConstants as run_error
 

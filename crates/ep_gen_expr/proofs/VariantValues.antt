@@ -12,14 +12,14 @@ use Rattle.ep_object.specs.WordRows.{bit}
 use Rattle.ep_object.specs.declared.code.Image.{Image}
 use Rattle.ep_object.specs.declared.code.Instr.{Instr}
 use Rattle.ep_object.specs.declared.code.Reference.{Reference}
-use Rattle.ep_simulation.proofs.following.Bind.{follows_credit, follows_from, follows_less, follows_waits, follows_stop}
-use Rattle.ep_simulation.proofs.following.Choices.{ReadsResult, Nothing, Result_of, follows_read}
-use Rattle.ep_simulation.proofs.following.Fragments.{fragment_bind_number, fragment_credit, fragment_from, fragment_less, fragment_paid, fragment_to, inside_bind}
-use Rattle.ep_simulation.proofs.matching.Awaiting.{value-grown}
-use Rattle.ep_simulation.proofs.matching.Growing.{not_left-here, unit_in-same}
-use Rattle.ep_simulation.proofs.rows.PartRows.{defined_part, field_part}
-use Rattle.ep_simulation.proofs.rows.Rows.{fail_fails, jump_false_jumps}
-use Rattle.ep_simulation.proofs.rows.TextRows.{dup_value}
+use Rattle.ep_simulation.proofs.public.following.Bind.{follows_credit, follows_from, follows_less, follows_waits, follows_stop}
+use Rattle.ep_simulation.proofs.public.following.Choices.{ReadsResult, Nothing, Result_of, follows_read}
+use Rattle.ep_simulation.proofs.public.following.Fragments.{fragment_bind_number, fragment_credit, fragment_from, fragment_less, fragment_paid, fragment_to, inside_bind}
+use Rattle.ep_simulation.proofs.public.matching.Awaiting.{value-grown}
+use Rattle.ep_simulation.proofs.public.matching.Growing.{not_left-here, unit_in-same}
+use Rattle.ep_simulation.proofs.public.rows.PartRows.{defined_part, field_part}
+use Rattle.ep_simulation.proofs.public.rows.Rows.{fail_fails, jump_false_jumps}
+use Rattle.ep_simulation.proofs.public.rows.TextRows.{dup_value}
 use Rattle.ep_meaning.specs.Calls.{Handler}
 use Rattle.ep_typed.specs.Hosts.{Host}
 use Rattle.ep_meaning.specs.Meaning.{active_part, chosen_part, part, selects, tag_read}
@@ -36,15 +36,15 @@ use Rattle.ep_values.specs.TypeValues.{ComponentTypes, TypeValue, type_among}
 use Rattle.ep_meaning.specs.Valid.{Declarations, IsTypeOf, Ordinal, Structured, tag_type}
 use Rattle.ep_values.specs.declared.run_error.TheConstants as run_error
 use Rattle.ep_typed.specs.declared.tree.Selection.{Selection}
-use Rattle.ep_meaning.proofs.Steady.{steady_active_part, steady_bind, steady_selecting_part, steady_tag_read}
+use Rattle.ep_meaning.proofs.public.Steady.{steady_active_part, steady_bind, steady_selecting_part, steady_tag_read}
 use Rattle.ep_gen_code.specs.Instructions.{bare, instr}
 use Rattle.ep_gen_expr.specs.ExprCode.{bad_place, selecting_code, variant_part_code}
-use Rattle.ep_gen_code.proofs.Placed.{instr_at, jump_false_has}
-use Rattle.ep_gen_expr.proofs.Answering.{Evaluates, IsFollowed}
+use Rattle.ep_gen_code.proofs.public.Placed.{instr_at, jump_false_has}
+use Rattle.ep_gen_expr.proofs.public.Answering.{Evaluates, IsFollowed}
 use Rattle.ep_gen_expr.proofs.Selecting.{fail_at, field_at, selecting_follows, within}
-use Rattle.ep_gen_expr.proofs.Stays.{selecting_length, variant_part_length}
+use Rattle.ep_gen_expr.proofs.public.Stays.{selecting_length, variant_part_length}
 use Rattle.ep_gen_expr.proofs.ValueParts.{field_taken}
-use Rattle.ep_gen_expr.proofs.VariantMoves.{follows_found}
+use Rattle.ep_gen_expr.proofs.public.VariantMoves.{follows_found}
 use Rattle.ep_object.specs.declared.op.TheConstants as op
 
 -- where there is a result, it does not matter which error there would be

@@ -3,14 +3,14 @@ use Rattle.std.proofs.Common.{◌≡◌, ℕ, pos, suc, ◌+◌, ◌-◌, ◌≤
 use Rattle.ep_gen_code.specs.Instructions.{bare}
 use Rattle.ep_gen_code.specs.Credit.{least_credit}
 use Rattle.ep_gen_code.specs.Referring.{AreReferred, AreArraysReferred, IsSwapReferred}
-use Rattle.ep_gen_code.proofs.Constants.{set_follows, word_follows}
-use Rattle.ep_gen_code.proofs.Placed.{code_back, code_front}
+use Rattle.ep_gen_code.proofs.public.Constants.{set_follows, word_follows}
+use Rattle.ep_gen_code.proofs.public.Placed.{code_back, code_front}
 use Rattle.ep_gen_expr.specs.ExprCode.{end_code, first_code, ranges_code, reach_code, same_code}
-use Rattle.ep_gen_expr.proofs.Answering.{IsFollowed}
-use Rattle.ep_gen_expr.proofs.FilledRanges.{at_ranges_follow}
-use Rattle.ep_gen_expr.proofs.SameFields.{same_field_follows}
-use Rattle.ep_gen_expr.proofs.StructuredValues.{AreElementsFollowed, at_field_follows, next_element_follows, no_element_follows}
-use Rattle.ep_gen_expr.proofs.WholeStructures.{named_within, structured_spares, structured_follows}
+use Rattle.ep_gen_expr.proofs.public.Answering.{IsFollowed}
+use Rattle.ep_gen_expr.proofs.public.FilledRanges.{at_ranges_follow}
+use Rattle.ep_gen_expr.proofs.public.SameFields.{same_field_follows}
+use Rattle.ep_gen_expr.proofs.public.StructuredValues.{AreElementsFollowed, at_field_follows, next_element_follows, no_element_follows}
+use Rattle.ep_gen_expr.proofs.public.WholeStructures.{named_within, structured_spares, structured_follows}
 use Rattle.ep_gen_type.specs.TypeCode.{parts_code, start_code}
 use Rattle.ep_simulation.specs.Follows.{point, Facts, Lasts, Fragment, Inside, IsStructure, TypeOnTop}
 use Rattle.ep_simulation.specs.Matching.{AreAmong, Describes, Matches, Slots, Memory, Injection, kept_slots}
@@ -23,15 +23,15 @@ use Rattle.ep_object.specs.declared.code.Image.{Image}
 use Rattle.ep_object.specs.declared.code.Instr.{Instr}
 use Rattle.ep_object.specs.declared.code.Reference.{Reference}
 use Rattle.ep_object.specs.declared.op.TheConstants as op
-use Rattle.ep_simulation.proofs.following.Fragments.{inside_bind, fragment_credit, fragment_post, fragment_to}
-use Rattle.ep_simulation.proofs.matching.Awaiting.{value_weight}
-use Rattle.ep_simulation.proofs.matching.Growing.{described-longer, unit_in-same}
-use Rattle.ep_simulation.proofs.rows.InitialRow.{IsTried, init_follows, set_begins, value_begins, word_begins}
+use Rattle.ep_simulation.proofs.public.following.Fragments.{inside_bind, fragment_credit, fragment_post, fragment_to}
+use Rattle.ep_simulation.proofs.public.matching.Awaiting.{value_weight}
+use Rattle.ep_simulation.proofs.public.matching.Growing.{described-longer, unit_in-same}
+use Rattle.ep_simulation.proofs.public.rows.InitialRow.{IsTried, init_follows, set_begins, value_begins, word_begins}
 use Rattle.ep_meaning.specs.Steady.{IsSteadyHandler}
 use Rattle.ep_meaning.specs.Calls.{Handler}
-use Rattle.ep_meaning.proofs.Bares.{bare_size}
-use Rattle.ep_meaning.proofs.Steady.{steady_begins_where}
-use Rattle.ep_meaning.proofs.Typed.{typed_bare, typed_value}
+use Rattle.ep_meaning.proofs.public.Bares.{bare_size}
+use Rattle.ep_meaning.proofs.public.Steady.{steady_begins_where}
+use Rattle.ep_meaning.proofs.public.Typed.{typed_bare, typed_value}
 use Rattle.ep_meaning.specs.Meaning.{begins_where, eval}
 use Rattle.ep_values.specs.Printing.{Result}
 use Rattle.ep_meaning.specs.Results.{start_from, start_in, weight_of}

@@ -1,4 +1,4 @@
-pub mod Elaborating
-pub mod InitialStates
-pub mod TypeForms
-pub mod TypeNames
+mod InitialStates
+pub mod public
+mod TypeForms
+mod TypeNames

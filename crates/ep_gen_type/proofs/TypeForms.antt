@@ -8,7 +8,7 @@ use Rattle.ep_gen_code.specs.Instructions.{bare, instr, members_code, push}
 use Rattle.ep_gen_code.specs.Growth.{Grows}
 use Rattle.ep_gen_code.specs.declared.code.Code.{Code}
 use Rattle.std.proofs.lemmas.List.{map_more, take_more}
-use Rattle.ep_gen_code.proofs.Growing.{grows_at, grows_none}
+use Rattle.ep_gen_code.proofs.public.Growing.{grows_at, grows_none}
 use Rattle.ep_gen_expr.specs.ExprCode.{begin_code, end_code, first_code, first_index, ranges_code, reach_code}
 use Rattle.ep_gen_type.specs.TypeCode.{each_code, how_many, ordinal_code, part_code, parts_code, start_code, type_code}
 use Rattle.std.specs.Prelude.{Bool, is_some}

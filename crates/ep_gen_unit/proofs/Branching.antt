@@ -4,19 +4,19 @@ use Rattle.ep_simulation.specs.Follows.{Facts}
 use Rattle.ep_simulation.specs.Matching.{Slots}
 use Rattle.ep_gen_code.specs.Instructions.{instr}
 use Rattle.ep_gen_expr.specs.ExprCode.{IsExprCode}
-use Rattle.ep_gen_code.proofs.Placed.{jump_has, jump_false_has}
+use Rattle.ep_gen_code.proofs.public.Placed.{jump_has, jump_false_has}
 use Rattle.ep_gen_unit.proofs.Parts.{Moves, ExpressionsFollow}
 use Rattle.ep_object.specs.Placing.{Placement, CodeStands}
 use Rattle.ep_object.specs.declared.code.Image.{Image}
 use Rattle.ep_object.specs.declared.code.Instr.{Instr}
 use Rattle.ep_object.specs.declared.code.Reference.{Reference}
-use Rattle.ep_simulation.proofs.following.Choices.{fragment_branch, fragment_turns, fragment_turns_until}
-use Rattle.ep_simulation.proofs.following.Fragments.{fragment_give, fragment_to, fragment_from, fragment_less, fragment_credit, fragment_one, fragment_move, fragment_bind_number, fragment_bind_bare}
-use Rattle.ep_simulation.proofs.matching.Growing.{unit_in-same, grown_refl, same_routine-refl, inside_here}
-use Rattle.ep_simulation.proofs.rows.Rows.{jump_jumps, jump_false_jumps}
+use Rattle.ep_simulation.proofs.public.following.Choices.{fragment_branch, fragment_turns, fragment_turns_until}
+use Rattle.ep_simulation.proofs.public.following.Fragments.{fragment_give, fragment_to, fragment_from, fragment_less, fragment_credit, fragment_one, fragment_move, fragment_bind_number, fragment_bind_bare}
+use Rattle.ep_simulation.proofs.public.matching.Growing.{unit_in-same, grown_refl, same_routine-refl, inside_here}
+use Rattle.ep_simulation.proofs.public.rows.Rows.{jump_jumps, jump_false_jumps}
 use Rattle.ep_meaning.specs.Steady.{IsSteadyHandler}
 use Rattle.ep_meaning.specs.Calls.{Handler}
-use Rattle.ep_meaning.proofs.Steady.{steady_bind, steady_spend, steady_give, steady_if, steady_eval, steady_exec, steady_exec_all}
+use Rattle.ep_meaning.proofs.public.Steady.{steady_bind, steady_spend, steady_give, steady_if, steady_eval, steady_exec, steady_exec_all}
 use Rattle.ep_meaning.specs.Meaning.{exec, exec_all}
 use Rattle.ep_meaning.specs.Results.{weight_of}
 use Rattle.ep_values.specs.Operations.{is_true}

@@ -8,7 +8,7 @@ use Rattle.ep_values.specs.declared.run_error.TheConstants as run_error
 use Rattle.ep_typed.specs.declared.tree.CaseRange.{CaseRange}
 use Rattle.ep_gen_code.specs.Instructions.{bare, instr}
 use Rattle.ep_gen_expr.specs.ExprCode.{tests_code}
-use Rattle.ep_gen_expr.proofs.Stays.{tests_length}
+use Rattle.ep_gen_expr.proofs.public.Stays.{tests_length}
 use Rattle.ep_gen_code.specs.Growth.{Grows}
 use Rattle.ep_gen_expr.specs.Growth.{AppendsExpr}
 use Rattle.ep_gen_code.specs.Jumps.{IsNextPlace, LeavesHole, landed}

@@ -9,10 +9,10 @@ use Rattle.ep_object.specs.State.{Stopped, Error}
 use Rattle.ep_object.specs.declared.code.Image.{Image}
 use Rattle.ep_object.specs.declared.code.Instr.{Instr}
 use Rattle.ep_object.specs.declared.code.Reference.{Reference}
-use Rattle.ep_simulation.proofs.following.Fragments.{fragment_give, fragment_stop, fragment_from, fragment_less, fragment_one, fragment_waits, fragment_move, fragment_bind_number, fragment_bind_bare}
-use Rattle.ep_simulation.proofs.matching.Growing.{unit_in-same, inside_here}
-use Rattle.ep_simulation.proofs.rows.Rows.{jump_jumps, fail_fails}
-use Rattle.ep_simulation.proofs.rows.TextRows.{drop_drops}
+use Rattle.ep_simulation.proofs.public.following.Fragments.{fragment_give, fragment_stop, fragment_from, fragment_less, fragment_one, fragment_waits, fragment_move, fragment_bind_number, fragment_bind_bare}
+use Rattle.ep_simulation.proofs.public.matching.Growing.{unit_in-same, inside_here}
+use Rattle.ep_simulation.proofs.public.rows.Rows.{jump_jumps, fail_fails}
+use Rattle.ep_simulation.proofs.public.rows.TextRows.{drop_drops}
 use Rattle.ep_meaning.specs.Calls.{Handler}
 use Rattle.ep_typed.specs.Hosts.{Host}
 use Rattle.ep_meaning.specs.Meaning.{exec, exec_all, exec_arms, exec_other}
@@ -25,12 +25,12 @@ use Rattle.ep_meaning.specs.Valid as kind
 use Rattle.ep_meaning.specs.Valid.{Declarations, IsExpr}
 use Rattle.ep_values.specs.declared.run_error.TheConstants as run_error
 use Rattle.ep_typed.specs.declared.tree.CaseRange.{CaseRange}
-use Rattle.ep_meaning.proofs.Steady.{steady_spend, steady_give, steady_exec_arms, steady_exec_other}
+use Rattle.ep_meaning.proofs.public.Steady.{steady_spend, steady_give, steady_exec_arms, steady_exec_other}
 use Rattle.ep_gen_code.specs.Instructions.{instr, bare}
 use Rattle.ep_gen_expr.specs.ExprCode.{IsExprCode}
-use Rattle.ep_gen_code.proofs.Waiting.{row_waits}
-use Rattle.ep_gen_code.proofs.Placed.{jump_has}
-use Rattle.ep_gen_expr.proofs.RangeMoves.{tests_follow}
+use Rattle.ep_gen_code.proofs.public.Waiting.{row_waits}
+use Rattle.ep_gen_code.proofs.public.Placed.{jump_has}
+use Rattle.ep_gen_expr.proofs.public.RangeMoves.{tests_follow}
 use Rattle.ep_gen_expr.specs.ExprCode.{tests_code}
 use Rattle.ep_gen_unit.proofs.Parts.{statement_credit, Moves, ExpressionsFollow}
 use Rattle.ep_object.specs.declared.op.TheConstants as op

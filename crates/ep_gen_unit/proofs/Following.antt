@@ -7,9 +7,9 @@ use Rattle.ep_gen_code.specs.Instructions.{instr}
 use Rattle.ep_gen_code.specs.Growth.{TableGrows, Grows}
 use Rattle.ep_gen_code.specs.Jumps.{landed}
 use Rattle.ep_gen_code.specs.declared.code.Code.{Code}
-use Rattle.ep_gen_code.proofs.Landing.{set_after, set_length}
-use Rattle.ep_gen_code.proofs.Pushed.{table_same, table_then}
-use Rattle.ep_gen_expr.proofs.Stays.{expr_code_stays}
+use Rattle.ep_gen_code.proofs.public.Landing.{set_after, set_length}
+use Rattle.ep_gen_code.proofs.public.Pushed.{table_same, table_then}
+use Rattle.ep_gen_expr.proofs.public.Stays.{expr_code_stays}
 use Rattle.ep_gen_unit.specs.StmtCode.{IsStmtCode}
 use Rattle.ep_gen_unit.specs.StmtGrowth.{Follows}
 use Rattle.ep_gen_unit.proofs.StmtStays.{stmt_code_stays}

@@ -3,8 +3,8 @@ use Rattle.std.proofs.Common.{◌≡◌, ℕ, ℤ, pos, zero, suc, ◌+◌, ◌-
 use Rattle.std.specs.Prelude.{if◌then◌else◌}
 use Rattle.ep_gen_code.specs.Instructions.{instr, bare}
 use Rattle.ep_gen_expr.specs.ExprCode.{two_code, IsExprCode}
-use Rattle.ep_gen_expr.proofs.PlaceTypes.{kind_place}
-use Rattle.ep_gen_code.proofs.Placed.{jump_has, jump_false_has}
+use Rattle.ep_gen_expr.proofs.public.PlaceTypes.{kind_place}
+use Rattle.ep_gen_code.proofs.public.Placed.{jump_has, jump_false_has}
 use Rattle.ep_gen_unit.proofs.Parts.{code_stands-parts, Moves, ExpressionsFollow, PlacesFollow, statement_credit, ordinal_of_host}
 use Rattle.ep_simulation.specs.Follows.{point, Facts, Lasts, Fragment, Follows, Lands, Inside, Bare, IsNotLeft}
 use Rattle.ep_simulation.specs.Matching.{Slots, Memory, Injection, IsLike, IsSpot, at as standing}
@@ -20,21 +20,21 @@ use Rattle.ep_object.specs.declared.code.Reference.{Reference}
 use Rattle.ep_object.specs.declared.state.Place.{Place as PlaceOf}
 use Rattle.ep_gen_unit.specs.StmtCode.{IsAssignCode, AreBoundsCode, IsFirstCode, IsTestCode, IsUndefineCode, for_code}
 use Rattle.ep_gen_unit.proofs.Simple.{assigned_moves}
-use Rattle.ep_simulation.proofs.rows.ChangeRows.{ordinal_takes}
+use Rattle.ep_simulation.proofs.public.rows.ChangeRows.{ordinal_takes}
 use Rattle.ep_gen_unit.proofs.StmtStays.{for_length}
 use Rattle.ep_values.specs.declared.run_error.TheConstants as run_error
 use Rattle.ep_values.specs.Events.{Trace}
-use Rattle.ep_simulation.proofs.following.Bind.{follows_paid, follows_changed}
-use Rattle.ep_simulation.proofs.following.Choices.{fragment_branch, fragment_branch_one, fragment_using}
-use Rattle.ep_simulation.proofs.following.Fragments.{Does, FailsWith, landed, fragment_cut, fragment_give, fragment_to, fragment_from, fragment_less, fragment_credit, fragment_waits, fragment_move, fragment_bind_number, fragment_bind_bare, fragment_bind_place}
-use Rattle.ep_simulation.proofs.matching.Growing.{unit_in-same, inside_here, not_left-here}
-use Rattle.ep_simulation.proofs.rows.ChangeRows.{undefine_does, undefine_fails_ended}
-use Rattle.ep_simulation.proofs.rows.Rows.{jump_jumps, jump_false_jumps, unequal_answers}
-use Rattle.ep_simulation.proofs.rows.TextRows.{drop_drops, dup_pushes}
+use Rattle.ep_simulation.proofs.public.following.Bind.{follows_paid, follows_changed}
+use Rattle.ep_simulation.proofs.public.following.Choices.{fragment_branch, fragment_branch_one, fragment_using}
+use Rattle.ep_simulation.proofs.public.following.Fragments.{Does, FailsWith, landed, fragment_cut, fragment_give, fragment_to, fragment_from, fragment_less, fragment_credit, fragment_waits, fragment_move, fragment_bind_number, fragment_bind_bare, fragment_bind_place}
+use Rattle.ep_simulation.proofs.public.matching.Growing.{unit_in-same, inside_here, not_left-here}
+use Rattle.ep_simulation.proofs.public.rows.ChangeRows.{undefine_does, undefine_fails_ended}
+use Rattle.ep_simulation.proofs.public.rows.Rows.{jump_jumps, jump_false_jumps, unequal_answers}
+use Rattle.ep_simulation.proofs.public.rows.TextRows.{drop_drops, dup_pushes}
 use Rattle.ep_meaning.specs.Controls.{in_order, next_value}
 use Rattle.ep_meaning.specs.Steady.{Steady, IsSteadyHandler}
 use Rattle.ep_meaning.specs.Calls.{Handler}
-use Rattle.ep_meaning.proofs.Steady.{steady_bind, steady_spend, steady_give, steady_if, steady_using, steady_eval, steady_exec, steady_assigns, steady_undefined, steady_undefines, steady_turns_to, steady_counts}
+use Rattle.ep_meaning.proofs.public.Steady.{steady_bind, steady_spend, steady_give, steady_if, steady_using, steady_eval, steady_exec, steady_assigns, steady_undefined, steady_undefines, steady_turns_to, steady_counts}
 use Rattle.ep_meaning.specs.Meaning.{eval, exec, assigns, undefines, turns_to, counts}
 use Rattle.ep_meaning.specs.Results.{weight_of}
 use Rattle.ep_values.specs.Operations.{is_same, is_true, ordinal_of}

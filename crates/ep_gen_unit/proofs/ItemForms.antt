@@ -10,8 +10,8 @@ use Rattle.ep_gen_code.specs.Instructions.{bare, push}
 use Rattle.ep_gen_code.specs.Growth.{Grows}
 use Rattle.ep_gen_expr.specs.Growth.{AppendsExpr}
 use Rattle.ep_gen_code.specs.declared.code.Code.{Code}
-use Rattle.ep_gen_code.proofs.Landing.{grows_length}
-use Rattle.ep_gen_code.proofs.Growing.{grows_none, grows_then, grows_at}
+use Rattle.ep_gen_code.proofs.public.Landing.{grows_length}
+use Rattle.ep_gen_code.proofs.public.Growing.{grows_none, grows_then, grows_at}
 use Rattle.ep_gen_unit.specs.StmtCode.{IsItemCode, AreItemsCode, output_code, plain_code, before_width, wide_code, line_end_code}
 use Rattle.ep_gen_unit.specs.StmtGrowth.{AppendsItem, AppendsItems}
 use Rattle.ep_gen_unit.proofs.Following.{IsLater, later_grows, expr_later}

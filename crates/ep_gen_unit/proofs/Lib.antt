@@ -1,34 +1,34 @@
-pub mod Branching
-pub mod CaseForms
-pub mod CaseMoves
-pub mod Compounds
-pub mod Declared
-pub mod Following
-pub mod ForForms
-pub mod ForMoves
-pub mod ItemForms
-pub mod Makes
-pub mod MemberForms
-pub mod MemberMoves
-pub mod OwnMakes
+mod Branching
+mod CaseForms
+mod CaseMoves
+mod Compounds
+mod Declared
+mod Following
+mod ForForms
+mod ForMoves
+mod ItemForms
+mod Makes
+mod MemberForms
+mod MemberMoves
+mod OwnMakes
 mod Parts
 mod ProcedureMoves
+mod ProgramForms
+pub mod public
 mod Referred
-pub mod ProgramForms
-pub mod Programs
 mod Results
 mod Routines
+mod Simple
 mod Sized
-pub mod Simple
-pub mod Starts
+mod Starts
+mod StmtForms
+mod StmtMoves
+mod StmtStays
 mod StructureRoutines
-pub mod StmtMoves
-pub mod StmtForms
-pub mod StmtStays
-pub mod TagForms
-pub mod TagLengths
-pub mod TagMoves
+mod TagForms
+mod TagLengths
+mod TagMoves
 mod TypeRoutines
-pub mod Units
-pub mod WithMoves
-pub mod Writing
+mod Units
+mod WithMoves
+mod Writing

@@ -6,7 +6,7 @@ use Rattle.ep_gen_code.specs.Instructions.{instr}
 use Rattle.ep_gen_unit.specs.StmtCode.{make_code, make_all_code}
 use Rattle.ep_gen_type.specs.TypeCode.{type_code}
 use Rattle.ep_gen_code.specs.Referring.{AreReferred, AreArraysReferred, IsSwapReferred}
-use Rattle.ep_gen_type.proofs.Elaborating.{elaborates}
+use Rattle.ep_gen_type.proofs.public.Elaborating.{elaborates}
 use Rattle.ep_simulation.specs.Promises.{CallsAreKept}
 use Rattle.ep_gen_unit.specs.UnitLaws.{AreDeclared}
 use Rattle.ep_gen_unit.proofs.Sized.{fragment_sized, sized_gains}
@@ -20,18 +20,18 @@ use Rattle.ep_object.specs.State.{Frames}
 use Rattle.ep_object.specs.declared.code.Image.{Image}
 use Rattle.ep_object.specs.declared.code.ImageUnit.{ImageUnit}
 use Rattle.ep_object.specs.declared.code.Reference.{Reference}
-use Rattle.ep_simulation.proofs.following.Fragments.{inside_bind, fragment_bind_bare, fragment_credit, fragment_give, fragment_to}
-use Rattle.ep_simulation.proofs.matching.Growing.{inside_here, no_calls, unit_in-same}
+use Rattle.ep_simulation.proofs.public.following.Fragments.{inside_bind, fragment_bind_bare, fragment_credit, fragment_give, fragment_to}
+use Rattle.ep_simulation.proofs.public.matching.Growing.{inside_here, no_calls, unit_in-same}
 use Rattle.ep_simulation.specs.Starts.{AreStarts}
-use Rattle.ep_simulation.proofs.rows.MakeRow.{RunsInUnit, make_does}
+use Rattle.ep_simulation.proofs.public.rows.MakeRow.{RunsInUnit, make_does}
 use Rattle.ep_simulation.specs.Scene.{HaveValidTypes}
 use Rattle.ep_object.specs.declared.code.Instr.{Instr}
 use Rattle.ep_meaning.specs.Steady.{IsSteadyHandler}
 use Rattle.ep_meaning.specs.Calls.{Handler}
-use Rattle.ep_typed.proofs.Denoters.{types_are_instances}
-use Rattle.ep_meaning.proofs.Bares.{value_bare}
-use Rattle.ep_meaning.proofs.Typed.{typed_bare, typed_value}
-use Rattle.ep_meaning.proofs.Steady.{grows_made, steady_allocate, steady_make_all}
+use Rattle.ep_typed.proofs.public.Denoters.{types_are_instances}
+use Rattle.ep_meaning.proofs.public.Bares.{value_bare}
+use Rattle.ep_meaning.proofs.public.Typed.{typed_bare, typed_value}
+use Rattle.ep_meaning.proofs.public.Steady.{grows_made, steady_allocate, steady_make_all}
 use Rattle.ep_meaning.specs.Meaning.{make, make_all}
 use Rattle.ep_meaning.specs.Steps.{Computation, counted, made, allocate}
 use Rattle.ep_values.specs.TypeValues.{size_of}

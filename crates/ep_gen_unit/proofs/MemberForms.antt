@@ -9,8 +9,8 @@ use Rattle.ep_gen_code.specs.Growth.{Grows}
 use Rattle.ep_gen_expr.specs.Growth.{AppendsPlace, AppendsExpr}
 use Rattle.ep_gen_code.specs.Jumps.{IsNextPlace, LeavesHole, landed}
 use Rattle.ep_gen_code.specs.declared.code.Code.{Code}
-use Rattle.ep_gen_code.proofs.Growing.{grows_at}
-use Rattle.ep_gen_expr.proofs.Stays.{place_code_stays}
+use Rattle.ep_gen_code.proofs.public.Growing.{grows_at}
+use Rattle.ep_gen_expr.proofs.public.Stays.{place_code_stays}
 use Rattle.ep_gen_unit.specs.StmtCode.{IsStmtCode, IsLeastCode, IsKeptCode, IsUndefineCode, for_in_code}
 use Rattle.ep_gen_unit.specs.StmtGrowth.{Follows, AppendsMore, AppendsLeast, AppendsKept, AppendsUndefine, AppendsStmt}
 use Rattle.ep_gen_unit.proofs.StmtStays.{least_code_stays, kept_code_stays, stmt_code_short}

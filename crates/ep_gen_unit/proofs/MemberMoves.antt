@@ -3,8 +3,8 @@ use Rattle.std.proofs.Common.{◌≡◌, ℕ, pos, ◌+◌, ◌≤◌, ◌<◌, 
 use Rattle.std.proofs.lemmas.Bool.Decides.{nat_tests}
 use Rattle.ep_gen_code.specs.Instructions.{instr, bare, push}
 use Rattle.ep_gen_expr.specs.ExprCode.{IsExprCode}
-use Rattle.ep_gen_expr.proofs.PlaceTypes.{kind_place}
-use Rattle.ep_gen_code.proofs.Placed.{jump_has, jump_false_has}
+use Rattle.ep_gen_expr.proofs.public.PlaceTypes.{kind_place}
+use Rattle.ep_gen_code.proofs.public.Placed.{jump_has, jump_false_has}
 use Rattle.ep_gen_unit.specs.StmtCode.{IsAssignCode, IsLeastCode, IsKeptCode, IsUndefineCode, for_in_code}
 use Rattle.ep_gen_unit.proofs.ForMoves.{undefine_moves}
 use Rattle.ep_gen_unit.proofs.Parts.{code_stands-parts, Moves, ExpressionsFollow, PlacesFollow, ordinal_of_host}
@@ -20,14 +20,14 @@ use Rattle.ep_object.specs.declared.code.Image.{Image}
 use Rattle.ep_object.specs.declared.code.Instr.{Instr}
 use Rattle.ep_object.specs.declared.code.Reference.{Reference}
 use Rattle.ep_object.specs.declared.op.TheConstants as op
-use Rattle.ep_simulation.proofs.following.Choices.{fragment_turns}
-use Rattle.ep_simulation.proofs.following.Fragments.{fragment_bind_bare, fragment_bind_place, fragment_credit, fragment_from, fragment_to, fragment_waits, inside_bind}
-use Rattle.ep_simulation.proofs.matching.Awaiting.{value_on_top}
-use Rattle.ep_simulation.proofs.matching.Growing.{describes-grown, grown_refl, is_spot-grown, same_routine-refl, unit_in-same}
-use Rattle.ep_simulation.proofs.rows.ChangeRows.{may_take, ordinal_takes, set_takes}
-use Rattle.ep_simulation.proofs.rows.Rows.{jump_jumps, jump_false_jumps, push_pushes}
-use Rattle.ep_simulation.proofs.rows.SetRows.{least_pushes}
-use Rattle.ep_meaning.proofs.Steady.{steady_assign, steady_bind, steady_eval, steady_exec, steady_member_turn, steady_place, steady_turns, steady_undefined, steady_undefines, steady_using}
+use Rattle.ep_simulation.proofs.public.following.Choices.{fragment_turns}
+use Rattle.ep_simulation.proofs.public.following.Fragments.{fragment_bind_bare, fragment_bind_place, fragment_credit, fragment_from, fragment_to, fragment_waits, inside_bind}
+use Rattle.ep_simulation.proofs.public.matching.Awaiting.{value_on_top}
+use Rattle.ep_simulation.proofs.public.matching.Growing.{describes-grown, grown_refl, is_spot-grown, same_routine-refl, unit_in-same}
+use Rattle.ep_simulation.proofs.public.rows.ChangeRows.{may_take, ordinal_takes, set_takes}
+use Rattle.ep_simulation.proofs.public.rows.Rows.{jump_jumps, jump_false_jumps, push_pushes}
+use Rattle.ep_simulation.proofs.public.rows.SetRows.{least_pushes}
+use Rattle.ep_meaning.proofs.public.Steady.{steady_assign, steady_bind, steady_eval, steady_exec, steady_member_turn, steady_place, steady_turns, steady_undefined, steady_undefines, steady_using}
 use Rattle.ep_meaning.specs.Calls.{Handler}
 use Rattle.ep_meaning.specs.Controls.{has_more, others}
 use Rattle.ep_typed.specs.Hosts as host

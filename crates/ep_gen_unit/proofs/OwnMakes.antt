@@ -3,12 +3,12 @@ use Rattle.std.proofs.Common.{◌≡◌, ℕ, pos, suc, ◌+◌, ◌-◌, ◌*�
 use Rattle.std.proofs.lemmas.Option.{same_Some}
 use Rattle.ep_gen_code.specs.Credit.{least_credit}
 use Rattle.ep_gen_code.specs.Instructions.{instr, bare}
-use Rattle.ep_gen_code.proofs.Placed.{instr_at}
-use Rattle.ep_gen_expr.proofs.PlaceTypes.{has_bare_type}
+use Rattle.ep_gen_code.proofs.public.Placed.{instr_at}
+use Rattle.ep_gen_expr.proofs.public.PlaceTypes.{has_bare_type}
 use Rattle.ep_gen_unit.specs.StmtCode.{make_code, make_all_code, value_code, place_taken, take_code, take_all_code}
 use Rattle.ep_gen_type.specs.TypeCode.{type_code}
 use Rattle.ep_gen_code.specs.Referring.{AreReferred, AreArraysReferred, IsSwapReferred}
-use Rattle.ep_gen_type.proofs.Elaborating.{elaborates}
+use Rattle.ep_gen_type.proofs.public.Elaborating.{elaborates}
 use Rattle.ep_gen_unit.proofs.Sized.{fragment_sized}
 use Rattle.ep_gen_unit.proofs.Parts.{code_stands-parts}
 use Rattle.ep_simulation.specs.Activations.{InActivation}
@@ -26,27 +26,27 @@ use Rattle.ep_object.specs.Placing.{Placement, CodeStands}
 use Rattle.ep_simulation.specs.Scene.{HaveValidOwnTypes}
 use Rattle.ep_object.specs.declared.code.Image.{Image}
 use Rattle.ep_object.specs.declared.code.Reference.{Reference}
-use Rattle.ep_simulation.proofs.following.Fragments.{fragment_bind, fragment_credit, fragment_weaken, fragment_post, fragment_give, fragment_from, fragment_to, fragment_less}
-use Rattle.ep_simulation.proofs.matching.Growing.{same_routine-refl, still_routine, still_runs-trans, unit_in-still}
+use Rattle.ep_simulation.proofs.public.following.Fragments.{fragment_bind, fragment_credit, fragment_weaken, fragment_post, fragment_give, fragment_from, fragment_to, fragment_less}
+use Rattle.ep_simulation.proofs.public.matching.Growing.{same_routine-refl, still_routine, still_runs-trans, unit_in-still}
 use Rattle.ep_simulation.specs.Starts.{AreStarts}
-use Rattle.ep_simulation.proofs.matching.Awaiting.{arguments_in, AreAwaited, awaited-grown, awaited-taken, value-grown, without_argument}
-use Rattle.ep_simulation.proofs.rows.ArgumentRows.{Taken, taken-later, same_arguments, value_taken, variable_taken}
-use Rattle.ep_simulation.proofs.rows.OwnRows.{StillBare, MadeOwn, in_frame, make_own_does}
+use Rattle.ep_simulation.proofs.public.matching.Awaiting.{arguments_in, AreAwaited, awaited-grown, awaited-taken, value-grown, without_argument}
+use Rattle.ep_simulation.proofs.public.rows.ArgumentRows.{Taken, taken-later, same_arguments, value_taken, variable_taken}
+use Rattle.ep_simulation.proofs.public.rows.OwnRows.{StillBare, MadeOwn, in_frame, make_own_does}
 use Rattle.ep_meaning.specs.Steady.{IsSteadyHandler}
 use Rattle.ep_meaning.specs.Calls.{Argument, Value, Handler}
 use Rattle.ep_meaning.specs.Calls as argument_is
-use Rattle.ep_meaning.proofs.Bares.{bare_size}
+use Rattle.ep_meaning.proofs.public.Bares.{bare_size}
 use Rattle.ep_typed.specs.Denoters.{bare_type_of, type_of}
 use Rattle.ep_values.specs.Printing.{Result}
 use Rattle.ep_meaning.specs.Results.{weight_of}
-use Rattle.ep_meaning.proofs.ValueKinds.{typed_of_kind}
+use Rattle.ep_meaning.proofs.public.ValueKinds.{typed_of_kind}
 use Rattle.ep_typed.specs.declared.interface.Formal.{Formal}
 use Rattle.ep_typed.specs.declared.interface.FormalMode.{FormalMode}
 use Rattle.ep_typed.specs.declared.interface.FormalMode.TheVariants as mode
-use Rattle.ep_typed.proofs.Denoters.{types_are_instances}
-use Rattle.ep_meaning.proofs.Bares.{value_bare}
-use Rattle.ep_meaning.proofs.Typed.{typed_bare, typed_value}
-use Rattle.ep_meaning.proofs.Steady.{grows_made_own, steady_bind, steady_allocate_own, steady_make_all_own, steady_initialized, steady_takes_all}
+use Rattle.ep_typed.proofs.public.Denoters.{types_are_instances}
+use Rattle.ep_meaning.proofs.public.Bares.{value_bare}
+use Rattle.ep_meaning.proofs.public.Typed.{typed_bare, typed_value}
+use Rattle.ep_meaning.proofs.public.Steady.{grows_made_own, steady_bind, steady_allocate_own, steady_make_all_own, steady_initialized, steady_takes_all}
 use Rattle.ep_meaning.specs.Meaning.{elaborate, make_own, make_all_own, initialized, takes_by, takes_all}
 use Rattle.ep_meaning.specs.Steps.{Component, Computation, bind, spend, change, with_own_bound, counted, made_own, allocate_own}
 use Rattle.ep_values.specs.TypeValues.{size_of}

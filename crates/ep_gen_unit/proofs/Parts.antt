@@ -4,7 +4,7 @@ use Rattle.ep_gen_code.specs.Credit.{least_credit}
 use Rattle.ep_gen_expr.specs.Following.{HasPlaceType, IsValidPlace}
 use Rattle.ep_gen_expr.specs.ExprCode.{IsPlaceCode, IsExprCode, AreActualsCode}
 use Rattle.ep_gen_code.specs.Instructions.{instr, reference}
-use Rattle.ep_gen_code.proofs.Placed.{code_front, code_back}
+use Rattle.ep_gen_code.proofs.public.Placed.{code_front, code_back}
 use Rattle.ep_simulation.specs.Follows.{point, Facts, Fragment, Inside, Bare, OnTop, PlaceOnTop, SameRoutine}
 use Rattle.ep_simulation.specs.Matching.{Slots, Memory, Injection, Grown}
 use Rattle.ep_object.specs.Operands.{Operand}

@@ -2,8 +2,8 @@
 use Rattle.std.proofs.Common.{◌≡◌, ℕ, pos, ◌+◌, ◌<◌, ◌≤◌, List, [], ◌∷◌, ◌++◌, Option, None, Some, length, slice_get, refl, arith}
 use Rattle.ep_gen_expr.specs.ExprCode.{AreActualsCode}
 use Rattle.ep_gen_code.specs.Instructions.{instr, reference}
-use Rattle.ep_gen_expr.proofs.Calls.{call_ends}
-use Rattle.ep_gen_code.proofs.Placed.{code_back}
+use Rattle.ep_gen_expr.proofs.public.Calls.{call_ends}
+use Rattle.ep_gen_code.proofs.public.Placed.{code_back}
 use Rattle.ep_gen_unit.proofs.Parts.{Moves, CallsFollow}
 use Rattle.ep_simulation.specs.Follows.{Facts}
 use Rattle.ep_simulation.specs.Matching.{Memory, Injection, Slots}
@@ -14,7 +14,7 @@ use Rattle.ep_object.specs.declared.code.Image.{Image}
 use Rattle.ep_object.specs.declared.code.Instr.{Instr}
 use Rattle.ep_object.specs.declared.code.Reference.{Reference}
 use Rattle.ep_object.specs.declared.op.TheConstants as op
-use Rattle.ep_meaning.proofs.Steady.{steady_spend, steady_give}
+use Rattle.ep_meaning.proofs.public.Steady.{steady_spend, steady_give}
 use Rattle.ep_meaning.specs.Calls.{Handler}
 use Rattle.ep_meaning.specs.Meaning.{exec}
 use Rattle.ep_values.specs.Printing.{Result}

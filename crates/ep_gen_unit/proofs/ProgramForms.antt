@@ -2,7 +2,7 @@
 use Rattle.std.proofs.Common.{◌≡◌, ℕ, suc, pos, ◌+◌, ◌<◌, List, [], ◌∷◌, ◌++◌, map, take, length, length-append, get_or, slice_get, ◌⊎◌, inl, inr, Option, None, Some, Result, Ok, Err, IfOk, refl, sym, ap, ◌∙◌, subst, append_assoc, append-nil, arith}
 use Rattle.std.proofs.lemmas.List.{take_more, length-map, length-take-le}
 use Rattle.std.proofs.lemmas.Option.{slice_get_within}
-use Rattle.ep_object.proofs.Elements.{slice_get-push}
+use Rattle.ep_object.proofs.public.Elements.{slice_get-push}
 use Rattle.ep_object.specs.declared.code.Instr.{Instr}
 use Rattle.ep_object.specs.declared.code.CodeRoutine.{CodeRoutine}
 use Rattle.ep_object.specs.declared.code.Object.{Object}
@@ -20,7 +20,7 @@ use Rattle.ep_gen_code.specs.Instructions.{instr, bare, push}
 use Rattle.ep_gen_code.specs.Referring.{type_reference}
 use Rattle.ep_gen_code.specs.declared.references.TheConstants as routine
 use Rattle.ep_gen_code.specs.Growth.{Grows, IsTable, AreDistinct, begun_code}
-use Rattle.ep_gen_code.proofs.Named.{named_distinct}
+use Rattle.ep_gen_code.proofs.public.Named.{named_distinct}
 use Rattle.ep_gen_type.specs.TypeCode.{type_code}
 use Rattle.ep_simulation.specs.Promises.{copying_code, first_code, next_code, ranging_code, row_code, spreading_code, swap_routine}
 use Rattle.ep_object.specs.WordRows.{at_most, less}
@@ -29,7 +29,7 @@ use Rattle.ep_meaning.specs.Meaning.{line_where}
 use Rattle.ep_typed.specs.declared.unit.UnitType.{UnitType}
 use Rattle.ep_gen_code.specs.declared.code.Code.{Code}
 use Rattle.ep_gen_code.specs.declared.code.TheConstants as code
-use Rattle.ep_gen_code.proofs.Growing.{grows_at}
+use Rattle.ep_gen_code.proofs.public.Growing.{grows_at}
 use Rattle.ep_gen_type.specs.TypeCode.{type_code}
 use Rattle.ep_gen_unit.specs.StmtCode.{IsStmtCode, make_code, make_all_code, value_code, place_taken, take_code, take_all_code, return_code, result_code, function_end, end_code}
 use Rattle.std.specs.Prelude.{is_some, true, false}

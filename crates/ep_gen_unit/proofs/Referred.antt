@@ -1,8 +1,8 @@
 -- The references that the code of a unit begins with.
 use Rattle.std.proofs.Common.{◌≡◌, ℕ, ◌+◌, ◌<◌, if◌then◌else◌, [], map, length, Some, slice_get, refl, ap, ◌∙◌, subst, arith}
 use Rattle.std.proofs.lemmas.List.{length-map}
-use Rattle.ep_gen_code.proofs.Named.{named_at}
-use Rattle.ep_gen_code.proofs.Pushed.{get_later}
+use Rattle.ep_gen_code.proofs.public.Named.{named_at}
+use Rattle.ep_gen_code.proofs.public.Pushed.{get_later}
 use Rattle.ep_gen_code.specs.Instructions.{reference}
 use Rattle.ep_gen_code.specs.Referring.{AreReferred, AreArraysReferred, IsSwapReferred, type_reference}
 use Rattle.ep_gen_code.specs.declared.references.TheConstants as routine

@@ -2,19 +2,19 @@
 use Rattle.std.proofs.Common.{◌≡◌, ℕ, ℤ, pos, suc, ◌+◌, ◌*◌, ◌-◌, ◌≤◌, ◌<◌, List, [], ◌∷◌, length, Option, Some, None, option_map, slice_get, false, refl, sym, ap, ◌∙◌, subst, arith}
 use Rattle.std.specs.Prelude.{if◌then◌else◌, is_some}
 use Rattle.ep_gen_code.specs.Instructions.{instr, bare}
-use Rattle.ep_gen_code.proofs.Placed.{instr_at, jump_false_has}
+use Rattle.ep_gen_code.proofs.public.Placed.{instr_at, jump_false_has}
 use Rattle.ep_gen_unit.specs.StmtCode.{result_code, structure_code}
-use Rattle.ep_simulation.proofs.following.Bind.{follows_credit, follows_give, follows_stop, follows_waits}
-use Rattle.ep_simulation.proofs.following.Choices.{Reads, ReadsResult, Nothing, Result_of, fragment_fetched, fragment_using}
-use Rattle.ep_simulation.proofs.following.Fragments.{FailsWith, fragment_bind, fragment_from, fragment_waits}
-use Rattle.ep_simulation.proofs.matching.Awaiting.{value_on_top}
-use Rattle.ep_simulation.proofs.matching.Growing.{not_left-here, still_routine, unit_in-same}
-use Rattle.ep_simulation.proofs.rows.ChangeRows.{variable_type}
-use Rattle.ep_simulation.proofs.rows.OwnRows.{own_reads}
-use Rattle.ep_simulation.proofs.rows.TextRows.{dup_place}
-use Rattle.ep_gen_expr.proofs.VariantMoves.{follows_found}
-use Rattle.ep_simulation.proofs.rows.PlaceRows.{defined_fails, defined_tells, load_fails, load_reads, structure_found}
-use Rattle.ep_simulation.proofs.rows.Rows.{fail_fails, jump_false_jumps}
+use Rattle.ep_simulation.proofs.public.following.Bind.{follows_credit, follows_give, follows_stop, follows_waits}
+use Rattle.ep_simulation.proofs.public.following.Choices.{Reads, ReadsResult, Nothing, Result_of, fragment_fetched, fragment_using}
+use Rattle.ep_simulation.proofs.public.following.Fragments.{FailsWith, fragment_bind, fragment_from, fragment_waits}
+use Rattle.ep_simulation.proofs.public.matching.Awaiting.{value_on_top}
+use Rattle.ep_simulation.proofs.public.matching.Growing.{not_left-here, still_routine, unit_in-same}
+use Rattle.ep_simulation.proofs.public.rows.ChangeRows.{variable_type}
+use Rattle.ep_simulation.proofs.public.rows.OwnRows.{own_reads}
+use Rattle.ep_simulation.proofs.public.rows.TextRows.{dup_place}
+use Rattle.ep_gen_expr.proofs.public.VariantMoves.{follows_found}
+use Rattle.ep_simulation.proofs.public.rows.PlaceRows.{defined_fails, defined_tells, load_fails, load_reads, structure_found}
+use Rattle.ep_simulation.proofs.public.rows.Rows.{fail_fails, jump_false_jumps}
 use Rattle.ep_simulation.specs.Activations.{KnowsNames}
 use Rattle.ep_simulation.specs.Follows.{Facts, Follows, Fragment, Lands, Inside, OnTop, PlaceOnTop, IsNotLeft, point}
 use Rattle.ep_simulation.specs.Matching.{Memory, Injection, Matches, Slots, HasOwnType, IsLike, IsSpot, at as standing}
@@ -29,8 +29,8 @@ use Rattle.ep_object.specs.declared.code.Image.{Image}
 use Rattle.ep_object.specs.declared.code.Reference.{Reference}
 use Rattle.ep_object.specs.declared.op.TheConstants as op
 use Rattle.ep_object.specs.declared.state.Place.{Place as PlaceOf}
-use Rattle.ep_meaning.proofs.Bares.{bare_unresulting}
-use Rattle.ep_meaning.proofs.Steady.{steady_bind, steady_fetch_or, steady_give, steady_using}
+use Rattle.ep_meaning.proofs.public.Bares.{bare_unresulting}
+use Rattle.ep_meaning.proofs.public.Steady.{steady_bind, steady_fetch_or, steady_give, steady_using}
 use Rattle.ep_typed.specs.Hosts.{Host}
 use Rattle.ep_meaning.specs.Meaning.{result_at}
 use Rattle.ep_values.specs.Operations.{is_true}

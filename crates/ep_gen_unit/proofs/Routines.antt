@@ -3,12 +3,12 @@ use Rattle.std.proofs.Common.{◌⊎◌, inl, inr, append-nil, ◌≡◌, ℕ, z
 use Rattle.std.proofs.lemmas.Option.{same_Some, slice_get_within, slice_get-map, get_or_from_slice_get}
 use Rattle.std.proofs.lemmas.List.{length-map}
 use Rattle.ep_gen_code.specs.Instructions.{bare}
-use Rattle.ep_gen_expr.proofs.Following.{place_follows, expression_follows, call_then}
-use Rattle.ep_gen_expr.proofs.PlaceTypes.{has_bare_type}
-use Rattle.ep_gen_code.proofs.Placed.{instr_at}
-use Rattle.ep_meaning.proofs.Auxiliaries.{withs_denoted}
-use Rattle.ep_meaning.proofs.Bares.{bare_size}
-use Rattle.ep_meaning.proofs.Typed.{typed_of_host}
+use Rattle.ep_gen_expr.proofs.public.Following.{place_follows, expression_follows, call_then}
+use Rattle.ep_gen_expr.proofs.public.PlaceTypes.{has_bare_type}
+use Rattle.ep_gen_code.proofs.public.Placed.{instr_at}
+use Rattle.ep_meaning.proofs.public.Auxiliaries.{withs_denoted}
+use Rattle.ep_meaning.proofs.public.Bares.{bare_size}
+use Rattle.ep_meaning.proofs.public.Typed.{typed_of_host}
 use Rattle.ep_gen_unit.specs.StmtCode.{IsStmtCode, make_all_code, take_all_code, return_code, result_code, structure_code, function_end, end_code}
 use Rattle.ep_gen_unit.specs.UnitCode.{IsProgramCode, own_code, its_end, entry_of, plain_at}
 use Rattle.ep_gen_unit.proofs.Declared.{name_same, same_name, own_types, slice_get-either, variables_valid}
@@ -22,14 +22,14 @@ use Rattle.ep_gen_unit.proofs.StructureRoutines.{arrays_there, swap_there}
 use Rattle.ep_gen_unit.proofs.TypeRoutines.{call_placed, types_keep, types_none}
 use Rattle.ep_gen_unit.proofs.WithMoves.{own_binds_follow}
 use Rattle.ep_gen_unit.proofs.Units.{of_object, room, routine_there, scene_of, moved_own}
-use Rattle.ep_simulation.proofs.following.Declaring.{fragment_outside, calls_kept-inside}
-use Rattle.ep_simulation.proofs.following.Fragments.{fragment_bind, fragment_credit, fragment_cut, fragment_from, fragment_give, fragment_to}
-use Rattle.ep_simulation.proofs.following.Promising.{lasts_own}
-use Rattle.ep_simulation.proofs.following.Routines.{begun_memory, grown_begun, parent_of_call, routine_keeps}
-use Rattle.ep_simulation.proofs.matching.Awaiting.{AreAwaited, Handed, arguments_in, awaited-grown, handed}
-use Rattle.ep_simulation.proofs.matching.Growing.{among_same, slice_get-prefix, still_routine, unit_in-same, unit_in-still}
-use Rattle.ep_simulation.proofs.matching.Names.{activation_knows}
-use Rattle.ep_simulation.proofs.matching.OwnVariables.{in_activation-lasts}
+use Rattle.ep_simulation.proofs.public.following.Declaring.{fragment_outside, calls_kept-inside}
+use Rattle.ep_simulation.proofs.public.following.Fragments.{fragment_bind, fragment_credit, fragment_cut, fragment_from, fragment_give, fragment_to}
+use Rattle.ep_simulation.proofs.public.following.Promising.{lasts_own}
+use Rattle.ep_simulation.proofs.public.following.Routines.{begun_memory, grown_begun, parent_of_call, routine_keeps}
+use Rattle.ep_simulation.proofs.public.matching.Awaiting.{AreAwaited, Handed, arguments_in, awaited-grown, handed}
+use Rattle.ep_simulation.proofs.public.matching.Growing.{among_same, slice_get-prefix, still_routine, unit_in-same, unit_in-still}
+use Rattle.ep_simulation.proofs.public.matching.Names.{activation_knows}
+use Rattle.ep_simulation.proofs.public.matching.OwnVariables.{in_activation-lasts}
 use Rattle.ep_simulation.specs.Activations.{KnowsNames, IsCallable, InActivation}
 use Rattle.ep_simulation.specs.Follows.{Facts, Lasts, Since, Fragment, Inside, Bare, point}
 use Rattle.ep_simulation.specs.Matching.{AreAmong, Memory, Injection, Slots, kept_slots}
@@ -49,7 +49,7 @@ use Rattle.ep_object.specs.declared.code.Object.{Object}
 use Rattle.ep_object.specs.declared.state.FrameNumber.{FrameNumber}
 use Rattle.ep_object.specs.declared.state.FrameNumber.TheVariants as frame
 use Rattle.ep_object.specs.declared.op.TheConstants as op
-use Rattle.ep_meaning.proofs.Steady.{steady_bind, steady_handler_of, steady_runs_routine, steady_results_given, steady_make_all_own, steady_exec}
+use Rattle.ep_meaning.proofs.public.Steady.{steady_bind, steady_handler_of, steady_runs_routine, steady_results_given, steady_make_all_own, steady_exec}
 use Rattle.ep_typed.specs.Auxiliaries.{block_auxiliaries, with_variables}
 use Rattle.ep_meaning.specs.Calls.{Argument, Handler}
 use Rattle.ep_meaning.specs.Meaning.{weights_of, exec, make_all_own, results_given, routine_in, runs_routine, routine_does, handler_of}
@@ -60,8 +60,8 @@ use Rattle.ep_typed.specs.Denoters.{bare_type_of, host_of}
 use Rattle.ep_typed.specs.Hosts.{Host}
 use Rattle.ep_values.specs.TypeValues as type
 use Rattle.ep_values.specs.TypeValues.{TypeValue, bare_of, size_of}
-use Rattle.ep_meaning.proofs.ValueKinds.{kinds_are_one, typed_of_kind}
-use Rattle.ep_simulation.proofs.rows.OwnRows.{StillBare}
+use Rattle.ep_meaning.proofs.public.ValueKinds.{kinds_are_one, typed_of_kind}
+use Rattle.ep_simulation.proofs.public.rows.OwnRows.{StillBare}
 use Rattle.ep_meaning.specs.Steps as meaning
 use Rattle.ep_typed.specs.Trees.{Callee, Denoter}
 use Rattle.ep_meaning.specs.Valid as kind

@@ -4,7 +4,7 @@ use Rattle.ep_gen_code.specs.Credit.{least_credit}
 use Rattle.ep_gen_code.specs.Instructions.{bare}
 use Rattle.ep_gen_expr.specs.ExprCode.{IsPlaceCode, IsExprCode}
 use Rattle.ep_gen_unit.specs.StmtCode.{IsAssignCode}
-use Rattle.ep_gen_expr.proofs.PlaceTypes.{IsKindPlace, kind_place}
+use Rattle.ep_gen_expr.proofs.public.PlaceTypes.{IsKindPlace, kind_place}
 use Rattle.ep_gen_unit.proofs.Parts.{Moves, ExpressionsFollow, PlacesFollow, code_stands-parts}
 use Rattle.ep_simulation.specs.Follows.{point, Facts, Lasts, Fragment, Inside, Bare, OnTop}
 use Rattle.ep_simulation.specs.Matching.{Slots, Memory, Injection, IsLike, IsSpot, at as standing}
@@ -18,15 +18,15 @@ use Rattle.ep_object.specs.declared.code.Image.{Image}
 use Rattle.ep_object.specs.declared.code.Instr.{Instr}
 use Rattle.ep_object.specs.declared.code.Reference.{Reference}
 use Rattle.ep_object.specs.declared.state.Place.{Place as PlaceOf}
-use Rattle.ep_simulation.proofs.rows.ChangeRows.{MayTake, value_does, value_ended, value_fails}
-use Rattle.ep_simulation.proofs.following.Choices.{follows_checked-weighed, fragment_using}
-use Rattle.ep_simulation.proofs.following.Fragments.{FailsWith, fragment_give, fragment_stop, fragment_to, fragment_less, fragment_credit, fragment_bind_place, inside_bind}
-use Rattle.ep_simulation.proofs.matching.Awaiting.{value_on_top}
-use Rattle.ep_simulation.proofs.matching.Growing.{unit_in-same, is_spot-grown, describes-grown, inside_here}
-use Rattle.ep_simulation.proofs.rows.Rows.{outcome_at}
+use Rattle.ep_simulation.proofs.public.rows.ChangeRows.{MayTake, value_does, value_ended, value_fails}
+use Rattle.ep_simulation.proofs.public.following.Choices.{follows_checked-weighed, fragment_using}
+use Rattle.ep_simulation.proofs.public.following.Fragments.{FailsWith, fragment_give, fragment_stop, fragment_to, fragment_less, fragment_credit, fragment_bind_place, inside_bind}
+use Rattle.ep_simulation.proofs.public.matching.Awaiting.{value_on_top}
+use Rattle.ep_simulation.proofs.public.matching.Growing.{unit_in-same, is_spot-grown, describes-grown, inside_here}
+use Rattle.ep_simulation.proofs.public.rows.Rows.{outcome_at}
 use Rattle.ep_meaning.specs.Steady.{IsSteadyHandler}
 use Rattle.ep_meaning.specs.Calls.{Handler}
-use Rattle.ep_meaning.proofs.Steady.{steady_bind, steady_eval, steady_assign}
+use Rattle.ep_meaning.proofs.public.Steady.{steady_bind, steady_eval, steady_assign}
 use Rattle.ep_meaning.specs.Meaning.{exec, assign, assigns}
 use Rattle.ep_meaning.specs.Results.{misfit, suits, value_of, weight_of}
 use Rattle.ep_values.specs.Printing.{Result}

@@ -4,11 +4,11 @@ use Rattle.std.proofs.Common.{◌≡◌, ℕ, zero, suc, ◌+◌, ◌*◌, ◌�
 use Rattle.ep_simulation.specs.Follows.{Point, state_at, GivesUp, Follows, Facts, Fragment, After, Lands, IsNotLeft}
 use Rattle.ep_simulation.specs.Matching.{Matches}
 use Rattle.ep_object.specs.declared.code.Image.{Image}
-use Rattle.ep_simulation.proofs.following.Bind.{follows_credit, follows_waits, follows_give, follows_counted, follows_gives_up}
-use Rattle.ep_simulation.proofs.following.Fragments.{Does, fragment_less, landed}
-use Rattle.ep_simulation.proofs.following.Losing.{fragment_counted}
-use Rattle.ep_simulation.proofs.matching.Growing.{not_left-here}
-use Rattle.ep_meaning.proofs.Steady.{steady_change}
+use Rattle.ep_simulation.proofs.public.following.Bind.{follows_credit, follows_waits, follows_give, follows_counted, follows_gives_up}
+use Rattle.ep_simulation.proofs.public.following.Fragments.{Does, fragment_less, landed}
+use Rattle.ep_simulation.proofs.public.following.Losing.{fragment_counted}
+use Rattle.ep_simulation.proofs.public.matching.Growing.{not_left-here}
+use Rattle.ep_meaning.proofs.public.Steady.{steady_change}
 use Rattle.ep_meaning.specs.Steady.{Grows}
 use Rattle.ep_meaning.specs.Steps.{bind, spend, change}
 use Rattle.ep_meaning.specs.Steps as meaning

@@ -16,12 +16,12 @@ use Rattle.ep_object.specs.Runs.{unit_in}
 use Rattle.ep_object.specs.State.{Frames}
 use Rattle.ep_object.specs.declared.code.Image.{Image}
 use Rattle.ep_object.specs.declared.code.Object.{Object}
-use Rattle.ep_simulation.proofs.following.Fragments.{fragment_bind_bare}
-use Rattle.ep_simulation.proofs.matching.Growing.{unit_in-same}
+use Rattle.ep_simulation.proofs.public.following.Fragments.{fragment_bind_bare}
+use Rattle.ep_simulation.proofs.public.matching.Growing.{unit_in-same}
 use Rattle.ep_typed.specs.Routines.{made_by_unit}
 use Rattle.ep_meaning.specs.Steady.{IsSteadyHandler}
 use Rattle.ep_meaning.specs.Calls.{Handler}
-use Rattle.ep_meaning.proofs.Steady.{steady_exec}
+use Rattle.ep_meaning.proofs.public.Steady.{steady_exec}
 use Rattle.ep_meaning.specs.Meaning.{make_all, exec}
 use Rattle.ep_meaning.specs.Steps.{bind}
 use Rattle.ep_meaning.specs.Valid.{Declarations, IsStmt}

@@ -6,14 +6,14 @@ use Rattle.ep_gen_code.specs.Instructions.{instr, bare}
 use Rattle.ep_gen_expr.specs.ExprCode.{tests_code}
 use Rattle.ep_gen_unit.specs.StmtCode.{IsStmtCode, AreStmtsCode, AreArmsCode, IsOtherCode}
 use Rattle.ep_gen_unit.proofs.Parts.{Moves, ExpressionsFollow, PlacesFollow, CallsFollow, code_stands-parts}
-use Rattle.ep_simulation.proofs.rows.ChangeRows.{may_take}
+use Rattle.ep_simulation.proofs.public.rows.ChangeRows.{may_take}
 use Rattle.ep_gen_unit.proofs.Simple.{empty_moves, halt_moves, assigned_moves}
 use Rattle.ep_gen_unit.proofs.Branching.{if_parts, repeat_parts, while_parts}
 use Rattle.ep_gen_unit.proofs.ForMoves.{for_stands, for_parts}
 use Rattle.ep_gen_unit.proofs.MemberMoves.{members_stand, members_parts}
 use Rattle.ep_gen_unit.proofs.ProcedureMoves.{procedure_moves}
 use Rattle.ep_gen_unit.proofs.CaseMoves.{Selects, arm_parts, fail_parts, otherwise_parts, case_parts}
-use Rattle.ep_gen_expr.proofs.Stays.{tests_length}
+use Rattle.ep_gen_expr.proofs.public.Stays.{tests_length}
 use Rattle.ep_gen_unit.specs.TagCode.{selected_code, selected_length}
 use Rattle.ep_gen_unit.proofs.TagLengths.{selected_code_length}
 use Rattle.ep_gen_unit.proofs.TagMoves.{tag_parts}
@@ -25,11 +25,11 @@ use Rattle.ep_simulation.specs.Scene.{Scene}
 use Rattle.ep_object.specs.declared.code.Image.{Image}
 use Rattle.ep_object.specs.declared.code.Instr.{Instr}
 use Rattle.ep_object.specs.declared.code.Reference.{Reference}
-use Rattle.ep_simulation.proofs.following.Fragments.{fragment_to, fragment_bind_bare}
-use Rattle.ep_simulation.proofs.matching.Growing.{unit_in-same}
+use Rattle.ep_simulation.proofs.public.following.Fragments.{fragment_to, fragment_bind_bare}
+use Rattle.ep_simulation.proofs.public.matching.Growing.{unit_in-same}
 use Rattle.ep_meaning.specs.Steady.{IsSteadyHandler}
 use Rattle.ep_meaning.specs.Calls.{Handler}
-use Rattle.ep_meaning.proofs.Steady.{steady_exec_all}
+use Rattle.ep_meaning.proofs.public.Steady.{steady_exec_all}
 use Rattle.ep_meaning.specs.Meaning.{exec, exec_all, exec_arms, exec_other}
 use Rattle.ep_typed.specs.Trees.{Stmt, Stmts, Empty, Compound, Assign, AssignTag, If, While, Repeat, For, ForIn, With, Procedure, Halt, Write, none, next, Case, Arms, no_arm, next_arm, Other, no_other, otherwise_do}
 use Rattle.ep_meaning.specs.Valid.{Declarations, IsStmt, AreStmts, AreArms, IsOther}

@@ -13,7 +13,7 @@ use Rattle.ep_gen_expr.specs.ExprCode.{one_code, set_code, step_code, tests_code
 use Rattle.ep_values.specs.declared.operations.Binary.TheVariants as binary
 use Rattle.ep_values.specs.declared.operations.Unary.TheVariants as unary
 use Rattle.ep_values.specs.declared.operations.SetOperation.TheVariants as set_operation
-use Rattle.ep_gen_expr.proofs.Stays.{place_code_stays, expr_code_stays, place_code_short, expr_code_short, tests_length}
+use Rattle.ep_gen_expr.proofs.public.Stays.{place_code_stays, expr_code_stays, place_code_short, expr_code_short, tests_length}
 use Rattle.ep_gen_unit.specs.StmtCode.{for_code, for_in_code, IsLeastCode, IsKeptCode, IsAssignCode, AreBoundsCode, IsFirstCode, IsTestCode, IsUndefineCode, IsBindCode, IsItemCode, AreItemsCode, IsStmtCode, AreStmtsCode, AreArmsCode, IsOtherCode, plain_code, before_width, wide_code}
 use Rattle.ep_gen_unit.specs.TagCode.{IsTriedCode, IsChangeCode, IsTakenCode, none_now, number_code, number_length, selected_code, selected_length, variants_code}
 use Rattle.ep_gen_unit.proofs.TagLengths.{number_code_length, selected_code_length, selections_short, variants_short}

@@ -8,9 +8,9 @@ use Rattle.ep_gen_code.specs.Growth.{Grows}
 use Rattle.ep_gen_expr.specs.Growth.{AppendsExpr, AppendsPlace}
 use Rattle.ep_gen_code.specs.Jumps.{IsNextPlace, LeavesHole, landed}
 use Rattle.ep_gen_code.specs.declared.code.Code.{Code}
-use Rattle.ep_gen_code.proofs.Growing.{grows_at, grows_then}
-use Rattle.ep_gen_code.proofs.Landing.{grows_landed, grows_length}
-use Rattle.ep_gen_expr.proofs.Stays.{place_code_stays}
+use Rattle.ep_gen_code.proofs.public.Growing.{grows_at, grows_then}
+use Rattle.ep_gen_code.proofs.public.Landing.{grows_landed, grows_length}
+use Rattle.ep_gen_expr.proofs.public.Stays.{place_code_stays}
 use Rattle.ep_gen_unit.specs.StmtCode.{IsStmtCode}
 use Rattle.ep_gen_unit.specs.StmtGrowth.{AppendsChange, AppendsStmt, AppendsTaken, AppendsTried, Follows}
 use Rattle.ep_gen_unit.specs.TagCode.{IsChangeCode, IsTakenCode, IsTriedCode, clear_code, cleared_code, clears_code, none_before, none_now, number_code, number_length, rest_number, selected_code, selected_length, selection_code, selection_length, selections_code, selections_length, tag_place_code, variants_code, within_code}

@@ -3,7 +3,7 @@ use Rattle.std.proofs.Common.{◌≡◌, ℕ, ℤ, pos, suc, ◌+◌, ◌*◌, �
 use Rattle.std.specs.Prelude.{if◌then◌else◌}
 use Rattle.ep_gen_code.specs.Instructions.{bare, instr, push}
 use Rattle.ep_gen_expr.specs.ExprCode.{tests_code}
-use Rattle.ep_gen_expr.proofs.Stays.{tests_length}
+use Rattle.ep_gen_expr.proofs.public.Stays.{tests_length}
 use Rattle.ep_gen_unit.specs.TagCode.{clear_code, cleared_code, clears_code, none_before, number_code, number_length, rest_number, selected_code, selected_length, selection_code, selection_length, selections_code, selections_length, variants_code}
 use Rattle.ep_object.specs.declared.code.Instr.{Instr}
 use Rattle.ep_object.specs.declared.op.TheConstants as op

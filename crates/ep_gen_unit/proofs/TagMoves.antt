@@ -4,12 +4,12 @@ use Rattle.std.proofs.lemmas.Option.{same_Some}
 use Rattle.std.specs.Prelude.{All, if◌then◌else◌, is_some, int_le}
 use Rattle.ep_gen_code.specs.Instructions.{bare, instr, push}
 use Rattle.ep_gen_expr.specs.ExprCode.{tests_code, two_code, IsPlaceCode}
-use Rattle.ep_gen_code.proofs.Waiting.{row_waits}
-use Rattle.ep_gen_expr.proofs.PlaceTypes.{IsTypedPlace, among_bare, bare_instance, tag_alone, typed_place}
-use Rattle.ep_gen_code.proofs.Placed.{code_front, code_back, instr_at, jump_has, jump_false_has}
-use Rattle.ep_gen_expr.proofs.RangeMoves.{tests_follow, true_ordinal}
-use Rattle.ep_gen_expr.proofs.Stays.{tests_length}
-use Rattle.ep_gen_expr.proofs.VariantMoves.{follows_found}
+use Rattle.ep_gen_code.proofs.public.Waiting.{row_waits}
+use Rattle.ep_gen_expr.proofs.public.PlaceTypes.{IsTypedPlace, among_bare, bare_instance, tag_alone, typed_place}
+use Rattle.ep_gen_code.proofs.public.Placed.{code_front, code_back, instr_at, jump_has, jump_false_has}
+use Rattle.ep_gen_expr.proofs.public.RangeMoves.{tests_follow, true_ordinal}
+use Rattle.ep_gen_expr.proofs.public.Stays.{tests_length}
+use Rattle.ep_gen_expr.proofs.public.VariantMoves.{follows_found}
 use Rattle.ep_gen_unit.specs.StmtCode.{IsAssignCode}
 use Rattle.ep_gen_unit.specs.TagCode.{IsTriedCode, IsChangeCode, IsTakenCode, clear_code, clears_code, none_before, none_now, number_code, number_length, rest_number, selected_code, selected_length, selection_length, selections_code, selections_length, variants_code}
 use Rattle.ep_gen_unit.proofs.Parts.{code_stands-parts, Moves, ExpressionsFollow, PlacesFollow, statement_credit}
@@ -29,19 +29,19 @@ use Rattle.ep_object.specs.declared.code.Instr.{Instr}
 use Rattle.ep_object.specs.declared.code.Reference.{Reference}
 use Rattle.ep_object.specs.declared.op.TheConstants as op
 use Rattle.ep_object.specs.declared.state.Place.{Place as PlaceOf}
-use Rattle.ep_simulation.proofs.following.Bind.{follows_changed, follows_credit, follows_from, follows_give, follows_paid, follows_waits}
-use Rattle.ep_simulation.proofs.following.Choices.{fragment_branch, fragment_using, going_of}
-use Rattle.ep_simulation.proofs.following.Fragments.{Does, FailsWith, landed, fragment_bind_bare, fragment_bind_number, fragment_bind_place, fragment_credit, fragment_from, fragment_give, fragment_less, fragment_stop, fragment_to, fragment_waits, inside_bind}
-use Rattle.ep_simulation.proofs.matching.Growing.{describes-grown, inside_here, is_spot-grown, not_left-here, unit_in-same}
-use Rattle.ep_simulation.proofs.rows.ChangeRows.{ordinal_takes, undefine_does_any, variable_type}
-use Rattle.ep_simulation.proofs.rows.FieldRow.{IsAmong, LeadsTo, among_there, field_does, field_fails, field_leads_to}
-use Rattle.ep_simulation.proofs.rows.PlaceRows.{defined_fails, defined_tells, load_leads}
-use Rattle.ep_simulation.proofs.rows.Rows.{check_answers, jump_false_jumps, jump_jumps, push_pushes, unequal_answers}
-use Rattle.ep_simulation.proofs.rows.TextRows.{drop_drops, dup_place}
-use Rattle.ep_meaning.proofs.Bares.{bare_size, bare_value}
-use Rattle.ep_meaning.proofs.Typed.{HasComponents, typed_among, typed_components, typed_value}
+use Rattle.ep_simulation.proofs.public.following.Bind.{follows_changed, follows_credit, follows_from, follows_give, follows_paid, follows_waits}
+use Rattle.ep_simulation.proofs.public.following.Choices.{fragment_branch, fragment_using, going_of}
+use Rattle.ep_simulation.proofs.public.following.Fragments.{Does, FailsWith, landed, fragment_bind_bare, fragment_bind_number, fragment_bind_place, fragment_credit, fragment_from, fragment_give, fragment_less, fragment_stop, fragment_to, fragment_waits, inside_bind}
+use Rattle.ep_simulation.proofs.public.matching.Growing.{describes-grown, inside_here, is_spot-grown, not_left-here, unit_in-same}
+use Rattle.ep_simulation.proofs.public.rows.ChangeRows.{ordinal_takes, undefine_does_any, variable_type}
+use Rattle.ep_simulation.proofs.public.rows.FieldRow.{IsAmong, LeadsTo, among_there, field_does, field_fails, field_leads_to}
+use Rattle.ep_simulation.proofs.public.rows.PlaceRows.{defined_fails, defined_tells, load_leads}
+use Rattle.ep_simulation.proofs.public.rows.Rows.{check_answers, jump_false_jumps, jump_jumps, push_pushes, unequal_answers}
+use Rattle.ep_simulation.proofs.public.rows.TextRows.{drop_drops, dup_place}
+use Rattle.ep_meaning.proofs.public.Bares.{bare_size, bare_value}
+use Rattle.ep_meaning.proofs.public.Typed.{HasComponents, typed_among, typed_components, typed_value}
 use Rattle.ep_typed.specs.declared.unit.UnitType.{UnitType}
-use Rattle.ep_meaning.proofs.Steady.{steady_assign, steady_assigns, steady_bind, steady_changes_variant, steady_clearing, steady_clears_all, steady_eval, steady_give, steady_if, steady_selected, steady_selected_by, steady_selected_now, steady_sets_tag, steady_stop, steady_tag_tested}
+use Rattle.ep_meaning.proofs.public.Steady.{steady_assign, steady_assigns, steady_bind, steady_changes_variant, steady_clearing, steady_clears_all, steady_eval, steady_give, steady_if, steady_selected, steady_selected_by, steady_selected_now, steady_sets_tag, steady_stop, steady_tag_tested}
 use Rattle.ep_meaning.specs.Calls.{Handler}
 use Rattle.ep_typed.specs.Denoters.{denoters_count}
 use Rattle.ep_typed.specs.Hosts as host

@@ -1,19 +1,19 @@
 -- The routines that elaborate the types of a unit keep their promises, where with a step less all routines keep theirs.
 use Rattle.std.proofs.Common.{◌≡◌, ℕ, zero, suc, pos, ◌+◌, ◌≤◌, ◌<◌, Bool, true, false, if◌then◌else◌, List, [], ◌∷◌, ◌++◌, length, length-append, Some, None, slice_get, bytes_eq, refl, sym, ap, ◌∙◌, subst, arith}
 use Rattle.std.proofs.lemmas.Option.{slice_get_within}
-use Rattle.ep_gen_code.proofs.Placed.{instr_at}
+use Rattle.ep_gen_code.proofs.public.Placed.{instr_at}
 use Rattle.ep_gen_code.specs.Instructions.{bare}
-use Rattle.ep_gen_type.proofs.Elaborating.{elaborates}
+use Rattle.ep_gen_type.proofs.public.Elaborating.{elaborates}
 use Rattle.ep_gen_type.specs.TypeCode.{type_code}
 use Rattle.ep_gen_unit.specs.UnitCode.{IsProgramCode, plain_at}
 use Rattle.ep_gen_unit.proofs.Declared.{name_same, own_types, same_name}
 use Rattle.ep_gen_unit.proofs.Parts.{code_stands-parts}
 use Rattle.ep_gen_unit.proofs.Referred.{arrays_referred, own_count, swap_referred, types_referred}
 use Rattle.ep_gen_unit.proofs.Units.{moved_own, of_object, routine_there}
-use Rattle.ep_simulation.proofs.following.Fragments.{fragment_credit, fragment_cut, fragment_from, fragment_post}
-use Rattle.ep_simulation.proofs.following.Routines.{begun_memory, type_keeps}
-use Rattle.ep_simulation.proofs.matching.Growing.{among_same}
-use Rattle.ep_simulation.proofs.matching.OwnVariables.{in_activation-lasts}
+use Rattle.ep_simulation.proofs.public.following.Fragments.{fragment_credit, fragment_cut, fragment_from, fragment_post}
+use Rattle.ep_simulation.proofs.public.following.Routines.{begun_memory, type_keeps}
+use Rattle.ep_simulation.proofs.public.matching.Growing.{among_same}
+use Rattle.ep_simulation.proofs.public.matching.OwnVariables.{in_activation-lasts}
 use Rattle.ep_simulation.specs.Activations.{InActivation}
 use Rattle.ep_simulation.specs.Follows.{Facts, Fragment, Inside, Since, TypeOnTop, point}
 use Rattle.ep_simulation.specs.Matching.{Injection, Memory, Slots, kept_slots}
@@ -29,7 +29,7 @@ use Rattle.ep_object.specs.declared.code.Instr.{Instr}
 use Rattle.ep_object.specs.declared.code.Object.{Object}
 use Rattle.ep_object.specs.declared.op.TheConstants as op
 use Rattle.ep_object.specs.declared.state.FrameNumber.TheVariants as frame
-use Rattle.ep_meaning.proofs.Steady.{steady_elaborate, steady_handler_of}
+use Rattle.ep_meaning.proofs.public.Steady.{steady_elaborate, steady_handler_of}
 use Rattle.ep_meaning.specs.Calls.{Handler}
 use Rattle.ep_typed.specs.Denoters.{definition_of}
 use Rattle.ep_meaning.specs.Meaning.{elaborate, handler_of, line_where, type_does, type_in}

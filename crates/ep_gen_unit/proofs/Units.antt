@@ -2,7 +2,7 @@
 use Rattle.std.proofs.Common.{◌≡◌, ℕ, ◌+◌, ◌≤◌, ◌<◌, List, [], ◌∷◌, ◌++◌, length, length-append, append_assoc, IsTrue, false, Some, slice_get, refl, sym, ap, ◌∙◌, subst, arith}
 use Rattle.std.proofs.lemmas.Bool.{lt-ltb}
 use Rattle.std.proofs.lemmas.Option.{slice_get_within, same_Some}
-use Rattle.ep_gen_expr.proofs.Following.{place_follows, expression_follows, call_then}
+use Rattle.ep_gen_expr.proofs.public.Following.{place_follows, expression_follows, call_then}
 use Rattle.ep_gen_unit.specs.StmtCode.{make_all_code, return_code}
 use Rattle.ep_gen_unit.specs.UnitCode.{IsProgramCode, plain_at}
 use Rattle.ep_gen_unit.specs.UnitLaws.{AreDeclared, idle_stop}
@@ -13,11 +13,11 @@ use Rattle.ep_gen_unit.proofs.Makes.{VariablesAreFree, make_all_moves, same_fram
 use Rattle.ep_gen_unit.proofs.Parts.{code_stands-parts}
 use Rattle.ep_gen_unit.proofs.Starts.{MakesFollow, body_follows}
 use Rattle.ep_gen_unit.proofs.WithMoves.{BindsFollow, unit_binds_follow}
-use Rattle.ep_simulation.proofs.following.Bind.{follows_less, follows_post, follows_from, follows_give}
-use Rattle.ep_simulation.proofs.following.Fragments.{fragment_to, fragment_credit}
-use Rattle.ep_simulation.proofs.rows.MakeRow.{RunsInUnit}
-use Rattle.ep_simulation.proofs.matching.Names.{none_named}
-use Rattle.ep_simulation.proofs.matching.Growing.{among_same, inside_here, no_calls, since_here, since_lasts}
+use Rattle.ep_simulation.proofs.public.following.Bind.{follows_less, follows_post, follows_from, follows_give}
+use Rattle.ep_simulation.proofs.public.following.Fragments.{fragment_to, fragment_credit}
+use Rattle.ep_simulation.proofs.public.rows.MakeRow.{RunsInUnit}
+use Rattle.ep_simulation.proofs.public.matching.Names.{none_named}
+use Rattle.ep_simulation.proofs.public.matching.Growing.{among_same, inside_here, no_calls, since_here, since_lasts}
 use Rattle.ep_object.specs.Effects.{Returns, light}
 use Rattle.ep_object.specs.Table.{obey}
 use Rattle.ep_typed.specs.Routines.{made_by_unit, unit_variables}

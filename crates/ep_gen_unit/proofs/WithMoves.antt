@@ -2,7 +2,7 @@
 use Rattle.std.proofs.Common.{◌≡◌, ℕ, pos, zero, suc, ◌+◌, ◌<◌, List, [], ◌∷◌, Some, Option, length, length-append, slice_get, sym, ap, ◌∙◌, subst, arith, IsTrue}
 use Rattle.std.proofs.lemmas.Option.{same_Some}
 use Rattle.ep_gen_code.specs.Instructions.{instr}
-use Rattle.ep_gen_expr.proofs.PlaceTypes.{has_bare_type, valid_place, variable_type}
+use Rattle.ep_gen_expr.proofs.public.PlaceTypes.{has_bare_type, valid_place, variable_type}
 use Rattle.ep_gen_unit.specs.StmtCode.{IsBindCode, slot_of}
 use Rattle.ep_gen_unit.proofs.Makes.{VariablesAreFree}
 use Rattle.ep_gen_unit.proofs.Parts.{Moves, PlacesFollow, code_stands-parts}
@@ -20,11 +20,11 @@ use Rattle.ep_object.specs.declared.code.Instr.{Instr}
 use Rattle.ep_object.specs.declared.code.Reference.{Reference}
 use Rattle.ep_object.specs.declared.op.TheConstants as op
 use Rattle.ep_object.specs.declared.state.Place.{Place as PlaceOf}
-use Rattle.ep_simulation.proofs.following.Fragments.{fragment_bind_bare, fragment_bind_place, fragment_credit, fragment_effect, fragment_less, fragment_to}
-use Rattle.ep_simulation.proofs.matching.Growing.{unit_in-same}
-use Rattle.ep_simulation.proofs.rows.BindRow.{own_binds, unit_binds}
-use Rattle.ep_simulation.proofs.rows.MakeRow.{RunsInUnit}
-use Rattle.ep_meaning.proofs.Steady.{steady_bind, steady_exec, steady_names}
+use Rattle.ep_simulation.proofs.public.following.Fragments.{fragment_bind_bare, fragment_bind_place, fragment_credit, fragment_effect, fragment_less, fragment_to}
+use Rattle.ep_simulation.proofs.public.matching.Growing.{unit_in-same}
+use Rattle.ep_simulation.proofs.public.rows.BindRow.{own_binds, unit_binds}
+use Rattle.ep_simulation.proofs.public.rows.MakeRow.{RunsInUnit}
+use Rattle.ep_meaning.proofs.public.Steady.{steady_bind, steady_exec, steady_names}
 use Rattle.ep_meaning.specs.Calls.{Handler}
 use Rattle.ep_typed.specs.Denoters.{bare_type_of}
 use Rattle.ep_meaning.specs.Meaning.{exec, names}

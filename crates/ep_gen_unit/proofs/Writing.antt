@@ -16,16 +16,16 @@ use Rattle.ep_object.specs.Runs.{unit_in}
 use Rattle.ep_object.specs.declared.code.Image.{Image}
 use Rattle.ep_object.specs.declared.code.Instr.{Instr}
 use Rattle.ep_object.specs.declared.code.Reference.{Reference}
-use Rattle.ep_simulation.proofs.rows.ChangeRows.{put_does}
-use Rattle.ep_simulation.proofs.rows.Pieces.{piece_form}
-use Rattle.ep_simulation.proofs.following.Fragments.{fragment_to, fragment_from, fragment_less, fragment_credit, fragment_waits, fragment_effect, fragment_stop, fragment_move, fragment_give, fragment_bind_bare, fragment_bind_number, fragment_bind_text}
-use Rattle.ep_simulation.proofs.matching.Growing.{unit_in-same, inside_here}
-use Rattle.ep_simulation.proofs.rows.PlaceRows.{output_pushes}
-use Rattle.ep_simulation.proofs.rows.Rows.{RowPushes, push_pushes}
-use Rattle.ep_simulation.proofs.rows.TextRows.{RowFails, chars_pushes, form_integer, form_boolean, form_wide_integer, form_wide_boolean, form_wide_text, form_negative_integer, form_negative_boolean, form_negative_text}
+use Rattle.ep_simulation.proofs.public.rows.ChangeRows.{put_does}
+use Rattle.ep_simulation.proofs.public.rows.Pieces.{piece_form}
+use Rattle.ep_simulation.proofs.public.following.Fragments.{fragment_to, fragment_from, fragment_less, fragment_credit, fragment_waits, fragment_effect, fragment_stop, fragment_move, fragment_give, fragment_bind_bare, fragment_bind_number, fragment_bind_text}
+use Rattle.ep_simulation.proofs.public.matching.Growing.{unit_in-same, inside_here}
+use Rattle.ep_simulation.proofs.public.rows.PlaceRows.{output_pushes}
+use Rattle.ep_simulation.proofs.public.rows.Rows.{RowPushes, push_pushes}
+use Rattle.ep_simulation.proofs.public.rows.TextRows.{RowFails, chars_pushes, form_integer, form_boolean, form_wide_integer, form_wide_boolean, form_wide_text, form_negative_integer, form_negative_boolean, form_negative_text}
 use Rattle.ep_meaning.specs.Steady.{IsSteadyHandler}
 use Rattle.ep_meaning.specs.Calls.{Handler}
-use Rattle.ep_meaning.proofs.Steady.{steady_give, steady_spend, steady_write_items, steady_bind, steady_eval, steady_write_piece, steady_write_wide}
+use Rattle.ep_meaning.proofs.public.Steady.{steady_give, steady_spend, steady_write_items, steady_bind, steady_eval, steady_write_piece, steady_write_wide}
 use Rattle.ep_meaning.specs.Meaning.{eval, write_piece, write_wide, write_item, write_items, exec}
 use Rattle.ep_meaning.specs.Results.{weight_of}
 use Rattle.ep_values.specs.Printing.{Result, Number, Bytes, number_of, line_end, plain_text, wide_text, piece_events}

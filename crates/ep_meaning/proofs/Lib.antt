@@ -1,8 +1,3 @@
-pub mod Auxiliaries
-pub mod Bares
-pub mod Examples
-pub mod Lasting
-pub mod Levels
-pub mod Steady
-pub mod Typed
-pub mod ValueKinds
+mod Examples
+mod Levels
+pub mod public

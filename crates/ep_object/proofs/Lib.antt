@@ -1,10 +1,5 @@
-pub mod Effects
-pub mod Elements
-pub mod Examples
-pub mod Grows
-pub mod Limits
-pub mod Sets
-pub mod SetWords
-pub mod Ticks
-pub mod TypeEntries
-pub mod Views
+mod Effects
+mod Examples
+pub mod public
+mod Ticks
+mod TypeEntries

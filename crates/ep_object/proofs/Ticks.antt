@@ -5,8 +5,8 @@ use Rattle.ep_object.specs.Laws.{IsRunning, EndsAt, EndsExactly}
 use Rattle.ep_object.specs.Runs.{outcome, Timed, timed, advance, run_to, run, run_from}
 use Rattle.ep_object.specs.State.{State, Going, Running, Stopped, End}
 use Rattle.ep_object.specs.declared.code.Image.{Image}
-use Rattle.ep_object.proofs.Limits.{still}
-use Rattle.ep_object.proofs.Views.{IsWhole, outcome_whole, run_more, run_waits, run_acts}
+use Rattle.ep_object.proofs.public.Limits.{still}
+use Rattle.ep_object.proofs.public.Views.{IsWhole, outcome_whole, run_more, run_waits, run_acts}
 use Rattle.ep_values.specs.Events.{Trace}
 
 -- at the last tick of an instruction

@@ -1,3 +1,3 @@
-pub mod Fronts
-pub mod Taken
-pub mod Updates
+mod Fronts
+mod Taken
+mod Updates

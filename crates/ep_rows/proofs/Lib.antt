@@ -2,8 +2,8 @@ mod ArrayTypes
 mod Doing
 mod Elements
 mod Endings
-mod IndexTypes
 mod Indexing
+mod IndexTypes
 mod InitialStates
 mod Meeting
 mod RecordTypes

@@ -15,7 +15,7 @@ use Rattle.ep_object.specs.Effects.{index}
 use Rattle.ep_object.specs.SetRows.{combined, is_member, least_from}
 use Rattle.ep_object.specs.Sets.{are_between, with_member, with_span, bits_from, digit, has, is_subset, member_limit, members, set_in, tells, word_members, words_from, words_of_set}
 use Rattle.ep_object.specs.WordRows.{is_between}
-use Rattle.ep_object.proofs.Sets.{between_no, between_yes, has_members, has_no_more, least_is, least_none, members_none, members_same, subset_no, subset_yes}
+use Rattle.ep_object.proofs.public.Sets.{between_no, between_yes, has_members, has_no_more, least_is, least_none, members_none, members_same, subset_no, subset_yes}
 use Rattle.ep_frames.specs.Members.{is_told, set_of}
 use Rattle.ep_frames.specs.declared.members.Members.{Members}
 use Rattle.ep_rows.specs.Members.{either, is_in_span, is_one, IsEmptiness, IsZero, Tells}

@@ -1,2 +1,2 @@
-pub mod Breaking
-pub mod Taking
+pub mod public
+mod Taking

@@ -6,7 +6,7 @@ use Rattle.ep_values.specs.Sets.{has, is_between, is_member, is_ordinal, member_
 use Rattle.ep_values.specs.declared.operations.SetOperation.{SetOperation}
 use Rattle.ep_values.specs.declared.operations.SetOperation.TheVariants as set
 use Rattle.ep_rules.specs.SetFolding.{combination, ordinal_at, takes_ordinal}
-use Rattle.ep_values.proofs.Sets.{members_all, members_same, passing_more}
+use Rattle.ep_values.proofs.public.Sets.{members_all, members_same, passing_more}
 
 -- one ordinal more, where it passes and where it does not
 next_passing : (f : ℕ → Bool) (n : ℕ) (b : Bool) → f n ≡ b → passing f 0 (n + 1) ≡ passing f 0 n ++ put_where b n []

@@ -1,3 +1,3 @@
-pub mod Found
-pub mod Opened
-pub mod Parameters
+mod Found
+mod Opened
+mod Parameters

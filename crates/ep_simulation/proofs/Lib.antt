@@ -1,6 +1,5 @@
-pub mod Alone
-pub mod following
-pub mod matching
-pub mod rows
-pub mod Spinning
-pub mod Tells
+mod following
+mod matching
+pub mod public
+mod rows
+mod Spinning

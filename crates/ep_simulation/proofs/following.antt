@@ -1,15 +1,3 @@
-pub mod Bind
 pub mod Calling
-pub mod Choices
-pub mod Declaring
-pub mod Filling
-pub mod Fragments
-pub mod Losing
-pub mod Promising
-pub mod Ranging
-pub mod Routines
 pub mod Shuffling
-pub mod Simulating
-pub mod Spreading
-pub mod Swapping
 pub mod Weights

@@ -1,1 +1,3 @@
-pub mod valid
+mod judged
+pub mod public
+mod valid

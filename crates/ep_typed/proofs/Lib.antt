@@ -1,3 +1,1 @@
-pub mod Denoters
-pub mod DesignatorCounts
-pub mod Forms
+pub mod public

@@ -541,7 +541,7 @@ fn element(e: &Element) -> u64
 }
 
 /// How many designators these are.
-#[tactic(auto, using(crate::proofs::DesignatorCounts::counted))]
+#[tactic(auto, using(crate::proofs::public::DesignatorCounts::counted))]
 fn designators_count(all: &[MemberDesignator]) -> u64
     ensures { result ≡ nodes.designators_count (tree.designators (map designator_of all.now)) }
 {

@@ -8,7 +8,7 @@ use Rattle.ep_values.specs.TypeValues.{TypeValue}
 use Rattle.ep_meaning.specs.Valid.{IsTypeOf}
 use Rattle.ep_typed.specs.Viewed.{denoter_of}
 use Rattle.ep_typed.specs.declared.unit.Unit.{Unit as TypedUnit}
-use Rattle.ep_typed.proofs.Forms.{array_is}
+use Rattle.ep_typed.proofs.public.Forms.{array_is}
 use Rattle.ep_scope.specs.declared.structure.ArrayType.{ArrayType}
 use Rattle.ep_scope.specs.declared.structure.Composition.TheVariants as composition
 use Rattle.ep_scope.specs.declared.structure.StructuredType.{StructuredType}
@@ -17,7 +17,7 @@ use Rattle.ep_scope.specs.declared.kind.Kind.TheVariants as kind
 use Rattle.ep_expr_laws.specs.Agreement.{Arrays, IsArrayValue}
 use Rattle.ep_rules.specs.Hosts.{typed_host}
 use Rattle.ep_rules.specs.Judgements.{Accepts, when_accepted}
-use Rattle.ep_check_stmt.proofs.judged.Fits.{Fits, fits_then}
+use Rattle.ep_check_stmt.proofs.public.judged.Fits.{Fits, fits_then}
 use Rattle.ep_check_unit.specs.Blocks.{Block}
 use Rattle.ep_check_unit.specs.Declarations.{Part, Written, array_over, array_written, index_values, settled_part, value_of}
 use Rattle.ep_unit_laws.proofs.Denoting.{Denotes, DenotesStructured, array_there, denotes_array, denotes_hosted, kind_bare, kind_more, kind_valued, kind_valid}

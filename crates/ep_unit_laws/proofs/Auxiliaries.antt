@@ -3,8 +3,8 @@ use Rattle.std.proofs.Common.{◌≡◌, ℕ, suc, ◌+◌, Bool, true, false, L
 use Rattle.std.proofs.lemmas.List.{length-append}
 use Rattle.std.specs.Prelude.{◌≤◌, All, is_some, if◌then◌else◌}
 use Rattle.ep_tree.specs.declared.statement.Compound.{Compound}
-use Rattle.ep_meaning.proofs.Auxiliaries.{auxiliary_host, member_base}
-use Rattle.ep_typed.proofs.Forms.{named_is}
+use Rattle.ep_meaning.proofs.public.Auxiliaries.{auxiliary_host, member_base}
+use Rattle.ep_typed.proofs.public.Forms.{named_is}
 use Rattle.ep_typed.specs.Auxiliaries.{auxiliary_variable, auxiliary_variables, block_auxiliaries, first_for_in_of, first_for_of, member_variable, member_variables, with_variable, with_variables, with_variables_of}
 use Rattle.ep_typed.specs.Denoters.{host_of, bare_type_of}
 use Rattle.ep_typed.specs.Hosts as host

@@ -26,9 +26,9 @@ use Rattle.ep_typed.specs.declared.tree.Element.{Element}
 use Rattle.ep_typed.specs.declared.unit.Unit.{Unit as TypedUnit}
 use Rattle.ep_typed.specs.declared.value.Value.{Value}
 use Rattle.ep_typed.specs.declared.value.Value.TheVariants as value
-use Rattle.ep_typed.proofs.Forms.{named_is, set_is, subrange_is}
-use Rattle.ep_values.proofs.Sets.{between_yes, has_no_more}
-use Rattle.ep_meaning.proofs.Typed.{typed_bare}
+use Rattle.ep_typed.proofs.public.Forms.{named_is, set_is, subrange_is}
+use Rattle.ep_values.proofs.public.Sets.{between_yes, has_no_more}
+use Rattle.ep_meaning.proofs.public.Typed.{typed_bare}
 use Rattle.ep_scope.specs.Scopes.{depth_in}
 use Rattle.ep_scope.specs.declared.kind.Enumeration.{Enumeration}
 use Rattle.ep_scope.specs.declared.kind.Host.{Host}
@@ -43,7 +43,7 @@ use Rattle.ep_rules.specs.Hosts.{typed_host}
 use Rattle.ep_rules.specs.Judgements.{Judged, Accepts, Breaks}
 use Rattle.ep_expr_laws.specs.Laws.{ConstantsAreSound, ConstantsAreKnown}
 use Rattle.ep_check_expr.specs.declared.constants.ConstantForm.{ConstantForm}
-use Rattle.ep_check_stmt.proofs.judged.Fits.{Any, Fits, fits_any, fits_both, fits_is, fits_then}
+use Rattle.ep_check_stmt.proofs.public.judged.Fits.{Any, Fits, fits_any, fits_both, fits_is, fits_then}
 use Rattle.ep_check_unit.specs.Declarations.{are_all_members, constant_definition, constant_entered, constant_fitting, entry_denoter, enumerated, host_denoter, members_denoter, own_thing, scopes_of, set_denoter, unused, with_constant, with_entry, with_name}
 use Rattle.ep_check_unit.specs.FittingConstants.{fits, unless_outside}
 use Rattle.ep_check_unit.specs.Blocks.{Block}

@@ -6,10 +6,10 @@ use Rattle.ep_typed.specs.declared.unit.Unit.{Unit as TypedUnit}
 use Rattle.ep_check_expr.specs.Constants.{bound_judged}
 use Rattle.ep_rules.specs.Judgements.{Accepts}
 use Rattle.ep_expr_laws.specs.Laws.{BoundsAreSound, BoundsAreKnown, InitialStatesAreSound}
-use Rattle.ep_check_stmt.proofs.judged.Fits.{Fits, fits_both, fits_is}
+use Rattle.ep_check_stmt.proofs.public.judged.Fits.{Fits, fits_both, fits_is}
 use Rattle.ep_check_unit.specs.Blocks.{Block}
 use Rattle.ep_check_unit.specs.Declarations.{denoter_part, range, scopes_of, settled_type, type_written}
-use Rattle.ep_check_unit.proofs.Denoters.{KeptByDenoters, each_type}
+use Rattle.ep_check_unit.proofs.public.Denoters.{KeptByDenoters, each_type}
 use Rattle.ep_unit_laws.proofs.Types.{Settles, Writes, enumeration-writes, range_writes, type_named-names}
 use Rattle.ep_unit_laws.proofs.Arrays.{array_writes}
 use Rattle.ep_unit_laws.proofs.InitialStates.{initial_writes}

@@ -9,7 +9,7 @@ use Rattle.ep_values.specs.Operations.{is_integer, maxint}
 use Rattle.ep_typed.specs.Trees.{Array, Denoter, Denoters, Fixed, Required, Named, Subrange, Enumeration, Record, Set, next_denoter, no_denoter}
 use Rattle.ep_meaning.specs.Valid as valid
 use Rattle.ep_meaning.specs.Valid.{AreTyped, HasKind as HasValues, IsDenoter, IsOfKind, IsSetOf, IsStructured, IsTypeOf, IsTyped, IsValue, array, components, enumeration, named, next_typed, none_typed, required, set, subrange}
-use Rattle.ep_meaning.proofs.Typed.{typed_bare, typed_of_host, typed_set}
+use Rattle.ep_meaning.proofs.public.Typed.{typed_bare, typed_of_host, typed_set}
 use Rattle.ep_meaning.specs.Results.{has_base}
 use Rattle.ep_values.specs.Sets.{is_ordinal}
 use Rattle.ep_typed.specs.declared.denoter.RequiredType.{RequiredType}

@@ -17,8 +17,8 @@ use Rattle.ep_typed.specs.Viewed.{constant_expr, element_of}
 use Rattle.ep_typed.specs.declared.tree.Element.{Element as Given}
 use Rattle.ep_typed.specs.declared.unit.UnitType.{UnitType}
 use Rattle.ep_typed.specs.declared.value.Value.TheVariants as value
-use Rattle.ep_typed.proofs.Denoters.{instances_are_one, types_are_instances}
-use Rattle.ep_meaning.proofs.Typed.{typed_bare, typed_components, typed_instance, typed_parts}
+use Rattle.ep_typed.proofs.public.Denoters.{instances_are_one, types_are_instances}
+use Rattle.ep_meaning.proofs.public.Typed.{typed_bare, typed_components, typed_instance, typed_parts}
 use Rattle.ep_scope.specs.Scopes.{Region, structure_in}
 use Rattle.ep_scope.specs.declared.parameter.TypeName.{TypeName}
 use Rattle.ep_scope.specs.declared.parameter.TypeName.TheVariants as type_name
@@ -32,9 +32,9 @@ use Rattle.ep_scope.specs.declared.kind.Kind.{Kind}
 use Rattle.ep_expr_laws.specs.Agreement.{AgreesBy, AreFields, Arrays, HasStructure, IsAlong, IsFieldOf, IsMadeOf, IsPartOf, Records, Structure, TypeValues}
 use Rattle.ep_rules.specs.ConstantAccesses.{value_of_field}
 use Rattle.ep_rules.specs.VariantSteps.{field_steps, part_steps}
-use Rattle.ep_expr_laws.proofs.Betweens.{between_all}
-use Rattle.ep_expr_laws.proofs.Leading.{among_bare, leads_once, record_among, step_leads}
-use Rattle.ep_expr_laws.proofs.Listed.{structure_in-listed}
+use Rattle.ep_expr_laws.proofs.public.Betweens.{between_all}
+use Rattle.ep_expr_laws.proofs.public.Leading.{among_bare, leads_once, record_among, step_leads}
+use Rattle.ep_expr_laws.proofs.public.Listed.{structure_in-listed}
 use Rattle.ep_check_unit.specs.FittingConstants.{are_in, are_members_in, base_value, element_type, field_type, is_in, is_number_in, is_plain_in, members_of, type_among as field_among}
 use Rattle.ep_check_unit.specs.OrdinalTypes.{value_of}
 use Rattle.ep_unit_laws.proofs.Holds.{named_tree}

@@ -10,7 +10,7 @@ use Rattle.ep_meaning.specs.Valid.{IsAround, IsConstant, IsDenoter, IsFormal, Is
 use Rattle.ep_typed.specs.Routines.{heading_of}
 use Rattle.ep_typed.specs.Viewed.{denoter_of}
 use Rattle.ep_typed.specs.declared.denoter.Denoter.TheVariants as denoter
-use Rattle.ep_typed.proofs.Forms.{required_is, named_is}
+use Rattle.ep_typed.proofs.public.Forms.{required_is, named_is}
 use Rattle.ep_typed.specs.declared.denoter.RequiredType.{RequiredType}
 use Rattle.ep_typed.specs.declared.denoter.RequiredType.TheVariants as simple
 use Rattle.ep_typed.specs.declared.interface.FormalMode.{FormalMode}

@@ -17,8 +17,8 @@ use Rattle.ep_typed.specs.declared.unit.Unit.{Unit as TypedUnit}
 use Rattle.ep_typed.specs.declared.unit.UnitType.{UnitType}
 use Rattle.ep_typed.specs.declared.value.Value.{Value}
 use Rattle.ep_typed.specs.declared.value.Value.TheVariants as value
-use Rattle.ep_typed.proofs.Forms.{initial_is}
-use Rattle.ep_meaning.proofs.Typed.{typed_bare, typed_of_host, typed_set}
+use Rattle.ep_typed.proofs.public.Forms.{initial_is}
+use Rattle.ep_meaning.proofs.public.Typed.{typed_bare, typed_of_host, typed_set}
 use Rattle.ep_scope.specs.declared.kind.Kind.{Kind}
 use Rattle.ep_scope.specs.declared.kind.Kind.TheVariants as kind
 use Rattle.ep_scope.specs.declared.rule.TheConstants as rule
@@ -29,8 +29,8 @@ use Rattle.ep_check_expr.specs.StructuredValues.{asked_by}
 use Rattle.ep_rules.specs.Judgements.{Accepts, Breaks}
 use Rattle.ep_expr_laws.specs.Laws.{InitialStatesAreSound}
 use Rattle.ep_check_expr.specs.declared.constants.ConstantForm.{ConstantForm}
-use Rattle.ep_expr_laws.proofs.SameHost.{host_same}
-use Rattle.ep_check_stmt.proofs.judged.Fits.{Fits, fits_is, fits_then}
+use Rattle.ep_expr_laws.proofs.public.SameHost.{host_same}
+use Rattle.ep_check_stmt.proofs.public.judged.Fits.{Fits, fits_is, fits_then}
 use Rattle.ep_check_unit.specs.Blocks.{Block}
 use Rattle.ep_check_unit.specs.declared.block.Enclosing.{Enclosing}
 use Rattle.ep_check_unit.specs.Declarations.{Part, Written, begun_with, fitting_state, initial_written, may_begin, noted, scopes_of, settled_part, with_initial_state}

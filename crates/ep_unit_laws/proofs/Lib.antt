@@ -1,23 +1,23 @@
-pub mod Denoting
-pub mod Open
-pub mod Holds
-pub mod Agreeing
-pub mod Leading
-pub mod Meant
-pub mod Ordinals
-pub mod Fitting
-pub mod Constants
-pub mod Types
-pub mod Structures
-pub mod Arrays
-pub mod Records
-pub mod Sets
-pub mod InitialStates
-pub mod Ranges
-pub mod Variants
-pub mod Denoters
-pub mod Items
-pub mod Auxiliaries
-pub mod Headings
-pub mod Routines
-pub mod Units
+mod Agreeing
+mod Arrays
+mod Auxiliaries
+mod Constants
+mod Denoters
+mod Denoting
+mod Fitting
+mod Headings
+mod Holds
+mod InitialStates
+mod Items
+mod Leading
+mod Meant
+mod Open
+mod Ordinals
+mod Ranges
+mod Records
+mod Routines
+mod Sets
+mod Structures
+mod Types
+mod Units
+mod Variants

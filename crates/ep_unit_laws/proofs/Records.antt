@@ -11,7 +11,7 @@ use Rattle.ep_typed.specs.Viewed as viewed
 use Rattle.ep_typed.specs.Viewed.{denoter_of, denoter_step, field_step, part_step, selector_step, variant_part_step, variant_step}
 use Rattle.ep_typed.specs.declared.denoter.Denoter.TheFolds.{fold-roll-FieldPart, fold-roll-RecordField}
 use Rattle.ep_typed.specs.declared.unit.Unit.{Unit as TypedUnit}
-use Rattle.ep_typed.proofs.Forms.{record_is}
+use Rattle.ep_typed.proofs.public.Forms.{record_is}
 use Rattle.ep_scope.specs.declared.kind.Kind.TheVariants as kind
 use Rattle.ep_scope.specs.declared.rule.TheConstants as rule
 use Rattle.ep_scope.specs.declared.structure.Composition.TheVariants as composition
@@ -19,10 +19,10 @@ use Rattle.ep_scope.specs.declared.structure.FieldType.{FieldType}
 use Rattle.ep_scope.specs.declared.structure.StructuredType.{StructuredType}
 use Rattle.ep_expr_laws.specs.Agreement.{AreFieldValues, AreFields, IsFieldOf, IsFieldValue, Records}
 use Rattle.ep_rules.specs.Judgements.{Accepts, Breaks, when_accepted}
-use Rattle.ep_check_stmt.proofs.judged.Fits.{Fits, fits_then, fits_weaker}
+use Rattle.ep_check_stmt.proofs.public.judged.Fits.{Fits, fits_then, fits_weaker}
 use Rattle.ep_check_unit.specs.Blocks.{Block}
 use Rattle.ep_check_unit.specs.Declarations.{Field, Fielded, ListJudged, Listed, Section, Written, field_of, field_part, fields_named, has_field, own_fields, plain_list, record_field, record_over, record_written, section_written, sections_written, settled_part}
-use Rattle.ep_check_unit.proofs.Denoters.{AreKept}
+use Rattle.ep_check_unit.proofs.public.Denoters.{AreKept}
 use Rattle.ep_unit_laws.proofs.Denoting.{AreDenoted, DenotesStructured, bare_more, denotes_record, kind_bare, kind_valid, kind_valued, record_there}
 use Rattle.ep_unit_laws.proofs.Agreeing.{denoter_holds}
 use Rattle.ep_unit_laws.proofs.Holds.{HasTypeHere, Holds, HoldsStructuredType, ListsKind, all_lists_more, has_type_more, holds_more, lists_kind_more, lists_kind_small, type_values}

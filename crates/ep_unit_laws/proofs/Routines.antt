@@ -34,8 +34,8 @@ use Rattle.ep_expr_laws.specs.Agreement.{structures_of}
 use Rattle.ep_expr_laws.specs.Laws.{BoundsAreKnown, BoundsAreSound, ConstantsAreKnown, ConstantsAreSound, InitialStatesAreSound}
 use Rattle.ep_stmt_laws.specs.Laws.{StatementsAreSound}
 use Rattle.ep_check_stmt.specs.Statements.{Judgement, Passes, Waits, Fails}
-use Rattle.ep_stmt_laws.proofs.judged.Auxiliaries.{bounded_there, members_there}
-use Rattle.ep_check_stmt.proofs.judged.Fits.{Fits, fits_then}
+use Rattle.ep_stmt_laws.proofs.public.judged.Auxiliaries.{bounded_there, members_there}
+use Rattle.ep_check_stmt.proofs.public.judged.Fits.{Fits, fits_then}
 use Rattle.ep_check_unit.specs.Blocks.{Block, RoutineForm, around_of, own_count, result_count, routine_form}
 use Rattle.ep_check_unit.specs.Declarations.{Standing, Stands, Falls, and_then, at_line, entered, own_thing, scopes_of, type_definitions, type_denoter}
 use Rattle.ep_check_unit.specs.Functions.{if_given, in_block, is_assigned, is_in_view, own_name_entered, own_result, result_entered, row_gives}
@@ -43,7 +43,7 @@ use Rattle.ep_check_unit.specs.Routines.{BodyJudged, Headed, PartJudged, all_dec
 use Rattle.ep_check_unit.specs.declared.block.Enclosing.{Enclosing}
 use Rattle.ep_check_unit.specs.declared.block.OwnResult.{OwnResult}
 use Rattle.ep_check_unit.specs.declared.functions.HeadingResult.{HeadingResult}
-use Rattle.ep_check_unit.proofs.Forms.{each_set}
+use Rattle.ep_check_unit.proofs.public.Forms.{each_set}
 use Rattle.ep_unit_laws.proofs.Auxiliaries.{AreBehind, IsUnmadeFrom, auxiliaries_of, for_auxiliaries, for_in_auxiliaries, own_behind, own_unmade, with_auxiliaries}
 use Rattle.ep_unit_laws.proofs.Denoting.{DenotesKind}
 use Rattle.ep_unit_laws.proofs.Headings.{HeadsOn, HoldsHeaded, IsResultOf, after_heading, forward_leads, front_get, headed_leads}

@@ -43,14 +43,14 @@ use Rattle.ep_rules.specs.Judgements.{Accepts, Breaks}
 use Rattle.ep_expr_laws.specs.Laws.{BoundsAreSound, BoundsAreKnown}
 use Rattle.ep_rules.specs.Names.{undeclared}
 use Rattle.ep_check_expr.specs.declared.constants.ConstantForm.{ConstantForm}
-use Rattle.ep_expr_laws.proofs.SameHost.{host_same}
-use Rattle.ep_check_stmt.proofs.judged.Fits.{Fits, fits_is, fits_pair, fits_then}
+use Rattle.ep_expr_laws.proofs.public.SameHost.{host_same}
+use Rattle.ep_check_stmt.proofs.public.judged.Fits.{Fits, fits_is, fits_pair, fits_then}
 use Rattle.ep_check_unit.specs.Declarations.{subrange_nodes, Written, common_host, declared_type, enumerated, enumeration, host_denoter, next_enumeration, next_type, noted, number_in, ordered, range, required_host, scopes_of, subrange, subrange_denoter, type_denoter, type_meant, type_named, with_type, written_type}
 use Rattle.ep_check_unit.specs.Blocks.{Block}
 use Rattle.ep_unit_laws.proofs.Constants.{ListsWithin, enumerated_counts, enumerated_enters}
 use Rattle.ep_unit_laws.proofs.Denoting.{Denotes, DenotesKind, IsSmall, denotes_enumeration, denotes_more, denotes_required, denotes_subrange, full_type, kind_more, kind_named, kind_valid}
 use Rattle.ep_unit_laws.proofs.Agreeing.{holds_agrees, within}
-use Rattle.ep_typed.proofs.Forms.{enumeration_is, named_is, subrange_is}
+use Rattle.ep_typed.proofs.public.Forms.{enumeration_is, named_is, subrange_is}
 use Rattle.ep_unit_laws.proofs.Holds.{HasKindHere, HasTypeHere, Holds, HoldsDeclaration, Lists, ListsEnumeration, ListsKind, holds_more, host_denotes, known_listed, lists_kind_more, lists_more, lists_small, named_tree, required_lists, type_values}
 use Rattle.ep_unit_laws.proofs.Open.{IsOpen}
 use Rattle.ep_unit_laws.proofs.Leading.{Extends, Enters, Grows, bodies_refl, extends_before, grows_refl, grows_trans, head_in, length_push, prefix_last, prefix_length, prefix_more, prefix_refl, waits_some}

@@ -33,13 +33,13 @@ use Rattle.ep_scope.specs.declared.structure.FieldType.{FieldType}
 use Rattle.ep_expr_laws.specs.Agreement.{AreFieldValues, HasTagValue, IsFieldOf, IsFieldValue, Selects}
 use Rattle.ep_rules.specs.Hosts.{typed_host}
 use Rattle.ep_rules.specs.Judgements.{Accepts, Breaks, when_accepted}
-use Rattle.ep_check_stmt.proofs.judged.Fits.{Any, Fits, fits_any, fits_then, fits_weaker}
+use Rattle.ep_check_stmt.proofs.public.judged.Fits.{Any, Fits, fits_any, fits_then, fits_weaker}
 use Rattle.ep_check_unit.specs.Blocks.{Block}
 use Rattle.ep_check_unit.specs.Declarations.{Field, Fielded, Gathered, Labelled, ListJudged, Listed, PartJudged, Section, Tag, VariantJudged, Written, all_fields, completing_added, completing_written, field_part, fields_joined, index_values, inside, is_among_fields, labels_noted, list_ended, list_written, none_gathered, noted, own_fields, record_field, scopes_of, sections_written, selection_of, tag_field, tag_named, tag_of, tag_written, type_named, unless_left_out, value_of, variant_added, variant_list, variant_listing, variant_part, variant_part_written, variant_written, variants_after, variants_joined, variants_written}
 use Rattle.ep_check_unit.specs.Labels.{completed, variant_labelled}
 use Rattle.ep_check_unit.specs.declared.labels.Labels.{Labels}
-use Rattle.ep_check_unit.proofs.Denoters.{AreKept, AreVariantsKept, IsKeptIf}
-use Rattle.ep_check_unit.proofs.Forms.{map_push}
+use Rattle.ep_check_unit.proofs.public.Denoters.{AreKept, AreVariantsKept, IsKeptIf}
+use Rattle.ep_check_unit.proofs.public.Forms.{map_push}
 use Rattle.ep_unit_laws.proofs.Agreeing.{denoter_holds}
 use Rattle.ep_unit_laws.proofs.Denoting.{AreDenoted, HasBare, bare_record, denotes_hosted, kind_more, kind_type, kind_valued}
 use Rattle.ep_unit_laws.proofs.Holds.{HasTypeHere, Holds, ListsKind, Lists as ListsHost, lists_kind_more, lists_kind_small, named_tree, type_values}

@@ -1,4 +1,3 @@
-pub mod Agreement
-pub mod Done
-pub mod Sets
-pub mod Sizes
+mod Agreement
+pub mod public
+mod Sizes

@@ -4,7 +4,7 @@ use Rattle.ep_simulation.specs.Follows.{Follows}
 use Rattle.ep_object.specs.Runs.{outcome}
 use Rattle.ep_object.specs.State.{State, Running}
 use Rattle.ep_object.specs.declared.code.Image.{Image}
-use Rattle.ep_simulation.proofs.following.Bind.{Met, EndsForWant, stays_waiting, stays_join, follows_paid, follows_wanting, run_then, run_instruction}
+use Rattle.ep_simulation.proofs.public.following.Bind.{Met, EndsForWant, stays_waiting, stays_join, follows_paid, follows_wanting, run_then, run_instruction}
 use Rattle.ep_meaning.specs.Calls.{entered, left_from, given_back, in_call}
 use Rattle.ep_meaning.specs.Steady.{Steady}
 use Rattle.ep_meaning.specs.Steps.{Call, Outcome, Gives, Ends, Cut, Computation, spend}

@@ -8,12 +8,12 @@ use Rattle.ep_object.specs.declared.state.Kind.{Kind}
 use Rattle.ep_object.specs.declared.state.Kind.TheVariants as kind
 use Rattle.ep_object.specs.declared.state.RecordPart.{RecordPart}
 use Rattle.ep_object.specs.declared.state.TypeEntry.{TypeEntry}
-use Rattle.ep_simulation.proofs.matching.Growing.{bare-longer, each_bare-longer}
+use Rattle.ep_simulation.proofs.public.matching.Growing.{bare-longer, each_bare-longer}
 use Rattle.ep_outside.specs.Known.{IsPrefix}
 use Rattle.ep_values.specs.Bounds.{count_of}
 use Rattle.ep_values.specs.TypeValues as type
 use Rattle.ep_values.specs.TypeValues.{ComponentTypes, TypeValue, are_started, bare_each, bare_of, is_started, size_of, sizes_of}
-use Rattle.ep_meaning.proofs.Bares.{bare_size, bare_sizes, bare_unstarted, neither}
+use Rattle.ep_meaning.proofs.public.Bares.{bare_size, bare_sizes, bare_unstarted, neither}
 
 -- the entry is that of the bare form of the type value, in a table that has those of its components
 abbrev pub IsEntryOf : TypeTable → TypeValue → TypeEntry → Type 0

@@ -15,13 +15,13 @@ use Rattle.ep_object.specs.declared.code.ImageUnit.{ImageUnit}
 use Rattle.ep_object.specs.declared.state.Place.{Place}
 use Rattle.ep_object.specs.declared.state.Segment.{Segment}
 use Rattle.ep_simulation.proofs.matching.Changes.{matches_frame-grown, of_type-same}
-use Rattle.ep_object.proofs.Elements.{slice_get-push, slice_get-pushed, mapped-push, slice_get-set-same, slice_get-set-other, length-set}
-use Rattle.ep_simulation.proofs.matching.Growing.{slice_get-prefix, is_in-longer, is_of-longer}
-use Rattle.ep_object.proofs.Grows.{is_prefix}
+use Rattle.ep_object.proofs.public.Elements.{slice_get-push, slice_get-pushed, mapped-push, slice_get-set-same, slice_get-set-other, length-set}
+use Rattle.ep_simulation.proofs.public.matching.Growing.{slice_get-prefix, is_in-longer, is_of-longer}
+use Rattle.ep_object.proofs.public.Grows.{is_prefix}
 use Rattle.ep_simulation.proofs.matching.HiddenWords.{hidden_words-pushed}
 use Rattle.ep_simulation.proofs.matching.NewSegments.{fresh_holds, new_segment}
 use Rattle.ep_simulation.proofs.matching.Starting.{starts_length}
-use Rattle.ep_simulation.proofs.matching.Standing.{slice_get-some, mapped_within, both, one_type_of, represented-same, represented-longer, living_represented, allocated}
+use Rattle.ep_simulation.proofs.public.matching.Standing.{slice_get-some, mapped_within, both, one_type_of, represented-same, represented-longer, living_represented, allocated}
 use Rattle.ep_values.specs.Values.{start_of}
 use Rattle.ep_meaning.specs.Steps.{Component, whole, type_along, Allocation, allocation_at, type_in, ended_in, bound, counted, made}
 use Rattle.ep_meaning.specs.Steps as meaning

@@ -7,7 +7,7 @@ use Rattle.ep_object.specs.Operands.{Operand, Set}
 use Rattle.ep_object.specs.Places.{set_loaded}
 use Rattle.ep_object.specs.Sets.{IsSet, set_size, words_of_set}
 use Rattle.ep_object.specs.State.{undefined}
-use Rattle.ep_object.proofs.SetWords.{words_loaded, words_many}
+use Rattle.ep_object.proofs.public.SetWords.{words_loaded, words_many}
 use Rattle.ep_values.specs.Sets.{are_between}
 use Rattle.ep_values.specs.declared.run_error.TheConstants as run_error
 

@@ -8,7 +8,7 @@ use Rattle.ep_object.specs.Sets.{set_size}
 use Rattle.ep_simulation.specs.Starts.{AllStarts, AreStarts, AreStartsOf, AreStartsOfEach, IsStartOf, start_words, start_words_of_each, words_kept, words_of_start, words_of_starts}
 use Rattle.ep_object.specs.State.{undefined, words_begun}
 use Rattle.ep_object.specs.Types.{repeated}
-use Rattle.ep_object.proofs.SetWords.{words_many}
+use Rattle.ep_object.proofs.public.SetWords.{words_many}
 use Rattle.ep_simulation.proofs.matching.Values.{slice_get-behind, slice_get-front}
 use Rattle.ep_simulation.proofs.matching.Words.{ends_before, has_undefined}
 use Rattle.ep_values.specs.Bounds.{count_of}
@@ -17,7 +17,7 @@ use Rattle.ep_values.specs.Values.{Undefined, Value, component_of, start_of, sta
 use Rattle.ep_meaning.specs.Steps as meaning
 use Rattle.ep_values.specs.TypeValues as type
 use Rattle.ep_values.specs.TypeValues.{ComponentTypes, Start, Starts, TypeValue, are_started, bare_each, bare_of, is_started, next_start, no_start, parts_start, set_start, simple_start, size_of, sizes_of, undefined_start}
-use Rattle.ep_meaning.proofs.Bares.{neither}
+use Rattle.ep_meaning.proofs.public.Bares.{neither}
 use Rattle.ep_meaning.specs.Valid.{AreTypeValues, IsTypeValue}
 
 -- ---- how many words

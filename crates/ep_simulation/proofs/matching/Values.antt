@@ -6,7 +6,7 @@ use Rattle.std.proofs.lemmas.List.{length-take-le}
 use Rattle.std.proofs.lemmas.Slice.Eq.{bytes_eq-Decides}
 use Rattle.ep_simulation.specs.Matching.{Injection, Words, SetAt, HasAt, HaveAt, Part, part_along, all_of}
 use Rattle.ep_object.specs.Places.{words_at, words_replaced}
-use Rattle.ep_object.proofs.Elements.{slice_get-drop}
+use Rattle.ep_object.proofs.public.Elements.{slice_get-drop}
 use Rattle.ep_simulation.proofs.matching.Words.{AreSameBut, has_at-same, part_within}
 use Rattle.ep_values.specs.Values.{Value, Undefined, component_of}
 use Rattle.ep_meaning.specs.Steps as meaning

@@ -8,7 +8,7 @@ use Rattle.ep_outside.specs.Known.{IsPrefix}
 use Rattle.ep_simulation.specs.Matching.{Injection, Part, part_among, part_behind, part_of, part_along, all_of, Words, OrdinalAt, SetAt, HasAt, HaveAt}
 use Rattle.ep_object.specs.Sets.{set_size}
 use Rattle.ep_object.specs.State.{undefined}
-use Rattle.ep_object.proofs.Elements.{slice_get-set-same, slice_get-set-other}
+use Rattle.ep_object.proofs.public.Elements.{slice_get-set-same, slice_get-set-other}
 use Rattle.ep_values.specs.Bounds.{count_of}
 use Rattle.ep_values.specs.Values.{Value, Undefined, component_of, values_with, with_component, value_along, value_with}
 use Rattle.ep_meaning.specs.Steps.{type_along}

@@ -11,7 +11,7 @@ use Rattle.ep_object.specs.State.{Frame, Running, Stopped, Error}
 use Rattle.ep_object.specs.declared.code.Image.{Image}
 use Rattle.ep_object.specs.declared.op.TheConstants as op
 use Rattle.ep_object.specs.declared.state.Place.{Place}
-use Rattle.ep_simulation.proofs.rows.Rows.{instr, in_one, outcome_at}
+use Rattle.ep_simulation.proofs.public.rows.Rows.{instr, in_one, outcome_at}
 use Rattle.ep_values.specs.Events.{Trace}
 use Rattle.ep_values.specs.declared.run_error.TheConstants as run_error
 

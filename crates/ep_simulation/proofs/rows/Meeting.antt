@@ -11,11 +11,11 @@ use Rattle.ep_object.specs.Types.{Typing, entry_number, interned, interned_over,
 use Rattle.ep_object.specs.declared.state.Kind.{Kind}
 use Rattle.ep_object.specs.declared.state.RecordPart.{RecordPart}
 use Rattle.ep_object.specs.declared.state.TypeEntry.{TypeEntry}
-use Rattle.ep_object.proofs.Grows.{is_prefix, prefix_then}
+use Rattle.ep_object.proofs.public.Grows.{is_prefix, prefix_then}
 use Rattle.ep_simulation.proofs.matching.Counts.{met-held, met-typed, met_lost, met_new, met_types-le}
 use Rattle.ep_simulation.proofs.matching.Described.{IsEntryOf, entry_bare, entry_sized, entry-longer, has_size-longer}
-use Rattle.ep_object.proofs.Elements.{slice_get-pushed}
-use Rattle.ep_simulation.proofs.matching.Growing.{bare-longer, entry_as, kind-longer, slice_get-prefix}
+use Rattle.ep_object.proofs.public.Elements.{slice_get-pushed}
+use Rattle.ep_simulation.proofs.public.matching.Growing.{bare-longer, entry_as, kind-longer, slice_get-prefix}
 use Rattle.ep_simulation.proofs.matching.TypeTables.{bare_not_known, bare_words, entry_found, kind_words, not_first, not_known, type_words, types-added, types-known}
 use Rattle.ep_outside.specs.Known.{IsPrefix}
 use Rattle.ep_meaning.specs.Steps.{Resources, held, met, words_of_type}
@@ -23,7 +23,7 @@ use Rattle.ep_values.specs.TypeValues.{same_type}
 use Rattle.ep_meaning.specs.Steps as meaning
 use Rattle.ep_values.specs.TypeValues as type
 use Rattle.ep_values.specs.TypeValues.{ComponentTypes, TypeValue, are_started, is_started, parts_of, size_of, start_size}
-use Rattle.ep_meaning.proofs.Bares.{neither}
+use Rattle.ep_meaning.proofs.public.Bares.{neither}
 use Rattle.std.proofs.lemmas.Option.{same_Some}
 use Rattle.ep_values.specs.declared.run_error.TheConstants as run_error
 

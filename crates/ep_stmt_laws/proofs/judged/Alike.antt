@@ -42,7 +42,7 @@ use Rattle.ep_check_expr.specs.Shapes.{field_first}
 use Rattle.ep_check_stmt.specs.Statements.{Context, Opened, RecordNamed, block_variable, none_opened, one_opened, record_accessed, record_made, record_of_kind, record_opened, records_opened}
 use Rattle.ep_check_stmt.specs.Tags as tags
 use Rattle.ep_check_stmt.specs.declared.tags.Reached.{Reached}
-use Rattle.ep_check_stmt.proofs.judged.Fits.{Fits, fits_then}
+use Rattle.ep_check_stmt.proofs.public.judged.Fits.{Fits, fits_then}
 use Rattle.ep_stmt_laws.proofs.judged.Reached.{IsReached, IsVariable, access_reached, never_both}
 
 -- ---- scopes whose open records all have the same variable

@@ -53,15 +53,15 @@ use Rattle.ep_rules.specs.Names as names
 use Rattle.ep_rules.specs.Names.{call_declared, call_named, call_required, qualified_value, value_declared, value_named, value_required}
 use Rattle.ep_rules.specs.Operators.{are_compatible, character, is_integer, unbuilt_typed}
 use Rattle.ep_check_expr.specs.Shapes.{field_first}
-use Rattle.ep_check_expr.proofs.Selected.{field-given}
-use Rattle.ep_check_expr.proofs.Folds.{name_judged-is}
-use Rattle.ep_check_expr.proofs.Selected.{index-given}
-use Rattle.ep_check_expr.proofs.Keeping.{if-satisfies}
-use Rattle.ep_check_expr.proofs.Nodes.{indexes-judged}
-use Rattle.ep_check_expr.proofs.Plain.{applied_one-plain, applied_two-plain, deep-plain}
+use Rattle.ep_check_expr.proofs.public.Selected.{field-given}
+use Rattle.ep_check_expr.proofs.public.Folds.{name_judged-is}
+use Rattle.ep_check_expr.proofs.public.Selected.{index-given}
+use Rattle.ep_check_expr.proofs.public.Keeping.{if-satisfies}
+use Rattle.ep_check_expr.proofs.public.Nodes.{indexes-judged}
+use Rattle.ep_check_expr.proofs.public.Plain.{applied_one-plain, applied_two-plain, deep-plain}
 use Rattle.ep_check_stmt.specs.Tags as tags
 use Rattle.ep_check_stmt.specs.declared.tags.Reached.{Reached}
-use Rattle.ep_check_stmt.proofs.judged.Fits.{Any, Fits, fits_any, fits_both, fits_then}
+use Rattle.ep_check_stmt.proofs.public.judged.Fits.{Any, Fits, fits_any, fits_both, fits_then}
 
 -- it is no variable
 abbrev pub IsNoVariable : accessing.Access → Type 0

@@ -28,12 +28,12 @@ use Rattle.ep_rules.specs.Judgements.{Judged, Accepts, Breaks, Typed, when_accep
 use Rattle.ep_expr_laws.specs.Laws.{VariablesAreSound}
 use Rattle.ep_rules.specs.declared.access.Access.{Access}
 use Rattle.ep_rules.specs.declared.access.Access.TheVariants as access
-use Rattle.ep_expr_laws.proofs.Components.{fields-at}
-use Rattle.ep_expr_laws.proofs.Passing.{IfForm}
-use Rattle.ep_expr_laws.proofs.Places.{made_so, place_at, place_wider, structure_in-holds}
+use Rattle.ep_expr_laws.proofs.public.Components.{fields-at}
+use Rattle.ep_expr_laws.proofs.public.Passing.{IfForm}
+use Rattle.ep_expr_laws.proofs.public.Places.{made_so, place_at, place_wider, structure_in-holds}
 use Rattle.ep_stmt_laws.specs.Laws.{WithIsThere, WithsAreThere}
 use Rattle.ep_check_stmt.specs.Statements.{Context, Opened, RecordNamed, WithHead, block_variable, inside, none_opened, one_after, one_opened, record_accessed, record_made, record_of_kind, record_opened, records_opened, with_form, with_head}
-use Rattle.ep_check_stmt.proofs.judged.Fits.{Fits, fits_then}
+use Rattle.ep_check_stmt.proofs.public.judged.Fits.{Fits, fits_then}
 use Rattle.ep_stmt_laws.proofs.valid.Sound.{AgreedIn, IsSound, agrees_in}
 
 -- ---- records in a row

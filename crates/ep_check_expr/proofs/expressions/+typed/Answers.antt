@@ -6,10 +6,10 @@ use Rattle.ep_tree.specs.declared.expression.Simple.{out-Simple}
 use Rattle.ep_tree.specs.declared.expression.Term.{out-Term}
 use Rattle.ep_tree.specs.declared.expression.ComponentValue.TheViews.{the_lemmas}
 use Rattle.ep_built.specs.Built.{addend_belonging, expression_unbuilt, label_unbuilt, multiplier_belonging, written_unbuilt}
-use Rattle.ep_rules.proofs.Breaking.{part-exit, refused-exit, when_accepted-part}
-use Rattle.ep_check_expr.proofs.Rows.{chained-first, next-built, rest-built, chained-operand, chained-operator, chained-step, operands-built, at_node-inner, or-first, or-second}
+use Rattle.ep_rules.proofs.public.Breaking.{part-exit, refused-exit, when_accepted-part}
+use Rattle.ep_check_expr.proofs.public.Rows.{chained-first, next-built, rest-built, chained-operand, chained-operator, chained-step, operands-built, at_node-inner, or-first, or-second}
 use Rattle.ep_check_expr.proofs.Calls.{given-exit, one-item, two-items, applied-one, applied-two, applied-fault, applied-number, fault-exit, first-fault, later-fault}
-use Rattle.ep_check_expr.proofs.Folds.{addend_judged-is, multiplier_judged-is, addend_belonging-is, multiplier_belonging-is, simple_judged-is, term_judged-is, simple_unbuilt-is, term_unbuilt-is}
+use Rattle.ep_check_expr.proofs.public.Folds.{addend_judged-is, multiplier_judged-is, addend_belonging-is, multiplier_belonging-is, simple_judged-is, term_judged-is, simple_unbuilt-is, term_unbuilt-is}
 use Rattle.ep_check_expr.proofs.Selectors.{FieldNode, IndexNode, access-alone-fails, access-call-fails, access-field-fails, arguments-split, call-components, call-lines, component-node, field-acts, field-split, index-acts, index-fails, index-turned, indexing-fails, more-components, more-lines, next-component, node-lines, rest-components, rest-lines, selector-fails, selector-turned}
 use Rattle.ep_check_expr.proofs.expressions.+typed.Goals as goal
 use Rattle.ep_check_expr.proofs.expressions.+typed.Goals.{selected-in-Index+in_ok-variable-in-Index, selected-in-Field+in_ok-variable-in-Field}
@@ -17,10 +17,10 @@ use Rattle.ep_check_expr.specs.Answers.{choice_of, filled_of, index_of, labels_o
 use Rattle.ep_rules.specs.Answers.{members_of, taken_of, typed_of}
 use Rattle.ep_rules.specs.Arguments.{argument_taken}
 use Rattle.ep_check_expr.proofs.Elements.{choice_fails, field_fails, field_given_is, high_fails, low_fails, more_labels, names_fail, one_label, ranges-fail, ranges-turned, tag_fails}
-use Rattle.ep_check_expr.proofs.Labels.{label-fails, label-turned}
+use Rattle.ep_check_expr.proofs.public.Labels.{label-fails, label-turned}
 use Rattle.ep_check_expr.proofs.Gathering.{argument_fails, gathered, other_number, turned, value_fails}
 use Rattle.ep_check_expr.proofs.Reading.{argument-reads}
-use Rattle.ep_check_expr.proofs.Written.{all_written}
+use Rattle.ep_check_expr.proofs.public.Written.{all_written}
 use Rattle.ep_rules.specs.Constructors.{constructed, gathered as gathered_labels, no_members}
 use Rattle.ep_check_expr.specs.Expressions.{addend_judged, judged, labelled, multiplier_judged, given, selected, selected_all}
 use Rattle.ep_rules.specs.Judgements.{Accepts, when_accepted}

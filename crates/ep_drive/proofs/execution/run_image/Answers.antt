@@ -1,7 +1,7 @@
 use Rattle.std.proofs.Common.{◌≡◌, ◌+◌, arith}
 use Rattle.ep_machine.specs.Answers.{outside}
 use Rattle.ep_machine.specs.Machines.{image_of, ticks_of, ended_of, state_in, standing}
-use Rattle.ep_values.proofs.Done.{does_front-none, same-refl}
+use Rattle.ep_values.proofs.public.Done.{does_front-none, same-refl}
 use Rattle.ep_drive.proofs.Executing.{came_from, stands-trace, fault_of}
 use Rattle.ep_drive.proofs.execution.run_image.Goals as goal
 

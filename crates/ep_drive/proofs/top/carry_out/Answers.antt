@@ -1,6 +1,6 @@
 use Rattle.std.proofs.Common.{[], ◌∷◌, refl, subst}
 use Rattle.std.proofs.KnownBytes.{Keeps-refl}
-use Rattle.ep_values.proofs.Done.{keeps_files-refl}
+use Rattle.ep_values.proofs.public.Done.{keeps_files-refl}
 use Rattle.ep_drive.specs.Asked.{asked_by}
 use Rattle.ep_drive.specs.Commands.{bytes_of, WordsOf}
 use Rattle.ep_drive.specs.Refusals.{Usage}

@@ -1,6 +1,6 @@
 use Rattle.std.proofs.Common.{◌≡◌, ◌+◌, ◌++◌, ◌∷◌, [], rules}
 use Rattle.ep_gen_code.specs.Instructions.{reference}
-use Rattle.ep_gen_code.proofs.Named.{named_more}
+use Rattle.ep_gen_code.proofs.public.Named.{named_more}
 use Rattle.ep_gen_code.proofs.references.first_references.Goals as goal
 
 pub loop-index-preserved : goal.loop-index-preserved

@@ -1,5 +1,5 @@
 use Rattle.ep_typed.specs.Viewed.{member_control_of}
-use Rattle.ep_gen_code.proofs.Growing.{on_ok}
+use Rattle.ep_gen_code.proofs.public.Growing.{on_ok}
 use Rattle.ep_gen_expr.proofs.MemberForms.{appends_others}
 use Rattle.ep_gen_expr.proofs.controls.others_code.Goals as goal
 

@@ -1,10 +1,10 @@
 use Rattle.std.proofs.Common.{◌+◌, map, w64, arith}
 use Rattle.std.proofs.lemmas.Int.{to_z_pos, to_z-of_z}
 use Rattle.ep_typed.specs.Trees.{actuals, designators, elements}
-use Rattle.ep_typed.proofs.DesignatorCounts.{counted}
+use Rattle.ep_typed.proofs.public.DesignatorCounts.{counted}
 use Rattle.ep_typed.specs.Viewed.{actual_of, callee_of, designator_of, element_of, expr_of}
 use Rattle.ep_gen_expr.proofs.ActualForms.{appends_call, actuals_more}
-use Rattle.ep_gen_code.proofs.Growing.{on_ok}
+use Rattle.ep_gen_code.proofs.public.Growing.{on_ok}
 use Rattle.ep_gen_expr.proofs.Forms.{appends_short, appends_step}
 use Rattle.ep_gen_expr.proofs.SetForms.{set_more}
 use Rattle.ep_gen_expr.proofs.RangeIndexes.{appends_alone, appends_at_indexes, indexes_more}

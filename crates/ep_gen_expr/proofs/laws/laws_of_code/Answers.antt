@@ -1,4 +1,4 @@
-use Rattle.ep_gen_expr.proofs.Stays.{place_code_stays, expr_code_stays, place_code_short, expr_code_short}
+use Rattle.ep_gen_expr.proofs.public.Stays.{place_code_stays, expr_code_stays, place_code_short, expr_code_short}
 use Rattle.ep_gen_expr.proofs.laws.laws_of_code.Goals as goal
 
 pub returns : goal.returns

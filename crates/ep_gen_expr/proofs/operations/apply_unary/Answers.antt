@@ -1,7 +1,7 @@
 use Rattle.std.proofs.Common.{OnOk, subst, sym}
 use Rattle.ep_gen_expr.specs.ExprCode.{one_code}
 use Rattle.ep_gen_code.specs.Growth.{Grows}
-use Rattle.ep_gen_code.proofs.Growing.{on_ok}
+use Rattle.ep_gen_code.proofs.public.Growing.{on_ok}
 use Rattle.ep_gen_expr.proofs.Forms.{grows_character}
 use Rattle.ep_gen_expr.proofs.operations.apply_unary.Goals as goal
 

@@ -1,4 +1,4 @@
-use Rattle.ep_gen_code.proofs.Growing.{on_ok}
+use Rattle.ep_gen_code.proofs.public.Growing.{on_ok}
 use Rattle.ep_gen_expr.proofs.Forms.{grows_kept}
 use Rattle.ep_gen_expr.proofs.operations.keep.Goals as goal
 

@@ -1,6 +1,6 @@
 use Rattle.std.proofs.Common.{w64}
 use Rattle.std.proofs.lemmas.Int.{to_z-of_z}
-use Rattle.ep_gen_code.proofs.Growing.{on_ok, grows_pair}
+use Rattle.ep_gen_code.proofs.public.Growing.{on_ok, grows_pair}
 use Rattle.ep_gen_expr.proofs.operations.push_pair.Goals as goal
 
 pub returns : goal.returns

@@ -1,7 +1,7 @@
 use Rattle.std.proofs.Common.{subst, sym}
 use Rattle.ep_gen_expr.specs.ExprCode.{keep_code}
 use Rattle.ep_gen_code.specs.Growth.{Grows}
-use Rattle.ep_gen_code.proofs.Growing.{on_ok}
+use Rattle.ep_gen_code.proofs.public.Growing.{on_ok}
 use Rattle.ep_gen_expr.proofs.Forms.{grows_twice}
 use Rattle.ep_gen_expr.proofs.operations.twice.Goals as goal
 

@@ -1,4 +1,4 @@
-use Rattle.ep_gen_code.proofs.Growing.{on_ok}
+use Rattle.ep_gen_code.proofs.public.Growing.{on_ok}
 use Rattle.ep_gen_expr.proofs.StructuredForms.{grows_ended}
 use Rattle.ep_gen_expr.proofs.structured.end_structured.Goals as goal
 

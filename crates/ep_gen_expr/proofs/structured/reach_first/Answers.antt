@@ -1,6 +1,6 @@
 use Rattle.std.proofs.Common.{SFits, rules, w64}
 use Rattle.std.proofs.lemmas.Int.{to_z-of_z}
-use Rattle.ep_gen_code.proofs.Growing.{on_ok}
+use Rattle.ep_gen_code.proofs.public.Growing.{on_ok}
 use Rattle.ep_gen_expr.proofs.StructuredForms.{grows_first}
 use Rattle.ep_gen_expr.proofs.structured.reach_first.Goals as goal
 

@@ -1,6 +1,6 @@
 use Rattle.std.proofs.Common.{◌+◌, w64, arith}
 use Rattle.std.proofs.lemmas.Int.{to_z_pos}
-use Rattle.ep_gen_code.proofs.Growing.{on_ok}
+use Rattle.ep_gen_code.proofs.public.Growing.{on_ok}
 use Rattle.ep_gen_expr.proofs.RangeIndexes.{grows_spread}
 use Rattle.ep_gen_expr.proofs.structured.spread_value.Goals as goal
 

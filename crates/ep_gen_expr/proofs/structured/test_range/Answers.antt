@@ -1,4 +1,4 @@
-use Rattle.ep_gen_code.proofs.Growing.{on_ok}
+use Rattle.ep_gen_code.proofs.public.Growing.{on_ok}
 use Rattle.ep_gen_expr.proofs.RangeIndexes.{grows_tested}
 use Rattle.ep_gen_expr.proofs.structured.test_range.Goals as goal
 

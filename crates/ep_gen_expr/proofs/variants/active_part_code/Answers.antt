@@ -1,4 +1,4 @@
-use Rattle.ep_gen_code.proofs.Growing.{on_ok}
+use Rattle.ep_gen_code.proofs.public.Growing.{on_ok}
 use Rattle.ep_gen_expr.proofs.RangeForms.{grows_variant_part}
 use Rattle.ep_gen_expr.proofs.variants.active_part_code.Goals as goal
 

@@ -3,7 +3,7 @@ use Rattle.std.specs.Prelude.{if◌then◌else◌}
 use Rattle.std.proofs.lemmas.Int.{to_z_pos}
 use Rattle.ep_typed.specs.Selections.{variant_number}
 use Rattle.ep_gen_expr.specs.ExprCode.{bad_place}
-use Rattle.ep_gen_code.proofs.Growing.{on_ok}
+use Rattle.ep_gen_code.proofs.public.Growing.{on_ok}
 use Rattle.ep_gen_expr.proofs.RangeForms.{grows_selecting}
 use Rattle.ep_gen_expr.proofs.variants.selecting_code.Goals as goal
 

@@ -2,7 +2,7 @@ use Rattle.std.proofs.Common.{◌≡◌, [], ◌∷◌, ◌++◌, subst, sym, ar
 use Rattle.ep_gen_code.specs.Growth.{Grows}
 use Rattle.ep_gen_type.specs.TypeCode.{each_code}
 use Rattle.std.proofs.lemmas.Int.{to_z_pos}
-use Rattle.ep_gen_code.proofs.Growing.{on_ok}
+use Rattle.ep_gen_code.proofs.public.Growing.{on_ok}
 use Rattle.ep_typed.specs.Viewed.{denoter_of, field_of, selector_of, constant_expr, variant_of, variants_of, components_of}
 use Rattle.ep_gen_type.proofs.TypeForms.{by_base, by_components, by_one, by_parts, by_start, components_both, components_first, components_more, components_one, how_many-of, part_some, variants_some}
 use Rattle.ep_typed.specs.Trees.{denoters, Denoter, Record}

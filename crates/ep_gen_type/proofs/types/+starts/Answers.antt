@@ -1,5 +1,5 @@
 use Rattle.std.proofs.Common.{map}
-use Rattle.ep_gen_code.proofs.Growing.{on_ok}
+use Rattle.ep_gen_code.proofs.public.Growing.{on_ok}
 use Rattle.ep_gen_type.proofs.TypeForms.{by_field, by_ranges, by_structure, parts_more}
 use Rattle.ep_typed.specs.Trees.{elements}
 use Rattle.ep_typed.specs.Viewed.{element_of, expr_of}

@@ -1,6 +1,6 @@
 use Rattle.std.proofs.Common.{w64, arith}
 use Rattle.std.proofs.lemmas.Int.{to_z_pos}
-use Rattle.ep_gen_code.proofs.Growing.{on_ok}
+use Rattle.ep_gen_code.proofs.public.Growing.{on_ok}
 use Rattle.ep_gen_code.specs.Referring.{type_reference}
 use Rattle.ep_gen_type.proofs.TypeForms.{by_name}
 use Rattle.ep_gen_type.proofs.types.name_code.Goals as goal

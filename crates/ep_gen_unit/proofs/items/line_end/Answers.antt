@@ -1,4 +1,4 @@
-use Rattle.ep_gen_code.proofs.Growing.{on_ok}
+use Rattle.ep_gen_code.proofs.public.Growing.{on_ok}
 use Rattle.ep_gen_unit.proofs.ItemForms.{appends_line_end}
 use Rattle.ep_gen_unit.proofs.items.line_end.Goals as goal
 

@@ -1,5 +1,5 @@
 use Rattle.ep_typed.specs.Viewed.{expr_of}
-use Rattle.ep_gen_code.proofs.Growing.{on_ok}
+use Rattle.ep_gen_code.proofs.public.Growing.{on_ok}
 use Rattle.ep_gen_unit.proofs.ItemForms.{appends_plain}
 use Rattle.ep_gen_unit.proofs.items.plain_item.Goals as goal
 

@@ -1,4 +1,4 @@
-use Rattle.ep_gen_unit.proofs.Programs.{program_tells, program_tells_at_end, program_spends}
+use Rattle.ep_gen_unit.proofs.public.Programs.{program_tells, program_tells_at_end, program_spends}
 use Rattle.ep_gen_unit.proofs.laws.laws_of_programs.Goals as goal
 
 pub returns : goal.returns

@@ -1,6 +1,6 @@
 use Rattle.ep_typed.specs.Trees.{entire}
 use Rattle.ep_typed.specs.Viewed.{entire_of, expr_of}
-use Rattle.ep_gen_code.proofs.Growing.{on_ok}
+use Rattle.ep_gen_code.proofs.public.Growing.{on_ok}
 use Rattle.ep_gen_unit.proofs.StmtForms.{appends_assign}
 use Rattle.ep_gen_unit.proofs.loops.assign_entire.Goals as goal
 

@@ -1,5 +1,5 @@
 use Rattle.ep_typed.specs.Viewed.{member_control_of}
-use Rattle.ep_gen_code.proofs.Growing.{on_ok}
+use Rattle.ep_gen_code.proofs.public.Growing.{on_ok}
 use Rattle.ep_gen_unit.proofs.MemberForms.{appends_more}
 use Rattle.ep_gen_unit.proofs.loops.more_code.Goals as goal
 

@@ -1,7 +1,7 @@
 use Rattle.ep_meaning.specs.Controls.{next_value}
 use Rattle.ep_typed.specs.Trees.{entire}
 use Rattle.ep_typed.specs.Viewed.{control_of}
-use Rattle.ep_gen_code.proofs.Growing.{on_ok}
+use Rattle.ep_gen_code.proofs.public.Growing.{on_ok}
 use Rattle.ep_gen_unit.proofs.StmtForms.{appends_assign}
 use Rattle.ep_gen_unit.proofs.loops.next_code.Goals as goal
 

@@ -1,5 +1,5 @@
 use Rattle.ep_typed.specs.Viewed.{control_of}
-use Rattle.ep_gen_code.proofs.Growing.{on_ok}
+use Rattle.ep_gen_code.proofs.public.Growing.{on_ok}
 use Rattle.ep_gen_unit.proofs.ForForms.{appends_test}
 use Rattle.ep_gen_unit.proofs.loops.test_code.Goals as goal
 

@@ -1,5 +1,5 @@
 use Rattle.ep_typed.specs.Viewed.{entire_of}
-use Rattle.ep_gen_code.proofs.Growing.{on_ok}
+use Rattle.ep_gen_code.proofs.public.Growing.{on_ok}
 use Rattle.ep_gen_unit.proofs.ForForms.{appends_undefine}
 use Rattle.ep_gen_unit.proofs.loops.undefine_code.Goals as goal
 

@@ -1,4 +1,4 @@
-use Rattle.ep_gen_code.proofs.Growing.{on_ok}
+use Rattle.ep_gen_code.proofs.public.Growing.{on_ok}
 use Rattle.ep_gen_unit.proofs.ProgramForms.{grows_row}
 use Rattle.ep_gen_unit.proofs.program.leave_row.Goals as goal
 

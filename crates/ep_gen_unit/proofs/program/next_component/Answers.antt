@@ -1,6 +1,6 @@
 use Rattle.std.proofs.Common.{◌+◌, w64, arith}
 use Rattle.std.proofs.lemmas.Int.{to_z_pos}
-use Rattle.ep_gen_code.proofs.Growing.{on_ok}
+use Rattle.ep_gen_code.proofs.public.Growing.{on_ok}
 use Rattle.ep_gen_unit.proofs.ProgramForms.{grows_next}
 use Rattle.ep_gen_unit.proofs.program.next_component.Goals as goal
 

@@ -1,4 +1,4 @@
-use Rattle.ep_gen_code.proofs.Growing.{grows_at}
+use Rattle.ep_gen_code.proofs.public.Growing.{grows_at}
 use Rattle.ep_gen_unit.proofs.ProgramForms.{appends_shuffle}
 use Rattle.ep_simulation.specs.Promises.{first_code, spreading_code}
 use Rattle.ep_gen_unit.proofs.program.spread_code.Goals as goal

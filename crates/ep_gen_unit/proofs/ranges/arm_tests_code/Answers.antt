@@ -1,5 +1,5 @@
 use Rattle.std.proofs.Common.{◌≡◌, ◌+◌, ◌*◌, arith, length, subst}
-use Rattle.ep_gen_code.proofs.Growing.{on_ok}
+use Rattle.ep_gen_code.proofs.public.Growing.{on_ok}
 use Rattle.ep_gen_expr.specs.ExprCode.{tests_code}
 use Rattle.ep_gen_code.specs.Growth.{Grows}
 use Rattle.ep_gen_unit.proofs.ranges.arm_tests_code.Goals as goal

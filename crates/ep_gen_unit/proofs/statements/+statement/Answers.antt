@@ -2,7 +2,7 @@ use Rattle.std.proofs.Common.{◌≡◌, ◌+◌, [], ◌∷◌, Some, None, map
 use Rattle.std.proofs.lemmas.Int.{to_z_pos}
 use Rattle.ep_typed.specs.Trees.{Empty, Compound, Repeat, With, Case, Arm, stmts, arms, no_other, otherwise_do}
 use Rattle.ep_typed.specs.Viewed.{member_control_of, control_of, entire_of, expr_of, place_of, stmt_of, arm_of}
-use Rattle.ep_gen_code.proofs.Growing.{on_ok}
+use Rattle.ep_gen_code.proofs.public.Growing.{on_ok}
 use Rattle.ep_gen_unit.specs.StmtGrowth.{AppendsArms, AppendsStmt}
 use Rattle.ep_typed.specs.declared.tree.CaseArm.{out-CaseArm}
 use Rattle.ep_typed.specs.declared.tree.TypedStmt.TheVariants as typed

@@ -1,5 +1,5 @@
 use Rattle.ep_typed.specs.Viewed.{place_of, expr_of}
-use Rattle.ep_gen_code.proofs.Growing.{on_ok}
+use Rattle.ep_gen_code.proofs.public.Growing.{on_ok}
 use Rattle.ep_gen_unit.proofs.StmtForms.{appends_assign}
 use Rattle.ep_gen_unit.proofs.statements.assign_code.Goals as goal
 

@@ -1,7 +1,7 @@
 use Rattle.std.proofs.Common.{w64, arith}
 use Rattle.std.proofs.lemmas.Int.{to_z_pos}
 use Rattle.ep_typed.specs.Viewed.{entire_of, place_of}
-use Rattle.ep_gen_code.proofs.Growing.{on_ok}
+use Rattle.ep_gen_code.proofs.public.Growing.{on_ok}
 use Rattle.ep_gen_unit.proofs.StmtForms.{appends_bind}
 use Rattle.ep_gen_unit.proofs.statements.bind_code.Goals as goal
 

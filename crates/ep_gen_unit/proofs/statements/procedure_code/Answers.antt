@@ -1,7 +1,7 @@
 use Rattle.std.proofs.Common.{map}
 use Rattle.ep_typed.specs.Trees.{actuals}
 use Rattle.ep_typed.specs.Viewed.{actual_of, callee_of}
-use Rattle.ep_gen_code.proofs.Growing.{on_ok}
+use Rattle.ep_gen_code.proofs.public.Growing.{on_ok}
 use Rattle.ep_gen_unit.proofs.StmtForms.{appends_procedure}
 use Rattle.ep_gen_unit.proofs.statements.procedure_code.Goals as goal
 

@@ -1,6 +1,6 @@
 use Rattle.std.proofs.Common.{map}
 use Rattle.ep_typed.specs.Viewed.{item_of}
-use Rattle.ep_gen_code.proofs.Growing.{on_ok}
+use Rattle.ep_gen_code.proofs.public.Growing.{on_ok}
 use Rattle.ep_gen_unit.proofs.StmtForms.{appends_write}
 use Rattle.ep_gen_unit.proofs.statements.write_code.Goals as goal
 

@@ -1,5 +1,5 @@
 use Rattle.ep_typed.specs.Viewed.{expr_of, place_of, tagging_of}
-use Rattle.ep_gen_code.proofs.Growing.{on_ok}
+use Rattle.ep_gen_code.proofs.public.Growing.{on_ok}
 use Rattle.ep_gen_unit.proofs.TagForms.{appends_tag}
 use Rattle.ep_gen_unit.proofs.tags.assign_tag_code.Goals as goal
 

@@ -1,6 +1,6 @@
 use Rattle.std.proofs.Common.{◌≡◌, ◌+◌, length, w64, arith}
 use Rattle.std.proofs.lemmas.Int.{to_z_pos}
-use Rattle.ep_gen_code.proofs.Growing.{on_ok}
+use Rattle.ep_gen_code.proofs.public.Growing.{on_ok}
 use Rattle.ep_gen_unit.specs.TagCode.{number_length}
 use Rattle.ep_gen_unit.proofs.TagForms.{grows_selected}
 use Rattle.ep_gen_unit.proofs.tags.selected_code.Goals as goal

@@ -1,5 +1,5 @@
 use Rattle.ep_typed.specs.Viewed.{tagging_of}
-use Rattle.ep_gen_code.proofs.Growing.{on_ok}
+use Rattle.ep_gen_code.proofs.public.Growing.{on_ok}
 use Rattle.ep_gen_unit.proofs.TagForms.{appends_taken}
 use Rattle.ep_gen_unit.proofs.tags.taken_code.Goals as goal
 

@@ -1,4 +1,4 @@
-use Rattle.ep_object.proofs.Views.{runs_agree, runs_extend, ends_stay, events_grow}
+use Rattle.ep_object.proofs.public.Views.{runs_agree, runs_extend, ends_stay, events_grow}
 use Rattle.ep_object.proofs.Ticks.{ends_exactly}
 use Rattle.ep_object.proofs.laws.laws_of_runs.Goals as goal
 

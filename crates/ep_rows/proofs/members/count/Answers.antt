@@ -1,7 +1,7 @@
 use Rattle.std.proofs.Common.{◌≡◌, ◌+◌, true, false, add-zero, ap, sym, ◌∙◌, arith}
 use Rattle.ep_frames.specs.Members.{is_told}
 use Rattle.ep_object.specs.Sets.{member_limit}
-use Rattle.ep_object.proofs.Sets.{count_all, count_below, count_more, count_none}
+use Rattle.ep_object.proofs.public.Sets.{count_all, count_below, count_more, count_none}
 use Rattle.ep_rows.proofs.members.count.Goals as goal
 use Rattle.ep_rows.proofs.members.count.Goals.{then-has, else-has}
 

@@ -1,6 +1,6 @@
 use Rattle.std.proofs.Common.{◌≡◌, ◌≤◌}
 use Rattle.ep_frames.specs.Members.{is_told}
-use Rattle.ep_object.proofs.Sets.{count_below}
+use Rattle.ep_object.proofs.public.Sets.{count_below}
 use Rattle.ep_rows.proofs.members.count.Given as goal
 
 abbrev pub invariant-loop-member : goal.invariant-loop-member

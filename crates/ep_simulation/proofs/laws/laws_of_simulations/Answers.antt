@@ -1,4 +1,4 @@
-use Rattle.ep_simulation.proofs.following.Simulating.{simulation_answers}
+use Rattle.ep_simulation.proofs.public.following.Simulating.{simulation_answers}
 use Rattle.ep_simulation.proofs.laws.laws_of_simulations.Goals as goal
 
 pub returns : goal.returns

@@ -1,4 +1,4 @@
-use Rattle.ep_typed.proofs.Denoters.{types_are_instances, instances_are_one}
+use Rattle.ep_typed.proofs.public.Denoters.{types_are_instances, instances_are_one}
 use Rattle.ep_typed.proofs.laws.laws_of_denoters.Goals as goal
 
 pub returns-clause-found : goal.returns-clause-found

@@ -4,7 +4,7 @@ use Rattle.ep_built.specs.Built.{written_unbuilt}
 use Rattle.ep_check_expr.specs.Expressions.{given}
 use Rattle.ep_check_stmt.specs.Answers.{items_of}
 use Rattle.ep_check_stmt.proofs.Gathered.{next_written, one_falls, one_gathered}
-use Rattle.ep_check_stmt.proofs.judged.Rounds.{rest_built}
+use Rattle.ep_check_stmt.proofs.public.judged.Rounds.{rest_built}
 use Rattle.ep_check_stmt.proofs.statements.Context.items.Goals as goal
 
 pub returns-in_err-items : goal.returns-in_err-items

@@ -1,6 +1,6 @@
 use Rattle.std.proofs.Common.{rules, ◌≡◌, length, sym, ◌∙◌}
 use Rattle.ep_check_unit.specs.Blocks.{block_of}
-use Rattle.ep_check_unit.proofs.Forms.{first_headed, length_forms}
+use Rattle.ep_check_unit.proofs.public.Forms.{first_headed, length_forms}
 use Rattle.ep_check_unit.proofs.block.Block.add_heading.Goals as goal
 
 pub returns : goal.returns

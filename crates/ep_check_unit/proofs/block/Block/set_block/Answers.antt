@@ -3,7 +3,7 @@ use Rattle.ep_typed.specs.Trees.{Compound}
 use Rattle.ep_check_stmt.specs.Answers.{stmts_of}
 use Rattle.ep_check_unit.specs.Blocks.{block_of}
 use Rattle.ep_check_unit.specs.Routines.{with_its_block}
-use Rattle.ep_check_unit.proofs.Forms.{form_set, get_there}
+use Rattle.ep_check_unit.proofs.public.Forms.{form_set, get_there}
 use Rattle.ep_check_unit.proofs.block.Block.set_block.Goals as goal
 
 pub returns-in-Some : goal.returns-in-Some

@@ -3,7 +3,7 @@ use Rattle.ep_typed.specs.Viewed.{actual_of}
 use Rattle.ep_rules.specs.Answers.{taken_of, typed_of}
 use Rattle.ep_rules.specs.Arguments.{actual_taken, argument_taken, joined, one_taken}
 use Rattle.ep_rules.specs.Judgements.{Accepts}
-use Rattle.ep_rules.proofs.Breaking.{part-exit, when_accepted-part}
+use Rattle.ep_rules.proofs.public.Breaking.{part-exit, when_accepted-part}
 use Rattle.ep_rules.proofs.arguments.Taken.with.Goals as goal
 
 pub returns-in_err-actual : goal.returns-in_err-actual

@@ -1,0 +1,12 @@
+pub mod Bind
+pub mod Choices
+pub mod Declaring
+pub mod Filling
+pub mod Fragments
+pub mod Losing
+pub mod Promising
+pub mod Ranging
+pub mod Routines
+pub mod Simulating
+pub mod Spreading
+pub mod Swapping

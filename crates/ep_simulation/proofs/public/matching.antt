@@ -1,0 +1,9 @@
+pub mod Assigned
+pub mod Awaiting
+pub mod BareValues
+pub mod Beginning
+pub mod Growing
+pub mod Indexes
+pub mod Names
+pub mod OwnVariables
+pub mod Standing

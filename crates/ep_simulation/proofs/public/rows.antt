@@ -1,0 +1,16 @@
+pub mod ArgumentRows
+pub mod BindRow
+pub mod ChangeRows
+pub mod FieldRow
+pub mod IndexRow
+pub mod InitialRow
+pub mod MakeRow
+pub mod NamelessRows
+pub mod NewTypes
+pub mod OwnRows
+pub mod PartRows
+pub mod Pieces
+pub mod PlaceRows
+pub mod Rows
+pub mod SetRows
+pub mod TextRows
