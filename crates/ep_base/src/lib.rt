@@ -1,9 +1,10 @@
 //! The ground of every other crate: owned lists and boxes, names and bytes.
 //!
-//! A `List` or a `Boxed` is seen by contracts as the items or the value that it holds, so a tree built of
-//! them is plain data to every clause: no pointer, capacity or allocator is in sight, and `≡` is equality
-//! of kinds, numbers, bytes and items. A `Name` is an identifier in lower case, seen as its bytes, and
-//! specs/Identifiers.antt says what an identifier is.
+//! Promise: contracts see a `List` or a `Boxed` as the items or the value that it holds, so a tree built of them is
+//! plain data to every clause, `≡` is equality of trees, and a copy equals what it copies. It stands on nothing, since
+//! all else stands on it: an edit here proves every crate anew. Open src/list.rt first.
+//! To change what a name is: specs/Identifiers.antt, src/name.rt. How a type may contain itself through a list or a
+//! box: specs/formers, with the small tree of src/tests.rt.
 #![tactic(auto)]
 
 mod boxed;

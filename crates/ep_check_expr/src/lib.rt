@@ -1,11 +1,13 @@
 //! The static rules of expressions, by the walk over their trees.
 //!
-//! `typed_expression` and `written_expression` answer the typed form of an expression whose forms are all built, or a rule
-//! that fails in it; `constant_value`, `constant_expression_value`, `bound_value` and `label_value` the value of a constant expression;
-//! `typed_arguments` what is given for the formal parameters of a procedure or function of a unit.
-//! specs/Expressions.antt says which typed form an expression has and which rules fail, by one clause for each
-//! production. The rules on parts that are accepted are those of ep_rules, and here specs/StructuredValues.antt,
-//! specs/StructuredConstants.antt and specs/Constants.antt. By `laws_of_expressions` what all of them accept is valid.
+//! Promise: `typed_expression`, `written_expression`, `typed_arguments` and the calls for constants answer the typed
+//! form, or the value, that specs/Expressions.antt gives the tree, or a rule that fails in it. The rules on accepted
+//! parts are those of ep_rules; the laws are ep_expr_laws, above, so that a lemma there proves no walk anew. Open
+//! specs/Expressions.antt first: one clause for each production.
+//! To change a production: specs/Expressions.antt, src/expressions.rt, proofs/public/Folds.antt for the equation of
+//! its node. Structured values: specs/StructuredValues.antt, src/structured.rt, arranged.rt for arrays, filled.rt for
+//! records, chosen.rt for variants. Constant expressions: specs/Constants.antt, StructuredConstants.antt,
+//! src/constants.rt, src/structured_constants.rt. What the public calls answer: specs/Public.antt.
 #![tactic(auto)]
 
 mod arranged;

@@ -1,13 +1,12 @@
 //! The static rules of statements.
 //!
-//! `Context::compound` answers the typed form of the statements of a block, or the first item of them that breaks a
-//! rule, by what `Context` says that the block knows. specs/Statements.antt says which rules fail where, in the order of
-//! the text, and specs/Cases.antt for the labels of `case`; names are those of ep_scope, and expressions those of
-//! ep_check_expr, as are the rules of what is given to variables and procedures. By `laws_of_statements` what the rules
-//! accept is valid. `threatens`, `inner_threatens` and `assigns` tell whether statements threaten a variable and whether
-//! they give a function its result, as specs/Threats.antt says; `has_for`, `has_for_in` and `assigns_tag` which auxiliary
-//! variables a block needs, as specs/Auxiliaries.antt and specs/Tags.antt say. `CheckRefusal` and `Outcome` are what items come to,
-//! declarations too. proofs/judged is a library of lemmas on what rules judge, for the crates above as well.
+//! Promise: `Context::compound` answers the typed form of the statements of a block, or the first item of them that
+//! breaks a rule, as specs/Statements.antt says. It stands on ep_check_expr, whose forms statements hold, and knows of
+//! the block only what `Context` has. That what it accepts is valid is ep_stmt_laws. Open specs/Statements.antt first.
+//! To change a statement's rule: specs/Statements.antt, src/statements.rt; what is assigned to: src/targets.rt, tags:
+//! specs/Tags.antt, src/tags.rt; `for`: src/loops.rt, over members src/members.rt; `case`: specs/Cases.antt,
+//! src/cases.rt; `with`: src/records.rt, src/numbering.rt; `write`: src/writing.rt. Threats: specs/Threats.antt,
+//! src/threats.rt. Auxiliary variables: specs/Auxiliaries.antt. Lemmas on what rules judge: proofs/public.
 #![tactic(auto)]
 
 mod auxiliaries;

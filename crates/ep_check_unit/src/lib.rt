@@ -1,11 +1,14 @@
 //! The static rules of a whole program.
 //!
-//! `check` answers the typed unit that a component is, or the first item that breaks a rule. specs/Declarations.antt
-//! says which rules fail where in declarations, in the order of the text, specs/Labels.antt in the labels of variants,
-//! specs/Routines.antt in declarations of routines, and specs/Functions.antt what gives a function its result; specs/Units.antt says which unit a component is. Names are
-//! those of ep_scope, expressions those of ep_check_expr, statements those of ep_check_stmt. By `laws_of_typed_units` of
-//! ep_unit_laws the unit is valid; for its proof too, proofs/Denoters.antt has what holds of all denoters, and
-//! proofs/Forms.antt of lists of routines that change.
+//! Promise: `check` answers the typed unit that specs/Units.antt says a component is, or the first item that breaks a
+//! rule. Names are those of ep_scope, expressions those of ep_check_expr, statements those of ep_check_stmt, and what
+//! has been declared in a block is its `Block` (specs/Blocks.antt). That the unit is valid is ep_unit_laws. Open
+//! specs/Units.antt first, then Declarations.antt.
+//! To change a declaration: specs/Declarations.antt, src/declarations.rt, for types src/types.rt, records.rt,
+//! variants.rt with specs/Labels.antt, sets.rt, initial_states.rt. A heading or a part of a block:
+//! specs/Routines.antt, src/headings.rt, formals.rt, routines.rt; results: specs/Functions.antt. How large a type may
+//! be: `counted` of Declarations.antt. Whether constants lie in their types: specs/FittingConstants.antt,
+//! src/fitting.rt.
 #![tactic(auto)]
 
 mod block;

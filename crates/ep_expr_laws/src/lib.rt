@@ -1,10 +1,12 @@
-//! What the static rules of expressions accept is valid: the law, and the public calls that carry it.
+//! The law of typed expressions: what the rules of expressions accept is valid.
 //!
-//! `expression` and `constant` answer the typed form of an expression on its own and the value of a constant one, by
-//! the walk of ep_check_expr, and say besides that what is accepted is valid under all declarations that hold what the
-//! scopes declare. specs/Agreement.antt says when declarations do, specs/Laws.antt has the laws, which
-//! `laws_of_expressions` states. It stands above the code of ep_check_expr, so that an edit of a law proves no code anew.
-//! Start with specs/Agreement.antt; proofs/Lawful.antt concludes.
+//! Promise: by `laws_of_expressions` each form that ep_check_expr gives is valid, of a host that is known, wherever
+//! the declarations hold what the scopes declare. It stands above ep_check_expr and ep_meaning and has no code but the
+//! law, so that a lemma costs no rule. Open specs/Agreement.antt first: it says what declarations hold of scopes.
+//! To follow a change of a rule: proofs/Sound.antt and public/Meant.antt that it keeps validity, Hosted.antt that it
+//! keeps hosts, public/Keeping.antt, Parts.antt and Accepted.antt for whole trees, Known.antt and SetsOver.antt for
+//! constants and sets, Structures.antt for structured values; Lawful.antt concludes. A change of what scopes declare:
+//! specs/Agreement.antt, public/Listed.antt and Leading.antt for structured types.
 #![tactic(auto)]
 
 mod answers;

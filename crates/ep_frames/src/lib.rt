@@ -1,9 +1,12 @@
 //! What the machine takes its operands from and what its calls stand in: the operand stack and the calls under way.
 //!
-//! Contracts see a `Stack` as the operands with the top first, and `Calls` as the frames of the definition with the
-//! innermost first. So that no small step asks for memory, the words of all operands stand in one vector, the bytes of
-//! their texts in another, their sets in a third, and the slots and arguments of all calls in one each. specs/Stacks.antt
-//! says how operands stand so, specs/Calls.antt how frames do.
+//! Promise: contracts see a `Stack` as the operands with the top first, and `Calls` as the frames of the definition,
+//! the innermost first, and each call says what it makes of them. So that no small step asks for memory, the words of
+//! all operands stand in one vector, and so do their texts, their sets, the slots and the arguments. It stands on
+//! ep_object for operands and frames. Open specs/Stacks.antt first.
+//! To change how an operand stands: specs/Stacks.antt, src/stack.rt, src/cell.rt; a set: specs/Members.antt,
+//! src/members.rt, proofs/SetTops.antt. Frames, levels and arguments: specs/Calls.antt, src/calls.rt,
+//! proofs/CallFrames.antt and CallEntry.antt.
 #![tactic(auto)]
 
 mod calls;

@@ -1,7 +1,11 @@
-//! Code under construction: how it grows by instructions and by jumps ahead, the references that it begins with, and the code of
-//! constants.
+//! Code under construction: how it grows, jumps ahead, the references that it begins with, and the code of constants.
 //!
-//! specs/Growth.antt says how code grows, specs/Jumps.antt how a jump ahead gets its goal.
+//! Promise: each call says exactly which instructions stand behind the earlier ones, which stay as they are, and that
+//! a jump ahead gets its goal. It stands on ep_object, whose instructions it writes, and on ep_simulation, by which
+//! the machine follows constants. Open specs/Growth.antt first.
+//! To change how code grows: specs/Growth.antt, src/code.rt; jumps: specs/Jumps.antt, src/jumps.rt,
+//! proofs/public/Landing.antt; the references that a unit begins with: specs/Referring.antt, src/references.rt; what
+//! code may cost beside its steps: specs/Credit.antt. How code stands in an image: proofs/public/Placed.antt.
 #![tactic(auto)]
 
 mod code;

@@ -1,7 +1,12 @@
 //! The code of expressions, places and calls.
 //!
-//! specs/ExprCode.antt says which instructions are the code of a tree under given tables, and stays true when the
-//! tables grow. specs/Growth.antt says how code grows. The functions append the code of one tree to what stands.
+//! Promise: each call appends exactly the code that specs/ExprCode.antt says the tree has, which stays code when the
+//! tables grow, and by specs/Following.antt the machine does what the tree means wherever its code stands. It stands
+//! on ep_gen_code for code under construction and on ep_simulation for that proof. Open specs/ExprCode.antt first.
+//! To change the code of a form: specs/ExprCode.antt, src/expressions.rt, or src/operations.rt, structured.rt,
+//! variants.rt, ranges.rt, controls.rt; the file of proofs that ends in Forms for how the code is put together, and
+//! for what it does the file of its form (Sets, VariantMoves, ValueParts, StructuredValues, Calls, ShortCircuit),
+//! which Following.antt brings together; Stays.antt. Tables of texts and references: src/tables.rt.
 #![tactic(auto)]
 
 mod controls;

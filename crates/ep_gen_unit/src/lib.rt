@@ -1,8 +1,14 @@
-//! Code of statements and units.
+//! The code of statements and units.
 //!
-//! specs/StmtCode.antt says which instructions are the code of a statement that begins at a place, under given tables,
-//! and specs/UnitCode.antt which object is the code of a program. specs/StmtGrowth.antt says how code grows by
-//! statements. A jump ahead is first a filler, and gets its goal once the part that it skips is there.
+//! Promise: `program_code` answers exactly the object that specs/UnitCode.antt says a program is, and by
+//! `laws_of_programs` (specs/ProgramLaws.antt) a run of its image tells what the program means, but for want of room,
+//! within 64 ticks for a step and 64 steps for a tick. It stands on the code of expressions and types. Open
+//! specs/StmtCode.antt first, then UnitCode.antt.
+//! To change the code of a statement: specs/StmtCode.antt, src/statements.rt, loops.rt, tags.rt with
+//! specs/TagCode.antt, items.rt for `write`; in proofs the file of its kind that ends in Forms for how it is put
+//! together, and for what it does the one in Moves, or Branching, Simple or Writing; StmtMoves.antt and StmtStays.antt
+//! for all. Routines and their variables: UnitCode.antt, src/program.rt, proofs/OwnMakes.antt, Routines.antt. Types:
+//! TypeRoutines.antt.
 #![tactic(auto)]
 
 mod items;

@@ -1,13 +1,12 @@
 //! The machine as code: it runs an image within a budget of ticks.
 //!
-//! A run is the run that ep_object defines: the same state, end and ticks, and the same events, as the contract of
-//! `Machine::run` says in the words of specs/Machines.antt. Each row of the table is a function on the part of the
-//! machine that it touches, and its contract is one equation with the row of ep_object's table.
-//!
-//! It runs the operations into which ep_decode decodes the code once, on the operands and the calls of ep_frames, by the
-//! rows of ep_rows and by those here that touch calls, code or the output. The frequent ones run in a loop of their own,
-//! in which the operand stack, the place and the ticks are local. It leaves every other one to a dispatch of its own, one
-//! instruction at a time, so no rare row makes a frequent one slow.
+//! Promise: the run of `Machine::run` is the run that ep_object defines, with the same state, end, ticks and events,
+//! in the words of specs/Machines.antt. It runs the operations of ep_decode, by the rows of ep_rows and by those here
+//! that touch calls, code or output. Open src/run.rt first, with specs/Views.antt for what contracts see of a state.
+//! To change a frequent operation: its arm in `quick` of src/fast.rt, in src/likely.rt where only one case stays in
+//! the loop, in `swift` of src/swift.rt where it goes on without a second jump (proofs/Goings.antt, Onward.antt). A
+//! rare one: `obey` of src/turns.rt, `is_rare` of specs/Turns.antt. Pairs: src/pairs.rt, specs/Pairs.antt,
+//! proofs/Fusion.antt. What is written: src/output.rt.
 #![tactic(auto)]
 
 mod arguments;

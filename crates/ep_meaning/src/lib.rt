@@ -1,10 +1,12 @@
-//! What typed programs mean, and which of them are valid.
+//! What typed programs mean, and which of them the static rules give.
 //!
-//! specs/Meaning.antt has the meaning of typed trees, by recursion on them, in steps that are counted, over the
-//! computations of specs/Steps.antt and the calls of specs/Calls.antt; specs/Valid.antt says which trees the static
-//! rules give. By `laws_of_meanings` more steps change nothing of what a program did. It stands on ep_typed, whose
-//! trees it speaks of, and no code reads it but contracts: the laws of the static rules, the simulation of the
-//! machine, and the top call. Start with specs/Meaning.antt.
+//! Promise: by `laws_of_meanings` a meaning that has ended ends so with more steps too, and one that has not goes on
+//! from there, so that no event is taken back. It is all definitions and lemmas over the trees of ep_typed, and no
+//! code; the static rules prove validity, and ep_simulation starts from it. Open specs/Meaning.antt first.
+//! To change what a form means: its case in specs/Meaning.antt, over Steps.antt for computations and states,
+//! Results.antt for what variables give and take, Calls.antt for calls, Controls.antt for `for`, Nameless.antt for
+//! structured values. Which forms are valid: specs/Valid.antt. Each form then needs its case in
+//! proofs/public/Steady.antt and Lasting.antt.
 #![tactic(auto)]
 
 mod laws;

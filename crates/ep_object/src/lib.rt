@@ -1,8 +1,13 @@
-//! The code of units and programs, and the machine that runs it.
+//! Objects and images, and the definition of the machine that runs them.
 //!
-//! The types of code are objects, which a unit is compiled to, and images, which objects are linked to. The
-//! machine is a definition: specs/Table.antt has the table of instructions, specs/Runs.antt what a run is, and
-//! specs/Placing.antt how objects stand in an image. Each row of the table is a function on what it touches.
+//! Promise: by `laws_of_runs` a run comes to the same instruction by instruction and tick by tick, a longer run goes
+//! on from a shorter one, and an ended one stays as it is. Of typed programs and their meaning it knows nothing: it
+//! stands on ep_values for words, types and events, so that the machine is read and proved without the language. Open
+//! specs/Table.antt first.
+//! To change an instruction: src/op.rt, specs/Table.antt, and the row in the file of its kind (WordRows, Control,
+//! Places, Parts, Pointers, Calls, SetRows, Types, Texts). The state: specs/State.antt, src/state.rt; frames:
+//! Frames.antt. Which number a type has: `interned` of Types.antt, with TypeEntries.antt and src/type_entry.rt for
+//! equality. How objects stand in an image: Placing.antt.
 #![tactic(auto)]
 
 mod code;

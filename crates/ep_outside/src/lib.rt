@@ -1,8 +1,11 @@
 //! The outside: where input comes from, where output goes, and the files.
 //!
-//! Each of the three traits says what its object tells of its content, if it tells anything, and counts its
-//! faults: the count never falls, and an answer `Failed` comes only where it rose. The words of
-//! specs/Known.antt say how known content changes, and every later contract uses them.
+//! Promise: each trait says what its object tells of its content, if anything, and counts its faults; the count never
+//! falls, and an answer `Failed` comes only where it rose. It stands on ep_base alone, so that the meaning, the
+//! machine and the top call share one view of the outside. Open src/traits.rt first, with specs/Known.antt.
+//! To change what is known of content: specs/Known.antt. What an answer says: specs/Answers.antt. Where the objects in
+//! memory fail, and what a failing call keeps: specs/Schedules.antt, specs/InMemory.antt, src/schedule.rt. How the
+//! system is called: ep_system.
 #![tactic(auto)]
 
 mod answers;

@@ -1,9 +1,13 @@
 //! The rows of the machine's table as code, each a function on what it touches: operands, segments, types.
 //!
-//! The contract of a row is one equation with the row of ep_object's table: `IsStep` of specs/Steps.antt for one that
-//! spends one tick, and `IsDone` for one that spends more within a limit, or else does nothing. A row answers a `Step`,
-//! which is all that the machine needs to go on or to end. What touches the calls, the code or the output stands in
-//! ep_machine.
+//! Promise: the contract of a row is one equation with the row of ep_object's table, `IsStep` for one that spends one
+//! tick and `IsDone` for one that spends more within a limit. It stands on ep_memory and ep_frames, whose parts it
+//! changes, and on ep_decode for the enums that operations name, as a comparison. Open specs/Steps.antt first, then
+//! src/words.rt for the simplest rows.
+//! To change a row: the file of its kind in src (words, control, places, parts, pointers, sets, texts, types, records,
+//! starts, values), whose definition has the same name in ep_object's specs; a row that touches calls, code or output
+//! is in ep_machine. How types are met and found by hash: src/type_table.rt, specs/Meeting.antt. What ends with a
+//! call: src/segments.rt. Bits of sets: src/members.rt.
 #![tactic(auto)]
 
 mod bounds;

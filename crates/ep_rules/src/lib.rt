@@ -1,11 +1,14 @@
 //! The static rules of expressions, on parts that are accepted.
 //!
-//! Each rule answers the typed form that its parts have together, or a static rule that fails for them: operators
-//! (specs/Operators.antt), calls of required functions (Functions) and of those of a unit, with what is given for their
-//! formal parameters (Arguments), set constructors (Constructors), indexes (Indexing), fields (FieldDesignators) and names
-//! (Names). specs/Judgements.antt says what it is to be accepted, and specs/Answers.antt what a call answers of it.
-//! specs/Folding.antt has what is known of typed forms as constants, and specs/ConstantAccesses.antt and KnownFields.antt
-//! their components. The walk over trees that asks these rules, and the laws of all of them, are ep_check_expr.
+//! Promise: each rule answers the typed form that its parts have together, or one of the rules that fail for them, as
+//! its definition says (specs/Judgements.antt, Answers.antt). It stands on ep_scope for names and kinds, and below the
+//! walk over trees, so that a rule is changed without the cycle of functions that asks it. Open specs/Operators.antt
+//! first.
+//! To change a rule: the file of specs that has it (Operators, Functions, Arguments, Constructors, Indexing,
+//! FieldDesignators, Names, VariantSteps) and the file of src with its name; that what it gives is valid is shown in
+//! ep_expr_laws. What is known of constants: specs/Folding.antt, SetFolding.antt, src/folding.rt, src/sets.rt;
+//! components of constants: specs/ConstantAccesses.antt, KnownFields.antt. Levels of calls and variables:
+//! src/levels.rt.
 #![tactic(auto)]
 
 mod access;

@@ -1,9 +1,13 @@
 //! What names stand for.
 //!
-//! A `Scope` has the names that one part of a text declares or imports, in the order of the text, and a row of scopes,
-//! the innermost first, says what a name means there: the nearest declaration, or else the required identifier.
-//! `Scopes` is the row at a place of a text, in which scopes are opened and closed.
-//! specs/Scopes.antt has these rules, specs/Required.antt the required identifiers. `rule` numbers the static rules.
+//! Promise: a name means the nearest declaration of the row of scopes, or else the required identifier, and `Scopes`
+//! answers exactly that. It stands on ep_typed for the types and constants that are declared, and on no syntax tree.
+//! Open specs/Scopes.antt first.
+//! To change what a name means: specs/Scopes.antt, src/meaning.rt, src/scopes.rt, and src/view.rt for what code sees.
+//! A required identifier: specs/Required.antt, src/required.rt. The number of a static rule: src/rule.rt. What is
+//! declared of a name: src/thing.rt, of parameters src/parameter.rt, of structured types src/structure.rt with
+//! specs/Fields.antt. Kinds: src/kind.rt, specs/Kinds.antt. Records that `with` opens: src/record.rt,
+//! specs/Records.antt.
 #![tactic(auto)]
 
 mod entries;

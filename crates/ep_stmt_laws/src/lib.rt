@@ -1,9 +1,11 @@
-//! What the static rules of statements accept is valid.
+//! The law of typed statements: what the rules of statements accept is valid.
 //!
-//! specs/Laws.antt states it and `laws_of_statements` carries it: the typed form of a compound statement that the rules
-//! of ep_check_stmt accept is valid under all declarations that hold what the scopes declare. It stands above the code of
-//! ep_check_stmt and on the laws of ep_expr_laws, so that an edit of a law proves no code anew. Start with
-//! specs/Laws.antt; proofs/valid has a file for each kind of statement, and proofs/judged what rules keep.
+//! Promise: by `laws_of_statements` each form that ep_check_stmt gives is valid wherever the declarations hold what
+//! the scopes declare, the auxiliary variables and those of `with` among them. It stands above ep_check_stmt and
+//! ep_expr_laws and has no code but the law, so that a lemma costs no rule. Open specs/Laws.antt first.
+//! To follow a change of a rule: the file of its statement in proofs/valid (Assignments, Loops, Cases, Withs, Passing;
+//! Statements for the rest), over Sound.antt, which has what all of them share, and the lemmas of ep_expr_laws on
+//! names and expressions.
 #![tactic(auto)]
 
 mod laws;

@@ -1,9 +1,12 @@
-//! Typed programs and what they mean.
+//! Typed programs: what the static rules make of a source, and what code is made of.
 //!
-//! specs/Events.antt has the events by which a run changes the outside, and what it says that some of them
-//! were done: every meaning of this project is a trace of these events and an end. specs/Denoters.antt says
-//! which type a denoter has, specs/Meaning.antt has the meaning of typed trees, by recursion on them, in steps
-//! that are counted; specs/Valid.antt says which trees the static rules give, and specs/Nodes.antt counts them.
+//! Promise: `unit_nodes` counts exactly the nodes that specs/Nodes.antt counts, and by `laws_of_denoters` a denoter
+//! has at most one type value. It stands on ep_values for types and operations, and says nothing of meaning, so that
+//! an edit of the meaning proves no static rule anew. Open specs/Trees.antt first, with src/tree.rt beside it.
+//! To change a typed form: src/tree.rt, specs/Trees.antt, Viewed.antt, Nodes.antt with src/nodes.rt. A denoter:
+//! src/denoter.rt, specs/Denoters.antt, and Hosts.antt for hosts. Units and interfaces: src/unit.rt, src/interface.rt.
+//! The numbers of a routine's variables: specs/Routines.antt; the auxiliary ones: Auxiliaries.antt, src/auxiliary.rt.
+//! Constants that share their elements: src/value.rt, src/shared.rt.
 #![tactic(auto)]
 
 mod auxiliary;

@@ -1,7 +1,12 @@
 //! The law of typed units: what the static rules accept is valid.
 //!
-//! specs/Laws.antt states it. proofs/Holds.antt says what a unit holds of the declarations of a block, the files named for
-//! items of a block show that each item leads from one such block to the next, and proofs/Units.antt concludes.
+//! Promise: by `laws_of_typed_units` each unit that ep_check_unit gives is valid, and `check` here has that clause. It
+//! stands above ep_expr_laws and ep_stmt_laws, and has no code but the two calls, so that a lemma costs no rule. Open
+//! specs/Laws.antt first, then proofs/Holds.antt: what a unit holds of the declarations of a block.
+//! To follow a change of a rule: the file of its item in proofs (Constants, Types, Ordinals, Structures, Arrays,
+//! Records, Variants, Sets, Denoters, InitialStates, Headings, Routines), which shows that the item leads from one
+//! block that is held to the next (Leading.antt); Agreeing.antt for what scopes declare, Auxiliaries.antt,
+//! Fitting.antt for constants; Units.antt concludes.
 #![tactic(auto)]
 
 ghost use Rattle.ep_unit_laws.specs.Laws.{UnitsAreValid};

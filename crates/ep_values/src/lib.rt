@@ -1,11 +1,14 @@
-//! What the machine and the meaning of programs both speak of: numbers, values, types as numbers, and events.
+//! What the machine and the meaning both speak of: values, types as values, events, operations, and the errors of a
+//! run.
 //!
-//! specs/Events.antt has the events by which a run changes the outside, and what it says that some of them were
-//! done; specs/Operations.antt and SetOperations.antt what the operators give, specs/Printing.antt what is written
-//! of a value, specs/Sets.antt what sets are, specs/TypeValues.antt types with all bounds as numbers and
-//! specs/Values.antt the values of variables. It stands on the outside alone, so that the machine can be defined
-//! and proved without typed programs. Start with src/type_value.rt, whose calls tell what specs/TypeValues.antt
-//! defines; the numbers of run errors are src/run_error.rt.
+//! Promise: `size` and `agree` answer exactly how many words a type has and whether two types are the same but for
+//! initial states. It stands on ep_outside, whose content the events change, and on no tree or instruction, so that
+//! the machine needs no typed program. Open specs/Events.antt first: every meaning is a trace of these events and an
+//! end.
+//! To change a run error: src/run_error.rt. An operator: src/operations.rt, specs/Operations.antt, for sets
+//! SetOperations.antt over the laws of proofs/public/Sets.antt. What is written of a value: specs/Printing.antt. A
+//! type: src/type_value.rt, specs/TypeValues.antt, its plain data in ViewedTypes.antt, proofs/Sizes.antt and
+//! Agreement.antt.
 #![tactic(auto)]
 
 mod operations;
