@@ -2,7 +2,8 @@
 //! table in built/forms.rt alone; the other functions go through the nodes in the order of the text.
 
 ghost use Rattle.std.specs.Prelude.{◌≡◌, map};
-ghost use Rattle.ep_built.specs.Built.{first_in, at_node, expression_unbuilt, import_unbuilt, program_unbuilt, component_unbuilt};
+ghost use Rattle.ep_built.specs.Built.{first_in, at_node, expression_unbuilt, import_unbuilt, program_unbuilt};
+ghost use Rattle.ep_built.specs.Built.{component_unbuilt};
 
 mod expressions;
 mod forms;

@@ -2,9 +2,11 @@
 //!
 //! A tree has every form of the language, and the crates above take those alone whose nodes are all built.
 //! `unbuilt` answers the line of the first node of a component that is not built, or `None` where every
-//! node is, and `expression_unbuilt` alike of an expression: specs/Built.antt has the table of the built
-//! forms at its head. The crate stands beside the parser and not below it, so that no parser is checked
-//! again where a form gets built.
+//! node is, and `expression_unbuilt` alike of an expression: exactly what specs/Built.antt says.
+//!
+//! The crate stands on ep_tree, whose trees it goes over, and on ep_base for their names. It stands beside
+//! the parser and not below it, so that no parser is checked again where a form gets built. Open
+//! specs/Built.antt first: its head lists what is not built, and the table of the built forms follows.
 #![tactic(auto)]
 
 mod built;

@@ -1,11 +1,14 @@
 //! The grammar of the language, as descriptions of its productions with two meanings: what they derive, and how
 //! a parser reads them.
 //!
-//! specs/Descriptions.antt has the forms of which a production is made, specs/Derived.antt what each derives and
-//! specs/Reading.antt what a parser of it answers. The productions themselves stand in specs/Expressions.antt,
-//! specs/Types.antt, specs/Statements.antt, specs/Declarations.antt and specs/Units.antt, one line for each.
-//! proofs/ shows once for all descriptions that what is read is derived, that what is derived is read, and what a
-//! refusal says. specs/Refusals.antt states this, and the calls of src/laws.rt name it in their contracts.
+//! It promises that the two agree: what is read is derived, what is derived is read, a text has one tree, and a
+//! refusal is right. specs/Refusals.antt states this, and the calls of src/laws.rt name it in their contracts.
+//! The crate stands on ep_token, of whose tokens a text is made, and on ep_tree, whose nodes the productions give.
+//!
+//! Open specs/Descriptions.antt first: the forms of which a production is made. specs/Derived.antt has what each
+//! derives and specs/Reading.antt what a parser of it answers. The productions are definitions of their own in
+//! specs/Expressions.antt, Types.antt, Statements.antt, Declarations.antt and Units.antt. proofs/public has the
+//! lemmas that crates above cite.
 #![tactic(auto)]
 
 mod laws;

@@ -1,9 +1,12 @@
 //! How many levels a text takes: where the grammar derives a list of components, it does so with just as many levels
 //! as the deepest of its components nests.
 //!
-//! specs/Levels.antt states the law. proofs/Depth.antt counts the levels that a derivation takes, the files named for
-//! a part of the grammar show for each production that these are as many as its node nests, and proofs/Knot.antt
-//! concludes.
+//! specs/Levels.antt states this law, which the contract of `laws_of_levels` names, and `nests_within` tests it of a
+//! list. The crate stands on ep_grammar, whose derivations it counts, on ep_tree, whose `nesting` they are held
+//! against, and on ep_token and ep_base for the texts. No parser stands on it, so that its proofs cost none of them.
+//!
+//! Open specs/Levels.antt first. proofs/Depth.antt counts the levels that a derivation takes, the files named for a part
+//! of the grammar show for each production that these are as many as its node nests, and proofs/Knot.antt concludes.
 #![tactic(auto)]
 
 ghost use Rattle.std.specs.Prelude.{◌≡◌, ◌<◌, ◌↔◌, ℕ, List, IsTrue};

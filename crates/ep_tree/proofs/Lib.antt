@@ -1,2 +1,2 @@
-pub mod Named
-pub mod Reversed
+mod Named
+mod Reversed

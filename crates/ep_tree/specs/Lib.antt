@@ -1,3 +1,4 @@
+pub mod Folds
 pub mod Nesting
 pub mod Nodes
 pub mod Shapes

@@ -101,7 +101,8 @@ abbrev pub field_section_node : ℕ → List (List ℕ) → TypeDenoter → Fiel
 field_section_node line names of = roll-FieldSection (record { line = line; names = names; of = of })
 
 abbrev pub variant_part_node : ℕ → VariantSelector → List Variant → Option Fields → VariantPart
-variant_part_node line selector variants otherwise = roll-VariantPart (record { line = line; selector = selector; variants = variants; otherwise = otherwise })
+variant_part_node line selector variants otherwise =
+    roll-VariantPart (record { line = line; selector = selector; variants = variants; otherwise = otherwise })
 
 abbrev pub variant_node : ℕ → List Label → Fields → Variant
 variant_node line labels fields = roll-Variant (record { line = line; labels = labels; fields = fields })
@@ -116,7 +117,8 @@ abbrev pub types_node : ℕ → List TypeDefinition → Types
 types_node line definitions = record { line = line; definitions = definitions }
 
 abbrev pub type_definition_node : ℕ → List ℕ → List DiscriminantSection → TypeDenoter → TypeDefinition
-type_definition_node line name discriminants of = record { line = line; name = name; discriminants = discriminants; of = of }
+type_definition_node line name discriminants of =
+    record { line = line; name = name; discriminants = discriminants; of = of }
 
 abbrev pub discriminant_section_node : ℕ → List (List ℕ) → QualifiedName → DiscriminantSection
 discriminant_section_node line names of = record { line = line; names = names; of = of }
@@ -128,7 +130,8 @@ abbrev pub variable_declaration_node : ℕ → List (List ℕ) → TypeDenoter �
 variable_declaration_node line names of = record { line = line; names = names; of = of }
 
 abbrev pub formal_section_node : ℕ → Bool → Bool → List (List ℕ) → FormalType → FormalSection
-formal_section_node line protected variable names of = record { line = line; protected = protected; variable = variable; names = names; of = of }
+formal_section_node line protected variable names of =
+    record { line = line; protected = protected; variable = variable; names = names; of = of }
 
 abbrev pub compound_node : ℕ → List Statement → Compound
 compound_node line statements = roll-Compound (record { line = line; statements = statements })
@@ -143,7 +146,8 @@ abbrev pub routine_node : ℕ → RoutineStart → RoutineBody → Routine
 routine_node line start body = roll-Routine (record { line = line; start = start; body = body })
 
 abbrev pub program_node : ℕ → List ℕ → List (List ℕ) → List Import → List Part → Compound → Program
-program_node line name parameters imports parts body = record { line = line; name = name; parameters = parameters; imports = imports; parts = parts; body = body }
+program_node line name parameters imports parts body =
+    record { line = line; name = name; parameters = parameters; imports = imports; parts = parts; body = body }
 
 abbrev pub module_node : ℕ → Heading → Block → Module
 module_node line heading block = record { line = line; heading = heading; block = block }
@@ -152,16 +156,25 @@ abbrev pub implementation_node : ℕ → List ℕ → Block → Implementation
 implementation_node line name block = record { line = line; name = name; block = block }
 
 abbrev pub heading_node : ℕ → List ℕ → List (List ℕ) → List Export → List Import → List HeadingPart → Heading
-heading_node line name parameters exports imports parts = record { line = line; name = name; parameters = parameters; exports = exports; imports = imports; parts = parts }
+heading_node line name parameters exports imports parts =
+    record { line = line; name = name; parameters = parameters; exports = exports; imports = imports; parts = parts }
 
 abbrev pub block_node : ℕ → List Import → List Part → Option Statement → Option Statement → Block
-block_node line imports parts initialization finalization = record { line = line; imports = imports; parts = parts; initialization = initialization; finalization = finalization }
+block_node line imports parts initialization finalization =
+    record {
+      line = line;
+      imports = imports;
+      parts = parts;
+      initialization = initialization;
+      finalization = finalization;
+    }
 
 abbrev pub export_node : ℕ → List ℕ → List ExportItem → Export
 export_node line name items = record { line = line; name = name; items = items }
 
 abbrev pub import_node : ℕ → List ℕ → Bool → Bool → List ImportItem → Import
-import_node line interface qualified only items = record { line = line; interface = interface; qualified = qualified; only = only; items = items }
+import_node line interface qualified only items =
+    record { line = line; interface = interface; qualified = qualified; only = only; items = items }
 
 abbrev pub import_item_node : ℕ → List ℕ → Option (List ℕ) → ImportItem
 import_item_node line name renamed = record { line = line; name = name; renamed = renamed }

@@ -66,13 +66,17 @@ when_plain [] o = Some o
 when_plain (x ∷ xs) o = None
 
 abbrev pub as_identifier : Expression → Option (List ℕ)
-as_identifier e = when_some (bare e) (λ f. when_some (access_in (out-Factor f)) (λ a. when_plain (out-Access a).selectors (out-Access a).name))
+as_identifier e =
+    when_some (bare e) (λ f.
+    when_some (access_in (out-Factor f)) (λ a.
+    when_plain (out-Access a).selectors (out-Access a).name))
 
 abbrev pub field_in : {A B C D E F G H I J K L M N : Type 0} → Selector-F A B C D E F G H I J K L M N → Option (List ℕ)
 field_in (Selector-F.Field line name) = Some name
 field_in _ = None
 
-abbrev pub arguments_in : {A B C D E F G H I J K L M N : Type 0} → Selector-F A B C D E F G H I J K L M N → Option (List G)
+abbrev pub arguments_in :
+    {A B C D E F G H I J K L M N : Type 0} → Selector-F A B C D E F G H I J K L M N → Option (List G)
 arguments_in (Selector-F.Arguments line arguments) = Some arguments
 arguments_in _ = None
 
@@ -89,7 +93,8 @@ named_last q [] = Some (q, [])
 named_last q (s ∷ []) = when_some (arguments_in (out-Selector s)) (λ xs. when_some (all_plain xs) (λ es. Some (q, es)))
 named_last q (s ∷ u ∷ more) = None
 
-abbrev pub named_by : ℕ → List ℕ → Selector → List Selector → Option (List ℕ) → Option (QualifiedName × List Expression)
+abbrev pub named_by :
+    ℕ → List ℕ → Selector → List Selector → Option (List ℕ) → Option (QualifiedName × List Expression)
 named_by at n s more None = named_last (qualified_node at n None) (s ∷ more)
 named_by at n s more (Some m) = named_last (qualified_node at n (Some m)) more
 
@@ -99,4 +104,7 @@ named_from at n (s ∷ more) = named_by at n s more (field_in (out-Selector s))
 
 -- `name [ "(" expr { "," expr } ")" ]`, read of an expression
 abbrev pub as_named : Expression → Option (QualifiedName × List Expression)
-as_named e = when_some (bare e) (λ f. when_some (access_in (out-Factor f)) (λ a. named_from (out-Access a).line (out-Access a).name (out-Access a).selectors))
+as_named e =
+    when_some (bare e) (λ f.
+    when_some (access_in (out-Factor f)) (λ a.
+    named_from (out-Access a).line (out-Access a).name (out-Access a).selectors))

@@ -1,7 +1,8 @@
 //! The nesting of a tree, as specs/Nesting.antt says. One module for each cycle of the tree's types.
 
 ghost use Rattle.std.specs.Prelude.{◌≡◌, min, max, map};
-ghost use Rattle.ep_tree.specs.Nesting.{most_of, heading_part_nesting, heading_nesting, action_nesting, block_nesting, component_nesting};
+ghost use Rattle.ep_tree.specs.Nesting.{most_of, heading_part_nesting, heading_nesting, action_nesting, block_nesting};
+ghost use Rattle.ep_tree.specs.Nesting.{component_nesting};
 
 mod expressions;
 mod routines;

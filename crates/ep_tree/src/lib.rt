@@ -1,10 +1,14 @@
 //! Syntax trees: one kind of node for each production of the grammar, whose fields are the parts of the
 //! production in order and the line of its first token.
 //!
-//! The trees are built of `ep_base::List` and `ep_base::Boxed`, so contracts see a tree as plain data: its
-//! declared type is its value, and `≡` is equality of names, numbers, lines and parts. Trees that contain
-//! themselves stand in four modules, each a cycle that names only those before it: expressions with component
-//! values, types, statements, and routines with the parts of a block.
+//! Contracts see a tree as plain data: its declared type is its value, and `≡` is equality of names, numbers,
+//! lines and parts. `nesting` answers how deep a component nests (specs/Nesting.antt), and src/shape.rt what an
+//! expression is where another production begins alike (specs/Shapes.antt). The crate stands on ep_base alone,
+//! of whose `List` and `Boxed` the trees are built, so that all passes over trees stand beside the parser.
+//!
+//! Open src/expression.rt first: its module is the first of four cycles, each of which names only those before
+//! it (expressions with component values, types, statements, routines with the parts of a block).
+//! specs/Folds.antt is how a definition by recursion on them is written.
 #![tactic(auto)]
 
 mod component;

@@ -2,7 +2,8 @@
 
 ghost use Rattle.std.specs.Prelude.{◌≡◌, IfOk, MatchOption, reverse, Some, None, [], ◌∷◌};
 ghost use Rattle.ep_tree.specs.Nodes.{qualified_node};
-ghost use Rattle.ep_tree.specs.Shapes.{all_single, all_plain, single_label, plain_argument, bare, as_identifier, as_named, named_from, when_some};
+ghost use Rattle.ep_tree.specs.Shapes.{all_single, all_plain, single_label, plain_argument, bare, as_identifier};
+ghost use Rattle.ep_tree.specs.Shapes.{as_named, named_from, when_some};
 
 use crate::expression::{Access, Argument, Expression, Factor, Label, Selector, Simple, Term};
 use crate::operator::QualifiedName;

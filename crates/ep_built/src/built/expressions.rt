@@ -1,7 +1,10 @@
 //! The first node of an expression or a component value that is not built.
 
 ghost use Rattle.std.specs.Prelude.{◌≡◌, map};
-ghost use Rattle.ep_built.specs.Built.{all_are_built, lines_in, addend_belonging, multiplier_belonging, selector_belonging, first_in, component_value_unbuilt, element_unbuilt, factor_unbuilt, argument_unbuilt, access_unbuilt, expression_unbuilt, label_unbuilt, simple_unbuilt, term_unbuilt, values_unbuilt};
+ghost use Rattle.ep_built.specs.Built.{all_are_built, lines_in, addend_belonging, multiplier_belonging};
+ghost use Rattle.ep_built.specs.Built.{selector_belonging, first_in, component_value_unbuilt, element_unbuilt};
+ghost use Rattle.ep_built.specs.Built.{factor_unbuilt, argument_unbuilt, access_unbuilt, expression_unbuilt};
+ghost use Rattle.ep_built.specs.Built.{label_unbuilt, simple_unbuilt, term_unbuilt, values_unbuilt};
 
 use crate::built::{at_node, forms};
 use ep_base::Line;

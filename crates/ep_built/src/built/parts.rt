@@ -1,7 +1,8 @@
 //! The first node of the parts of a block before its statements that is not built.
 
 ghost use Rattle.std.specs.Prelude.{◌≡◌, map};
-ghost use Rattle.ep_built.specs.Built.{first_in, constant_unbuilt, type_unbuilt, variable_unbuilt, part_unbuilt, body_unbuilt, routine_unbuilt, section_unbuilt, heading_unbuilt, start_unbuilt};
+ghost use Rattle.ep_built.specs.Built.{first_in, constant_unbuilt, type_unbuilt, variable_unbuilt, part_unbuilt};
+ghost use Rattle.ep_built.specs.Built.{body_unbuilt, routine_unbuilt, section_unbuilt, heading_unbuilt, start_unbuilt};
 
 use crate::built::expressions::component_value;
 use crate::built::statements::compound;

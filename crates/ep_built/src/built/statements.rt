@@ -1,7 +1,9 @@
 //! The first node of a statement that is not built.
 
 ghost use Rattle.std.specs.Prelude.{◌≡◌, map};
-ghost use Rattle.ep_built.specs.Built.{first_in, access_unbuilt, written_value_unbuilt, written_unbuilt, writes, call_arguments, call_unbuilt, in_arguments, statement_unbuilt, arm_unbuilt, compound_unbuilt};
+ghost use Rattle.ep_built.specs.Built.{first_in, access_unbuilt, written_value_unbuilt, written_unbuilt, writes};
+ghost use Rattle.ep_built.specs.Built.{call_arguments, call_unbuilt, in_arguments, statement_unbuilt, arm_unbuilt};
+ghost use Rattle.ep_built.specs.Built.{compound_unbuilt};
 
 use crate::built::expressions::{
     access, arguments, component_value, expression, labels, selectors,

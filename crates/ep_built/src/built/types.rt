@@ -1,7 +1,8 @@
 //! The first node of a type denoter that is not built.
 
 ghost use Rattle.std.specs.Prelude.{◌≡◌, map};
-ghost use Rattle.ep_built.specs.Built.{core_unbuilt, field_section_unbuilt, fields_unbuilt, first_in, plain_unbuilt, structure_unbuilt, type_denoter_unbuilt, variant_part_unbuilt, variant_unbuilt};
+ghost use Rattle.ep_built.specs.Built.{core_unbuilt, field_section_unbuilt, fields_unbuilt, first_in, plain_unbuilt};
+ghost use Rattle.ep_built.specs.Built.{structure_unbuilt, type_denoter_unbuilt, variant_part_unbuilt, variant_unbuilt};
 
 use crate::built::expressions::{component_value, expression, labels};
 use crate::built::{at_node, forms};

@@ -1,7 +1,10 @@
 //! The nesting of expressions and component values.
 
 ghost use Rattle.std.specs.Prelude.{◌≡◌, min, max, map};
-ghost use Rattle.ep_tree.specs.Nesting.{most_of, most_inside, component_value_nesting, element_nesting, factor_nesting, selector_nesting, access_nesting, addend_nesting, argument_nesting, expression_nesting, label_nesting, multiplier_nesting, simple_nesting, term_nesting, values_nesting};
+ghost use Rattle.ep_tree.specs.Nesting.{most_of, most_inside, component_value_nesting, element_nesting};
+ghost use Rattle.ep_tree.specs.Nesting.{factor_nesting, selector_nesting, access_nesting, addend_nesting};
+ghost use Rattle.ep_tree.specs.Nesting.{argument_nesting, expression_nesting, label_nesting, multiplier_nesting};
+ghost use Rattle.ep_tree.specs.Nesting.{simple_nesting, term_nesting, values_nesting};
 
 use crate::expression::{
     Access, Addend, Argument, ComponentValue, Element, Expression, Factor, Label, Multiplier,

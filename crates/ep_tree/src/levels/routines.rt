@@ -1,7 +1,9 @@
 //! The nesting of declarations and routines.
 
 ghost use Rattle.std.specs.Prelude.{◌≡◌, min, max, map};
-ghost use Rattle.ep_tree.specs.Nesting.{most_of, constant_definition_nesting, type_definition_nesting, variable_declaration_nesting, part_nesting, routine_body_nesting, routine_nesting};
+ghost use Rattle.ep_tree.specs.Nesting.{most_of, constant_definition_nesting, type_definition_nesting};
+ghost use Rattle.ep_tree.specs.Nesting.{variable_declaration_nesting, part_nesting, routine_body_nesting};
+ghost use Rattle.ep_tree.specs.Nesting.{routine_nesting};
 
 use crate::declaration::{ConstantDefinition, TypeDefinition, VariableDeclaration};
 use crate::levels::expressions::component_value;

@@ -1,7 +1,9 @@
 //! The nesting of types.
 
 ghost use Rattle.std.specs.Prelude.{◌≡◌, min, max, map};
-ghost use Rattle.ep_tree.specs.Nesting.{most_of, most_if, core_nesting, structure_nesting, field_section_nesting, fields_nesting, plain_nesting, type_denoter_nesting, variant_nesting, variant_part_nesting};
+ghost use Rattle.ep_tree.specs.Nesting.{most_of, most_if, core_nesting, structure_nesting, field_section_nesting};
+ghost use Rattle.ep_tree.specs.Nesting.{fields_nesting, plain_nesting, type_denoter_nesting, variant_nesting};
+ghost use Rattle.ep_tree.specs.Nesting.{variant_part_nesting};
 
 use crate::levels::expressions;
 use crate::types::{
