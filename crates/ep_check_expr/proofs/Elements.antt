@@ -25,7 +25,10 @@ use Rattle.ep_tree.specs.declared.operator.Sign.{Sign}
 use Rattle.ep_scope.specs.Scopes.{Region}
 use Rattle.ep_scope.specs.declared.structure.ArrayType.{ArrayType}
 use Rattle.ep_rules.specs.Constructors.{Label}
-use Rattle.ep_check_expr.specs.Expressions.{Addition, Multiplication, Relation, Result, Selected, at_access, at_addend, at_argument, at_comparison, at_component_value, at_element, at_expression, at_factor, at_label, at_multiplier, at_selector, at_simple, at_term, at_values, judged, addend_judged, comparison_judged, components_written, element_written, given, judged_value, multiplier_judged, selected, expression_said, factor_said, labelled, name_said, simple_said, term_said}
+use Rattle.ep_tree.specs.declared.operator.AddingOperator.{AddingOperator}
+use Rattle.ep_tree.specs.declared.operator.MultiplyingOperator.{MultiplyingOperator}
+use Rattle.ep_tree.specs.declared.operator.RelationalOperator.{RelationalOperator}
+use Rattle.ep_check_expr.specs.Expressions.{Selected, at_access, at_addend, at_argument, at_comparison, at_component_value, at_element, at_expression, at_factor, at_label, at_multiplier, at_selector, at_simple, at_term, at_values, judged, addend_judged, comparison_judged, components_written, element_written, given, judged_value, multiplier_judged, selected, expression_said, factor_said, labelled, name_said, simple_said, term_said, Said, Operand}
 use Rattle.ep_rules.specs.Functions.{Given}
 use Rattle.ep_rules.specs.Judgements.{Judged, Accepts, Typed, breaks, when_accepted}
 use Rattle.ep_check_expr.specs.StructuredValues.{Arranged, Choice, Components, Filled, Index, IndexLabels, Labelled, One, Ranges, Valued, VariantNumbers, Written, alone_labels, array_element, asked_by, asked_first, choice, chosen_written, fields_element, fields_filled, given_by, given_then, index_judged, label_name, label_places, labelled_element, labels_judged, many_labels, named_element, range_labelled, ranges_labelled, record_element, second_index, single_label, values_chosen, with_labels, with_range}
@@ -36,7 +39,7 @@ use Rattle.ep_check_expr.proofs.public.Rows.{left-cons}
 
 module _ (scopes : List Region) where
   name_alone : (a : Access) → (name_said scopes a).alone ≡ when_plain (out-Access a).selectors (out-Access a).name
-  name_alone a = ap (λ x. x.alone) (fold_out-Access Valued Written Result Selected Result Addition Given Relation Result Label Multiplication Result Result Components (at_component_value scopes) (at_element scopes) (at_factor scopes) (at_selector scopes) (at_access scopes) (at_addend scopes) (at_argument scopes) (at_comparison scopes) (at_expression scopes) (at_label scopes) (at_multiplier scopes) (at_simple scopes) (at_term scopes) (at_values scopes) a) ∙ plain_map (out-Access a).selectors (out-Access a).name
+  name_alone a = ap (λ x. x.alone) (fold_out-Access Valued Written Said Selected Said (Operand AddingOperator) Given (Operand RelationalOperator) Said Label (Operand MultiplyingOperator) Said Said Components (at_component_value scopes) (at_element scopes) (at_factor scopes) (at_selector scopes) (at_access scopes) (at_addend scopes) (at_argument scopes) (at_comparison scopes) (at_expression scopes) (at_label scopes) (at_multiplier scopes) (at_simple scopes) (at_term scopes) (at_values scopes) a) ∙ plain_map (out-Access a).selectors (out-Access a).name
     where
       plain_map : (more : List Selector) (name : List ℕ) → when_plain (map (selected scopes) more) name ≡ when_plain more name
       plain_map [] name = refl
@@ -46,9 +49,9 @@ module _ (scopes : List Region) where
   in_factor f = when_some (access_in f) (λ a. when_plain (out-Access a).selectors (out-Access a).name)
 
   factor_alone : (f : Factor) → (factor_said scopes f).alone ≡ in_factor (out-Factor f)
-  factor_alone f = ap (λ x. x.alone) (fold_out-Factor Valued Written Result Selected Result Addition Given Relation Result Label Multiplication Result Result Components (at_component_value scopes) (at_element scopes) (at_factor scopes) (at_selector scopes) (at_access scopes) (at_addend scopes) (at_argument scopes) (at_comparison scopes) (at_expression scopes) (at_label scopes) (at_multiplier scopes) (at_simple scopes) (at_term scopes) (at_values scopes) f) ∙ go (out-Factor f)
+  factor_alone f = ap (λ x. x.alone) (fold_out-Factor Valued Written Said Selected Said (Operand AddingOperator) Given (Operand RelationalOperator) Said Label (Operand MultiplyingOperator) Said Said Components (at_component_value scopes) (at_element scopes) (at_factor scopes) (at_selector scopes) (at_access scopes) (at_addend scopes) (at_argument scopes) (at_comparison scopes) (at_expression scopes) (at_label scopes) (at_multiplier scopes) (at_simple scopes) (at_term scopes) (at_values scopes) f) ∙ go (out-Factor f)
     where
-      go : (o : Factor-F ComponentValue Element Factor Selector Access Addend Argument Comparison Expression LabelTree Multiplier Simple Term Values) → (at_factor scopes (map-Factor ComponentValue Element Factor Selector Access Addend Argument Comparison Expression LabelTree Multiplier Simple Term Values Valued Written Result Selected Result Addition Given Relation Result Label Multiplication Result Result Components (judged_value scopes) (element_written scopes) (factor_said scopes) (selected scopes) (name_said scopes) (addend_judged scopes) (given scopes) (comparison_judged scopes) (expression_said scopes) (labelled scopes) (multiplier_judged scopes) (simple_said scopes) (term_said scopes) (components_written scopes) o)).alone ≡ in_factor o
+      go : (o : Factor-F ComponentValue Element Factor Selector Access Addend Argument Comparison Expression LabelTree Multiplier Simple Term Values) → (at_factor scopes (map-Factor ComponentValue Element Factor Selector Access Addend Argument Comparison Expression LabelTree Multiplier Simple Term Values Valued Written Said Selected Said (Operand AddingOperator) Given (Operand RelationalOperator) Said Label (Operand MultiplyingOperator) Said Said Components (judged_value scopes) (element_written scopes) (factor_said scopes) (selected scopes) (name_said scopes) (addend_judged scopes) (given scopes) (comparison_judged scopes) (expression_said scopes) (labelled scopes) (multiplier_judged scopes) (simple_said scopes) (term_said scopes) (components_written scopes) o)).alone ≡ in_factor o
       go (Factor-F.Access a) = name_alone a
       go (Factor-F.Number line n) = refl
       go (Factor-F.Text line bytes) = refl
@@ -59,14 +62,14 @@ module _ (scopes : List Region) where
       go (Factor-F.Structured line name values) = refl
 
   term_alone : (t : Term) → (term_said scopes t).alone ≡ when_some (bare_term t) (λ f. in_factor (out-Factor f))
-  term_alone t = ap (λ x. x.alone) (fold_out-Term Valued Written Result Selected Result Addition Given Relation Result Label Multiplication Result Result Components (at_component_value scopes) (at_element scopes) (at_factor scopes) (at_selector scopes) (at_access scopes) (at_addend scopes) (at_argument scopes) (at_comparison scopes) (at_expression scopes) (at_label scopes) (at_multiplier scopes) (at_simple scopes) (at_term scopes) (at_values scopes) t) ∙ go (out-Term t).more (out-Term t).first
+  term_alone t = ap (λ x. x.alone) (fold_out-Term Valued Written Said Selected Said (Operand AddingOperator) Given (Operand RelationalOperator) Said Label (Operand MultiplyingOperator) Said Said Components (at_component_value scopes) (at_element scopes) (at_factor scopes) (at_selector scopes) (at_access scopes) (at_addend scopes) (at_argument scopes) (at_comparison scopes) (at_expression scopes) (at_label scopes) (at_multiplier scopes) (at_simple scopes) (at_term scopes) (at_values scopes) t) ∙ go (out-Term t).more (out-Term t).first
     where
       go : (more : List Multiplier) (first : Factor) → when_empty (map (multiplier_judged scopes) more) (factor_said scopes first).alone ≡ when_some (when_empty more (Some first)) (λ f. in_factor (out-Factor f))
       go [] first = factor_alone first
       go (m ∷ more) first = refl
 
   simple_alone : (s : Simple) → (simple_said scopes s).alone ≡ when_some (bare_simple s) (λ f. in_factor (out-Factor f))
-  simple_alone s = ap (λ x. x.alone) (fold_out-Simple Valued Written Result Selected Result Addition Given Relation Result Label Multiplication Result Result Components (at_component_value scopes) (at_element scopes) (at_factor scopes) (at_selector scopes) (at_access scopes) (at_addend scopes) (at_argument scopes) (at_comparison scopes) (at_expression scopes) (at_label scopes) (at_multiplier scopes) (at_simple scopes) (at_term scopes) (at_values scopes) s) ∙ go (out-Simple s).sign (out-Simple s).more (out-Simple s).first
+  simple_alone s = ap (λ x. x.alone) (fold_out-Simple Valued Written Said Selected Said (Operand AddingOperator) Given (Operand RelationalOperator) Said Label (Operand MultiplyingOperator) Said Said Components (at_component_value scopes) (at_element scopes) (at_factor scopes) (at_selector scopes) (at_access scopes) (at_addend scopes) (at_argument scopes) (at_comparison scopes) (at_expression scopes) (at_label scopes) (at_multiplier scopes) (at_simple scopes) (at_term scopes) (at_values scopes) s) ∙ go (out-Simple s).sign (out-Simple s).more (out-Simple s).first
     where
       go : (sign : Option Sign) (more : List Addend) (first : Term)
           → when_none sign (when_empty (map (addend_judged scopes) more) (term_said scopes first).alone) ≡ when_some (when_none sign (when_empty more (bare_term first))) (λ f. in_factor (out-Factor f))
@@ -75,17 +78,17 @@ module _ (scopes : List Region) where
       go (Some o) more first = refl
 
   expression_alone : (e : Expression) → (expression_said scopes e).alone ≡ as_identifier e
-  expression_alone e = ap (λ x. x.alone) (fold_out-Expression Valued Written Result Selected Result Addition Given Relation Result Label Multiplication Result Result Components (at_component_value scopes) (at_element scopes) (at_factor scopes) (at_selector scopes) (at_access scopes) (at_addend scopes) (at_argument scopes) (at_comparison scopes) (at_expression scopes) (at_label scopes) (at_multiplier scopes) (at_simple scopes) (at_term scopes) (at_values scopes) e) ∙ go (out-Expression e).line (out-Expression e).left (out-Expression e).right
+  expression_alone e = ap (λ x. x.alone) (fold_out-Expression Valued Written Said Selected Said (Operand AddingOperator) Given (Operand RelationalOperator) Said Label (Operand MultiplyingOperator) Said Said Components (at_component_value scopes) (at_element scopes) (at_factor scopes) (at_selector scopes) (at_access scopes) (at_addend scopes) (at_argument scopes) (at_comparison scopes) (at_expression scopes) (at_label scopes) (at_multiplier scopes) (at_simple scopes) (at_term scopes) (at_values scopes) e) ∙ go (out-Expression e).line (out-Expression e).left (out-Expression e).right
     where
       go : (at : ℕ) (left : Simple) (right : Option Comparison)
-          → (at_expression scopes (map-Expression ComponentValue Element Factor Selector Access Addend Argument Comparison Expression LabelTree Multiplier Simple Term Values Valued Written Result Selected Result Addition Given Relation Result Label Multiplication Result Result Components (judged_value scopes) (element_written scopes) (factor_said scopes) (selected scopes) (name_said scopes) (addend_judged scopes) (given scopes) (comparison_judged scopes) (expression_said scopes) (labelled scopes) (multiplier_judged scopes) (simple_said scopes) (term_said scopes) (components_written scopes) (record { line = at; left = left; right = right }))).alone ≡ when_some (when_none right (bare_simple left)) (λ f. in_factor (out-Factor f))
+          → (at_expression scopes (map-Expression ComponentValue Element Factor Selector Access Addend Argument Comparison Expression LabelTree Multiplier Simple Term Values Valued Written Said Selected Said (Operand AddingOperator) Given (Operand RelationalOperator) Said Label (Operand MultiplyingOperator) Said Said Components (judged_value scopes) (element_written scopes) (factor_said scopes) (selected scopes) (name_said scopes) (addend_judged scopes) (given scopes) (comparison_judged scopes) (expression_said scopes) (labelled scopes) (multiplier_judged scopes) (simple_said scopes) (term_said scopes) (components_written scopes) (record { line = at; left = left; right = right }))).alone ≡ when_some (when_none right (bare_simple left)) (λ f. in_factor (out-Factor f))
       go at left None = simple_alone left
       go at left (Some c) = refl
 
   label_alone : (l : LabelTree) → (labelled scopes l).name ≡ label_name l
-  label_alone l = ap (λ x. x.name) (fold_out-Label Valued Written Result Selected Result Addition Given Relation Result Label Multiplication Result Result Components (at_component_value scopes) (at_element scopes) (at_factor scopes) (at_selector scopes) (at_access scopes) (at_addend scopes) (at_argument scopes) (at_comparison scopes) (at_expression scopes) (at_label scopes) (at_multiplier scopes) (at_simple scopes) (at_term scopes) (at_values scopes) l) ∙ go (out-Label l).line (out-Label l).low (out-Label l).high
+  label_alone l = ap (λ x. x.name) (fold_out-Label Valued Written Said Selected Said (Operand AddingOperator) Given (Operand RelationalOperator) Said Label (Operand MultiplyingOperator) Said Said Components (at_component_value scopes) (at_element scopes) (at_factor scopes) (at_selector scopes) (at_access scopes) (at_addend scopes) (at_argument scopes) (at_comparison scopes) (at_expression scopes) (at_label scopes) (at_multiplier scopes) (at_simple scopes) (at_term scopes) (at_values scopes) l) ∙ go (out-Label l).line (out-Label l).low (out-Label l).high
     where
-      go : (at : ℕ) (low : Expression) (high : Option Expression) → (at_label scopes (map-Label ComponentValue Element Factor Selector Access Addend Argument Comparison Expression LabelTree Multiplier Simple Term Values Valued Written Result Selected Result Addition Given Relation Result Label Multiplication Result Result Components (judged_value scopes) (element_written scopes) (factor_said scopes) (selected scopes) (name_said scopes) (addend_judged scopes) (given scopes) (comparison_judged scopes) (expression_said scopes) (labelled scopes) (multiplier_judged scopes) (simple_said scopes) (term_said scopes) (components_written scopes) (record { line = at; low = low; high = high }))).name ≡ when_none high (as_identifier low)
+      go : (at : ℕ) (low : Expression) (high : Option Expression) → (at_label scopes (map-Label ComponentValue Element Factor Selector Access Addend Argument Comparison Expression LabelTree Multiplier Simple Term Values Valued Written Said Selected Said (Operand AddingOperator) Given (Operand RelationalOperator) Said Label (Operand MultiplyingOperator) Said Said Components (judged_value scopes) (element_written scopes) (factor_said scopes) (selected scopes) (name_said scopes) (addend_judged scopes) (given scopes) (comparison_judged scopes) (expression_said scopes) (labelled scopes) (multiplier_judged scopes) (simple_said scopes) (term_said scopes) (components_written scopes) (record { line = at; low = low; high = high }))).name ≡ when_none high (as_identifier low)
       go at low None = expression_alone low
       go at low (Some h) = refl
 
@@ -97,12 +100,12 @@ module _ (scopes : List Region) where
 
 module _ (scopes : List Region) (a : ArrayType) where
   label_low : (l : LabelTree) → (labelled scopes l).low ≡ judged scopes (out-Label l).low
-  label_low l = ap (λ x. x.low) (fold_out-Label Valued Written Result Selected Result Addition Given Relation Result Label Multiplication Result Result Components (at_component_value scopes) (at_element scopes) (at_factor scopes) (at_selector scopes) (at_access scopes) (at_addend scopes) (at_argument scopes) (at_comparison scopes) (at_expression scopes) (at_label scopes) (at_multiplier scopes) (at_simple scopes) (at_term scopes) (at_values scopes) l)
+  label_low l = ap (λ x. x.low) (fold_out-Label Valued Written Said Selected Said (Operand AddingOperator) Given (Operand RelationalOperator) Said Label (Operand MultiplyingOperator) Said Said Components (at_component_value scopes) (at_element scopes) (at_factor scopes) (at_selector scopes) (at_access scopes) (at_addend scopes) (at_argument scopes) (at_comparison scopes) (at_expression scopes) (at_label scopes) (at_multiplier scopes) (at_simple scopes) (at_term scopes) (at_values scopes) l)
 
   label_high : (l : LabelTree) → (labelled scopes l).high ≡ option_map (judged scopes) (out-Label l).high
-  label_high l = ap (λ x. x.high) (fold_out-Label Valued Written Result Selected Result Addition Given Relation Result Label Multiplication Result Result Components (at_component_value scopes) (at_element scopes) (at_factor scopes) (at_selector scopes) (at_access scopes) (at_addend scopes) (at_argument scopes) (at_comparison scopes) (at_expression scopes) (at_label scopes) (at_multiplier scopes) (at_simple scopes) (at_term scopes) (at_values scopes) l) ∙ go (out-Label l).line (out-Label l).low (out-Label l).high
+  label_high l = ap (λ x. x.high) (fold_out-Label Valued Written Said Selected Said (Operand AddingOperator) Given (Operand RelationalOperator) Said Label (Operand MultiplyingOperator) Said Said Components (at_component_value scopes) (at_element scopes) (at_factor scopes) (at_selector scopes) (at_access scopes) (at_addend scopes) (at_argument scopes) (at_comparison scopes) (at_expression scopes) (at_label scopes) (at_multiplier scopes) (at_simple scopes) (at_term scopes) (at_values scopes) l) ∙ go (out-Label l).line (out-Label l).low (out-Label l).high
     where
-      go : (at : ℕ) (low : Expression) (high : Option Expression) → (at_label scopes (map-Label ComponentValue Element Factor Selector Access Addend Argument Comparison Expression LabelTree Multiplier Simple Term Values Valued Written Result Selected Result Addition Given Relation Result Label Multiplication Result Result Components (judged_value scopes) (element_written scopes) (factor_said scopes) (selected scopes) (name_said scopes) (addend_judged scopes) (given scopes) (comparison_judged scopes) (expression_said scopes) (labelled scopes) (multiplier_judged scopes) (simple_said scopes) (term_said scopes) (components_written scopes) (record { line = at; low = low; high = high }))).high ≡ option_map (judged scopes) high
+      go : (at : ℕ) (low : Expression) (high : Option Expression) → (at_label scopes (map-Label ComponentValue Element Factor Selector Access Addend Argument Comparison Expression LabelTree Multiplier Simple Term Values Valued Written Said Selected Said (Operand AddingOperator) Given (Operand RelationalOperator) Said Label (Operand MultiplyingOperator) Said Said Components (judged_value scopes) (element_written scopes) (factor_said scopes) (selected scopes) (name_said scopes) (addend_judged scopes) (given scopes) (comparison_judged scopes) (expression_said scopes) (labelled scopes) (multiplier_judged scopes) (simple_said scopes) (term_said scopes) (components_written scopes) (record { line = at; low = low; high = high }))).high ≡ option_map (judged scopes) high
       go at low None = refl
       go at low (Some h) = refl
 

@@ -1,25 +1,26 @@
 -- What the static rules say of each expression, by its parts: one clause for each production (ISO 10206, 6.8.1).
 use Rattle.std.specs.Prelude.{ℕ, pos, List, [], ◌∷◌, map, Option, Some, None}
 use Rattle.std.specs.Option.{option_map}
+use Rattle.ep_tree.specs.Folds as fold
 use Rattle.ep_tree.specs.Shapes.{when_empty, when_none, when_plain}
 use Rattle.ep_tree.specs.declared.operator.RelationalOperator.{RelationalOperator}
 use Rattle.ep_tree.specs.declared.operator.AddingOperator.{AddingOperator}
 use Rattle.ep_tree.specs.declared.operator.MultiplyingOperator.{MultiplyingOperator}
 use Rattle.ep_tree.specs.declared.expression.ComponentValue.TheOpen.{ComponentValue-F, Element-F, Factor-F, Selector-F, Access-F, Addend-F, Argument-F, Comparison-F, Expression-F, Label-F, Multiplier-F, Simple-F, Term-F, Values-F}
-use Rattle.ep_tree.specs.declared.expression.ComponentValue.{ComponentValue, fold-ComponentValue}
-use Rattle.ep_tree.specs.declared.expression.Element.{Element, fold-Element}
-use Rattle.ep_tree.specs.declared.expression.Values.{Values, fold-Values}
-use Rattle.ep_tree.specs.declared.expression.Factor.{Factor, fold-Factor}
-use Rattle.ep_tree.specs.declared.expression.Selector.{Selector, fold-Selector}
-use Rattle.ep_tree.specs.declared.expression.Access.{Access, fold-Access}
-use Rattle.ep_tree.specs.declared.expression.Addend.{Addend, fold-Addend}
-use Rattle.ep_tree.specs.declared.expression.Argument.{Argument, fold-Argument}
-use Rattle.ep_tree.specs.declared.expression.Comparison.{Comparison, fold-Comparison}
-use Rattle.ep_tree.specs.declared.expression.Expression.{Expression, fold-Expression}
-use Rattle.ep_tree.specs.declared.expression.Label.{Label as LabelTree, fold-Label}
-use Rattle.ep_tree.specs.declared.expression.Multiplier.{Multiplier, fold-Multiplier}
-use Rattle.ep_tree.specs.declared.expression.Simple.{Simple, fold-Simple}
-use Rattle.ep_tree.specs.declared.expression.Term.{Term, fold-Term}
+use Rattle.ep_tree.specs.declared.expression.ComponentValue.{ComponentValue}
+use Rattle.ep_tree.specs.declared.expression.Element.{Element}
+use Rattle.ep_tree.specs.declared.expression.Values.{Values}
+use Rattle.ep_tree.specs.declared.expression.Factor.{Factor}
+use Rattle.ep_tree.specs.declared.expression.Selector.{Selector}
+use Rattle.ep_tree.specs.declared.expression.Access.{Access}
+use Rattle.ep_tree.specs.declared.expression.Addend.{Addend}
+use Rattle.ep_tree.specs.declared.expression.Argument.{Argument}
+use Rattle.ep_tree.specs.declared.expression.Comparison.{Comparison}
+use Rattle.ep_tree.specs.declared.expression.Expression.{Expression}
+use Rattle.ep_tree.specs.declared.expression.Label.{Label as LabelTree}
+use Rattle.ep_tree.specs.declared.expression.Multiplier.{Multiplier}
+use Rattle.ep_tree.specs.declared.expression.Simple.{Simple}
+use Rattle.ep_tree.specs.declared.expression.Term.{Term}
 use Rattle.ep_typed.specs.Trees as tree
 use Rattle.ep_scope.specs.Scopes.{Region, depth_in, meant}
 use Rattle.ep_scope.specs.declared.kind.Host.TheVariants as host
@@ -48,19 +49,6 @@ pub record Said : Type 0 where
 abbrev pub valued : Judged Typed → Said
 valued x = record { judged = x; alone = None }
 
--- what the fold gives of each kind of node
-abbrev pub Result : Type 0
-Result = Said
-
-abbrev pub Addition : Type 0
-Addition = Operand AddingOperator
-
-abbrev pub Multiplication : Type 0
-Multiplication = Operand MultiplyingOperator
-
-abbrev pub Relation : Type 0
-Relation = Operand RelationalOperator
-
 -- operands after a first one, from left to right
 abbrev pub chained : {O : Type 0} → (O → Typed → Typed → Judged Typed) → Judged Typed → List (Operand O) → Judged Typed
 chained rule first [] = first
@@ -83,6 +71,26 @@ abbrev pub compared_if : Judged Typed → Option (Operand RelationalOperator) �
 compared_if left None = left
 compared_if left (Some right) = both (compared right.operator) left right.operand
 
+-- what the rules say of each kind of node
+abbrev pub results : fold.ExpressionResults
+results =
+    record {
+      component_value = Valued;
+      element = Written;
+      factor = Said;
+      selector = Selected;
+      access = Said;
+      addend = Operand AddingOperator;
+      argument = Given;
+      comparison = Operand RelationalOperator;
+      expression = Said;
+      label = Label;
+      multiplier = Operand MultiplyingOperator;
+      simple = Said;
+      term = Said;
+      values = Components;
+    }
+
 module _ (scopes : List Region) where
   -- what has these selectors, from left to right; `a[i, j]` is `a[i][j]` (ISO 10206, 6.5.3). They are built where they are
   -- indexes and fields alone.
@@ -100,15 +108,15 @@ module _ (scopes : List Region) where
   access_judged name selectors = selected_all (value_named (depth_in scopes) name (meant scopes name)) selectors
 
   -- the results of the parts of a node
-  abbrev pub at_component_value : ComponentValue-F Valued Written Result Selected Result Addition Given Relation Result Label Multiplication Result Result Components → Valued
+  abbrev pub at_component_value : fold.ComponentValueOf results → Valued
   at_component_value (ComponentValue-F.Expression e) = λ asked. e.judged
   at_component_value (ComponentValue-F.Bracketed line values) = bracketed scopes values
 
-  abbrev pub at_element : Element-F Valued Written Result Selected Result Addition Given Relation Result Label Multiplication Result Result Components → Written
+  abbrev pub at_element : fold.ElementOf results → Written
   at_element (Element-F.Labelled line labels value) = Labelled labels value
   at_element (Element-F.Variant line name tag values) = chosen_written name tag.judged values
 
-  abbrev pub at_factor : Factor-F Valued Written Result Selected Result Addition Given Relation Result Label Multiplication Result Result Components → Said
+  abbrev pub at_factor : fold.FactorOf results → Said
   at_factor (Factor-F.Access access) = access
   at_factor (Factor-F.Number line number) = valued (spelled host.Integer number)
   at_factor (Factor-F.Text line bytes) = valued (string_judged bytes)
@@ -118,103 +126,123 @@ module _ (scopes : List Region) where
   at_factor (Factor-F.Set line labels) = valued (set_judged labels)
   at_factor (Factor-F.Structured line name values) = valued (when_accepted (structure_judged scopes values) (named_number scopes name.first name.second))
 
-  abbrev pub at_selector : Selector-F Valued Written Result Selected Result Addition Given Relation Result Label Multiplication Result Result Components → Selected
+  abbrev pub at_selector : fold.SelectorOf results → Selected
   at_selector (Selector-F.Field line name) = Field name
   at_selector (Selector-F.Index line indexes) = Indexes (map (λ x. x.judged) indexes)
   at_selector (Selector-F.Dereference line) = Other
   at_selector (Selector-F.Arguments line arguments) = Arguments arguments
 
-  abbrev pub at_access : Access-F Valued Written Result Selected Result Addition Given Relation Result Label Multiplication Result Result Components → Said
+  abbrev pub at_access : fold.AccessOf results → Said
   at_access a = record { judged = access_judged a.name a.selectors; alone = when_plain a.selectors a.name }
 
-  abbrev pub at_addend : Addend-F Valued Written Result Selected Result Addition Given Relation Result Label Multiplication Result Result Components → Operand AddingOperator
+  abbrev pub at_addend : fold.AddendOf results → Operand AddingOperator
   at_addend a = record { operator = a.operator; operand = a.term.judged }
 
-  abbrev pub at_argument : Argument-F Valued Written Result Selected Result Addition Given Relation Result Label Multiplication Result Result Components → Given
+  abbrev pub at_argument : fold.ArgumentOf results → Given
   at_argument a = record { value = a.value.judged; width = option_map (λ x. x.judged) a.width }
 
-  abbrev pub at_comparison : Comparison-F Valued Written Result Selected Result Addition Given Relation Result Label Multiplication Result Result Components → Operand RelationalOperator
+  abbrev pub at_comparison : fold.ComparisonOf results → Operand RelationalOperator
   at_comparison c = record { operator = c.operator; operand = c.right.judged }
 
-  abbrev pub at_expression : Expression-F Valued Written Result Selected Result Addition Given Relation Result Label Multiplication Result Result Components → Said
+  abbrev pub at_expression : fold.ExpressionOf results → Said
   at_expression e = record { judged = compared_if e.left.judged e.right; alone = when_none e.right e.left.alone }
 
-  abbrev pub at_label : Label-F Valued Written Result Selected Result Addition Given Relation Result Label Multiplication Result Result Components → Label
+  abbrev pub at_label : fold.LabelOf results → Label
   at_label l = record { low = l.low.judged; high = option_map (λ x. x.judged) l.high; name = when_none l.high l.low.alone }
 
-  abbrev pub at_multiplier : Multiplier-F Valued Written Result Selected Result Addition Given Relation Result Label Multiplication Result Result Components → Operand MultiplyingOperator
+  abbrev pub at_multiplier : fold.MultiplierOf results → Operand MultiplyingOperator
   at_multiplier m = record { operator = m.operator; operand = m.factor.judged }
 
   -- a sign belongs to the first term (ISO 10206, 6.8.3.2)
-  abbrev pub at_simple : Simple-F Valued Written Result Selected Result Addition Given Relation Result Label Multiplication Result Result Components → Said
+  abbrev pub at_simple : fold.SimpleOf results → Said
   at_simple s = record { judged = chained added (when_accepted (signed s.sign) s.first.judged) s.more; alone = when_none s.sign (when_empty s.more s.first.alone) }
 
-  abbrev pub at_term : Term-F Valued Written Result Selected Result Addition Given Relation Result Label Multiplication Result Result Components → Said
+  abbrev pub at_term : fold.TermOf results → Said
   at_term t = record { judged = chained multiplied t.first.judged t.more; alone = when_empty t.more t.first.alone }
 
-  abbrev pub at_values : Values-F Valued Written Result Selected Result Addition Given Relation Result Label Multiplication Result Result Components → Components
+  abbrev pub at_values : fold.ValuesOf results → Components
   at_values v = record { elements = v.elements; otherwise = v.otherwise }
+
+  -- these rules together
+  abbrev pub rules : fold.ExpressionRules results
+  rules =
+      record {
+        component_value = at_component_value;
+        element = at_element;
+        factor = at_factor;
+        selector = at_selector;
+        access = at_access;
+        addend = at_addend;
+        argument = at_argument;
+        comparison = at_comparison;
+        expression = at_expression;
+        label = at_label;
+        multiplier = at_multiplier;
+        simple = at_simple;
+        term = at_term;
+        values = at_values;
+      }
 
   -- what the rules say of an expression
   abbrev pub expression_said : Expression → Said
-  expression_said = fold-Expression Valued Written Result Selected Result Addition Given Relation Result Label Multiplication Result Result Components at_component_value at_element at_factor at_selector at_access at_addend at_argument at_comparison at_expression at_label at_multiplier at_simple at_term at_values
+  expression_said = fold.of_expression rules
 
   abbrev pub judged : Expression → Judged Typed
   judged x = (expression_said x).judged
 
   -- of the parts of expressions
   abbrev pub simple_said : Simple → Said
-  simple_said = fold-Simple Valued Written Result Selected Result Addition Given Relation Result Label Multiplication Result Result Components at_component_value at_element at_factor at_selector at_access at_addend at_argument at_comparison at_expression at_label at_multiplier at_simple at_term at_values
+  simple_said = fold.of_simple rules
 
   abbrev pub simple_judged : Simple → Judged Typed
   simple_judged x = (simple_said x).judged
 
   abbrev pub term_said : Term → Said
-  term_said = fold-Term Valued Written Result Selected Result Addition Given Relation Result Label Multiplication Result Result Components at_component_value at_element at_factor at_selector at_access at_addend at_argument at_comparison at_expression at_label at_multiplier at_simple at_term at_values
+  term_said = fold.of_term rules
 
   abbrev pub term_judged : Term → Judged Typed
   term_judged x = (term_said x).judged
 
   abbrev pub factor_said : Factor → Said
-  factor_said = fold-Factor Valued Written Result Selected Result Addition Given Relation Result Label Multiplication Result Result Components at_component_value at_element at_factor at_selector at_access at_addend at_argument at_comparison at_expression at_label at_multiplier at_simple at_term at_values
+  factor_said = fold.of_factor rules
 
   abbrev pub factor_judged : Factor → Judged Typed
   factor_judged x = (factor_said x).judged
 
   abbrev pub addend_judged : Addend → Operand AddingOperator
-  addend_judged = fold-Addend Valued Written Result Selected Result Addition Given Relation Result Label Multiplication Result Result Components at_component_value at_element at_factor at_selector at_access at_addend at_argument at_comparison at_expression at_label at_multiplier at_simple at_term at_values
+  addend_judged = fold.of_addend rules
 
   abbrev pub multiplier_judged : Multiplier → Operand MultiplyingOperator
-  multiplier_judged = fold-Multiplier Valued Written Result Selected Result Addition Given Relation Result Label Multiplication Result Result Components at_component_value at_element at_factor at_selector at_access at_addend at_argument at_comparison at_expression at_label at_multiplier at_simple at_term at_values
+  multiplier_judged = fold.of_multiplier rules
 
   abbrev pub comparison_judged : Comparison → Operand RelationalOperator
-  comparison_judged = fold-Comparison Valued Written Result Selected Result Addition Given Relation Result Label Multiplication Result Result Components at_component_value at_element at_factor at_selector at_access at_addend at_argument at_comparison at_expression at_label at_multiplier at_simple at_term at_values
+  comparison_judged = fold.of_comparison rules
 
   abbrev pub name_said : Access → Said
-  name_said = fold-Access Valued Written Result Selected Result Addition Given Relation Result Label Multiplication Result Result Components at_component_value at_element at_factor at_selector at_access at_addend at_argument at_comparison at_expression at_label at_multiplier at_simple at_term at_values
+  name_said = fold.of_access rules
 
   abbrev pub name_judged : Access → Judged Typed
   name_judged x = (name_said x).judged
 
   abbrev pub selected : Selector → Selected
-  selected = fold-Selector Valued Written Result Selected Result Addition Given Relation Result Label Multiplication Result Result Components at_component_value at_element at_factor at_selector at_access at_addend at_argument at_comparison at_expression at_label at_multiplier at_simple at_term at_values
+  selected = fold.of_selector rules
 
   -- of a label of a set constructor
   abbrev pub labelled : LabelTree → Label
-  labelled = fold-Label Valued Written Result Selected Result Addition Given Relation Result Label Multiplication Result Result Components at_component_value at_element at_factor at_selector at_access at_addend at_argument at_comparison at_expression at_label at_multiplier at_simple at_term at_values
+  labelled = fold.of_label rules
 
   -- of an argument of a call
   abbrev pub given : Argument → Given
-  given = fold-Argument Valued Written Result Selected Result Addition Given Relation Result Label Multiplication Result Result Components at_component_value at_element at_factor at_selector at_access at_addend at_argument at_comparison at_expression at_label at_multiplier at_simple at_term at_values
+  given = fold.of_argument rules
 
   -- of the value of a definition or of an assignment
   abbrev pub judged_value : ComponentValue → Valued
-  judged_value = fold-ComponentValue Valued Written Result Selected Result Addition Given Relation Result Label Multiplication Result Result Components at_component_value at_element at_factor at_selector at_access at_addend at_argument at_comparison at_expression at_label at_multiplier at_simple at_term at_values
+  judged_value = fold.of_component_value rules
 
   -- of what is written for components
   abbrev pub element_written : Element → Written
-  element_written = fold-Element Valued Written Result Selected Result Addition Given Relation Result Label Multiplication Result Result Components at_component_value at_element at_factor at_selector at_access at_addend at_argument at_comparison at_expression at_label at_multiplier at_simple at_term at_values
+  element_written = fold.of_element rules
 
   -- of what stands in the brackets of a structured value
   abbrev pub components_written : Values → Components
-  components_written = fold-Values Valued Written Result Selected Result Addition Given Relation Result Label Multiplication Result Result Components at_component_value at_element at_factor at_selector at_access at_addend at_argument at_comparison at_expression at_label at_multiplier at_simple at_term at_values
+  components_written = fold.of_values rules

@@ -10,7 +10,10 @@ use Rattle.ep_tree.specs.declared.expression.Addend.{Addend, out-Addend}
 use Rattle.ep_tree.specs.declared.expression.Multiplier.{Multiplier, out-Multiplier}
 use Rattle.ep_tree.specs.declared.expression.Simple.{Simple, out-Simple}
 use Rattle.ep_tree.specs.declared.expression.Term.{Term, out-Term}
-use Rattle.ep_check_expr.specs.Expressions.{Result, Selected, Addition, Relation, Multiplication, access_judged, chained, name_judged, selected, addend_judged, multiplier_judged, simple_judged, term_judged, factor_judged, at_component_value, at_element, at_factor, at_selector, at_access, at_addend, at_argument, at_comparison, at_expression, at_label, at_multiplier, at_simple, at_term, at_values}
+use Rattle.ep_tree.specs.declared.operator.AddingOperator.{AddingOperator}
+use Rattle.ep_tree.specs.declared.operator.MultiplyingOperator.{MultiplyingOperator}
+use Rattle.ep_tree.specs.declared.operator.RelationalOperator.{RelationalOperator}
+use Rattle.ep_check_expr.specs.Expressions.{Selected, access_judged, chained, name_judged, selected, addend_judged, multiplier_judged, simple_judged, term_judged, factor_judged, at_component_value, at_element, at_factor, at_selector, at_access, at_addend, at_argument, at_comparison, at_expression, at_label, at_multiplier, at_simple, at_term, at_values, Said, Operand}
 use Rattle.ep_rules.specs.Constructors.{Label}
 use Rattle.ep_rules.specs.Functions.{Given}
 use Rattle.ep_rules.specs.Judgements.{when_accepted}
@@ -19,19 +22,19 @@ use Rattle.ep_check_expr.specs.StructuredValues.{Components, Valued, Written}
 
 module _ (scopes : List Region) where
   pub addend_judged-is : (a : Addend) → addend_judged scopes a ≡ record { operator = (out-Addend a).operator; operand = term_judged scopes (out-Addend a).term }
-  addend_judged-is a = fold_out-Addend Valued Written Result Selected Result Addition Given Relation Result Label Multiplication Result Result Components (at_component_value scopes) (at_element scopes) (at_factor scopes) (at_selector scopes) (at_access scopes) (at_addend scopes) (at_argument scopes) (at_comparison scopes) (at_expression scopes) (at_label scopes) (at_multiplier scopes) (at_simple scopes) (at_term scopes) (at_values scopes) a
+  addend_judged-is a = fold_out-Addend Valued Written Said Selected Said (Operand AddingOperator) Given (Operand RelationalOperator) Said Label (Operand MultiplyingOperator) Said Said Components (at_component_value scopes) (at_element scopes) (at_factor scopes) (at_selector scopes) (at_access scopes) (at_addend scopes) (at_argument scopes) (at_comparison scopes) (at_expression scopes) (at_label scopes) (at_multiplier scopes) (at_simple scopes) (at_term scopes) (at_values scopes) a
 
   pub multiplier_judged-is : (a : Multiplier) → multiplier_judged scopes a ≡ record { operator = (out-Multiplier a).operator; operand = factor_judged scopes (out-Multiplier a).factor }
-  multiplier_judged-is a = fold_out-Multiplier Valued Written Result Selected Result Addition Given Relation Result Label Multiplication Result Result Components (at_component_value scopes) (at_element scopes) (at_factor scopes) (at_selector scopes) (at_access scopes) (at_addend scopes) (at_argument scopes) (at_comparison scopes) (at_expression scopes) (at_label scopes) (at_multiplier scopes) (at_simple scopes) (at_term scopes) (at_values scopes) a
+  multiplier_judged-is a = fold_out-Multiplier Valued Written Said Selected Said (Operand AddingOperator) Given (Operand RelationalOperator) Said Label (Operand MultiplyingOperator) Said Said Components (at_component_value scopes) (at_element scopes) (at_factor scopes) (at_selector scopes) (at_access scopes) (at_addend scopes) (at_argument scopes) (at_comparison scopes) (at_expression scopes) (at_label scopes) (at_multiplier scopes) (at_simple scopes) (at_term scopes) (at_values scopes) a
 
   pub simple_judged-is : (s : Simple) → simple_judged scopes s ≡ chained added (when_accepted (signed (out-Simple s).sign) (term_judged scopes (out-Simple s).first)) (map (addend_judged scopes) (out-Simple s).more)
-  simple_judged-is s = ap (λ x. x.judged) (fold_out-Simple Valued Written Result Selected Result Addition Given Relation Result Label Multiplication Result Result Components (at_component_value scopes) (at_element scopes) (at_factor scopes) (at_selector scopes) (at_access scopes) (at_addend scopes) (at_argument scopes) (at_comparison scopes) (at_expression scopes) (at_label scopes) (at_multiplier scopes) (at_simple scopes) (at_term scopes) (at_values scopes) s)
+  simple_judged-is s = ap (λ x. x.judged) (fold_out-Simple Valued Written Said Selected Said (Operand AddingOperator) Given (Operand RelationalOperator) Said Label (Operand MultiplyingOperator) Said Said Components (at_component_value scopes) (at_element scopes) (at_factor scopes) (at_selector scopes) (at_access scopes) (at_addend scopes) (at_argument scopes) (at_comparison scopes) (at_expression scopes) (at_label scopes) (at_multiplier scopes) (at_simple scopes) (at_term scopes) (at_values scopes) s)
 
   pub term_judged-is : (t : Term) → term_judged scopes t ≡ chained multiplied (factor_judged scopes (out-Term t).first) (map (multiplier_judged scopes) (out-Term t).more)
-  term_judged-is t = ap (λ x. x.judged) (fold_out-Term Valued Written Result Selected Result Addition Given Relation Result Label Multiplication Result Result Components (at_component_value scopes) (at_element scopes) (at_factor scopes) (at_selector scopes) (at_access scopes) (at_addend scopes) (at_argument scopes) (at_comparison scopes) (at_expression scopes) (at_label scopes) (at_multiplier scopes) (at_simple scopes) (at_term scopes) (at_values scopes) t)
+  term_judged-is t = ap (λ x. x.judged) (fold_out-Term Valued Written Said Selected Said (Operand AddingOperator) Given (Operand RelationalOperator) Said Label (Operand MultiplyingOperator) Said Said Components (at_component_value scopes) (at_element scopes) (at_factor scopes) (at_selector scopes) (at_access scopes) (at_addend scopes) (at_argument scopes) (at_comparison scopes) (at_expression scopes) (at_label scopes) (at_multiplier scopes) (at_simple scopes) (at_term scopes) (at_values scopes) t)
 
   pub name_judged-is : (a : Access) → name_judged scopes a ≡ access_judged scopes (out-Access a).name (map (selected scopes) (out-Access a).selectors)
-  name_judged-is a = ap (λ x. x.judged) (fold_out-Access Valued Written Result Selected Result Addition Given Relation Result Label Multiplication Result Result Components (at_component_value scopes) (at_element scopes) (at_factor scopes) (at_selector scopes) (at_access scopes) (at_addend scopes) (at_argument scopes) (at_comparison scopes) (at_expression scopes) (at_label scopes) (at_multiplier scopes) (at_simple scopes) (at_term scopes) (at_values scopes) a)
+  name_judged-is a = ap (λ x. x.judged) (fold_out-Access Valued Written Said Selected Said (Operand AddingOperator) Given (Operand RelationalOperator) Said Label (Operand MultiplyingOperator) Said Said Components (at_component_value scopes) (at_element scopes) (at_factor scopes) (at_selector scopes) (at_access scopes) (at_addend scopes) (at_argument scopes) (at_comparison scopes) (at_expression scopes) (at_label scopes) (at_multiplier scopes) (at_simple scopes) (at_term scopes) (at_values scopes) a)
 
 pub addend_belonging-is : (a : Addend) → addend_belonging a ≡ (built_adding (out-Addend a).operator, term_unbuilt (out-Addend a).term)
 addend_belonging-is a = fold_out-Addend Found Found Found Selecting Placed Belonging Found Belonging Found Found Belonging Found Found Found built.at_component_value built.at_element built.at_factor built.at_selector built.at_access built.at_addend built.at_argument built.at_comparison built.at_expression built.at_label built.at_multiplier built.at_simple built.at_term built.at_values a

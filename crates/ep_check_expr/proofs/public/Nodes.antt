@@ -26,7 +26,7 @@ use Rattle.ep_tree.specs.declared.operator.MultiplyingOperator.{MultiplyingOpera
 use Rattle.ep_tree.specs.declared.operator.RelationalOperator.{RelationalOperator}
 use Rattle.ep_tree.specs.declared.operator.Sign.{Sign}
 use Rattle.ep_scope.specs.declared.kind.Host.TheVariants as host
-use Rattle.ep_check_expr.specs.Expressions.{Addition, Arguments, Field, Indexes, Multiplication, Relation, Result, Selected, at_access, at_addend, at_argument, at_comparison, at_component_value, at_element, at_expression, at_factor, at_label, at_multiplier, at_selector, at_simple, at_term, at_values, components_written, element_written, judged_value, factor_said, name_said, simple_said, term_said, chained, string_judged, access_judged, expression_said, judged, simple_judged, term_judged, factor_judged, addend_judged, multiplier_judged, comparison_judged, labelled, name_judged, selected, given}
+use Rattle.ep_check_expr.specs.Expressions.{Arguments, Field, Indexes, Selected, at_access, at_addend, at_argument, at_comparison, at_component_value, at_element, at_expression, at_factor, at_label, at_multiplier, at_selector, at_simple, at_term, at_values, components_written, element_written, judged_value, factor_said, name_said, simple_said, term_said, chained, string_judged, access_judged, expression_said, judged, simple_judged, term_judged, factor_judged, addend_judged, multiplier_judged, comparison_judged, labelled, name_judged, selected, given, Said, Operand}
 use Rattle.ep_rules.specs.Names.{spelled, parenthesized}
 use Rattle.ep_rules.specs.Constructors.{Label}
 use Rattle.ep_rules.specs.Functions.{Given}
@@ -96,11 +96,11 @@ module _ (scopes : List Region) where
       said = simp fold-roll-Access
 
   -- what the fold gives of a factor, and of what stands in the brackets of a structured value
-  pub factor-rolled : (f : Factor-F ComponentValue Element Factor Selector Access Addend Argument Comparison Expression LabelTree Multiplier Simple Term Values) → factor_said scopes (roll-Factor f) ≡ at_factor scopes (map-Factor ComponentValue Element Factor Selector Access Addend Argument Comparison Expression LabelTree Multiplier Simple Term Values Valued Written Result Selected Result Addition Given Relation Result Label Multiplication Result Result Components (judged_value scopes) (element_written scopes) (factor_said scopes) (selected scopes) (name_said scopes) (addend_judged scopes) (given scopes) (comparison_judged scopes) (expression_said scopes) (labelled scopes) (multiplier_judged scopes) (simple_said scopes) (term_said scopes) (components_written scopes) f)
-  factor-rolled f = fold-roll-Factor Valued Written Result Selected Result Addition Given Relation Result Label Multiplication Result Result Components (at_component_value scopes) (at_element scopes) (at_factor scopes) (at_selector scopes) (at_access scopes) (at_addend scopes) (at_argument scopes) (at_comparison scopes) (at_expression scopes) (at_label scopes) (at_multiplier scopes) (at_simple scopes) (at_term scopes) (at_values scopes) f
+  pub factor-rolled : (f : Factor-F ComponentValue Element Factor Selector Access Addend Argument Comparison Expression LabelTree Multiplier Simple Term Values) → factor_said scopes (roll-Factor f) ≡ at_factor scopes (map-Factor ComponentValue Element Factor Selector Access Addend Argument Comparison Expression LabelTree Multiplier Simple Term Values Valued Written Said Selected Said (Operand AddingOperator) Given (Operand RelationalOperator) Said Label (Operand MultiplyingOperator) Said Said Components (judged_value scopes) (element_written scopes) (factor_said scopes) (selected scopes) (name_said scopes) (addend_judged scopes) (given scopes) (comparison_judged scopes) (expression_said scopes) (labelled scopes) (multiplier_judged scopes) (simple_said scopes) (term_said scopes) (components_written scopes) f)
+  factor-rolled f = fold-roll-Factor Valued Written Said Selected Said (Operand AddingOperator) Given (Operand RelationalOperator) Said Label (Operand MultiplyingOperator) Said Said Components (at_component_value scopes) (at_element scopes) (at_factor scopes) (at_selector scopes) (at_access scopes) (at_addend scopes) (at_argument scopes) (at_comparison scopes) (at_expression scopes) (at_label scopes) (at_multiplier scopes) (at_simple scopes) (at_term scopes) (at_values scopes) f
 
-  pub values-rolled : (v : Values-F ComponentValue Element Factor Selector Access Addend Argument Comparison Expression LabelTree Multiplier Simple Term Values) → components_written scopes (roll-Values v) ≡ at_values scopes (map-Values ComponentValue Element Factor Selector Access Addend Argument Comparison Expression LabelTree Multiplier Simple Term Values Valued Written Result Selected Result Addition Given Relation Result Label Multiplication Result Result Components (judged_value scopes) (element_written scopes) (factor_said scopes) (selected scopes) (name_said scopes) (addend_judged scopes) (given scopes) (comparison_judged scopes) (expression_said scopes) (labelled scopes) (multiplier_judged scopes) (simple_said scopes) (term_said scopes) (components_written scopes) v)
-  values-rolled v = fold-roll-Values Valued Written Result Selected Result Addition Given Relation Result Label Multiplication Result Result Components (at_component_value scopes) (at_element scopes) (at_factor scopes) (at_selector scopes) (at_access scopes) (at_addend scopes) (at_argument scopes) (at_comparison scopes) (at_expression scopes) (at_label scopes) (at_multiplier scopes) (at_simple scopes) (at_term scopes) (at_values scopes) v
+  pub values-rolled : (v : Values-F ComponentValue Element Factor Selector Access Addend Argument Comparison Expression LabelTree Multiplier Simple Term Values) → components_written scopes (roll-Values v) ≡ at_values scopes (map-Values ComponentValue Element Factor Selector Access Addend Argument Comparison Expression LabelTree Multiplier Simple Term Values Valued Written Said Selected Said (Operand AddingOperator) Given (Operand RelationalOperator) Said Label (Operand MultiplyingOperator) Said Said Components (judged_value scopes) (element_written scopes) (factor_said scopes) (selected scopes) (name_said scopes) (addend_judged scopes) (given scopes) (comparison_judged scopes) (expression_said scopes) (labelled scopes) (multiplier_judged scopes) (simple_said scopes) (term_said scopes) (components_written scopes) v)
+  values-rolled v = fold-roll-Values Valued Written Said Selected Said (Operand AddingOperator) Given (Operand RelationalOperator) Said Label (Operand MultiplyingOperator) Said Said Components (at_component_value scopes) (at_element scopes) (at_factor scopes) (at_selector scopes) (at_access scopes) (at_addend scopes) (at_argument scopes) (at_comparison scopes) (at_expression scopes) (at_label scopes) (at_multiplier scopes) (at_simple scopes) (at_term scopes) (at_values scopes) v
 
   pub name-judged : (at : ℕ) (name : List ℕ) (more : List Selector) → factor_judged scopes (factor.Access (access_node at name more)) ≡ access_judged scopes name (map (selected scopes) more)
   name-judged at name more = ap (factor_judged scopes) (sym (factor.rolls-Access (access_node at name more))) ∙ (ap (λ x. x.judged) (factor-rolled (Factor-F.Access (access_node at name more))) ∙ access-judged at name more)
