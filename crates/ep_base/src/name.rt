@@ -3,6 +3,7 @@
 ghost use Rattle.std.specs.Prelude.{◌≡◌, ℕ, ◌<◌, ◌≤◌, true, false, length, IsTrue, IfOk, IsErrOf};
 ghost use Rattle.ep_base.specs.Identifiers.{is_identifier, is_identifier_rest, is_name, lower_case};
 ghost use Rattle.ep_base.specs.declared.name.NameRefusal.TheVariants.{NoMemory};
+ghost use Rattle.ep_base.specs.declared.name.TheConstants as limit;
 
 use crate::list::List;
 use std::alloc::{AllocError, Global};
@@ -14,7 +15,7 @@ pub const MAX_NAME: usize = 255;
 /// An owned list of names.
 pub type Names = List<Name>;
 
-/// An identifier in lower case of at most 255 bytes, seen as its bytes. A word symbol has the form of an
+/// An identifier in lower case of at most `MAX_NAME` bytes, seen as its bytes. A word symbol has the form of an
 /// identifier and is accepted.
 #[derive(Debug, Drop)]
 pub struct Name {
@@ -37,7 +38,7 @@ impl Model for Name {
 pub enum NameRefusal {
     /// The text is no identifier.
     NotAName,
-    /// It is an identifier of more than 255 bytes, namely of this many.
+    /// It is an identifier of more than `MAX_NAME` bytes, namely of this many.
     TooLong(u64),
     /// Memory is wanting.
     NoMemory,
@@ -53,12 +54,14 @@ impl From<AllocError> for NameRefusal {
 
 impl Name {
     /// The text in lower case. `NotAName` comes exactly where the text is no identifier, and `TooLong`
-    /// exactly where it is one of more than 255 bytes.
+    /// exactly where it is one of more than `MAX_NAME` bytes.
     #[tactic(auto, using(crate::proofs::Cases::lowered))]
     pub fn from_bytes(alloc: Global, text: &[u8]) -> Result<Name, NameRefusal>
-        ensures name { IfOk result (λ name. (name ≡ lower_case text.now) × (is_identifier text.now ≡ true) × (length text.now ≤ 255)) }
+        ensures name { IfOk result (λ name. (name ≡ lower_case text.now) × (is_identifier text.now ≡ true)
+            × (length text.now ≤ limit.MAX_NAME)) }
         ensures not_a_name { IsErrOf result NameRefusal.NotAName → is_identifier text.now ≡ false }
-        ensures too_long { (n : ℕ) → IsErrOf result (NameRefusal.TooLong n) → (is_identifier text.now ≡ true) × (255 < n) × (n ≡ length text.now) }
+        ensures too_long { (n : ℕ) → IsErrOf result (NameRefusal.TooLong n)
+            → (is_identifier text.now ≡ true) × (limit.MAX_NAME < n) × (n ≡ length text.now) }
     {
         if !is_identifier(text) {
             return Err(NameRefusal::NotAName);

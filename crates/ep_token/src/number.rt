@@ -2,6 +2,7 @@
 
 ghost use Rattle.std.specs.Prelude.{◌≡◌, ◌+◌, ◌<◌, ◌≤◌, ◌==◌, length, position, IfSome, pos};
 ghost use Rattle.std.specs.List.{prefix_len};
+ghost use Rattle.ep_token.specs.Bytes.{number_sign};
 ghost use Rattle.ep_token.specs.Numbers.{digit_value, continues_number, maxint};
 ghost use Rattle.ep_token.specs.Reading as spec;
 ghost use Rattle.ep_token.specs.Reading.{Gives, number_at, number_value, numeral};
@@ -62,7 +63,7 @@ fn number_value(text: &[u8]) -> Option<u64>
 
 /// The place of the first `#`.
 fn mark_of(text: &[u8]) -> Option<usize>
-    ensures mark { result ≡ position (λ b. b == 35) text.now }
+    ensures mark { result ≡ position (λ b. b == number_sign) text.now }
     ensures within { IfSome result (λ mark. mark < length text.now) }
 {
     text.iter().position(|byte| *byte == b'#')

@@ -50,3 +50,5 @@ pub const SET_MEMBER: u8 = 23;
 pub const STORAGE_LIMIT: u8 = 24;
 /// More calls are under way than a run may have.
 pub const CALL_DEPTH: u8 = 25;
+/// The greatest of these numbers.
+pub const LAST: u8 = CALL_DEPTH;
