@@ -42,7 +42,8 @@ known kind v depth = Accepts (record { value = v; kind = kind; depth = depth; bu
 abbrev pub unbuilt_of : Kind → Judged ConstantForm
 unbuilt_of k = Accepts (record { value = stand_in k; kind = k; depth = 1; built = false })
 
--- Whether a form that is not built may be constant. Of a structured type it is what a function gives, or a component of that,
+-- Whether a form that is not built may be constant. Of a structured type it is what a function gives, or a component
+-- of that,
 -- which is not: but for a component of a constant, and for what may be a structured value.
 abbrev pub may_be_constant : Purpose → Access → Kind → Bool
 may_be_constant purpose.Definition a k = true
@@ -55,7 +56,8 @@ may_be_constant for a k = true
 abbrev pub unbuilt_form : Purpose → Access → Kind → Judged ConstantForm
 unbuilt_form for a k = if may_be_constant for a k then unbuilt_of k else Breaks (rule.CONSTANT ∷ [])
 
--- The rules that fail where a variable is read or a function is called: that of constant expressions, and that of what the
+-- The rules that fail where a variable is read or a function is called: that of constant expressions, and that of what
+-- the
 -- constant is asked for. These are bounds (ISO 10206, 6.4.2.4), labels of a `case` (6.9.3.5) and initial states (6.6).
 abbrev pub varying : Purpose → List ℕ
 varying purpose.Definition = rule.CONSTANT ∷ []
@@ -80,7 +82,8 @@ abbrev pub is_access : Expression → Bool
 is_access e = is_some (option_and_then (λ (f : Factor). access_in (out-Factor f)) (bare e))
 
 -- what the value of a constant definition is asked for
-abbrev pub purpose_of : {A B C D E F G H I J K L M : Type 0} → ComponentValue-F A B C D E F G H Expression I J K L M → Purpose
+abbrev pub purpose_of : {A B C D E F G H I J K L M : Type 0} → ComponentValue-F A B C D E F G H Expression I J K L M
+    → Purpose
 purpose_of (ComponentValue-F.Expression e) = if is_access e then purpose.Expression else purpose.Definition
 purpose_of (ComponentValue-F.Bracketed line values) = purpose.Definition
 

@@ -6,7 +6,10 @@ use Rattle.ep_tree.specs.Shapes.{when_empty, when_none, when_plain}
 use Rattle.ep_tree.specs.declared.operator.RelationalOperator.{RelationalOperator}
 use Rattle.ep_tree.specs.declared.operator.AddingOperator.{AddingOperator}
 use Rattle.ep_tree.specs.declared.operator.MultiplyingOperator.{MultiplyingOperator}
-use Rattle.ep_tree.specs.declared.expression.ComponentValue.TheOpen.{ComponentValue-F, Element-F, Factor-F, Selector-F, Access-F, Addend-F, Argument-F, Comparison-F, Expression-F, Label-F, Multiplier-F, Simple-F, Term-F, Values-F}
+use Rattle.ep_tree.specs.declared.expression.ComponentValue.TheOpen.{ComponentValue-F, Element-F, Factor-F, Selector-F}
+use Rattle.ep_tree.specs.declared.expression.ComponentValue.TheOpen.{Access-F, Addend-F, Argument-F, Comparison-F}
+use Rattle.ep_tree.specs.declared.expression.ComponentValue.TheOpen.{Expression-F, Label-F, Multiplier-F, Simple-F}
+use Rattle.ep_tree.specs.declared.expression.ComponentValue.TheOpen.{Term-F, Values-F}
 use Rattle.ep_tree.specs.declared.expression.ComponentValue.{ComponentValue}
 use Rattle.ep_tree.specs.declared.expression.Element.{Element}
 use Rattle.ep_tree.specs.declared.expression.Values.{Values}
@@ -32,7 +35,8 @@ use Rattle.ep_rules.specs.Functions.{Given}
 use Rattle.ep_rules.specs.Indexing.{indexed_all}
 use Rattle.ep_rules.specs.Judgements.{Judged, Accepts, Typed, unbuilt, when_accepted, both}
 use Rattle.ep_rules.specs.Names.{leaf, spelled, parenthesized, value_named, call_named, qualified_value}
-use Rattle.ep_check_expr.specs.StructuredValues.{Components, Labelled, Valued, Written, bracketed, chosen_written, named_number, structure_judged}
+use Rattle.ep_check_expr.specs.StructuredValues.{Components, Labelled, Valued, Written, bracketed, chosen_written}
+use Rattle.ep_check_expr.specs.StructuredValues.{named_number, structure_judged}
 use Rattle.ep_rules.specs.Operators.{signed, negated, added, multiplied, compared}
 
 -- an operand with the operator before it
@@ -92,7 +96,8 @@ results =
     }
 
 module _ (scopes : List Region) where
-  -- what has these selectors, from left to right; `a[i, j]` is `a[i][j]` (ISO 10206, 6.5.3). They are built where they are
+  -- what has these selectors, from left to right; `a[i, j]` is `a[i][j]` (ISO 10206, 6.5.3). They are built where they
+  -- are
   -- indexes and fields alone.
   abbrev pub selected_all : Judged Typed → List Selected → Judged Typed
   selected_all x [] = x
@@ -103,7 +108,8 @@ module _ (scopes : List Region) where
 
   -- a name with arguments; or a name, one that an interface has or a field; each alone or with what follows
   abbrev pub access_judged : List ℕ → List Selected → Judged Typed
-  access_judged name (Arguments given ∷ more) = selected_all (call_named (depth_in scopes) name (meant scopes name) given) more
+  access_judged name (Arguments given ∷ more) =
+      selected_all (call_named (depth_in scopes) name (meant scopes name) given) more
   access_judged name (Field field ∷ more) = selected_all (qualified_value scopes name field) more
   access_judged name selectors = selected_all (value_named (depth_in scopes) name (meant scopes name)) selectors
 
@@ -124,7 +130,8 @@ module _ (scopes : List Region) where
   at_factor (Factor-F.Parenthesized line inner) = valued (when_accepted (λ x. Accepts (parenthesized x)) inner.judged)
   at_factor (Factor-F.Not line inner) = valued (when_accepted negated inner.judged)
   at_factor (Factor-F.Set line labels) = valued (set_judged labels)
-  at_factor (Factor-F.Structured line name values) = valued (when_accepted (structure_judged scopes values) (named_number scopes name.first name.second))
+  at_factor (Factor-F.Structured line name values) =
+      valued (when_accepted (structure_judged scopes values) (named_number scopes name.first name.second))
 
   abbrev pub at_selector : fold.SelectorOf results → Selected
   at_selector (Selector-F.Field line name) = Field name
@@ -148,14 +155,19 @@ module _ (scopes : List Region) where
   at_expression e = record { judged = compared_if e.left.judged e.right; alone = when_none e.right e.left.alone }
 
   abbrev pub at_label : fold.LabelOf results → Label
-  at_label l = record { low = l.low.judged; high = option_map (λ x. x.judged) l.high; name = when_none l.high l.low.alone }
+  at_label l =
+      record { low = l.low.judged; high = option_map (λ x. x.judged) l.high; name = when_none l.high l.low.alone }
 
   abbrev pub at_multiplier : fold.MultiplierOf results → Operand MultiplyingOperator
   at_multiplier m = record { operator = m.operator; operand = m.factor.judged }
 
   -- a sign belongs to the first term (ISO 10206, 6.8.3.2)
   abbrev pub at_simple : fold.SimpleOf results → Said
-  at_simple s = record { judged = chained added (when_accepted (signed s.sign) s.first.judged) s.more; alone = when_none s.sign (when_empty s.more s.first.alone) }
+  at_simple s =
+      record {
+        judged = chained added (when_accepted (signed s.sign) s.first.judged) s.more;
+        alone = when_none s.sign (when_empty s.more s.first.alone);
+      }
 
   abbrev pub at_term : fold.TermOf results → Said
   at_term t = record { judged = chained multiplied t.first.judged t.more; alone = when_empty t.more t.first.alone }

@@ -1,7 +1,10 @@
--- What a typed form is as a constant that may be an array or a record (ISO 10206, 6.6, 6.8.2 and 6.8.7): its components are such constants.
-use Rattle.std.specs.Prelude.{ℕ, ℤ, int_le, ◌&&◌, List, [], ◌∷◌, ◌++◌, Option, Some, None, option_to_list, Result, Ok, Err, if◌then◌else◌}
+-- What a typed form is as a constant that may be an array or a record (ISO 10206, 6.6, 6.8.2 and 6.8.7): its
+-- components are such constants.
+use Rattle.std.specs.Prelude.{ℕ, ℤ, int_le, ◌&&◌, List, [], ◌∷◌, ◌++◌, Option, Some, None, option_to_list, Result, Ok}
+use Rattle.std.specs.Prelude.{Err, if◌then◌else◌}
 use Rattle.ep_typed.specs.Trees as tree
-use Rattle.ep_typed.specs.Trees.{Expr, AtIndex, AtField, SameField, AtRanges, AtIndexes, Elements, no_element, next_element, no_member, next_member}
+use Rattle.ep_typed.specs.Trees.{Expr, AtIndex, AtField, SameField, AtRanges, AtIndexes, Elements, no_element}
+use Rattle.ep_typed.specs.Trees.{next_element, no_member, next_member}
 use Rattle.ep_typed.specs.declared.tree.CaseRange.{CaseRange}
 use Rattle.ep_typed.specs.declared.tree.Element.{Element}
 use Rattle.ep_typed.specs.declared.tree.Element.TheVariants as element
@@ -78,7 +81,8 @@ array_in _ = None
 -- the range of one index of an array; outside of the bounds there would be an error
 abbrev pub index_range : Option ArrayType → ℤ → Constancy (List CaseRange)
 index_range None z = Err reason.Errs
-index_range (Some a) z = if int_le a.low z && int_le z a.high then Ok (record { low = z; high = z } ∷ []) else Err reason.Errs
+index_range (Some a) z =
+    if int_le a.low z && int_le z a.high then Ok (record { low = z; high = z } ∷ []) else Err reason.Errs
 
 -- alike, by what is known of the index
 abbrev pub index_constancy : Option ArrayType → Folded → Constancy (List CaseRange)
@@ -121,7 +125,8 @@ module _ (scopes : List Region) where
     constancy (tree.Structured n es) = structured n (elements_constancy (array_in (structure_in scopes n)) es)
     constancy x = known_constancy (folded x)
 
-    -- What a component is given, of a value of this array type or of a record. Where none is, its value is constant all the same; indexes that are given by designators vary.
+    -- What a component is given, of a value of this array type or of a record. Where none is, its value is constant
+    -- all the same; indexes that are given by designators vary.
     pub element_constancy : Option ArrayType → tree.Element → Constancy (Option Element)
     element_constancy of (AtIndex x y) = ranges_given (index_constancy of (folded x)) (constancy y)
     element_constancy of (AtRanges ranges y) = ranges_given (Ok ranges) (constancy y)

@@ -1,5 +1,7 @@
--- The rules of structured values (ISO 10206, 6.8.7): each component is given a value of its type, a field exactly once, and so is each component of an array where all indexes are constant.
-use Rattle.std.specs.Prelude.{ℕ, ℤ, ◌==◌, suc, pos, ◌+ℤ◌, max, int_le, nat_eq, Bool, true, false, ◌&&◌, ◌||◌, not, List, [], ◌∷◌, ◌++◌, map, position, slice_get, Option, Some, None, if◌then◌else◌}
+-- The rules of structured values (ISO 10206, 6.8.7): each component is given a value of its type, a field exactly
+-- once, and so is each component of an array where all indexes are constant.
+use Rattle.std.specs.Prelude.{ℕ, ℤ, ◌==◌, suc, pos, ◌+ℤ◌, max, int_le, nat_eq, Bool, true, false, ◌&&◌, ◌||◌, not}
+use Rattle.std.specs.Prelude.{List, [], ◌∷◌, ◌++◌, map, position, slice_get, Option, Some, None, if◌then◌else◌}
 use Rattle.std.specs.List.{list_all, list_any}
 use Rattle.std.specs.Option.{option_map}
 use Rattle.std.specs.Str.{bytes_eq}
@@ -7,7 +9,8 @@ use Rattle.ep_tree.specs.Shapes.{as_identifier, when_none}
 use Rattle.ep_tree.specs.declared.expression.Expression.{Expression}
 use Rattle.ep_tree.specs.declared.expression.Label.{Label as LabelTree, out-Label}
 use Rattle.ep_typed.specs.CaseRanges.{is_apart}
-use Rattle.ep_typed.specs.Trees.{AtField, AtIndex, AtIndexes, AtRanges, Designator, Element, Expr, Range, SameField, SetOf, Single, Structured, designators, elements, no_member}
+use Rattle.ep_typed.specs.Trees.{AtField, AtIndex, AtIndexes, AtRanges, Designator, Element, Expr, Range, SameField}
+use Rattle.ep_typed.specs.Trees.{SetOf, Single, Structured, designators, elements, no_member}
 use Rattle.ep_typed.specs.declared.tree.CaseRange.{CaseRange}
 use Rattle.ep_scope.specs.Fields.{field_number}
 use Rattle.ep_scope.specs.Kinds.{same_host}
@@ -40,12 +43,14 @@ use Rattle.ep_rules.specs.declared.folding.Folded.TheVariants.{Known, Varies, Er
 
 -- ---- what is written
 
--- A component value: what the rules say of it where a value of the structured type of this number is asked for, or of another type. Without the name of its type a structured value is one of the type that is asked for.
+-- A component value: what the rules say of it where a value of the structured type of this number is asked for, or of
+-- another type. Without the name of its type a structured value is one of the type that is asked for.
 abbrev pub Valued : Type 0
 Valued = Option ℕ → Judged Typed
 
 mutual
-  -- labels with their value; or a choice of a variant, by the name before the tag's value, if there is one, that value, whether `otherwise` stands in the brackets, and the elements in them
+  -- labels with their value; or a choice of a variant, by the name before the tag's value, if there is one, that
+  -- value, whether `otherwise` stands in the brackets, and the elements in them
   pub data Written : Type 0 where
     Labelled : (labels : List Label) (value : Valued) → Written
     Chosen : (name : Option (List ℕ)) (tag : Judged Typed) (completed : Bool) (elements : WrittenRow) → Written
@@ -119,11 +124,15 @@ within_bounds a None = true
 within_bounds a (Some z) = int_le a.low z && int_le z a.high
 
 abbrev pub bounded_index : ArrayType → Typed → Option ℤ → Judged Index
-bounded_index a x constant = if within_bounds a constant then Accepts (record { form = x.form; depth = x.depth; constant = constant }) else unfit
+bounded_index a x constant =
+    if within_bounds a constant then Accepts (record { form = x.form; depth = x.depth; constant = constant })
+    else unfit
 
 -- an index has the host of the index type
 abbrev pub index_judged : ArrayType → Typed → Judged Index
-index_judged a x = if are_compatible (kind.Ordinal a.index) x.kind then when_accepted (bounded_index a x) (constant_in x.form) else unfit
+index_judged a x =
+    if are_compatible (kind.Ordinal a.index) x.kind then when_accepted (bounded_index a x) (constant_in x.form)
+    else unfit
 
 -- the index of labels that are one index alone
 abbrev pub single_label : List LabelTree → Option Expression
@@ -132,7 +141,8 @@ single_label ls = None
 
 -- ---- ranges of indexes
 
--- the ranges of the labels of an element, where all are constant, the labels as designators, in order, where all are built, and how deep the deepest index is
+-- the ranges of the labels of an element, where all are constant, the labels as designators, in order, where all are
+-- built, and how deep the deepest index is
 pub record Ranges : Type 0 where
   pub ranges : Option (List CaseRange)
   pub designators : Option (List Designator)
@@ -184,7 +194,8 @@ module _ (a : ArrayType) where
 
 -- ---- arrays
 
--- What is gathered of the elements of an array: what components are given, where all of it is built, how deep the deepest part is, and which indexes are given, where all are constant.
+-- What is gathered of the elements of an array: what components are given, where all of it is built, how deep the
+-- deepest part is, and which indexes are given, where all are constant.
 pub record Arranged : Type 0 where
   pub elements : Option (List Element)
   pub depth : ℕ
@@ -240,7 +251,13 @@ abbrev pub nothing_arranged : Arranged
 nothing_arranged = record { elements = Some []; depth = 0; indexes = Some [] }
 
 abbrev pub all_arranged : ArrayType → ℕ → Option Expr → Arranged
-all_arranged a depth value = record { elements = with_elements (Some []) (option_map (ranges_given (record { low = a.low; high = a.high } ∷ [])) value); depth = depth; indexes = Some [] }
+all_arranged a depth value =
+    record {
+      elements =
+          with_elements (Some []) (option_map (ranges_given (record { low = a.low; high = a.high } ∷ [])) value);
+      depth = depth;
+      indexes = Some [];
+    }
 
 -- no index is in two ranges
 abbrev pub are_apart : List CaseRange → Bool
@@ -251,7 +268,8 @@ are_apart (r ∷ rs) = list_all (is_apart r) rs && are_apart rs
 abbrev pub goes_on : ArrayType → List CaseRange → CaseRange → Bool
 goes_on a ranges r = int_le a.high r.high || has_index ranges (r.high +ℤ pos 1)
 
--- Each index of the array is in one of the ranges: the least one is, and so is the index behind each range that does not end with the greatest one.
+-- Each index of the array is in one of the ranges: the least one is, and so is the index behind each range that does
+-- not end with the greatest one.
 abbrev pub leave_none_out : ArrayType → List CaseRange → Bool
 leave_none_out a ranges = has_index ranges a.low && list_all (goes_on a ranges) ranges
 
@@ -306,7 +324,9 @@ module _ (a : ArrayType) where
   array_begun (Some value) = given_then (all_arranged a) value
 
 abbrev pub array_judged : ℕ → ArrayType → Components → Judged Typed
-array_judged n a c = when_accepted (arranged n a (completes c.otherwise)) (when_accepted (array_elements a c.elements) (array_begun a c.otherwise))
+array_judged n a c =
+    when_accepted (arranged n a (completes c.otherwise))
+    (when_accepted (array_elements a c.elements) (array_begun a c.otherwise))
 
 -- ---- records (ISO 10206, 6.8.7.3)
 
@@ -314,7 +334,8 @@ array_judged n a c = when_accepted (arranged n a (completes c.otherwise)) (when_
 abbrev pub label_name : LabelTree → Option (List ℕ)
 label_name l = when_none (out-Label l).high (as_identifier (out-Label l).low)
 
--- What is gathered of the elements of a record: what components are given, where all of it is built, how deep the deepest value is, and the places of the fields that are given, among all fields.
+-- What is gathered of the elements of a record: what components are given, where all of it is built, how deep the
+-- deepest value is, and the places of the fields that are given, among all fields.
 pub record Filled : Type 0 where
   pub elements : Option (List Element)
   pub depth : ℕ
@@ -323,7 +344,8 @@ pub record Filled : Type 0 where
 abbrev pub nothing_filled : Filled
 nothing_filled = record { elements = Some []; depth = 0; fields = [] }
 
--- Where a value is given: in the record itself, or in the variant to which these numbers lead, of a variant of the record and then of variants in each other.
+-- Where a value is given: in the record itself, or in the variant to which these numbers lead, of a variant of the
+-- record and then of variants in each other.
 abbrev pub VariantNumbers : Type 0
 VariantNumbers = List ℕ
 
@@ -355,7 +377,12 @@ abbrev pub with_field : Filled → ℕ → ℕ → Option (List Element) → Jud
 with_field r place depth given =
     if list_any (nat_eq place) r.fields
     then unfit
-    else Accepts (record { elements = with_elements r.elements given; depth = max r.depth depth; fields = r.fields ++ place ∷ [] })
+    else Accepts
+    (record {
+      elements = with_elements r.elements given;
+      depth = max r.depth depth;
+      fields = r.fields ++ place ∷ [];
+    })
 
 -- a field that is given a value
 abbrev pub first_form : List ℕ → Expr → List Element
@@ -366,7 +393,9 @@ abbrev pub same_form : List ℕ → List ℕ → List Element
 same_form from steps = SameField from steps ∷ []
 
 abbrev pub first_given : ℕ → Typed → Filled → FieldType → Judged Filled
-first_given place v r f = when_accepted (λ x. with_field r place v.depth (option_map (first_form (field_steps f)) x)) (component_given f.kind v)
+first_given place v r f =
+    when_accepted (λ x. with_field r place v.depth (option_map (first_form (field_steps f)) x))
+    (component_given f.kind v)
 
 -- something of a kind, of which nothing else is known
 abbrev pub of_kind : Kind → Typed
@@ -384,13 +413,17 @@ abbrev pub empty_if : Kind → List ℕ → Option (List Element)
 empty_if (kind.Set h) steps = Some (first_form steps (SetOf no_member))
 empty_if _ steps = None
 
--- What a further field is given: what the first one has, where that is of its kind. Else both are sets over different hosts, and the value is `[]`, which is one over each host.
+-- What a further field is given: what the first one has, where that is of its kind. Else both are sets over different
+-- hosts, and the value is `[]`, which is one over each host.
 abbrev pub same_if : FieldType → FieldType → Option (List Element)
-same_if first f = if is_same_kind first.kind f.kind then Some (same_form (field_steps first) (field_steps f)) else empty_if f.kind (field_steps f)
+same_if first f =
+    if is_same_kind first.kind f.kind then Some (same_form (field_steps first) (field_steps f))
+    else empty_if f.kind (field_steps f)
 
 abbrev pub same_given : FieldType → Kind → ℕ → Filled → Option FieldType → Judged Filled
 same_given first k place r None = unfit
-same_given first k place r (Some f) = when_accepted (λ x. with_field r place 0 (same_if first f)) (component_given f.kind (of_kind k))
+same_given first k place r (Some f) =
+    when_accepted (λ x. with_field r place 0 (same_if first f)) (component_given f.kind (of_kind k))
 
 -- ---- choices of variants (ISO 10206, 6.8.7.3)
 
@@ -422,7 +455,8 @@ chosen_within within tag z = option_map (λ n. within ++ selected_variant tag.se
 abbrev pub tag_filled : VariantNumbers → ℕ → FieldType → TagType → ℕ → Filled → Option Expr → Option ℤ → Judged Choice
 tag_filled within place f tag depth r x z =
     if is_tag_value tag z
-    then when_accepted (λ s. Accepts (record { filled = s; chosen = chosen_within within tag z })) (with_field r place depth (option_map (first_form (field_steps f)) x))
+    then when_accepted (λ s. Accepts (record { filled = s; chosen = chosen_within within tag z }))
+    (with_field r place depth (option_map (first_form (field_steps f)) x))
     else unfit
 
 abbrev pub tag_valued : VariantNumbers → ℕ → FieldType → TagType → ℕ → Filled → Option Expr → Judged Choice
@@ -430,7 +464,8 @@ tag_valued within place f tag depth r x = when_accepted (tag_filled within place
 
 abbrev pub tag_given : VariantNumbers → ℕ → FieldType → Typed → Filled → Option TagType → Judged Choice
 tag_given within place f v r None = unfit
-tag_given within place f v r (Some tag) = when_accepted (tag_valued within place f tag v.depth r) (component_given f.kind v)
+tag_given within place f v r (Some tag) =
+    when_accepted (tag_valued within place f tag v.depth r) (component_given f.kind v)
 
 -- a name before the value is that of the tag
 abbrev pub is_named : Option (List ℕ) → FieldType → Bool
@@ -458,7 +493,8 @@ module _ (fs : List FieldType) where
 -- each field that is there is given, from a place on, the tag among them; no tag is given by its name
 abbrev pub are_given : VariantNumbers → List ℕ → ℕ → List FieldType → Bool
 are_given within given place [] = true
-are_given within given place (f ∷ fs) = (not (is_at within f.path) || list_any (nat_eq place) given) && are_given within given (suc place) fs
+are_given within given place (f ∷ fs) =
+    (not (is_at within f.path) || list_any (nat_eq place) given) && are_given within given (suc place) fs
 
 abbrev pub all_given : List FieldType → VariantNumbers → Filled → Judged Filled
 all_given fs within r = if are_given within r.fields 0 fs then Accepts r else unfit
@@ -490,12 +526,14 @@ module _ (fs : List FieldType) where
 
   abbrev pub label_places : VariantNumbers → List (Option (List ℕ)) → List ℕ → Judged (List ℕ)
   label_places within [] found = Accepts found
-  label_places within (name ∷ names) found = when_accepted (λ place. label_places within names (found ++ place ∷ [])) (label_place within name)
+  label_places within (name ∷ names) found =
+      when_accepted (λ place. label_places within names (found ++ place ∷ [])) (label_place within name)
 
   -- the fields behind the first one of an element
   abbrev pub same_filled : FieldType → Kind → List ℕ → Filled → Judged Filled
   same_filled first k [] r = Accepts r
-  same_filled first k (place ∷ places) r = when_accepted (same_filled first k places) (same_given first k place r (slice_get fs place))
+  same_filled first k (place ∷ places) r =
+      when_accepted (same_filled first k places) (same_given first k place r (slice_get fs place))
 
   abbrev pub filled_from : ℕ → List ℕ → Filled → Typed → Option FieldType → Judged Filled
   filled_from place places r v None = unfit
@@ -523,7 +561,9 @@ module _ (fs : List FieldType) where
     pub record_element : VariantNumbers → Written → Filled → Judged Filled
     record_element within (Labelled ls value) r = named_element within (map (λ l. l.name) ls) value r
     record_element within (Chosen name tag completed row) r =
-        when_accepted (λ c. chosen_filled (λ inner s. part_filled fs inner completed (row_filled inner row s)) c.filled c.chosen) (when_accepted (choice fs within name r) tag)
+        when_accepted
+        (λ c. chosen_filled (λ inner s. part_filled fs inner completed (row_filled inner row s)) c.filled c.chosen)
+        (when_accepted (choice fs within name r) tag)
 
     pub row_filled : VariantNumbers → WrittenRow → Filled → Judged Filled
     row_filled within no_written r = Accepts r

@@ -12,9 +12,14 @@ ghost use Rattle.ep_check_expr.specs.StructuredValues.{arranged, component_given
 
 use crate::structured::{added, structured};
 use ep_base::{Boxed, List, NoMemory};
-use ep_rules::{Folded, Refusal, Typed, are_compatible, folded_form, given_value, has_index, number_in, with_designator};
+use ep_rules::{
+    Folded, Refusal, Typed, are_compatible, folded_form, given_value, has_index, number_in,
+    with_designator,
+};
 use ep_scope::{ArrayType, Kind, rule};
-use ep_typed::{CaseRange, CaseRanges, Element, Elements, MemberDesignator, MemberDesignators, TypedExpr};
+use ep_typed::{
+    CaseRange, CaseRanges, Element, Elements, MemberDesignator, MemberDesignators, TypedExpr,
+};
 use std::alloc::Global;
 
 /// An index of an array: its form, where it is built, how deep it is, and its ordinal number where it is constant.

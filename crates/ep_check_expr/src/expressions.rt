@@ -24,9 +24,18 @@ use crate::filled::{Filled, asked_first, label_places};
 use crate::shapes::{arguments_first, bare, field_first, single_label};
 use crate::structured::{asked_by, named_number};
 use ep_base::{Boxed, Name};
-use ep_rules::{Members, Refusal, Taken, Typed, added, applied_to_one, applied_to_two, compared, designated, indexed, multiplied, named, negated, qualified, signed, takes, undeclared};
-use ep_scope::{ArrayType, Composition, Declaration, Declared, FieldType, FormalParameter, Function, Host, Meaning, Required, View, depth_in, meaning_of, rule, structure_of};
-use ep_tree::{Access, Addend, Argument, ComponentValue, Element, Expression, Factor, Label, Multiplier, Selector, Simple, Term, Values};
+use ep_rules::{
+    Members, Refusal, Taken, Typed, added, applied_to_one, applied_to_two, compared, designated,
+    indexed, multiplied, named, negated, qualified, signed, takes, undeclared,
+};
+use ep_scope::{
+    ArrayType, Composition, Declaration, Declared, FieldType, FormalParameter, Function, Host,
+    Meaning, Required, View, depth_in, meaning_of, rule, structure_of,
+};
+use ep_tree::{
+    Access, Addend, Argument, ComponentValue, Element, Expression, Factor, Label, Multiplier,
+    Selector, Simple, Term, Values,
+};
 use std::alloc::Global;
 
 /// The typed form of an expression, or a rule that fails in it. The forms of the expression are all built.
@@ -557,7 +566,8 @@ fn selected(
 ) -> Result<Typed, Refusal>
     requires selectors { list_all is_component (map form_told (map selector_belonging all.now)) ≡ true }
     requires built { lines_in (map selector_belonging all.now) ≡ None }
-    ensures { AnswersTyped result (selected_all scopes.now (Accepts (typed_of first)) (map (selected scopes.now) all.now)) }
+    ensures { AnswersTyped result
+        (selected_all scopes.now (Accepts (typed_of first)) (map (selected scopes.now) all.now)) }
 {
     let mut variable = first;
     for selector in all {
@@ -579,7 +589,8 @@ fn with_indexes(
     scopes: &View<'_>,
 ) -> Result<Typed, Refusal>
     requires built { first_in (map expression_unbuilt all.now) ≡ None }
-    ensures { AnswersTyped result (indexed_all scopes.now (Accepts (typed_of first)) (map (judged scopes.now) all.now)) }
+    ensures { AnswersTyped result
+        (indexed_all scopes.now (Accepts (typed_of first)) (map (judged scopes.now) all.now)) }
 {
     let mut variable = first;
     for expression in all {

@@ -154,7 +154,8 @@ fn empty_if(alloc: Global, field: &FieldType) -> Result<Option<Element>, NoMemor
 
 /// A field that is given what another one has, where that is of its kind, and else the empty set.
 fn same_if(alloc: Global, first: &FieldType, field: &FieldType) -> Result<Option<Element>, NoMemory>
-    ensures { IfOk result (λ e. option_map (λ x. x ∷ []) (option_map element_of e) ≡ spec.same_if first.now field.now) }
+    ensures { IfOk result
+        (λ e. option_map (λ x. x ∷ []) (option_map element_of e) ≡ spec.same_if first.now field.now) }
 {
     if !is_same_kind(first.kind, field.kind) {
         return empty_if(alloc, field);
@@ -296,7 +297,8 @@ impl Filled {
         places: &[usize],
         value: Typed,
     ) -> Result<Filled, Refusal>
-        ensures { AnswersJudged filled_of result (fields_filled fields.now places.now (filled_of self) (typed_of value)) }
+        ensures { AnswersJudged filled_of result
+            (fields_filled fields.now places.now (filled_of self) (typed_of value)) }
     {
         let Some((place, others)) = places.split_first() else {
             return Err(Refusal::Rule(rule::STRUCTURED_VALUE));

@@ -89,7 +89,17 @@ locals_of (locals.Routine routine first auxiliary) = rows.OfRoutine routine firs
 
 -- what the statements of a block know
 abbrev pub context_of : Context → rows.Context
-context_of c = record { unit = c.unit.now; scopes = c.scopes.now; output = c.output; results = map result_of c.results.now; locals = locals_of c.locals; members = c.members; routines = map routine_form c.routines.now; withs = c.withs }
+context_of c =
+    record {
+      unit = c.unit.now;
+      scopes = c.scopes.now;
+      output = c.output;
+      results = map result_of c.results.now;
+      locals = locals_of c.locals;
+      members = c.members;
+      routines = map routine_form c.routines.now;
+      withs = c.withs;
+    }
 
 -- the same, where the variable of the next `with` has this number
 abbrev pub numbered : rows.Context → ℕ → rows.Context
@@ -124,7 +134,8 @@ member_head_of h = record { control = member_control_of h.control; set = expr_of
 
 -- the records of a `with`
 abbrev pub record_named_of : RecordNamed → rows.RecordNamed
-record_named_of r = record { of = r.of; guarded = r.protection; fields = r.fields.now; place = option_map place_of r.place }
+record_named_of r =
+    record { of = r.of; guarded = r.protection; fields = r.fields.now; place = option_map place_of r.place }
 
 abbrev pub with_head_of : WithHead → rows.WithHead
 with_head_of h = record { variable = viewed.entire_of h.variable; of = h.of; place = place_of h.place }

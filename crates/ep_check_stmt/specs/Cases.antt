@@ -1,6 +1,7 @@
 -- What the static rules say of the selector and the labels of a `case` statement (ISO 10206, 6.9.3.5).
 --
--- They belong to the statement itself. A label is judged for the host of the selector, and no value stands in two labels.
+-- They belong to the statement itself. A label is judged for the host of the selector, and no value stands in two
+-- labels.
 use Rattle.std.specs.Prelude.{ℤ, int_le, Bool, true, false, List, [], ◌∷◌, ◌++◌, Option, Some, None, if◌then◌else◌}
 use Rattle.std.specs.List.{list_all}
 use Rattle.ep_tree.specs.declared.expression.Expression.{Expression}
@@ -33,12 +34,14 @@ selecting _ form = Breaks (rule.ORDINAL ∷ [])
 
 -- an end of a label for a selector of this host: its value, where it is built
 abbrev pub fitting : Host → Kind → Value → Bool → Judged (Option ℤ)
-fitting h (kind.Ordinal g) (value.Word z) built = if same_host h g then Accepts (if built then Some z else None) else Breaks (rule.CASE_LABELS ∷ [])
+fitting h (kind.Ordinal g) (value.Word z) built =
+    if same_host h g then Accepts (if built then Some z else None) else Breaks (rule.CASE_LABELS ∷ [])
 fitting h _ _ built = Breaks (rule.CASE_LABELS ∷ [])
 
 -- the values from one to another, which is not below it, where both are built
 abbrev pub ranging : Option ℤ → Option ℤ → Judged (Option CaseRange)
-ranging (Some low) (Some high) = if int_le low high then Accepts (Some (record { low = low; high = high })) else Breaks (rule.CASE_LABELS ∷ [])
+ranging (Some low) (Some high) =
+    if int_le low high then Accepts (Some (record { low = low; high = high })) else Breaks (rule.CASE_LABELS ∷ [])
 ranging _ _ = Accepts None
 
 -- no label yet
@@ -48,7 +51,9 @@ no_labels = record { ranges = []; built = true }
 -- one label more, which has no value of those before it
 abbrev pub added : Labels → Option CaseRange → Judged Labels
 added found None = Accepts (record found { built = false })
-added found (Some r) = if list_all (λ s. is_apart s r) found.ranges then Accepts (record found { ranges = found.ranges ++ r ∷ [] }) else Breaks (rule.CASE_LABELS ∷ [])
+added found (Some r) =
+    if list_all (λ s. is_apart s r) found.ranges then Accepts (record found { ranges = found.ranges ++ r ∷ [] })
+    else Breaks (rule.CASE_LABELS ∷ [])
 
 -- an arm has at least one label, as the grammar says
 abbrev pub at_least_one : List CaseRange → Judged (Option (List CaseRange))
@@ -88,7 +93,9 @@ module _ (scopes : List Region) where
 
   -- the selector with the labels of all arms
   abbrev pub labelled : List (List Label) → CaseSelector → Judged CaseSelector
-  labelled all s = when_accepted (λ found. Accepts (record s { form = if found.built then s.form else None })) (arms_taken s.host all no_labels)
+  labelled all s =
+      when_accepted (λ found. Accepts (record s { form = if found.built then s.form else None }))
+      (arms_taken s.host all no_labels)
 
   abbrev pub selector_judged : Expression → List (List Label) → Judged CaseSelector
   selector_judged e all = when_accepted (labelled all) (when_accepted (λ t. selecting t.kind t.form) (judged scopes e))

@@ -35,6 +35,7 @@ abbrev pub formals_if : Option RoutineForm → List Formal
 formals_if None = []
 formals_if (Some r) = r.formals
 
--- the formal parameters of the routine of this number of a unit, of which there is one so far, so that its name is not asked for
+-- the formal parameters of the routine of this number of a unit, of which there is one so far, so that its name is not
+-- asked for
 abbrev pub formals_at : List RoutineForm → List ℕ → ℕ → List Formal
 formals_at routines unit number = formals_if (slice_get routines number)

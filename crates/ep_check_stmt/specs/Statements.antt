@@ -1,7 +1,9 @@
 -- What the static rules say of statements: their typed forms, or the first item that breaks a rule.
 --
--- Items are taken in the order of the text: a statement without its inner statements is one, on the line of its first token. A form that is no form of a program that is built fails by no rule here.
-use Rattle.std.specs.Prelude.{ℕ, length, nat_eq, nat_le, ◌+◌, ◌-◌, ◌||◌, ◌==◌, ◌&&◌, Bool, true, false, List, [], ◌∷◌, ◌++◌, map, Option, Some, None, if◌then◌else◌}
+-- Items are taken in the order of the text: a statement without its inner statements is one, on the line of its first
+-- token. A form that is no form of a program that is built fails by no rule here.
+use Rattle.std.specs.Prelude.{ℕ, length, nat_eq, nat_le, ◌+◌, ◌-◌, ◌||◌, ◌==◌, ◌&&◌, Bool, true, false, List, [], ◌∷◌}
+use Rattle.std.specs.Prelude.{◌++◌, map, Option, Some, None, if◌then◌else◌}
 use Rattle.std.specs.List.{list_any}
 use Rattle.std.specs.Option.{option_map}
 use Rattle.std.specs.Str.{bytes_eq}
@@ -23,13 +25,15 @@ use Rattle.ep_tree.specs.declared.statement.Compound.{Compound, fold-Compound}
 use Rattle.ep_typed.specs.Auxiliaries.{with_variables, with_variables_in}
 use Rattle.ep_typed.specs.Hosts.{greatest, least}
 use Rattle.ep_typed.specs.Trees as tree
-use Rattle.ep_typed.specs.Trees.{Control, Entire, MemberControl, Tagging, Place, Expr, Item, Stmt, Stmts, Arm, Arms, Other}
+use Rattle.ep_typed.specs.Trees.{Control, Entire, MemberControl, Tagging, Place, Expr, Item, Stmt, Stmts, Arm, Arms}
+use Rattle.ep_typed.specs.Trees.{Other}
 use Rattle.ep_values.specs.declared.operations.Print.{Print}
 use Rattle.ep_values.specs.declared.operations.Print.TheVariants as print
 use Rattle.ep_typed.specs.declared.tree.StandardFile.{StandardFile}
 use Rattle.ep_typed.specs.declared.tree.StandardFile.TheVariants as file
 use Rattle.ep_typed.specs.declared.unit.UnitVariable.{UnitVariable}
-use Rattle.ep_scope.specs.Scopes.{OpenField, Region, Meant, Declares, Standard, Requires, FieldOf, Nothing, depth_in, meant, structure_in, within}
+use Rattle.ep_scope.specs.Scopes.{OpenField, Region, Meant, Declares, Standard, Requires, FieldOf, Nothing, depth_in}
+use Rattle.ep_scope.specs.Scopes.{meant, structure_in, within}
 use Rattle.ep_scope.specs.declared.kind.Host.{Host}
 use Rattle.ep_scope.specs.declared.kind.Host.TheVariants as host
 use Rattle.ep_scope.specs.declared.kind.Kind.{Kind}
@@ -50,7 +54,8 @@ use Rattle.ep_scope.specs.declared.thing.Declaration.TheVariants as declaration
 use Rattle.ep_scope.specs.declared.thing.Declared.{Declared}
 use Rattle.ep_rules.specs.declared.access.Access.{Access}
 use Rattle.ep_rules.specs.declared.access.Access.TheVariants as access
-use Rattle.ep_rules.specs.Arguments.{arguments_judged, callee_at, given_to, own_place, place_read, tagged_read, unless_protected}
+use Rattle.ep_rules.specs.Arguments.{arguments_judged, callee_at, given_to, own_place, place_read, tagged_read}
+use Rattle.ep_rules.specs.Arguments.{unless_protected}
 use Rattle.ep_rules.specs.Hosts.{typed_host}
 use Rattle.ep_rules.specs.Judgements.{Judged, Accepts, Breaks, Typed, when_accepted, both}
 use Rattle.ep_rules.specs.Functions.{Given}
@@ -111,7 +116,8 @@ pub data Receiver : Type 0 where
   At : (place : Place) → Receiver
   TagOf : (whole : Place) (tag : TagType) → Receiver
 
--- What can be assigned to: where, where it is built, and its kind. An index that is accepted and not built leaves a component without it.
+-- What can be assigned to: where, where it is built, and its kind. An index that is accepted and not built leaves a
+-- component without it.
 pub record Target : Type 0 where
   pub receiver : Option Receiver
   pub kind : Kind
@@ -121,7 +127,9 @@ abbrev pub asked_of : Judged Target → Option ℕ
 asked_of (Accepts t) = asked_by t.kind
 asked_of (Breaks rules) = None
 
--- A function in whose block the statements are, maybe deeper, where its name is assigned to for the result: its number among the routines of the unit, how many routines are around its variables, itself among them, the variable that has the result, and the kind of that (ISO 10206, 6.7.2).
+-- A function in whose block the statements are, maybe deeper, where its name is assigned to for the result: its number
+-- among the routines of the unit, how many routines are around its variables, itself among them, the variable that has
+-- the result, and the kind of that (ISO 10206, 6.7.2).
 pub record FunctionResult : Type 0 where
   pub function : ℕ
   pub level : ℕ
@@ -132,11 +140,14 @@ pub record FunctionResult : Type 0 where
 abbrev pub has_result : List ℕ → Declared → FunctionResult → Bool
 has_result unit d r = nat_eq d.number r.function && bytes_eq d.unit unit
 
--- The name of a function is assigned to in its own block alone, to which those of the routines in it belong (ISO 10206, 6.7.2); in code of a depth.
+-- The name of a function is assigned to in its own block alone, to which those of the routines in it belong (ISO
+-- 10206, 6.7.2); in code of a depth.
 abbrev pub function_target : ℕ → List ℕ → Declared → List FunctionResult → Judged Target
 function_target depth unit d [] = Breaks (rule.FUNCTION_ASSIGNED ∷ [])
 function_target depth unit d (r ∷ rs) =
-    if has_result unit d r then Accepts (record { receiver = Some (At (tree.Own (depth - r.level) r.variable)); kind = r.kind }) else function_target depth unit d rs
+    if has_result unit d r
+    then Accepts (record { receiver = Some (At (tree.Own (depth - r.level) r.variable)); kind = r.kind })
+    else function_target depth unit d rs
 
 -- the rules that fail where a required identifier is assigned to
 abbrev pub target_rules : Required → List ℕ
@@ -162,8 +173,11 @@ field_target f = when_accepted (λ done. Accepts (field_target_of f f.field.tag)
 module _ (depth : ℕ) (unit : List ℕ) (results : List FunctionResult) where
   -- a declared name that is assigned to
   abbrev pub declared_target : Declared → Declaration → Judged Target
-  declared_target d (declaration.Variable of k) = Accepts (record { receiver = Some (At (tree.Variable d.unit d.number)); kind = k })
-  declared_target d (declaration.Own of k guarded) = when_accepted (λ done. Accepts (record { receiver = Some (At (own_place depth d)); kind = k })) (unless_protected guarded)
+  declared_target d (declaration.Variable of k) =
+      Accepts (record { receiver = Some (At (tree.Variable d.unit d.number)); kind = k })
+  declared_target d (declaration.Own of k guarded) =
+      when_accepted (λ done. Accepts (record { receiver = Some (At (own_place depth d)); kind = k }))
+      (unless_protected guarded)
   declared_target d (declaration.Constant k value deep) = Breaks (rule.CONSTANT_THREATENED ∷ rule.VARIABLE_NEEDED ∷ [])
   declared_target d (declaration.«Type» of h nodes) = Breaks (rule.OTHER_THING ∷ rule.VARIABLE_NEEDED ∷ [])
   declared_target d (declaration.Procedure parameters) = Breaks (rule.OTHER_THING ∷ rule.VARIABLE_NEEDED ∷ [])
@@ -177,20 +191,27 @@ module _ (depth : ℕ) (unit : List ℕ) (results : List FunctionResult) where
   place_named name (FieldOf f) = field_target f
   place_named name Nothing = Breaks (undeclared name)
 
--- What an access with selectors denotes, as what is assigned to: a variable, whose components are protected where it is (6.5.1), or a tag (6.5.3.3). No component is a file.
+-- What an access with selectors denotes, as what is assigned to: a variable, whose components are protected where it
+-- is (6.5.1), or a tag (6.5.3.3). No component is a file.
 abbrev pub variable_target : Access → Option Expr → Kind → Judged Target
-variable_target (access.Variable of guarded) form k = when_accepted (λ done. Accepts (record { receiver = option_map At (place_read form); kind = k })) (unless_protected guarded)
-variable_target (access.Tag of guarded tag) form k = when_accepted (λ done. Accepts (tag_target tag (tagged_read form))) (unless_protected guarded)
+variable_target (access.Variable of guarded) form k =
+    when_accepted (λ done. Accepts (record { receiver = option_map At (place_read form); kind = k }))
+    (unless_protected guarded)
+variable_target (access.Tag of guarded tag) form k =
+    when_accepted (λ done. Accepts (tag_target tag (tagged_read form))) (unless_protected guarded)
 variable_target access.File form k = Accepts (record { receiver = None; kind = kind.File })
 variable_target access.Constant form k = Breaks (rule.CONSTANT_THREATENED ∷ rule.VARIABLE_NEEDED ∷ [])
 variable_target access.Value form k = Breaks (rule.VARIABLE_NEEDED ∷ [])
 
--- The variables of a block: those of a unit, or those of the routine of a number, of which the first one that its block declares has a number. The auxiliary variables are behind all of them, and the first of these has a number too.
+-- The variables of a block: those of a unit, or those of the routine of a number, of which the first one that its
+-- block declares has a number. The auxiliary variables are behind all of them, and the first of these has a number
+-- too.
 pub data Locals : Type 0 where
   OfUnit : (unit : List ℕ) (auxiliary : ℕ) → Locals
   OfRoutine : (routine first auxiliary : ℕ) → Locals
 
--- the auxiliary variables, which have the initial and the final value of a `for`, and the first one the value that a tag is to have
+-- the auxiliary variables, which have the initial and the final value of a `for`, and the first one the value that a
+-- tag is to have
 abbrev pub initial_variable : Locals → Entire
 initial_variable (OfUnit unit auxiliary) = tree.OfUnit unit auxiliary
 initial_variable (OfRoutine routine first auxiliary) = tree.OfRoutine 0 auxiliary
@@ -210,7 +231,9 @@ assignment locals line (TagOf whole tag) x = tree.AssignTag line (tagging locals
 
 -- a value is assigned, which has code where it is built and what is assigned to is
 abbrev pub assigned : Locals → ℕ → Target → Typed → Judged (Option Stmt)
-assigned locals line target value = when_accepted (λ x. Accepts (map_both (assignment locals line) target.receiver x)) (given_to (λ x. x) target.kind value.kind value.form)
+assigned locals line target value =
+    when_accepted (λ x. Accepts (map_both (assignment locals line) target.receiver x))
+    (given_to (λ x. x) target.kind value.kind value.form)
 
 -- ---- conditions (ISO 10206, 6.9.3)
 
@@ -250,7 +273,8 @@ measured _ form = Breaks (rule.WIDTH ∷ [])
 
 abbrev pub width_judged : Option (Judged Typed) → Judged (Option (Option Expr))
 width_judged None = Accepts None
-width_judged (Some width) = when_accepted (λ w. when_accepted (λ form. Accepts (Some form)) (measured w.kind w.form)) width
+width_judged (Some width) =
+    when_accepted (λ w. when_accepted (λ form. Accepts (Some form)) (measured w.kind w.form)) width
 
 -- what is written for a parameter, where it is built
 abbrev pub item_form : Print → Option Expr → Option (Option Expr) → Option Item
@@ -259,7 +283,9 @@ item_form how (Some x) None = Some (tree.Plain how x)
 item_form how (Some x) (Some width) = option_map (tree.Wide how x) width
 
 abbrev pub item_judged : Given → Judged (Option Item)
-item_judged g = both (λ value width. Accepts (item_form value.print value.form width)) (when_accepted shown g.value) (width_judged g.width)
+item_judged g =
+    both (λ value width. Accepts (item_form value.print value.form width)) (when_accepted shown g.value)
+    (width_judged g.width)
 
 -- one more in front, where all are built
 abbrev pub one_more : {A : Type 0} → Option A → Option (List A) → Option (List A)
@@ -290,7 +316,8 @@ to_file file.Output form = form
 -- these parameters are written to a file, on a line that ends where the mark says so
 abbrev pub written : StandardFile → ℕ → Bool → List Given → Judged (Option Stmt)
 written f line ends_line gs =
-    both (λ some items. Accepts (to_file f (option_map (λ is. tree.Write line is ends_line) items))) (something ends_line gs) (items_judged gs)
+    both (λ some items. Accepts (to_file f (option_map (λ is. tree.Write line is ends_line) items)))
+    (something ends_line gs) (items_judged gs)
 
 -- `output` is a parameter of the program or imported
 abbrev pub available : Bool → Judged (Unit {0})
@@ -302,19 +329,24 @@ available false = Breaks (rule.STANDARD_FILE ∷ [])
 -- an `if` statement, by its condition and its parts (ISO 10206, 6.9.3.4)
 abbrev pub if_judged : ℕ → Judgement Expr → Judgement Stmt → Judgement Stmt → Judgement Stmt
 if_judged line test then_part else_part =
-    after (λ form. λ (parts : Stmt × Stmt). tree.If line form parts.0 parts.1) test (after (λ a b. (a, b)) then_part else_part)
+    after (λ form. λ (parts : Stmt × Stmt). tree.If line form parts.0 parts.1) test
+    (after (λ a b. (a, b)) then_part else_part)
 
--- a `repeat` statement, by its condition, which has the line of its first word, and its statements (ISO 10206, 6.9.3.7)
+-- a `repeat` statement, by its condition, which has the line of its first word, and its statements (ISO 10206,
+-- 6.9.3.7)
 abbrev pub repeat_judged : ℕ → Judgement Expr → Judgement Stmts → Judgement Stmt
 repeat_judged line test body = after (λ form statements. tree.Repeat line statements form) test body
 
 -- a `case` statement, by the form of its selector, its arms and its `otherwise` part (ISO 10206, 6.9.3.5)
 abbrev pub case_row : ℕ → Judged (Option Expr) → Judgement Arms → Judgement Other → Judgement Stmt
 case_row line selector arms other =
-    after (λ x. λ (parts : Arms × Other). tree.Case line x parts.0 parts.1) (at_item line selector) (after (λ a b. (a, b)) arms other)
+    after (λ x. λ (parts : Arms × Other). tree.Case line x parts.0 parts.1) (at_item line selector)
+    (after (λ a b. (a, b)) arms other)
 
--- by its selector with the labels, what its form is then, its arms for a host of the selector, and its `otherwise` part
-abbrev pub case_judged : ℕ → (Option Expr → Judged (Option Expr)) → Judged CaseSelector → (Host → Judgement Arms) → (Judgement Arms → Judgement Other) → Judgement Stmt
+-- by its selector with the labels, what its form is then, its arms for a host of the selector, and its `otherwise`
+-- part
+abbrev pub case_judged : ℕ → (Option Expr → Judged (Option Expr)) → Judged CaseSelector → (Host → Judgement Arms)
+    → (Judgement Arms → Judgement Other) → Judgement Stmt
 case_judged line form (Breaks rules) arms other = Fails line rules
 case_judged line form (Accepts s) arms other = case_row line (form s.form) (arms s.host) (other (arms s.host))
 
@@ -344,12 +376,19 @@ control_if false v = no_control []
 
 -- a declared name as a control variable
 abbrev pub declared_control : Locals → ℕ → Declared → Declaration → Judged Named
-declared_control locals depth d (declaration.Variable of k) = control_if (declares_variable locals d.unit) (record { variable = tree.OfUnit d.unit d.number; kind = k })
-declared_control locals depth d (declaration.Own of k guarded) = control_if (declares_own locals depth d) (record { variable = tree.OfRoutine (depth - d.level) d.number; kind = k })
-declared_control locals depth d (declaration.Constant k value deep) = no_control (rule.CONSTANT_THREATENED ∷ rule.VARIABLE_NEEDED ∷ [])
-declared_control locals depth d (declaration.«Type» of h nodes) = no_control (rule.OTHER_THING ∷ rule.VARIABLE_NEEDED ∷ [])
-declared_control locals depth d (declaration.Procedure parameters) = no_control (rule.OTHER_THING ∷ rule.VARIABLE_NEEDED ∷ [])
-declared_control locals depth d (declaration.Function parameters of h) = no_control (rule.OTHER_THING ∷ rule.VARIABLE_NEEDED ∷ [])
+declared_control locals depth d (declaration.Variable of k) =
+    control_if (declares_variable locals d.unit) (record { variable = tree.OfUnit d.unit d.number; kind = k })
+declared_control locals depth d (declaration.Own of k guarded) =
+    control_if (declares_own locals depth d)
+    (record { variable = tree.OfRoutine (depth - d.level) d.number; kind = k })
+declared_control locals depth d (declaration.Constant k value deep) =
+    no_control (rule.CONSTANT_THREATENED ∷ rule.VARIABLE_NEEDED ∷ [])
+declared_control locals depth d (declaration.«Type» of h nodes) =
+    no_control (rule.OTHER_THING ∷ rule.VARIABLE_NEEDED ∷ [])
+declared_control locals depth d (declaration.Procedure parameters) =
+    no_control (rule.OTHER_THING ∷ rule.VARIABLE_NEEDED ∷ [])
+declared_control locals depth d (declaration.Function parameters of h) =
+    no_control (rule.OTHER_THING ∷ rule.VARIABLE_NEEDED ∷ [])
 
 -- a name that means this
 abbrev pub control_named : Locals → ℕ → List ℕ → Meant → Judged Named
@@ -368,14 +407,18 @@ abbrev pub counted_by : Entire → Kind → Judged Counted
 counted_by variable (kind.Ordinal h) = Accepts (record { variable = variable; host = h })
 counted_by variable _ = Breaks (rule.ORDINAL ∷ [])
 
--- One that a routine of the block threatens is none, however deep it is (ISO 10206, 6.9.3.9.1). Variables of a unit are the same from everywhere; in the block of a routine no variable of a unit counts.
+-- One that a routine of the block threatens is none, however deep it is (ISO 10206, 6.9.3.9.1). Variables of a unit
+-- are the same from everywhere; in the block of a routine no variable of a unit counts.
 abbrev pub is_threatened_in : Locals → List RoutineForm → Entire → Bool
-is_threatened_in (OfUnit unit auxiliary) routines variable = list_any (λ r. threatens (formals_at routines) variable r.block) routines
-is_threatened_in (OfRoutine routine first auxiliary) routines (tree.OfRoutine up number) = inner_threatens routine routines number
+is_threatened_in (OfUnit unit auxiliary) routines variable =
+    list_any (λ r. threatens (formals_at routines) variable r.block) routines
+is_threatened_in (OfRoutine routine first auxiliary) routines (tree.OfRoutine up number) =
+    inner_threatens routine routines number
 is_threatened_in (OfRoutine routine first auxiliary) routines variable = false
 
 abbrev pub unless_threatened_in : Locals → List RoutineForm → Counted → Judged Counted
-unless_threatened_in locals routines c = if is_threatened_in locals routines c.variable then Breaks (rule.CONTROL_THREATENED ∷ []) else Accepts c
+unless_threatened_in locals routines c =
+    if is_threatened_in locals routines c.variable then Breaks (rule.CONTROL_THREATENED ∷ []) else Accepts c
 
 abbrev pub falls_by : Direction → Bool
 falls_by direction.To = false
@@ -384,7 +427,14 @@ falls_by direction.Downto = true
 -- what a `for` with this control variable counts with
 abbrev pub for_control : Locals → Bool → Counted → Control
 for_control locals falls c =
-    record { variable = c.variable; initial = initial_variable locals; last = last_variable locals; falls = falls; low = least (typed_host c.host); high = greatest (typed_host c.host) }
+    record {
+      variable = c.variable;
+      initial = initial_variable locals;
+      last = last_variable locals;
+      falls = falls;
+      low = least (typed_host c.host);
+      high = greatest (typed_host c.host);
+    }
 
 -- a `for` statement without its body
 pub record ForHead : Type 0 where
@@ -402,7 +452,8 @@ bound_judged h value = given_to (λ x. x) (kind.Ordinal h) value.kind value.form
 -- the bounds, where they are judged so
 abbrev pub bounds_judged : Locals → Bool → Counted → Judged Typed → Judged Typed → Judged (Option ForHead)
 bounds_judged locals falls c x y =
-    both (λ initial last. Accepts (map_both (for_head locals falls c) initial last)) (when_accepted (bound_judged c.host) x) (when_accepted (bound_judged c.host) y)
+    both (λ initial last. Accepts (map_both (for_head locals falls c) initial last))
+    (when_accepted (bound_judged c.host) x) (when_accepted (bound_judged c.host) y)
 
 -- ---- `for` over the members of a set (ISO 10206, 6.9.3.9.3)
 
@@ -429,17 +480,21 @@ set_judged h value = given_to (λ x. x) (kind.Set h) value.kind value.form
 
 -- the head, where the expression is judged so
 abbrev pub members_judged : Locals → ℕ → Counted → Judged Typed → Judged (Option MemberHead)
-members_judged locals number c x = when_accepted (λ set. Accepts (option_map (member_head locals number c) set)) (when_accepted (set_judged c.host) x)
+members_judged locals number c x =
+    when_accepted (λ set. Accepts (option_map (member_head locals number c) set)) (when_accepted (set_judged c.host) x)
 
 -- ---- threats in the body of a `for` (ISO 10206, 6.9.3.9.1)
 
 -- what threatens one of these control variables is no item of the body
-abbrev pub unless_threatening : {A : Type 0} → (Entire → A → Bool) → List Entire → Judged (Option A) → Judged (Option A)
+abbrev pub unless_threatening : {A : Type 0} → (Entire → A → Bool) → List Entire → Judged (Option A)
+    → Judged (Option A)
 unless_threatening threat controls (Accepts None) = Accepts None
-unless_threatening threat controls (Accepts (Some form)) = if list_any (λ v. threat v form) controls then Breaks (rule.CONTROL_THREATENED ∷ []) else Accepts (Some form)
+unless_threatening threat controls (Accepts (Some form)) =
+    if list_any (λ v. threat v form) controls then Breaks (rule.CONTROL_THREATENED ∷ []) else Accepts (Some form)
 unless_threatening threat controls (Breaks rules) = Breaks rules
 
--- the items that are one: a statement without statements inside, an expression of a statement, or a `for` of either form without its body
+-- the items that are one: a statement without statements inside, an expression of a statement, or a `for` of either
+-- form without its body
 abbrev pub stmt_threat : List RoutineForm → Entire → Stmt → Bool
 stmt_threat routines v s = threatens (formals_at routines) v s
 
@@ -447,7 +502,9 @@ abbrev pub expr_threat : List RoutineForm → Entire → Expr → Bool
 expr_threat routines v x = expr_threatens (formals_at routines) v x
 
 abbrev pub head_threat : List RoutineForm → Entire → ForHead → Bool
-head_threat routines v h = is_variable v (tree.entire h.control.variable) || (expr_threat routines v h.initial || expr_threat routines v h.last)
+head_threat routines v h =
+    is_variable v (tree.entire h.control.variable)
+    || (expr_threat routines v h.initial || expr_threat routines v h.last)
 
 abbrev pub member_threat : List RoutineForm → Entire → MemberHead → Bool
 member_threat routines v h = is_variable v (tree.entire h.control.variable) || expr_threat routines v h.set
@@ -465,7 +522,10 @@ abbrev pub halt_judged : ℕ → List Argument → Judged (Option Stmt)
 halt_judged line [] = Accepts (Some (tree.Halt line))
 halt_judged line (first ∷ more) = Breaks (rule.ARGUMENTS ∷ [])
 
--- What a block knows: its unit, its scopes, the innermost first, whether `output` is a parameter or imported, the functions in whose blocks it is and whose results have no names, the innermost first, its own variables, the number of the auxiliary variable of `for` over members among these, the routines of the unit, and the number of the variable of the next `with`.
+-- What a block knows: its unit, its scopes, the innermost first, whether `output` is a parameter or imported, the
+-- functions in whose blocks it is and whose results have no names, the innermost first, its own variables, the number
+-- of the auxiliary variable of `for` over members among these, the routines of the unit, and the number of the
+-- variable of the next `with`.
 pub record Context : Type 0 where
   pub unit : List ℕ
   pub scopes : List Region
@@ -478,7 +538,8 @@ pub record Context : Type 0 where
 
 -- ---- statements in statements
 
--- What a row comes to in a block, inside of the `for` statements that have these control variables, the innermost first.
+-- What a row comes to in a block, inside of the `for` statements that have these control variables, the innermost
+-- first.
 abbrev pub Under : Type 0 → Type 0
 Under A = Context → List Entire → Judgement A
 
@@ -491,7 +552,8 @@ behind withs c (Fails line rules) = c
 -- statements in order
 abbrev pub in_order : List (Under Stmt) → Under Stmts
 in_order [] c controls = Passes tree.none
-in_order (s ∷ ss) c controls = after tree.next (s c controls) (in_order ss (behind with_variables c (s c controls)) controls)
+in_order (s ∷ ss) c controls =
+    after tree.next (s c controls) (in_order ss (behind with_variables c (s c controls)) controls)
 
 -- an arm of a `case`: its labels, which belong to the statement itself, and its statement
 abbrev pub ArmJudged : Type 0
@@ -499,13 +561,15 @@ ArmJudged = List Label × Under Stmt
 
 -- an arm of a `case` on a line, whose selector has a host
 abbrev pub arm_row : ℕ → Host → ArmJudged → Under Arm
-arm_row line h a c controls = after (λ ranges s. (ranges, s)) (at_item line (own_ranges c.scopes h a.0)) (a.1 c controls)
+arm_row line h a c controls =
+    after (λ ranges s. (ranges, s)) (at_item line (own_ranges c.scopes h a.0)) (a.1 c controls)
 
 -- the arms of a `case` in order
 abbrev pub arms_in_order : ℕ → Host → List ArmJudged → Under Arms
 arms_in_order line h [] c controls = Passes tree.no_arm
 arms_in_order line h (a ∷ arms) c controls =
-    after (λ x more. tree.next_arm x.0 x.1 more) (arm_row line h a c controls) (arms_in_order line h arms (behind (λ (x : Arm). with_variables x.1) c (arm_row line h a c controls)) controls)
+    after (λ x more. tree.next_arm x.0 x.1 more) (arm_row line h a c controls)
+    (arms_in_order line h arms (behind (λ (x : Arm). with_variables x.1) c (arm_row line h a c controls)) controls)
 
 -- the `else` part of an `if` behind its `then` part; a missing one is the empty statement
 abbrev pub else_judged : Option (Under Stmt) → Context → List Entire → Judgement Stmt → Judgement Stmt
@@ -528,7 +592,8 @@ call_arguments [] = Some []
 call_arguments (s ∷ []) = arguments_in (out-Selector s)
 call_arguments _ = None
 
--- A component is no statement (ISO 10206, 6.9.2.3): the rules that fail where one stands behind what is declared, where one of a required identifier, and where one of a name that means this.
+-- A component is no statement (ISO 10206, 6.9.2.3): the rules that fail where one stands behind what is declared,
+-- where one of a required identifier, and where one of a name that means this.
 abbrev pub declared_rules : Declaration → List ℕ
 declared_rules (declaration.Procedure parameters) = rule.PROCEDURE ∷ rule.OTHER_THING ∷ []
 declared_rules (declaration.Function parameters of h) = rule.PROCEDURE ∷ []
@@ -561,7 +626,9 @@ module _ (context : Context) where
 
   -- what is written where no file is given
   abbrev pub usually_written : ℕ → Bool → List Argument → Judged (Option Stmt)
-  usually_written line ends_line arguments = both (λ form there. Accepts form) (written file.Output line ends_line (map (given context.scopes) arguments)) (available context.output)
+  usually_written line ends_line arguments =
+      both (λ form there. Accepts form) (written file.Output line ends_line (map (given context.scopes) arguments))
+      (available context.output)
 
   abbrev pub written_or : Option StandardFile → ℕ → Bool → Argument → List Argument → Judged (Option Stmt)
   written_or (Some f) line ends_line first more = written f line ends_line (map (given context.scopes) more)
@@ -589,7 +656,11 @@ module _ (context : Context) where
   -- a procedure of a unit is called (ISO 10206, 6.9.2.3)
   abbrev pub own_called : ℕ → Declared → List FormalParameter → List Argument → Judged (Option Stmt)
   own_called line d parameters arguments =
-      when_accepted (λ t. Accepts (option_map (λ xs. tree.Procedure line (callee_at (depth_in context.scopes) d) (tree.actuals xs)) t.actuals)) (arguments_judged parameters (map (given context.scopes) arguments))
+      when_accepted
+      (λ t. Accepts
+      (option_map (λ xs. tree.Procedure line (callee_at (depth_in context.scopes) d)
+      (tree.actuals xs)) t.actuals))
+      (arguments_judged parameters (map (given context.scopes) arguments))
 
   -- nothing else that is declared is a statement; a function is none whatever its arguments
   abbrev pub declared_called : ℕ → Declared → Declaration → List Argument → Judged (Option Stmt)
@@ -612,10 +683,14 @@ module _ (context : Context) where
   name_called line name None = Breaks (component_rules name (meant context.scopes name))
   name_called line name (Some arguments) = call_judged line name (meant context.scopes name) arguments
 
-  -- what is assigned to: a name, which may be that of a function, or the variable that an access with these selectors denotes
+  -- what is assigned to: a name, which may be that of a function, or the variable that an access with these selectors
+  -- denotes
   abbrev pub target_of_selectors : syntax_access.Access → List Selector → Judged Target
-  target_of_selectors a [] = place_named (depth_in context.scopes) context.unit context.results (out-Access a).name (meant context.scopes (out-Access a).name)
-  target_of_selectors a (s ∷ more) = when_accepted (λ t. variable_target t.access t.form t.kind) (name_judged context.scopes a)
+  target_of_selectors a [] =
+      place_named (depth_in context.scopes) context.unit context.results (out-Access a).name
+      (meant context.scopes (out-Access a).name)
+  target_of_selectors a (s ∷ more) =
+      when_accepted (λ t. variable_target t.access t.form t.kind) (name_judged context.scopes a)
 
   abbrev pub target_judged : syntax_access.Access → Judged Target
   target_judged a = target_of_selectors a (out-Access a).selectors
@@ -639,23 +714,35 @@ module _ (context : Context) where
   -- a name as the control variable of a `for`
   abbrev pub control_judged : List ℕ → Judged Counted
   control_judged name =
-      when_accepted (unless_threatened_in context.locals context.routines) (when_accepted (λ v. counted_by v.variable v.kind) (control_named context.locals (depth_in context.scopes) name (meant context.scopes name)))
+      when_accepted (unless_threatened_in context.locals context.routines)
+      (when_accepted (λ v. counted_by v.variable v.kind)
+      (control_named context.locals (depth_in context.scopes) name (meant context.scopes name)))
 
 -- a `for` statement, by its control variable
-abbrev pub for_judged : Context → List Entire → ℕ → Judged Counted → Bool → Expression → Expression → Under Stmt → Judgement Stmt
+abbrev pub for_judged : Context → List Entire → ℕ → Judged Counted → Bool → Expression → Expression → Under Stmt
+    → Judgement Stmt
 for_judged context controls line (Breaks rules) falls start end body = Fails line rules
 for_judged context controls line (Accepts c) falls start end body =
-    for_row line (at_item line (unless_threatening (head_threat context.routines) controls (bounds_judged context.locals falls c (judged context.scopes start) (judged context.scopes end)))) (body context (c.variable ∷ controls))
+    for_row line
+    (at_item line
+    (unless_threatening (head_threat context.routines) controls (bounds_judged context.locals falls c
+    (judged context.scopes start) (judged context.scopes end))))
+    (body context (c.variable ∷ controls))
 
 -- a `for` statement over members, by its control variable
 abbrev pub for_in_judged : Context → List Entire → ℕ → Judged Counted → Expression → Under Stmt → Judgement Stmt
 for_in_judged context controls line (Breaks rules) set body = Fails line rules
 for_in_judged context controls line (Accepts c) set body =
-    for_in_row line (at_item line (unless_threatening (member_threat context.routines) controls (members_judged context.locals context.members c (judged context.scopes set)))) (body context (c.variable ∷ controls))
+    for_in_row line
+    (at_item line
+    (unless_threatening (member_threat context.routines) controls (members_judged context.locals
+    context.members c (judged context.scopes set))))
+    (body context (c.variable ∷ controls))
 
 -- ---- `with` (ISO 10206, 6.9.3.10)
 
--- A record variable that a `with` names: the number of its type, whether it is protected, its fields, and its place, where it is built.
+-- A record variable that a `with` names: the number of its type, whether it is protected, its fields, and its place,
+-- where it is built.
 pub record RecordNamed : Type 0 where
   pub of : ℕ
   pub guarded : Protection
@@ -664,7 +751,8 @@ pub record RecordNamed : Type 0 where
 
 -- what is named is a variable of a record type, by the structured types in view
 abbrev pub record_made : ℕ → Protection → Option Expr → Option Composition → Judged RecordNamed
-record_made n guarded form (Some (composition.Record fs)) = Accepts (record { of = n; guarded = guarded; fields = fs; place = place_read form })
+record_made n guarded form (Some (composition.Record fs)) =
+    Accepts (record { of = n; guarded = guarded; fields = fs; place = place_read form })
 record_made n guarded form _ = Breaks (rule.WITH_RECORD ∷ [])
 
 abbrev pub record_of_kind : List Region → Protection → Option Expr → Kind → Judged RecordNamed
@@ -685,7 +773,8 @@ pub record WithHead : Type 0 where
 abbrev pub with_head : Entire → ℕ → Option Place → Option WithHead
 with_head v of place = option_map (λ p. record { variable = v; of = of; place = p }) place
 
--- the scopes in the statement of a `with`, the number of the variable of the next one, and the records, where they are built
+-- the scopes in the statement of a `with`, the number of the variable of the next one, and the records, where they are
+-- built
 pub record Opened : Type 0 where
   pub scopes : List Region
   pub withs : ℕ
@@ -698,14 +787,18 @@ none_opened c = record { scopes = c.scopes; withs = c.withs; heads = Some [] }
 abbrev pub one_opened : Locals → Opened → RecordNamed → Opened
 one_opened locals o r =
     record {
-      scopes = within (record { variable = block_variable locals o.withs; guarded = r.guarded; fields = r.fields }) o.scopes;
+      scopes =
+          within (record { variable = block_variable locals o.withs; guarded = r.guarded; fields = r.fields })
+          o.scopes;
       withs = o.withs + 1;
       heads = one_after o.heads (with_head (block_variable locals o.withs) r.of r.place);
     }
 
 -- a record that is named where others are open
 abbrev pub record_opened : Context → syntax_access.Access → Opened → Judged Opened
-record_opened c a o = when_accepted (λ r. Accepts (one_opened c.locals o r)) (when_accepted (λ t. record_accessed c.scopes t.access t.form t.kind) (name_judged o.scopes a))
+record_opened c a o =
+    when_accepted (λ r. Accepts (one_opened c.locals o r))
+    (when_accepted (λ t. record_accessed c.scopes t.access t.form t.kind) (name_judged o.scopes a))
 
 -- what stands in a list sees the fields of what stands before it: `with a, b do s` is `with a do with b do s`
 abbrev pub records_opened : Context → List syntax_access.Access → Opened → Judged Opened
@@ -732,23 +825,35 @@ inside c o = record c { scopes = o.scopes; withs = o.withs }
 abbrev pub with_judged : Context → List Entire → ℕ → Judged Opened → Under Stmt → Judgement Stmt
 with_judged c controls line (Breaks rules) body = Fails line rules
 with_judged c controls line (Accepts o) body =
-    after (with_form line) (at_item line (unless_threatening (heads_threat c.routines) controls (Accepts o.heads))) (body (inside c o) controls)
+    after (with_form line) (at_item line (unless_threatening (heads_threat c.routines) controls (Accepts o.heads)))
+    (body (inside c o) controls)
 
 -- ---- all statements
 
 abbrev pub at_statement : Statement-F (Under Stmt) ArmJudged (Under Stmts) (Under Stmts) → Under Stmt
 at_statement (Statement-F.Empty line) c controls = Passes tree.Empty
-at_statement (Statement-F.Assignment line access v) c controls = stmt_item c controls line (both (assigned c.locals line) (target_judged c access) (value_judged c access v))
-at_statement (Statement-F.Call line access) c controls = stmt_item c controls line (name_called c line (out-Access access).name (call_arguments (out-Access access).selectors))
+at_statement (Statement-F.Assignment line access v) c controls =
+    stmt_item c controls line (both (assigned c.locals line) (target_judged c access) (value_judged c access v))
+at_statement (Statement-F.Call line access) c controls =
+    stmt_item c controls line
+    (name_called c line (out-Access access).name (call_arguments (out-Access access).selectors))
 at_statement (Statement-F.Compound statements) c controls = formed tree.Compound (statements c controls)
-at_statement (Statement-F.If line e then_part other) c controls = if_judged line (condition_judged c controls line e) (then_part c controls) (else_judged other c controls (then_part c controls))
-at_statement (Statement-F.While line e body) c controls = after (tree.While line) (condition_judged c controls line e) (body c controls)
+at_statement (Statement-F.If line e then_part other) c controls =
+    if_judged line (condition_judged c controls line e) (then_part c controls)
+    (else_judged other c controls (then_part c controls))
+at_statement (Statement-F.While line e body) c controls =
+    after (tree.While line) (condition_judged c controls line e) (body c controls)
 at_statement (Statement-F.Case line e arms other) c controls =
-    case_judged line (λ x. expr_item c controls (Accepts x)) (selector_judged c.scopes e (map (λ a. a.0) arms)) (λ h. arms_in_order line h arms c controls) (other_judged other c controls)
-at_statement (Statement-F.Repeat line statements e) c controls = repeat_judged line (condition_judged c controls line e) (in_order statements c controls)
-at_statement (Statement-F.For line variable start toward end body) c controls = for_judged c controls line (control_judged c variable) (falls_by toward) start end body
-at_statement (Statement-F.ForIn line variable set body) c controls = for_in_judged c controls line (control_judged c variable) set body
-at_statement (Statement-F.With line accesses body) c controls = with_judged c controls line (records_opened c accesses (none_opened c)) body
+    case_judged line (λ x. expr_item c controls (Accepts x)) (selector_judged c.scopes e (map (λ a. a.0) arms))
+    (λ h. arms_in_order line h arms c controls) (other_judged other c controls)
+at_statement (Statement-F.Repeat line statements e) c controls =
+    repeat_judged line (condition_judged c controls line e) (in_order statements c controls)
+at_statement (Statement-F.For line variable start toward end body) c controls =
+    for_judged c controls line (control_judged c variable) (falls_by toward) start end body
+at_statement (Statement-F.ForIn line variable set body) c controls =
+    for_in_judged c controls line (control_judged c variable) set body
+at_statement (Statement-F.With line accesses body) c controls =
+    with_judged c controls line (records_opened c accesses (none_opened c)) body
 
 abbrev pub at_compound : Compound-F (Under Stmt) ArmJudged (Under Stmts) (Under Stmts) → Under Stmts
 at_compound k = in_order k.statements
@@ -760,16 +865,19 @@ abbrev pub at_otherwise : Otherwise-F (Under Stmt) ArmJudged (Under Stmts) (Unde
 at_otherwise o = in_order o.statements
 
 abbrev pub statement_judged : Statement → Under Stmt
-statement_judged = fold-Statement (Under Stmt) ArmJudged (Under Stmts) (Under Stmts) at_statement at_arm at_compound at_otherwise
+statement_judged =
+    fold-Statement (Under Stmt) ArmJudged (Under Stmts) (Under Stmts) at_statement at_arm at_compound at_otherwise
 
 abbrev pub arm_judged : syntax.Arm → ArmJudged
 arm_judged = fold-Arm (Under Stmt) ArmJudged (Under Stmts) (Under Stmts) at_statement at_arm at_compound at_otherwise
 
 abbrev pub otherwise_judged : Otherwise → Under Stmts
-otherwise_judged = fold-Otherwise (Under Stmt) ArmJudged (Under Stmts) (Under Stmts) at_statement at_arm at_compound at_otherwise
+otherwise_judged =
+    fold-Otherwise (Under Stmt) ArmJudged (Under Stmts) (Under Stmts) at_statement at_arm at_compound at_otherwise
 
 abbrev pub compound_under : Compound → Under Stmts
-compound_under = fold-Compound (Under Stmt) ArmJudged (Under Stmts) (Under Stmts) at_statement at_arm at_compound at_otherwise
+compound_under =
+    fold-Compound (Under Stmt) ArmJudged (Under Stmts) (Under Stmts) at_statement at_arm at_compound at_otherwise
 
 -- the statements of a block, which stand in no `for`
 abbrev pub compound_judged : Context → Compound → Judgement Stmts

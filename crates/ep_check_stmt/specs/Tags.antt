@@ -1,7 +1,11 @@
--- Whether the statements of a block assign to a tag (ISO 10206, 6.5.3.3), and so need the first auxiliary variable of `for` statements.
+-- Whether the statements of a block assign to a tag (ISO 10206, 6.5.3.3), and so need the first auxiliary variable of
+-- `for` statements.
 --
--- It is told before they are judged: by what their names mean and by the types of what these name, whatever stands in an index. So it does not depend on the numbers of the variables that stand for records of `with` statements, which it settles.
-use Rattle.std.specs.Prelude.{ℕ, Bool, false, ◌||◌, List, [], ◌∷◌, slice_get, Option, Some, None, is_some, if◌then◌else◌}
+-- It is told before they are judged: by what their names mean and by the types of what these name, whatever stands in
+-- an index. So it does not depend on the numbers of the variables that stand for records of `with` statements, which
+-- it settles.
+use Rattle.std.specs.Prelude.{ℕ, Bool, false, ◌||◌, List, [], ◌∷◌, slice_get, Option, Some, None, is_some}
+use Rattle.std.specs.Prelude.{if◌then◌else◌}
 use Rattle.std.specs.List.{list_any}
 use Rattle.std.specs.Option.{option_map, option_map_or}
 use Rattle.ep_tree.specs.Shapes.{when_some}
@@ -15,7 +19,8 @@ use Rattle.ep_tree.specs.declared.statement.Compound.{Compound, fold-Compound}
 use Rattle.ep_tree.specs.declared.statement.Otherwise.{Otherwise, fold-Otherwise}
 use Rattle.ep_typed.specs.Trees.{OfRoutine}
 use Rattle.ep_scope.specs.Fields.{field_number}
-use Rattle.ep_scope.specs.Scopes.{Region, Meant, Declares, Standard, Requires, FieldOf, Nothing, meant, meant_in, structure_in, within}
+use Rattle.ep_scope.specs.Scopes.{Region, Meant, Declares, Standard, Requires, FieldOf, Nothing, meant, meant_in}
+use Rattle.ep_scope.specs.Scopes.{structure_in, within}
 use Rattle.ep_scope.specs.declared.kind.Kind.{Kind}
 use Rattle.ep_scope.specs.declared.kind.Kind.TheVariants as kind
 use Rattle.ep_scope.specs.declared.parameter.Protection.TheVariants as protection
@@ -89,7 +94,8 @@ module _ (scopes : List Region) where
   abbrev pub designated : List ℕ → Option Reached → Option Reached
   designated name r = when_some r (λ x. field_reached name (composition_of scopes x.kind))
 
-  abbrev pub selected_by : {A B C D E F G H I J K L M N : Type 0} → Selector-F A B C D E F G H I J K L M N → Option Reached → Option Reached
+  abbrev pub selected_by : {A B C D E F G H I J K L M N : Type 0} → Selector-F A B C D E F G H I J K L M N
+      → Option Reached → Option Reached
   selected_by (Selector-F.Field line name) r = designated name r
   selected_by (Selector-F.Index line indexes) r = indexed indexes r
   selected_by (Selector-F.Dereference line) r = None
@@ -102,12 +108,14 @@ module _ (scopes : List Region) where
 
   -- `i.a`, a name that an interface has (ISO 10206, 6.11.3), or else a field
   abbrev pub constituent_or_field : List ℕ → List ℕ → Meant → Option Reached
-  constituent_or_field first second within = if is_nothing within then designated second (name_reached (meant scopes first)) else name_reached within
+  constituent_or_field first second within =
+      if is_nothing within then designated second (name_reached (meant scopes first)) else name_reached within
 
   -- a name with these selectors, by what the first of them says where that is a field
   abbrev pub begun : List ℕ → List Selector → Option (List ℕ × List Selector) → Option Reached
   begun name selectors None = selected_all selectors (name_reached (meant scopes name))
-  begun name selectors (Some (field, more)) = selected_all more (constituent_or_field name field (meant_in scopes name field))
+  begun name selectors (Some (field, more)) =
+      selected_all more (constituent_or_field name field (meant_in scopes name field))
 
   abbrev pub access_reached : Access → Option Reached
   access_reached a = begun (out-Access a).name (out-Access a).selectors (field_first (out-Access a).selectors)
@@ -121,11 +129,13 @@ module _ (scopes : List Region) where
 abbrev pub one_within : Option Composition → List Region → List Region
 one_within None scopes = scopes
 one_within (Some (composition.Array a)) scopes = scopes
-one_within (Some (composition.Record fs)) scopes = within (record { variable = OfRoutine 0 0; guarded = protection.Unprotected; fields = fs }) scopes
+one_within (Some (composition.Record fs)) scopes =
+    within (record { variable = OfRoutine 0 0; guarded = protection.Unprotected; fields = fs }) scopes
 
 -- one that is named where others are open inside of the scopes
 abbrev pub record_within : List Region → Access → List Region → List Region
-record_within scopes a inner = one_within (when_some (access_reached inner a) (λ r. composition_of scopes r.kind)) inner
+record_within scopes a inner =
+    one_within (when_some (access_reached inner a) (λ r. composition_of scopes r.kind)) inner
 
 abbrev pub records_within : List Region → List Access → List Region → List Region
 records_within scopes [] inner = inner

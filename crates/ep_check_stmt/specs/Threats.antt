@@ -1,5 +1,7 @@
--- Whether statements threaten a variable (ISO 10206, 6.9.4), and whether they assign to the name of a function (6.7.2).
-use Rattle.std.specs.Prelude.{ℕ, suc, nat_eq, position, Bool, true, false, ◌==◌, ◌||◌, ◌&&◌, List, [], ◌∷◌, Option, Some, None}
+-- Whether statements threaten a variable (ISO 10206, 6.9.4), and whether they assign to the name of a function
+-- (6.7.2).
+use Rattle.std.specs.Prelude.{ℕ, suc, nat_eq, position, Bool, true, false, ◌==◌, ◌||◌, ◌&&◌, List, [], ◌∷◌, Option}
+use Rattle.std.specs.Prelude.{Some, None}
 use Rattle.std.specs.List.{list_any}
 use Rattle.std.specs.Str.{bytes_eq}
 use Rattle.ep_tree.specs.declared.expression.Access.{Access, out-Access}
@@ -8,7 +10,14 @@ use Rattle.ep_tree.specs.declared.statement.Statement.TheOpen.{Statement-F, Arm-
 use Rattle.ep_tree.specs.declared.statement.Statement.{Statement, fold-Statement}
 use Rattle.ep_tree.specs.declared.statement.Arm.{Arm, fold-Arm}
 use Rattle.ep_tree.specs.declared.statement.Compound.{Compound, fold-Compound}
-use Rattle.ep_typed.specs.Trees.{Structured, Element, AtIndex, AtField, SameField, AtRanges, AtIndexes, Elements, no_element, next_element, Entire, OfUnit, OfRoutine, entire, Place, Variable, Own, Standard, Indexed, Field, Variant, Expr, Constant, Text, Read, One, Two, Short, Step, Function, IndexedValue, FieldValue, VariantValue, Actual, Evaluated, Accessed, Actuals, no_actual, next_actual, Item, Plain, Wide, Stmt, Stmts, Empty, Assign, AssignTag, If, While, Repeat, For, ForIn, With, Procedure, Case, Halt, Write, none, next, Arms, no_arm, next_arm, Other, no_other, otherwise_do, SetOf, OnSets, Card, Designator, Single, Range, Designators, no_member, next_member, SetConstant}
+use Rattle.ep_typed.specs.Trees.{Structured, Element, AtIndex, AtField, SameField, AtRanges, AtIndexes, Elements}
+use Rattle.ep_typed.specs.Trees.{no_element, next_element, Entire, OfUnit, OfRoutine, entire, Place, Variable, Own}
+use Rattle.ep_typed.specs.Trees.{Standard, Indexed, Field, Variant, Expr, Constant, Text, Read, One, Two, Short, Step}
+use Rattle.ep_typed.specs.Trees.{Function, IndexedValue, FieldValue, VariantValue, Actual, Evaluated, Accessed}
+use Rattle.ep_typed.specs.Trees.{Actuals, no_actual, next_actual, Item, Plain, Wide, Stmt, Stmts, Empty, Assign}
+use Rattle.ep_typed.specs.Trees.{AssignTag, If, While, Repeat, For, ForIn, With, Procedure, Case, Halt, Write, none}
+use Rattle.ep_typed.specs.Trees.{next, Arms, no_arm, next_arm, Other, no_other, otherwise_do, SetOf, OnSets, Card}
+use Rattle.ep_typed.specs.Trees.{Designator, Single, Range, Designators, no_member, next_member, SetConstant}
 use Rattle.ep_typed.specs.Trees as tree
 use Rattle.ep_typed.specs.declared.interface.Formal.{Formal}
 use Rattle.ep_typed.specs.declared.interface.FormalMode.{FormalMode}
@@ -85,7 +94,8 @@ module _ (formals_of : List ℕ → ℕ → List Formal) (variable : Entire) whe
     place_threatens (Field whole number) = place_threatens whole
     place_threatens (Variant whole selection number) = place_threatens whole
 
-    -- whether what is given for a parameter of this mode threatens the variable: it is the variable itself or a component of it, a place with an index that threatens it, or an expression that does
+    -- whether what is given for a parameter of this mode threatens the variable: it is the variable itself or a
+    -- component of it, a place with an index that threatens it, or an expression that does
     pub actual_threatens : FormalMode → Actual → Bool
     actual_threatens m (Evaluated x) = expr_threatens x
     actual_threatens m (Accessed place) = mode_threatens m && is_variable variable place || place_threatens place
@@ -109,23 +119,32 @@ module _ (formals_of : List ℕ → ℕ → List Formal) (variable : Entire) whe
 -- by the formal parameters of each routine
 module _ (formals_of : List ℕ → ℕ → List Formal) where
   abbrev mutual
-    -- whether a statement, or one inside of it, assigns to an entire variable or a component of it, or gives it for a variable parameter that is not protected
+    -- whether a statement, or one inside of it, assigns to an entire variable or a component of it, or gives it for a
+    -- variable parameter that is not protected
     pub threatens : Entire → Stmt → Bool
     threatens v Empty = false
     threatens v (tree.Compound ss) = stmts_threaten v ss
-    threatens v (Assign line place x) = is_variable v place || (place_threatens formals_of v place || expr_threatens formals_of v x)
+    threatens v (Assign line place x) =
+        is_variable v place || (place_threatens formals_of v place || expr_threatens formals_of v x)
     -- a tag is a component of its record
-    threatens v (AssignTag line c place s x) = is_variable v place || (place_threatens formals_of v place || expr_threatens formals_of v x)
+    threatens v (AssignTag line c place s x) =
+        is_variable v place || (place_threatens formals_of v place || expr_threatens formals_of v x)
     threatens v (If line x a b) = expr_threatens formals_of v x || (threatens v a || threatens v b)
     threatens v (While line x s) = expr_threatens formals_of v x || threatens v s
     threatens v (Repeat line ss x) = stmts_threaten v ss || expr_threatens formals_of v x
     -- the control variable of a `for` is threatened by it
-    threatens v (For line c x y s) = is_variable v (entire c.variable) || (expr_threatens formals_of v x || (expr_threatens formals_of v y || threatens v s))
-    threatens v (ForIn line c x s) = is_variable v (entire c.variable) || (expr_threatens formals_of v x || threatens v s)
+    threatens v (For line c x y s) =
+        is_variable v (entire c.variable)
+        || (expr_threatens formals_of v x || (expr_threatens formals_of v y || threatens v s))
+    threatens v (ForIn line c x s) =
+        is_variable v (entire c.variable) || (expr_threatens formals_of v x || threatens v s)
     -- what threatens the variable that stands for a place threatens that of which the place is a component
-    threatens v (With line stands of place s) = place_threatens formals_of v place || (threatens v s || is_variable v place && threatens stands s)
-    threatens v (Procedure line callee given) = actuals_threaten formals_of v (formals_of callee.unit callee.number) given
-    threatens v (Case line x arms other) = expr_threatens formals_of v x || (arms_threaten v arms || other_threatens v other)
+    threatens v (With line stands of place s) =
+        place_threatens formals_of v place || (threatens v s || is_variable v place && threatens stands s)
+    threatens v (Procedure line callee given) =
+        actuals_threaten formals_of v (formals_of callee.unit callee.number) given
+    threatens v (Case line x arms other) =
+        expr_threatens formals_of v x || (arms_threaten v arms || other_threatens v other)
     threatens v (Halt line) = false
     threatens v (Write line items ends_line) = items_threaten formals_of v items
 
@@ -153,7 +172,8 @@ threatens_from routines number s (Some between) = threatens (formals_at routines
 
 -- whether a routine in the one of this number does
 abbrev pub inner_threatens : ℕ → List RoutineForm → ℕ → Bool
-inner_threatens routine routines number = list_any (λ r. threatens_from routines number r.block (position (nat_eq routine) r.around)) routines
+inner_threatens routine routines number =
+    list_any (λ r. threatens_from routines number r.block (position (nat_eq routine) r.around)) routines
 
 -- ---- assignments to a name, by the text (ISO 10206, 6.9.2.2)
 
@@ -211,6 +231,7 @@ module _ (name : List ℕ) where
   abbrev pub arm_assigns : Arm → Bool
   arm_assigns = fold-Arm Bool Bool Bool Bool in_statement in_arm in_compound in_otherwise
 
-  -- whether a statement part has an assignment to the name, also where a field of an open record hides what the name means around (ISO 10206, 6.7.2)
+  -- whether a statement part has an assignment to the name, also where a field of an open record hides what the name
+  -- means around (ISO 10206, 6.7.2)
   abbrev pub assigns : Compound → Bool
   assigns = fold-Compound Bool Bool Bool Bool in_statement in_arm in_compound in_otherwise

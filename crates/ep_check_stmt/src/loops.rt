@@ -129,7 +129,8 @@ fn declared_control<'a>(
 
 /// A control variable with the kind of its type, which is ordinal.
 fn counted_by<'a>(named: (Entire<'a>, Kind)) -> Result<Counted<'a>, Refusal>
-    ensures { AnswersForm counted_of result (spec.counted_by (named_of named.entry).variable (named_of named.entry).kind) }
+    ensures { AnswersForm counted_of result
+        (spec.counted_by (named_of named.entry).variable (named_of named.entry).kind) }
 {
     let (variable, kind) = named;
     match kind {

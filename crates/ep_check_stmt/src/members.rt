@@ -44,7 +44,8 @@ impl Drop for MemberHead {
 impl MemberHead {
     /// The statement with this body.
     fn into_statement(self, line: Line, body: Boxed<TypedStmt>) -> TypedStmt
-        ensures { stmt_of result ≡ tree.ForIn line (member_head_of self).control (member_head_of self).set (stmt_of body) }
+        ensures { stmt_of result
+            ≡ tree.ForIn line (member_head_of self).control (member_head_of self).set (stmt_of body) }
     {
         let MemberHead { control, set } = self;
         TypedStmt::ForIn(line, control, set, body)
@@ -102,7 +103,8 @@ pub(crate) fn for_in_form(
 
 /// Whether the head of a `for` over members threatens a control variable.
 fn member_threatens(head: &MemberHead, routines: &[UnitRoutine], control: Entire<'_>) -> bool
-    ensures { result ≡ member_threat (map routine_form routines.now) (entire_of control.entry) (member_head_of head.now) }
+    ensures { result ≡ member_threat (map routine_form routines.now) (entire_of control.entry)
+        (member_head_of head.now) }
 {
     is_same(control, &head.control.variable) || expr_threatens(head.set.get(), routines, control)
 }

@@ -23,7 +23,10 @@ use crate::threats::{Entire, place_threatens};
 use ep_base::{Boxed, Line, List, NoMemory};
 use ep_check_expr::typed_access;
 use ep_rules::{Access, Refusal, Typed};
-use ep_scope::{Composition, FieldType, Inner, Kind, OpenRecord, Protection, RecordVariable, View, rule, structure_of};
+use ep_scope::{
+    Composition, FieldType, Inner, Kind, OpenRecord, Protection, RecordVariable, View, rule,
+    structure_of,
+};
 use ep_typed::{EntireVariable, TypedPlace, TypedStmt, UnitRoutine};
 use std::alloc::{AllocError, Global};
 
@@ -278,7 +281,8 @@ pub(crate) fn with_form(
 
 /// Whether a place of these records threatens a control variable.
 fn places_threaten(heads: &[WithHead], routines: &[UnitRoutine], control: Entire<'_>) -> bool
-    ensures { result ≡ heads_threat (map routine_form routines.now) (entire_of control.entry) (map with_head_of heads.now) }
+    ensures { result ≡ heads_threat (map routine_form routines.now) (entire_of control.entry)
+        (map with_head_of heads.now) }
 {
     for head in heads {
         if place_threatens(&head.place, routines, control) {
@@ -330,7 +334,8 @@ impl<'a> Context<'a> {
         access: &ep_tree::Access,
     ) -> Result<Opened<'a>, Refusal>
         requires { access_unbuilt access.now ≡ None }
-        ensures { AnswersForm opened_of result (record_opened (context_of self.now) access.now (opened_of opened.entry)) }
+        ensures { AnswersForm opened_of result
+            (record_opened (context_of self.now) access.now (opened_of opened.entry)) }
     {
         let named = self.record(&opened.inner, access)?;
         Ok(opened.one_more(self.alloc, self.locals, named)?)

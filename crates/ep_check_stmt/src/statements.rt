@@ -29,8 +29,14 @@ use crate::threats::Entire;
 use ep_base::{Boxed, Line, List, Name};
 use ep_check_expr::{asked_by, typed_arguments, typed_expression, typed_value};
 use ep_rules::{Refusal, Typed, callee_at, given_value, undeclared};
-use ep_scope::{Declaration, Declared, FormalParameter, Host, Kind, Meaning, Procedure, Required, View, depth_in, meaning_of, rule};
-use ep_tree::{Access, Argument, Arm, ComponentValue, Compound, Direction, Expression, Otherwise, Selector, Statement};
+use ep_scope::{
+    Declaration, Declared, FormalParameter, Host, Kind, Meaning, Procedure, Required, View,
+    depth_in, meaning_of, rule,
+};
+use ep_tree::{
+    Access, Argument, Arm, ComponentValue, Compound, Direction, Expression, Otherwise, Selector,
+    Statement,
+};
 use ep_typed::{CaseArm, CaseArms, TypedExpr, TypedStmt, TypedStmts, UnitRoutine};
 use std::alloc::Global;
 

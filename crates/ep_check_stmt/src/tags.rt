@@ -15,7 +15,10 @@ ghost use Rattle.ep_check_stmt.specs.Tags as spec;
 use crate::statements::Locals;
 use crate::targets::Receiver;
 use ep_base::{Boxed, Line, Name, NoMemory};
-use ep_scope::{Composition, Declaration, FieldType, Inner, Kind, Meaning, OpenRecord, Protection, RecordVariable, View, copied_selection, field_number, meaning_in, meaning_of, structure_of};
+use ep_scope::{
+    Composition, Declaration, FieldType, Inner, Kind, Meaning, OpenRecord, Protection,
+    RecordVariable, View, copied_selection, field_number, meaning_in, meaning_of, structure_of,
+};
 use ep_tree::{Access, Arm, Compound, Expression, Selector, Statement};
 use ep_typed::{EntireVariable, TagControl, TypedExpr, TypedStmt};
 use std::alloc::Global;

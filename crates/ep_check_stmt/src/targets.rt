@@ -17,8 +17,12 @@ ghost use Rattle.ep_check_stmt.specs.Statements.{declared_target, field_target, 
 use crate::statements::{Context, FunctionResult};
 use ep_base::Name;
 use ep_check_expr::typed_access;
-use ep_rules::{Access, Refusal, Typed, field_place, own_place, tagged_place, undeclared, unless_protected};
-use ep_scope::{Declaration, Declared, Kind, Meaning, OpenField, Required, TagType, depth_in, meaning_of, rule};
+use ep_rules::{
+    Access, Refusal, Typed, field_place, own_place, tagged_place, undeclared, unless_protected,
+};
+use ep_scope::{
+    Declaration, Declared, Kind, Meaning, OpenField, Required, TagType, depth_in, meaning_of, rule,
+};
 use ep_typed::TypedPlace;
 use std::alloc::Global;
 

@@ -13,7 +13,10 @@ ghost use Rattle.ep_check_stmt.specs.Threats.{any_true, arm_assigns, statement_a
 
 use ep_base::{Name, NoMemory};
 use ep_tree::{Access, Arm, Compound, Statement};
-use ep_typed::{Actual, CaseArm, Element, EntireVariable, Formal, FormalMode, MemberDesignator, TypedExpr, TypedPlace, TypedStmt, UnitRoutine, WriteItem};
+use ep_typed::{
+    Actual, CaseArm, Element, EntireVariable, Formal, FormalMode, MemberDesignator, TypedExpr,
+    TypedPlace, TypedStmt, UnitRoutine, WriteItem,
+};
 use std::alloc::{AllocError, Global};
 
 /// An entire variable (ISO 10206, 6.5.2) whose name is borrowed, of which threats are asked.

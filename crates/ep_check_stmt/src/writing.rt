@@ -19,8 +19,8 @@ use ep_check_expr::{typed_expression, written_expression};
 use ep_rules::Refusal;
 use ep_scope::{Host, Kind, Meaning, meaning_of, rule};
 use ep_tree::{Argument, Expression, Factor};
-use ep_values::Print;
 use ep_typed::{StandardFile, TypedExpr, TypedStmt, WriteItem, WriteItems};
+use ep_values::Print;
 use std::alloc::Global;
 
 /// How values of this kind are printed.

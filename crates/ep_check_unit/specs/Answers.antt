@@ -77,7 +77,11 @@ index_of i = (spec.type_denoter i.name, i.nodes, i.values)
 abbrev pub indexes_written : ℕ → List spec.Part → Block → Judged (List (Denoter × ℕ × TagValues) × Block)
 indexes_written line [] b = Accepts ([], b)
 indexes_written line (p ∷ ps) b =
-    when_accepted (λ w. when_accepted (λ v. when_accepted (λ r. Accepts ((w.denoter, w.nodes, v) ∷ r.0, r.1)) (indexes_written line ps w.block)) (spec.index_values w)) (spec.settled_part p line b)
+    when_accepted
+    (λ w. when_accepted
+    (λ v. when_accepted (λ r. Accepts ((w.denoter, w.nodes, v) ∷ r.0, r.1)) (indexes_written line ps w.block))
+    (spec.index_values w))
+    (spec.settled_part p line b)
 
 -- arrays of these index types over a type, the innermost first, each with an entry of its own
 abbrev pub arrays_below : ℕ → List (Denoter × ℕ × TagValues) → spec.Written → spec.Written
@@ -86,7 +90,8 @@ arrays_below line (i ∷ is) w = spec.settled line (spec.array_over i.0 i.1 i.2 
 
 -- a field that is written
 abbrev pub field_in : WrittenField → spec.Field
-field_in f = record { name = f.name; denoter = spec.type_denoter f.of.name; of = f.of.of; kind = f.of.kind; nodes = f.of.nodes }
+field_in f =
+    record { name = f.name; denoter = spec.type_denoter f.of.name; of = f.of.of; kind = f.of.kind; nodes = f.of.nodes }
 
 -- the labels after what is judged, exactly where it is accepted, or a refusal
 abbrev pub AnswersLabels : Result (Unit {0}) Refusal → Labels → Judged Labels → Type 0
@@ -103,15 +108,31 @@ labelled_in b ranges found = record { ranges = ranges; labels = found; block = b
 
 -- a tag that is written
 abbrev pub tag_in : Tag → spec.Tag
-tag_in t = record { name = t.name.now; denoter = spec.type_denoter t.of.name; of = t.of.of; values = t.values; nodes = t.of.nodes }
+tag_in t =
+    record {
+      name = t.name.now;
+      denoter = spec.type_denoter t.of.name;
+      of = t.of.of;
+      values = t.values;
+      nodes = t.of.nodes;
+    }
 
 -- variants that are written so far, in a block
 abbrev pub gathered_in : Block → Gathered → spec.Gathered
-gathered_in b g = record { labels = g.labels; variants = g.variants; lists = g.lists; nodes = g.nodes; completing = g.completing; block = b }
+gathered_in b g =
+    record {
+      labels = g.labels;
+      variants = g.variants;
+      lists = g.lists;
+      nodes = g.nodes;
+      completing = g.completing;
+      block = b;
+    }
 
 -- fields of a type that is written
 abbrev pub field_named : NamedType → List ℕ → spec.Field
-field_named t name = record { name = name; denoter = spec.type_denoter t.name; of = t.of; kind = t.kind; nodes = t.nodes }
+field_named t name =
+    record { name = name; denoter = spec.type_denoter t.name; of = t.of; kind = t.kind; nodes = t.nodes }
 
 -- fields that are written, in a block
 abbrev pub fields_in : Block → List WrittenField → spec.Fielded

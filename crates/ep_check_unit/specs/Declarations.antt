@@ -1,13 +1,18 @@
--- What the static rules say of declarations, item by item: what has been declared so far, or the first item that breaks a rule.
+-- What the static rules say of declarations, item by item: what has been declared so far, or the first item that
+-- breaks a rule.
 --
--- Items are taken in the order of the text. A constant definition and a variable declaration are items, on the line of their first token, and a type part is one, on the line of the word `type`. A name means what is declared before its use, or outside of the block: a later declaration of it plays no part (own).
+-- Items are taken in the order of the text. A constant definition and a variable declaration are items, on the line of
+-- their first token, and a type part is one, on the line of the word `type`. A name means what is declared before its
+-- use, or outside of the block: a later declaration of it plays no part (own).
 use Rattle.std.specs.List.{list_any}
-use Rattle.std.specs.Prelude.{ℕ, nat_eq, nat_le, ◌==◌, ◌+◌, ℤ, pos, suc, int_le, Bool, true, false, ◌&&◌, ◌||◌, List, [], ◌∷◌, ◌++◌, length, map, Option, Some, None, is_some, if◌then◌else◌}
+use Rattle.std.specs.Prelude.{ℕ, nat_eq, nat_le, ◌==◌, ◌+◌, ℤ, pos, suc, int_le, Bool, true, false, ◌&&◌, ◌||◌, List}
+use Rattle.std.specs.Prelude.{[], ◌∷◌, ◌++◌, length, map, Option, Some, None, is_some, if◌then◌else◌}
 use Rattle.std.specs.Option.{option_or}
 use Rattle.std.specs.Str.{bytes_eq}
 use Rattle.ep_tree.specs.declared.expression.ComponentValue.{ComponentValue}
 use Rattle.ep_tree.specs.declared.expression.Label.{Label}
-use Rattle.ep_tree.specs.declared.types.Core.TheOpen.{Core-F, FieldSection-F, Fields-F, Plain-F, Structure-F, TypeDenoter-F, Variant-F, VariantPart-F}
+use Rattle.ep_tree.specs.declared.types.Core.TheOpen.{Core-F, FieldSection-F, Fields-F, Plain-F, Structure-F}
+use Rattle.ep_tree.specs.declared.types.Core.TheOpen.{TypeDenoter-F, Variant-F, VariantPart-F}
 use Rattle.ep_tree.specs.declared.types.Core.{Core, fold-Core}
 use Rattle.ep_tree.specs.declared.types.FieldSection.{FieldSection, fold-FieldSection}
 use Rattle.ep_tree.specs.declared.types.Fields.{Fields, fold-Fields}
@@ -42,7 +47,8 @@ use Rattle.ep_typed.specs.declared.value.Value.{Value}
 use Rattle.ep_typed.specs.declared.value.Value.TheVariants as value
 use Rattle.ep_scope.specs.Kinds.{same_host}
 use Rattle.ep_scope.specs.Required.{look_up}
-use Rattle.ep_scope.specs.Scopes.{Region, in_view, with_inner, with_inner_structure, Meant, Declares, Standard, Requires, FieldOf, Nothing, meant, meant_in}
+use Rattle.ep_scope.specs.Scopes.{Region, in_view, with_inner, with_inner_structure, Meant, Declares, Standard}
+use Rattle.ep_scope.specs.Scopes.{Requires, FieldOf, Nothing, meant, meant_in}
 use Rattle.ep_scope.specs.declared.kind.Host.{Host}
 use Rattle.ep_scope.specs.declared.kind.Host.TheVariants as host
 use Rattle.ep_scope.specs.declared.kind.Kind.{Kind}
@@ -92,7 +98,8 @@ unused name b = unless_there (look_up b.scopes.inner.entries name)
 
 -- what a declaration of this unit is, by its number; around it are the routines whose blocks are under way
 abbrev pub own_thing : Block → ℕ → Declaration → Thing
-own_thing b number what = thing.Declared (record { unit = b.unit; number = number; level = length b.own.enclosing; what = what })
+own_thing b number what =
+    thing.Declared (record { unit = b.unit; number = number; level = length b.own.enclosing; what = what })
 
 -- one name more
 abbrev pub with_name : List ℕ → Thing → Block → Block
@@ -136,7 +143,9 @@ are_all_members (host.Enumeration e) = nat_le e.last last_member
 
 -- the denoter of the values of a host that may be members
 abbrev pub members_denoter : Host → Denoter
-members_denoter h = if are_all_members h then host_denoter h else denoter.Subrange (host_denoter h) (Fixed (pos 0)) (Fixed (pos last_member))
+members_denoter h =
+    if are_all_members h then host_denoter h
+    else denoter.Subrange (host_denoter h) (Fixed (pos 0)) (Fixed (pos last_member))
 
 -- the denoter of sets of them
 abbrev pub set_denoter : Host → Denoter
@@ -147,7 +156,9 @@ abbrev pub structured_denoter : Value → Option Denoter
 structured_denoter (value.Structured of es) = Some (denoter.Named of [])
 structured_denoter _ = None
 
--- The denoter of a constant in the list of constants: its host, a set of all values of its host that may be members, or the array or record type that the value is of. The empty set is one of integers there, and no text stands in the list so far (own).
+-- The denoter of a constant in the list of constants: its host, a set of all values of its host that may be members,
+-- or the array or record type that the value is of. The empty set is one of integers there, and no text stands in the
+-- list so far (own).
 abbrev pub entry_denoter : Kind → Value → Option Denoter
 entry_denoter (kind.Ordinal h) v = Some (host_denoter h)
 entry_denoter (kind.Set h) v = Some (set_denoter h)
@@ -164,13 +175,15 @@ with_entry name (Some d) v all = all ++ record { name = name; denoter = d; value
 -- a constant is entered, with its entry in the list of constants
 abbrev pub with_constant : List ℕ → Kind → Value → ℕ → Block → Block
 with_constant name k v deep b =
-    with_name name (own_thing b (length b.constants) (declaration.Constant k v deep)) (record b { constants = with_entry name (entry_denoter k v) v b.constants })
+    with_name name (own_thing b (length b.constants) (declaration.Constant k v deep))
+    (record b { constants = with_entry name (entry_denoter k v) v b.constants })
 
 -- a constant whose name is not there yet
 abbrev pub constant_entered : List ℕ → Kind → Value → ℕ → Block → Judged Block
 constant_entered name k v deep b = when_accepted (λ _. Accepts (with_constant name k v deep b)) (unused name b)
 
--- The nodes of a type are its denoters and bounds, with the names in it replaced by what they name (own). They are counted
+-- The nodes of a type are its denoters and bounds, with the names in it replaced by what they name (own). They are
+-- counted
 -- up to one more than a type may have.
 abbrev pub counted : ℕ → ℕ → ℕ
 counted n m = if nat_le (n + m) limit.TYPE_NODES then n + m else suc limit.TYPE_NODES
@@ -179,7 +192,8 @@ counted n m = if nat_le (n + m) limit.TYPE_NODES then n + m else suc limit.TYPE_
 abbrev pub subrange_nodes : ℕ
 subrange_nodes = 4
 
--- a type that is written: its denoter, which type it is, its kind, and how many nodes it has, and what has been declared with it
+-- a type that is written: its denoter, which type it is, its kind, and how many nodes it has, and what has been
+-- declared with it
 pub record Written : Type 0 where
   pub denoter : Denoter
   pub of : TypeName
@@ -196,7 +210,8 @@ misnamed = Breaks (rule.OTHER_THING ∷ [])
 
 -- a type by a name of the unit, which is its entry in the list of types
 abbrev pub declared_type : Declared → Declaration → Block → Judged Written
-declared_type d (declaration.«Type» of k nodes) b = Accepts (record { denoter = denoter.Named d.number []; of = of; kind = k; nodes = nodes; block = b })
+declared_type d (declaration.«Type» of k nodes) b =
+    Accepts (record { denoter = denoter.Named d.number []; of = of; kind = k; nodes = nodes; block = b })
 declared_type d _ b = misnamed
 
 -- a type by a name that means this (ISO 10206, 6.4.1), or else these rules fail
@@ -204,7 +219,15 @@ abbrev pub type_meant : List ℕ → Meant → Block → Judged Written
 type_meant missing (Declares d) b = declared_type d d.what b
 type_meant missing (Standard file) b = misnamed
 type_meant missing (FieldOf f) b = misnamed
-type_meant missing (Requires (required.«Type» r)) b = Accepts (record { denoter = denoter.Required r; of = type_name.Required r; kind = kind.Ordinal (required_host r); nodes = 1; block = b })
+type_meant missing (Requires (required.«Type» r)) b =
+    Accepts (record {
+      denoter = denoter.Required r;
+      of = type_name.Required r;
+      kind = kind.Ordinal (required_host
+          r);
+      nodes = 1;
+      block = b;
+    })
 type_meant missing (Requires _) b = misnamed
 type_meant missing Nothing b = Breaks missing
 
@@ -235,7 +258,8 @@ number_in (value.Structured of es) = pos 0
 
 -- the denoter of a subrange of a host
 abbrev pub subrange_denoter : Host → ConstantForm → ConstantForm → Denoter
-subrange_denoter h low high = denoter.Subrange (host_denoter h) (Fixed (number_in low.value)) (Fixed (number_in high.value))
+subrange_denoter h low high =
+    denoter.Subrange (host_denoter h) (Fixed (number_in low.value)) (Fixed (number_in high.value))
 
 -- a type that is not there yet, which is the next one of the unit
 abbrev pub next_type : Block → TypeName
@@ -266,7 +290,9 @@ ordered low high = if are_ordered low high then Accepts tt else Breaks (rule.EMP
 
 -- two bounds of one host, in order
 abbrev pub range : ℕ → Block → ConstantForm → ConstantForm → Judged Written
-range line b low high = when_accepted (λ h. when_accepted (λ _. Accepts (subrange line h low high b)) (ordered low high)) (common_host low.kind high.kind)
+range line b low high =
+    when_accepted (λ h. when_accepted (λ _. Accepts (subrange line h low high b)) (ordered low high))
+    (common_host low.kind high.kind)
 
 -- an enumeration whose entry in the list of types is the next one, by the ordinal number of its last constant
 abbrev pub next_enumeration : ℕ → Block → Host
@@ -275,11 +301,23 @@ next_enumeration last b = host.Enumeration (record { number = length b.types; la
 -- its constants from this number on, in order
 abbrev pub enumerated : Host → ℕ → List (List ℕ) → Block → Judged Block
 enumerated h ordinal [] b = Accepts b
-enumerated h ordinal (name ∷ names) b = when_accepted (enumerated h (suc ordinal) names) (constant_entered name (kind.Ordinal h) (value.Word (pos ordinal)) 1 b)
+enumerated h ordinal (name ∷ names) b =
+    when_accepted (enumerated h (suc ordinal) names)
+    (constant_entered name (kind.Ordinal h) (value.Word (pos ordinal)) 1 b)
 
 -- an enumeration (ISO 10206, 6.4.2.3); no text has one without constants, which would be an empty range
 abbrev pub enumeration_of : Host → List (List ℕ) → Block → Judged Written
-enumeration_of h names b = when_accepted (λ c. Accepts (record { denoter = denoter.Enumeration names; of = next_type b; kind = kind.Ordinal h; nodes = 1; block = c })) (enumerated h 0 names b)
+enumeration_of h names b =
+    when_accepted
+    (λ c. Accepts
+    (record {
+      denoter = denoter.Enumeration names;
+      of = next_type b;
+      kind = kind.Ordinal h;
+      nodes = 1;
+      block = c;
+    }))
+    (enumerated h 0 names b)
 
 abbrev pub enumeration : List (List ℕ) → Block → Judged Written
 enumeration [] b = Breaks (rule.EMPTY_RANGE ∷ [])
@@ -297,7 +335,8 @@ with_type name line d b =
           } ∷ [];
     }
 
--- A denoter that is no name becomes an entry without a name, which is named where it is part of another denoter or the type of variables (own).
+-- A denoter that is no name becomes an entry without a name, which is named where it is part of another denoter or the
+-- type of variables (own).
 abbrev pub settled : ℕ → Written → Written
 settled line w =
     record {
@@ -337,15 +376,28 @@ array_over index nodes v of =
       of = next_type of.block;
       kind = kind.Structured (length of.block.types);
       nodes = counted (counted 1 nodes) of.nodes;
-      block = with_structure (record { number = length of.block.types; composition = composition.Array (record { index = v.host; low = v.low; high = v.high; component = of.of; kind = of.kind }) }) of.block;
+      block =
+          with_structure
+          (record {
+            number = length of.block.types;
+            composition = composition.Array
+                (record { index = v.host; low = v.low; high = v.high; component = of.of; kind = of.kind });
+          })
+          of.block;
     }
 
 -- an array of this index type and these components
 abbrev pub array_written : Part → Part → ℕ → Block → Judged Written
 array_written index of line b =
-    when_accepted (λ i. when_accepted (λ v. when_accepted (λ below. Accepts (array_over i.denoter i.nodes v below)) (settled_part of line i.block)) (index_values i)) (settled_part index line b)
+    when_accepted
+    (λ i. when_accepted
+    (λ v. when_accepted (λ below. Accepts (array_over i.denoter i.nodes v below)) (settled_part of line
+    i.block))
+    (index_values i))
+    (settled_part index line b)
 
--- An array of several index types is an array of the first one, whose components are an array of the others (ISO 10206, 6.4.3.2).
+-- An array of several index types is an array of the first one, whose components are an array of the others (ISO
+-- 10206, 6.4.3.2).
 abbrev pub array_part : Part → List Part → Part
 array_part of [] = of
 array_part of (i ∷ is) = record { is_name = false; written = array_written i (array_part of is) }
@@ -397,7 +449,8 @@ has_field (f ∷ fs) name = bytes_eq f.name name || has_field fs name
 -- fields more, no two of one name (ISO 10206, 6.2.2.7 and 6.4.3.4)
 abbrev pub fields_named : (List ℕ → Field) → List (List ℕ) → List Field → Judged (List Field)
 fields_named field [] fields = Accepts fields
-fields_named field (name ∷ names) fields = if has_field fields name then Breaks (rule.TWICE ∷ []) else fields_named field names (fields ++ field name ∷ [])
+fields_named field (name ∷ names) fields =
+    if has_field fields name then Breaks (rule.TWICE ∷ []) else fields_named field names (fields ++ field name ∷ [])
 
 -- a section of fields: their names, and their type
 pub record Section : Type 0 where
@@ -409,7 +462,11 @@ field_of w name = record { name = name; denoter = w.denoter; of = w.of; kind = w
 
 -- a section behind others
 abbrev pub section_written : ℕ → Section → Fielded → Judged Fielded
-section_written line s f = when_accepted (λ w. when_accepted (λ fields. Accepts (record { fields = fields; block = w.block })) (fields_named (field_of w) s.names f.fields)) (settled_part s.of line f.block)
+section_written line s f =
+    when_accepted
+    (λ w. when_accepted (λ fields. Accepts (record { fields = fields; block = w.block }))
+    (fields_named (field_of w) s.names f.fields))
+    (settled_part s.of line f.block)
 
 -- sections from left to right
 abbrev pub sections_written : ℕ → List Section → Fielded → Judged Fielded
@@ -418,7 +475,8 @@ sections_written line (s ∷ ss) f = when_accepted (sections_written line ss) (s
 
 -- ---- lists of fields: those of a record, and those of its variants (ISO 10206, 6.4.3.4)
 
--- a list of fields that is written (its part of the denoter, its fields with its tag and those of its variants, and how many nodes it has), and what has been declared with it
+-- a list of fields that is written (its part of the denoter, its fields with its tag and those of its variants, and
+-- how many nodes it has), and what has been declared with it
 pub record Listed : Type 0 where
   pub listing : Listing
   pub block : Block
@@ -430,7 +488,9 @@ record_field f = roll-RecordField (record { name = f.name; denoter = f.denoter }
 -- the fields that are none of a variant, as the rules see them, from this number on
 abbrev pub own_fields : ℕ → List Field → List FieldType
 own_fields number [] = []
-own_fields number (f ∷ fs) = record { name = f.name; of = f.of; kind = f.kind; path = []; number = number; tag = None } ∷ own_fields (suc number) fs
+own_fields number (f ∷ fs) =
+    record { name = f.name; of = f.of; kind = f.kind; path = []; number = number; tag = None }
+    ∷ own_fields (suc number) fs
 
 -- these nodes and those of these fields
 abbrev pub fields_nodes : ℕ → List Field → ℕ
@@ -442,7 +502,16 @@ field_part fields variants = roll-FieldPart (record { fields = map record_field 
 
 -- a list without a variant part
 abbrev pub plain_list : Fielded → Listed
-plain_list f = record { listing = record { part = field_part f.fields None; fields = own_fields 0 f.fields; nodes = fields_nodes 0 f.fields }; block = f.block }
+plain_list f =
+    record {
+      listing =
+          record {
+            part = field_part f.fields None;
+            fields = own_fields 0 f.fields;
+            nodes = fields_nodes 0 f.fields;
+          };
+      block = f.block;
+    }
 
 -- what a list of fields comes to in an item on a line
 abbrev pub ListJudged : Type 0
@@ -468,7 +537,8 @@ abbrev pub tag_written : VariantSelector → Block → Judged Tag
 tag_written (selector.Tag at name of) b = when_accepted (tag_of name) (type_named of.first of.second b)
 tag_written (selector.Discriminant at name) b = unbuilt
 
--- What is gathered of variants, with what has been declared behind them: their labels, their denoters, the fields of each, and how many nodes they have; and the variant that completes the others, whose fields are then the last ones.
+-- What is gathered of variants, with what has been declared behind them: their labels, their denoters, the fields of
+-- each, and how many nodes they have; and the variant that completes the others, whose fields are then the last ones.
 pub record Gathered : Type 0 where
   pub labels : Labels
   pub variants : List Variant
@@ -512,12 +582,16 @@ pub record Labelled : Type 0 where
 
 abbrev pub labels_noted : ℕ → TagValues → List Label → Block → Labels → Judged Labelled
 labels_noted line t ls b found =
-    when_accepted (λ (x : List CaseRange × Labels). Accepts (record { ranges = x.0; labels = x.1; block = noted x.1.built line b })) (variant_labelled (scopes_of b) t ls found)
+    when_accepted
+    (λ (x : List CaseRange × Labels). Accepts
+    (record { ranges = x.0; labels = x.1; block = noted x.1.built line b }))
+    (variant_labelled (scopes_of b) t ls found)
 
 -- its labels, and then its fields
 abbrev pub variant_written : ℕ → TagValues → VariantJudged → Gathered → Judged Gathered
 variant_written line t v g =
-    when_accepted (λ x. when_accepted (λ l. Accepts (variant_added x.ranges x.labels l g)) (v.fields line x.block)) (labels_noted line t v.labels g.block g.labels)
+    when_accepted (λ x. when_accepted (λ l. Accepts (variant_added x.ranges x.labels l g)) (v.fields line x.block))
+    (labels_noted line t v.labels g.block g.labels)
 
 abbrev pub variants_written : ℕ → TagValues → List VariantJudged → Gathered → Judged Gathered
 variants_written line t [] g = Accepts g
@@ -526,7 +600,12 @@ variants_written line t (v ∷ vs) g = when_accepted (variants_written line t vs
 -- the one that completes them, where there is one
 abbrev pub completing_added : Listed → Gathered → Gathered
 completing_added l g =
-    record g { lists = g.lists ++ l.listing.fields ∷ []; nodes = variant_nodes g.nodes [] l.listing.nodes; completing = Some l.listing.part; block = l.block }
+    record g {
+      lists = g.lists ++ l.listing.fields ∷ [];
+      nodes = variant_nodes g.nodes [] l.listing.nodes;
+      completing = Some l.listing.part;
+      block = l.block;
+    }
 
 abbrev pub completing_written : ℕ → Option ListJudged → Gathered → Judged Gathered
 completing_written line None g = Accepts g
@@ -549,15 +628,18 @@ abbrev pub is_among_fields : List FieldType → List ℕ → Bool
 is_among_fields [] name = false
 is_among_fields (f ∷ fs) name = bytes_eq f.name name || is_among_fields fs name
 
--- A record has one list of field names, whatever variants they are in, and no two are the same (ISO 10206, 6.2.2.7 and 6.4.3.4).
+-- A record has one list of field names, whatever variants they are in, and no two are the same (ISO 10206, 6.2.2.7 and
+-- 6.4.3.4).
 abbrev pub fields_joined : List FieldType → List FieldType → Judged (List FieldType)
 fields_joined [] all = Accepts all
-fields_joined (f ∷ fs) all = if is_among_fields all f.name then Breaks (rule.TWICE ∷ []) else fields_joined fs (all ++ f ∷ [])
+fields_joined (f ∷ fs) all =
+    if is_among_fields all f.name then Breaks (rule.TWICE ∷ []) else fields_joined fs (all ++ f ∷ [])
 
 -- the fields of variants from this number on more
 abbrev pub variants_joined : Selection → ℕ → List (List FieldType) → List FieldType → Judged (List FieldType)
 variants_joined s number [] all = Accepts all
-variants_joined s number (fs ∷ more) all = when_accepted (variants_joined s (suc number) more) (fields_joined (map (inside s number) fs) all)
+variants_joined s number (fs ∷ more) all =
+    when_accepted (variants_joined s (suc number) more) (fields_joined (map (inside s number) fs) all)
 
 -- the tag as a field, in the component behind the other fields
 abbrev pub tag_field : Selection → Tag → FieldType
@@ -573,22 +655,32 @@ tag_field s t =
 
 -- the fields of a list with a variant part: its own, the tag, and those of the variants
 abbrev pub all_fields : Selection → Tag → List Field → List (List FieldType) → Judged (List FieldType)
-all_fields s t fields lists = when_accepted (variants_joined s 0 lists) (fields_joined (tag_field s t ∷ []) (own_fields 0 fields))
+all_fields s t fields lists =
+    when_accepted (variants_joined s 0 lists) (fields_joined (tag_field s t ∷ []) (own_fields 0 fields))
 
 -- the variant part, as a denoter has it
 abbrev pub variant_part : Tag → Gathered → VariantPart
-variant_part t g = roll-VariantPart (record { selector = written_selector.Tag t.name t.denoter; variants = g.variants; completing = g.completing })
+variant_part t g =
+    roll-VariantPart
+    (record { selector = written_selector.Tag t.name t.denoter; variants = g.variants; completing = g.completing })
 
 -- a list with these variants
 abbrev pub variant_listing : Fielded → Tag → Gathered → List FieldType → Listed
 variant_listing f t g fields =
     record {
-      listing = record { part = field_part f.fields (Some (variant_part t g)); fields = fields; nodes = counted (counted (fields_nodes 0 f.fields) t.nodes) g.nodes };
+      listing =
+          record {
+            part = field_part f.fields (Some (variant_part t g));
+            fields = fields;
+            nodes = counted (counted (fields_nodes 0 f.fields) t.nodes) g.nodes;
+          };
       block = g.block;
     }
 
 abbrev pub variant_list : Fielded → Tag → Gathered → Judged Listed
-variant_list f t g = when_accepted (λ fields. Accepts (variant_listing f t g fields)) (all_fields (selection_of (length f.fields) g) t f.fields g.lists)
+variant_list f t g =
+    when_accepted (λ fields. Accepts (variant_listing f t g fields))
+    (all_fields (selection_of (length f.fields) g) t f.fields g.lists)
 
 -- a variant part behind the fields of its list
 abbrev pub PartJudged : Type 0
@@ -596,10 +688,14 @@ PartJudged = ℕ → Fielded → Judged Listed
 
 abbrev pub variants_after : ℕ → List VariantJudged → Option ListJudged → Fielded → Tag → Judged Listed
 variants_after line variants other f t =
-    when_accepted (variant_list f t) (when_accepted (unless_left_out t.values) (when_accepted (completing_written line other) (variants_written line t.values variants (none_gathered f.block))))
+    when_accepted (variant_list f t)
+    (when_accepted (unless_left_out t.values)
+    (when_accepted (completing_written line other) (variants_written line t.values variants
+    (none_gathered f.block))))
 
 abbrev pub variant_part_written : VariantSelector → List VariantJudged → Option ListJudged → PartJudged
-variant_part_written s variants other line f = when_accepted (variants_after line variants other f) (tag_written s f.block)
+variant_part_written s variants other line f =
+    when_accepted (variants_after line variants other f) (tag_written s f.block)
 
 -- fields that are written, with what follows them
 abbrev pub list_ended : ℕ → Option PartJudged → Fielded → Judged Listed
@@ -607,7 +703,8 @@ list_ended line None f = Accepts (plain_list f)
 list_ended line (Some part) f = part line f
 
 abbrev pub list_written : List Section → Option PartJudged → ListJudged
-list_written sections part line b = when_accepted (list_ended line part) (sections_written line sections (record { fields = []; block = b }))
+list_written sections part line b =
+    when_accepted (list_ended line part) (sections_written line sections (record { fields = []; block = b }))
 
 -- the record type with these fields (ISO 10206, 6.4.3.4)
 abbrev pub record_over : Listed → Written
@@ -617,7 +714,9 @@ record_over l =
       of = next_type l.block;
       kind = kind.Structured (length l.block.types);
       nodes = counted 1 l.listing.nodes;
-      block = with_structure (record { number = length l.block.types; composition = composition.Record l.listing.fields }) l.block;
+      block =
+          with_structure (record { number = length l.block.types; composition = composition.Record l.listing.fields })
+          l.block;
     }
 
 abbrev pub record_written : ListJudged → ℕ → Block → Judged Written
@@ -625,7 +724,8 @@ record_written fields line b = when_accepted (λ l. Accepts (record_over l)) (fi
 
 -- ---- initial states (ISO 10206, 6.6)
 
--- whether a constant of the one kind may be the initial state of a type of the other: a value of its host, a set over it, of which the empty set is one over each host, or an array or a record of that type
+-- whether a constant of the one kind may be the initial state of a type of the other: a value of its host, a set over
+-- it, of which the empty set is one over each host, or an array or a record of that type
 abbrev pub may_begin : Kind → Kind → Bool
 may_begin (kind.Ordinal g) (kind.Ordinal h) = same_host h g
 may_begin (kind.Structured m) (kind.Structured n) = nat_eq m n
@@ -635,15 +735,25 @@ may_begin _ _ = false
 
 -- the type with this initial state
 abbrev pub with_initial_state : ℕ → Written → ConstantForm → Written
-with_initial_state line w c = record { denoter = denoter.Initial w.denoter c.value; of = w.of; kind = w.kind; nodes = counted 1 w.nodes; block = noted c.built line w.block }
+with_initial_state line w c =
+    record {
+      denoter = denoter.Initial w.denoter c.value;
+      of = w.of;
+      kind = w.kind;
+      nodes = counted 1 w.nodes;
+      block = noted c.built line w.block;
+    }
 
--- An initial state fits its type, whose values it may lie outside of: that is an error where the type is elaborated (own).
+-- An initial state fits its type, whose values it may lie outside of: that is an error where the type is elaborated
+-- (own).
 abbrev pub fitting_state : ℕ → Written → ConstantForm → Judged Written
-fitting_state line w c = if may_begin c.kind w.kind then Accepts (with_initial_state line w c) else Breaks (rule.INITIAL_STATE ∷ [])
+fitting_state line w c =
+    if may_begin c.kind w.kind then Accepts (with_initial_state line w c) else Breaks (rule.INITIAL_STATE ∷ [])
 
 -- a type, by its name, with an initial state, in which the constants may stand that are declared with the type
 abbrev pub begun_with : ℕ → ComponentValue → Written → Judged Written
-begun_with line v w = when_accepted (fitting_state line w) (initial_state_judged (scopes_of w.block) (asked_by w.kind) v)
+begun_with line v w =
+    when_accepted (fitting_state line w) (initial_state_judged (scopes_of w.block) (asked_by w.kind) v)
 
 abbrev pub initial_written : Part → ComponentValue → ℕ → Block → Judged Written
 initial_written p v line b = when_accepted (begun_with line v) (settled_part p line b)
@@ -689,37 +799,59 @@ at_structure (Structure-F.Set at base) = record { is_name = false; written = set
 
 -- a denoter
 abbrev pub at_core : Core-F Part Part Section ListJudged Part Part VariantJudged PartJudged → Part
-at_core (Core-F.Named at name tuple) = record { is_name = true; written = λ line b. type_named name.first name.second b }
-at_core (Core-F.Range at low high) = record { is_name = false; written = λ line b. both (range line b) (bound_judged (scopes_of b) low) (bound_judged (scopes_of b) high) }
+at_core (Core-F.Named at name tuple) =
+    record { is_name = true; written = λ line b. type_named name.first name.second b }
+at_core (Core-F.Range at low high) =
+    record {
+      is_name = false;
+      written = λ line b. both (range line b) (bound_judged (scopes_of b) low) (bound_judged (scopes_of b) high);
+    }
 at_core (Core-F.Enumeration at names) = record { is_name = false; written = λ line b. enumeration names b }
 at_core (Core-F.Structured at packed structure) = structure
 at_core _ = unbuilt_part
 
 abbrev pub core_part : Core → Part
-core_part = fold-Core Part Part Section ListJudged Part Part VariantJudged PartJudged at_core at_structure at_field_section at_fields at_plain at_type_denoter at_variant at_variant_part
+core_part =
+    fold-Core Part Part Section ListJudged Part Part VariantJudged PartJudged at_core at_structure at_field_section
+    at_fields at_plain at_type_denoter at_variant at_variant_part
 
--- that of a structure, of fields and of a section of them, of a variant part and of a variant, and that of a plain denoter
+-- that of a structure, of fields and of a section of them, of a variant part and of a variant, and that of a plain
+-- denoter
 abbrev pub structure_part : Structure → Part
-structure_part = fold-Structure Part Part Section ListJudged Part Part VariantJudged PartJudged at_core at_structure at_field_section at_fields at_plain at_type_denoter at_variant at_variant_part
+structure_part =
+    fold-Structure Part Part Section ListJudged Part Part VariantJudged PartJudged at_core at_structure
+    at_field_section at_fields at_plain at_type_denoter at_variant at_variant_part
 
 abbrev pub fields_judged : Fields → ListJudged
-fields_judged = fold-Fields Part Part Section ListJudged Part Part VariantJudged PartJudged at_core at_structure at_field_section at_fields at_plain at_type_denoter at_variant at_variant_part
+fields_judged =
+    fold-Fields Part Part Section ListJudged Part Part VariantJudged PartJudged at_core at_structure at_field_section
+    at_fields at_plain at_type_denoter at_variant at_variant_part
 
 abbrev pub section_part : FieldSection → Section
-section_part = fold-FieldSection Part Part Section ListJudged Part Part VariantJudged PartJudged at_core at_structure at_field_section at_fields at_plain at_type_denoter at_variant at_variant_part
+section_part =
+    fold-FieldSection Part Part Section ListJudged Part Part VariantJudged PartJudged at_core at_structure
+    at_field_section at_fields at_plain at_type_denoter at_variant at_variant_part
 
 abbrev pub variants_judged : VariantPartTree → PartJudged
-variants_judged = fold-VariantPart Part Part Section ListJudged Part Part VariantJudged PartJudged at_core at_structure at_field_section at_fields at_plain at_type_denoter at_variant at_variant_part
+variants_judged =
+    fold-VariantPart Part Part Section ListJudged Part Part VariantJudged PartJudged at_core at_structure
+    at_field_section at_fields at_plain at_type_denoter at_variant at_variant_part
 
 abbrev pub variant_judged : VariantTree → VariantJudged
-variant_judged = fold-Variant Part Part Section ListJudged Part Part VariantJudged PartJudged at_core at_structure at_field_section at_fields at_plain at_type_denoter at_variant at_variant_part
+variant_judged =
+    fold-Variant Part Part Section ListJudged Part Part VariantJudged PartJudged at_core at_structure at_field_section
+    at_fields at_plain at_type_denoter at_variant at_variant_part
 
 abbrev pub plain_part : Plain → Part
-plain_part = fold-Plain Part Part Section ListJudged Part Part VariantJudged PartJudged at_core at_structure at_field_section at_fields at_plain at_type_denoter at_variant at_variant_part
+plain_part =
+    fold-Plain Part Part Section ListJudged Part Part VariantJudged PartJudged at_core at_structure at_field_section
+    at_fields at_plain at_type_denoter at_variant at_variant_part
 
 -- that of a denoter with or without an initial state
 abbrev pub denoter_part : TypeDenoter → Part
-denoter_part = fold-TypeDenoter Part Part Section ListJudged Part Part VariantJudged PartJudged at_core at_structure at_field_section at_fields at_plain at_type_denoter at_variant at_variant_part
+denoter_part =
+    fold-TypeDenoter Part Part Section ListJudged Part Part VariantJudged PartJudged at_core at_structure
+    at_field_section at_fields at_plain at_type_denoter at_variant at_variant_part
 
 abbrev pub core_written : ℕ → Core → Block → Judged Written
 core_written line c b = (core_part c).written line b
@@ -735,14 +867,16 @@ constant_fitting v b = when_accepted (unless_outside b.types (scopes_of b)) (con
 
 abbrev pub constant_definition : ConstantDefinition → Block → Judged Block
 constant_definition d b =
-    both (λ form new. Accepts (noted form.built d.line (with_constant d.name form.kind form.value form.depth b))) (constant_fitting d.value b) (unused d.name b)
+    both (λ form new. Accepts (noted form.built d.line (with_constant d.name form.kind form.value form.depth b)))
+    (constant_fitting d.value b) (unused d.name b)
 
 -- ---- type parts (ISO 10206, 6.4.1)
 
 -- the entry of a definition, and then its name
 abbrev pub type_entered : TypeDefinition → Written → Judged Block
 type_entered d w =
-    entered d.name (own_thing w.block (length w.block.types) (declaration.«Type» w.of w.kind w.nodes)) (with_type (Some d.name) d.line w.denoter w.block)
+    entered d.name (own_thing w.block (length w.block.types) (declaration.«Type» w.of w.kind w.nodes))
+    (with_type (Some d.name) d.line w.denoter w.block)
 
 -- a definition in a type part on this line
 abbrev pub type_definition : ℕ → TypeDefinition → Block → Judged Block
@@ -760,7 +894,8 @@ settled_type line t b = settled_part (denoter_part t) line b
 
 -- a variable of the declaration that is under way
 abbrev pub new_variable : ℕ → Denoter → List ℕ → Block → UnitVariable
-new_variable line d name b = record { name = name; line = line; declaration = b.declarations; denoter = d; tuple = []; parameter = false }
+new_variable line d name b =
+    record { name = name; line = line; declaration = b.declarations; denoter = d; tuple = []; parameter = false }
 
 -- it is one of the unit
 abbrev pub with_unit_variable : ℕ → Denoter → TypeName → Kind → List ℕ → Block → Block
@@ -772,7 +907,14 @@ with_unit_variable line d of k name b =
 abbrev pub with_own_variable : ℕ → Denoter → TypeName → Kind → List ℕ → Block → Block
 with_own_variable line d of k name b =
     with_name name (own_thing b (own_count b.own) (declaration.Own of k protection.Unprotected))
-    (record b { own = record { parameters = b.own.parameters; result = b.own.result; variables = b.own.variables ++ new_variable line d name b ∷ []; enclosing = b.own.enclosing } })
+    (record b {
+      own = record {
+        parameters = b.own.parameters;
+        result = b.own.result;
+        variables = b.own.variables ++ new_variable line d name b ∷ [];
+        enclosing = b.own.enclosing;
+      };
+    })
 
 -- whether the block is that of the unit itself, and of no routine
 abbrev pub is_outermost : List Enclosing → Bool
@@ -781,7 +923,9 @@ is_outermost (e ∷ es) = false
 
 -- In the block of a routine a variable is one of the routine, and else one of the unit.
 abbrev pub with_variable : ℕ → Denoter → TypeName → Kind → List ℕ → Block → Block
-with_variable line d of k name b = if is_outermost b.own.enclosing then with_unit_variable line d of k name b else with_own_variable line d of k name b
+with_variable line d of k name b =
+    if is_outermost b.own.enclosing then with_unit_variable line d of k name b
+    else with_own_variable line d of k name b
 
 -- the block with it, where its name is not there
 abbrev pub variable_placed : Block → List ℕ → Block → Judged Block
@@ -792,17 +936,20 @@ variable_entered line d of k name b = variable_placed (with_variable line d of k
 
 abbrev pub variables_entered : ℕ → Denoter → TypeName → Kind → List (List ℕ) → Block → Judged Block
 variables_entered line d of k [] b = Accepts b
-variables_entered line d of k (name ∷ names) b = when_accepted (variables_entered line d of k names) (variable_entered line d of k name b)
+variables_entered line d of k (name ∷ names) b =
+    when_accepted (variables_entered line d of k names) (variable_entered line d of k name b)
 
 -- one declaration more
 abbrev pub declaration_ended : Block → Block
 declaration_ended b = record b { declarations = suc b.declarations }
 
 abbrev pub variables_declared : VariableDeclaration → Written → Judged Block
-variables_declared d w = when_accepted (λ b. Accepts (declaration_ended b)) (variables_entered d.line w.denoter w.of w.kind d.names w.block)
+variables_declared d w =
+    when_accepted (λ b. Accepts (declaration_ended b)) (variables_entered d.line w.denoter w.of w.kind d.names w.block)
 
 abbrev pub variable_declaration : VariableDeclaration → Block → Judged Block
-variable_declaration d b = when_accepted (variables_declared d) (when_accepted unless_large (settled_type d.line d.of b))
+variable_declaration d b =
+    when_accepted (variables_declared d) (when_accepted unless_large (settled_type d.line d.of b))
 
 -- ---- parts of a block (ISO 10206, 6.2.1)
 

@@ -1,10 +1,13 @@
--- Whether constants lie in their types: a component outside of its type would be an error (ISO 10206, 6.4.6 and 6.8.7).
-use Rattle.std.specs.Prelude.{ℕ, ℤ, pos, int_le, Bool, true, false, ◌&&◌, List, [], ◌∷◌, map, slice_get, Option, Some, None, if◌then◌else◌}
+-- Whether constants lie in their types: a component outside of its type would be an error (ISO 10206, 6.4.6 and
+-- 6.8.7).
+use Rattle.std.specs.Prelude.{ℕ, ℤ, pos, int_le, Bool, true, false, ◌&&◌, List, [], ◌∷◌, map, slice_get, Option, Some}
+use Rattle.std.specs.Prelude.{None, if◌then◌else◌}
 use Rattle.std.specs.List.{list_all}
 use Rattle.std.specs.Str.{bytes_eq}
 use Rattle.ep_typed.specs.Denoters.{found_of}
 use Rattle.ep_typed.specs.Trees as tree
-use Rattle.ep_typed.specs.Trees.{AtField, AtIndex, AtIndexes, AtRanges, Constant, Elements, Expr, SameField, SetConstant, elements, next_element, no_element}
+use Rattle.ep_typed.specs.Trees.{AtField, AtIndex, AtIndexes, AtRanges, Constant, Elements, Expr, SameField}
+use Rattle.ep_typed.specs.Trees.{SetConstant, elements, next_element, no_element}
 use Rattle.ep_values.specs.TypeValues as type
 use Rattle.ep_values.specs.TypeValues.{TypeValue}
 use Rattle.ep_typed.specs.Viewed.{element_of}
@@ -93,7 +96,8 @@ module _ (types : List UnitType) (scopes : List Region) where
 
   -- the value of a constant, of which only an array or a record has components
   abbrev pub fits : Value → Bool
-  fits (value.Structured number es) = are_in (structure_in scopes number) (elements (map element_of es)) (elements (map element_of es))
+  fits (value.Structured number es) =
+      are_in (structure_in scopes number) (elements (map element_of es)) (elements (map element_of es))
   fits _ = true
 
   -- a constant that lies in its type

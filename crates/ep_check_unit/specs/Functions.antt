@@ -1,5 +1,6 @@
 -- Functions: their results, and what gives these a value.
-use Rattle.std.specs.Prelude.{ℕ, suc, ◌==◌, Bool, true, false, ◌&&◌, ◌||◌, List, [], ◌∷◌, length, Option, Some, None, is_some, if◌then◌else◌}
+use Rattle.std.specs.Prelude.{ℕ, suc, ◌==◌, Bool, true, false, ◌&&◌, ◌||◌, List, [], ◌∷◌, length, Option, Some, None}
+use Rattle.std.specs.Prelude.{is_some, if◌then◌else◌}
 use Rattle.std.specs.List.{list_any}
 use Rattle.std.specs.Str.{bytes_eq}
 use Rattle.ep_tree.specs.declared.statement.Compound.{Compound}
@@ -61,7 +62,8 @@ same_result _ _ = false
 
 -- the result of the function of this number in its block, by the number of the variable that has it
 abbrev pub in_block : ℕ → ℕ → HeadingResult → OwnResult
-in_block number variable r = record { function = number; variable = variable; of = r.of; kind = r.kind; named = is_some r.name }
+in_block number variable r =
+    record { function = number; variable = variable; of = r.of; kind = r.kind; named = is_some r.name }
 
 abbrev pub own_result : ℕ → ℕ → Option HeadingResult → Option OwnResult
 own_result number variable None = None
@@ -70,16 +72,20 @@ own_result number variable (Some r) = Some (in_block number variable r)
 -- a name of its own stands for the variable that has the result
 abbrev pub own_name_entered : OwnResult → Option (List ℕ) → Block → Judged Block
 own_name_entered own None b = Accepts b
-own_name_entered own (Some name) b = entered name (own_thing b own.variable (declaration.Own own.of.is own.kind protection.Unprotected)) b
+own_name_entered own (Some name) b =
+    entered name (own_thing b own.variable (declaration.Own own.of.is own.kind protection.Unprotected)) b
 
 abbrev pub result_entered : ℕ → ℕ → Option HeadingResult → Block → Judged Block
 result_entered number variable None b = Accepts b
 result_entered number variable (Some r) b = own_name_entered (in_block number variable r) r.name b
 
--- the function to whose name its block assigns, where the result has no name of its own (ISO 10206, 6.9.2.2), with so many routines around its variables
+-- the function to whose name its block assigns, where the result has no name of its own (ISO 10206, 6.9.2.2), with so
+-- many routines around its variables
 abbrev pub assigned_function : ℕ → Option OwnResult → Option FunctionResult
 assigned_function level None = None
-assigned_function level (Some r) = if r.named then None else Some (record { function = r.function; level = level; variable = r.variable; kind = r.kind })
+assigned_function level (Some r) =
+    if r.named then None
+    else Some (record { function = r.function; level = level; variable = r.variable; kind = r.kind })
 
 -- one before the others, where it is one
 abbrev pub function_before : Option FunctionResult → List FunctionResult → List FunctionResult
@@ -93,7 +99,8 @@ assigned_functions (e ∷ es) = function_before (assigned_function (suc (length 
 
 -- ---- what gives a result (ISO 10206, 6.7.2)
 
--- The text of the block assigns to the name of the function, in its own statements or in those of its parts, where its result has no other name. Of a procedure nothing is asked, here and below.
+-- The text of the block assigns to the name of the function, in its own statements or in those of its parts, where its
+-- result has no other name. Of a procedure nothing is asked, here and below.
 abbrev pub is_assigned : Option OwnResult → List ℕ → Bool → Compound → Bool
 is_assigned None name in_parts c = true
 is_assigned (Some r) name in_parts c = r.named || (assigns name c || in_parts)
@@ -112,10 +119,13 @@ abbrev pub is_in_view : Option OwnResult → List ℕ → Block → Bool
 is_in_view None name b = true
 is_in_view (Some r) name b = r.named || is_that_function b.unit r.function (meant (scopes_of b) name)
 
--- The statements of the function, or those of a routine in it, threaten the variable that has the result (ISO 10206, 6.9.4).
+-- The statements of the function, or those of a routine in it, threaten the variable that has the result (ISO 10206,
+-- 6.9.4).
 abbrev pub is_threatened : Option OwnResult → List RoutineForm → Stmts → Bool
 is_threatened None routines ss = true
-is_threatened (Some r) routines ss = stmts_threaten (formals_at routines) (tree.OfRoutine 0 r.variable) ss || inner_threatens r.function routines r.variable
+is_threatened (Some r) routines ss =
+    stmts_threaten (formals_at routines) (tree.OfRoutine 0 r.variable) ss
+    || inner_threatens r.function routines r.variable
 
 -- the statement that a routine has until its block is known
 abbrev pub is_empty : Stmt → Bool
@@ -131,7 +141,8 @@ abbrev pub is_open : Option OwnResult → List RoutineForm → Option ℕ → Bo
 is_open None routines waits = false
 is_open (Some r) routines waits = is_some waits && has_unknown r.function routines
 
--- Statements that break a rule, or wait for what is not built, count as those that do. So do all where a routine in the function itself waits, since its statements may not be known; what waits elsewhere says nothing of the function.
+-- Statements that break a rule, or wait for what is not built, count as those that do. So do all where a routine in
+-- the function itself waits, since its statements may not be known; what waits elsewhere says nothing of the function.
 abbrev pub row_gives : Block → Judgement Stmts → Bool
 row_gives b (Passes ss) = is_open b.own.result b.routines b.waits || is_threatened b.own.result b.routines ss
 row_gives b (Waits line) = true

@@ -1,7 +1,9 @@
 -- What the static rules say of the labels of variants (ISO 10206, 6.4.3.4).
 --
--- A label is constant and a value of the tag's type (own), no value stands in two labels, and each value of the tag's type stands in one, unless a variant without labels completes the others.
-use Rattle.std.specs.Prelude.{ℤ, pos, ◌+ℤ◌, int_le, Bool, true, false, ◌&&◌, ◌||◌, not, List, [], ◌∷◌, ◌++◌, Option, Some, None, if◌then◌else◌}
+-- A label is constant and a value of the tag's type (own), no value stands in two labels, and each value of the tag's
+-- type stands in one, unless a variant without labels completes the others.
+use Rattle.std.specs.Prelude.{ℤ, pos, ◌+ℤ◌, int_le, Bool, true, false, ◌&&◌, ◌||◌, not, List, [], ◌∷◌, ◌++◌, Option}
+use Rattle.std.specs.Prelude.{Some, None, if◌then◌else◌}
 use Rattle.std.specs.List.{list_all, list_any}
 use Rattle.ep_tree.specs.declared.expression.Expression.{Expression}
 use Rattle.ep_tree.specs.declared.expression.Label.{Label, out-Label}
@@ -35,7 +37,8 @@ tag_values h _ = Breaks (rule.ORDINAL ∷ [])
 
 -- a value of the tag's type, where the label is built
 abbrev pub valued : TagValues → ℤ → Bool → Judged (Option ℤ)
-valued t z built = if not built then Accepts None else (if int_le t.low z && int_le z t.high then Accepts (Some z) else mislabelled)
+valued t z built =
+    if not built then Accepts None else (if int_le t.low z && int_le z t.high then Accepts (Some z) else mislabelled)
 
 -- an end of a label, by the constant that it is
 abbrev pub fitting : TagValues → Kind → Value → Bool → Judged (Option ℤ)
@@ -44,7 +47,8 @@ fitting t _ _ built = mislabelled
 
 -- the values from one to another, which is not below it, where both are built
 abbrev pub ranging : Option ℤ → Option ℤ → Judged (Option CaseRange)
-ranging (Some low) (Some high) = if int_le low high then Accepts (Some (record { low = low; high = high })) else mislabelled
+ranging (Some low) (Some high) =
+    if int_le low high then Accepts (Some (record { low = low; high = high })) else mislabelled
 ranging _ _ = Accepts None
 
 -- ---- labels one after another
@@ -60,7 +64,9 @@ is_apart_from r ranges = list_all (λ s. is_apart s r) ranges
 -- one label more of the variant that is under way, which has no value of those before it
 abbrev pub added : Labels → Option CaseRange → Judged Labels
 added found None = Accepts (record found { built = false })
-added found (Some r) = if list_all (is_apart_from r) found.before && is_apart_from r found.own then Accepts (record found { own = found.own ++ r ∷ [] }) else mislabelled
+added found (Some r) =
+    if list_all (is_apart_from r) found.before && is_apart_from r found.own
+    then Accepts (record found { own = found.own ++ r ∷ [] }) else mislabelled
 
 -- the labels behind a variant
 abbrev pub behind : Labels → Labels
@@ -105,10 +111,12 @@ is_labelled all z = list_any (λ ranges. list_any (λ r. is_in r z) ranges) all
 abbrev pub goes_on : TagValues → List (List CaseRange) → CaseRange → Bool
 goes_on t all r = int_le t.high r.high || is_labelled all (r.high +ℤ pos 1)
 
--- Each value of the tag's type has a label: the least one has, and so has the value behind each label that does not end with the greatest one.
+-- Each value of the tag's type has a label: the least one has, and so has the value behind each label that does not
+-- end with the greatest one.
 abbrev pub leave_none_out : TagValues → List (List CaseRange) → Bool
 leave_none_out t all = is_labelled all t.low && list_all (λ ranges. list_all (goes_on t all) ranges) all
 
 -- so it is, unless a variant completes the others; of labels that are not built it is not known yet
 abbrev pub completed : TagValues → Labels → Bool → Judged (Unit {0})
-completed t found completes = if completes || not found.built || leave_none_out t found.before then Accepts tt else mislabelled
+completed t found completes =
+    if completes || not found.built || leave_none_out t found.before then Accepts tt else mislabelled

@@ -1,5 +1,6 @@
 -- Which typed unit a program is, or where it first breaks a rule.
-use Rattle.std.specs.Prelude.{◌≡◌, ℕ, Bool, true, false, List, [], ◌∷◌, ◌++◌, map, codes, Option, Some, None, IsTrue, if◌then◌else◌}
+use Rattle.std.specs.Prelude.{◌≡◌, ℕ, Bool, true, false, List, [], ◌∷◌, ◌++◌, map, codes, Option, Some, None, IsTrue}
+use Rattle.std.specs.Prelude.{if◌then◌else◌}
 use Rattle.std.specs.List.{list_any}
 use Rattle.std.specs.Str.{bytes_eq}
 use Rattle.ep_tree.specs.declared.component.Component.{Component}
@@ -25,7 +26,9 @@ use Rattle.ep_check_unit.specs.declared.block.Forward.{Forward}
 
 -- the standard file of a program parameter
 abbrev pub standard_file : List ℕ → Option StandardFile
-standard_file name = if bytes_eq name (codes "input") then Some file.Input else (if bytes_eq name (codes "output") then Some file.Output else None)
+standard_file name =
+    if bytes_eq name (codes "input") then Some file.Input
+    else (if bytes_eq name (codes "output") then Some file.Output else None)
 
 -- a parameter is entered in the scope of the block, to which the block's declarations belong too
 abbrev pub parameter_entered : List ℕ → Option StandardFile → Block → Judged Block
@@ -34,12 +37,26 @@ parameter_entered name (Some f) b = entered name (thing.Standard f) b
 
 abbrev pub parameters_entered : List (List ℕ) → Block → Judged Block
 parameters_entered [] b = Accepts b
-parameters_entered (name ∷ names) b = when_accepted (parameters_entered names) (parameter_entered name (standard_file name) b)
+parameters_entered (name ∷ names) b =
+    when_accepted (parameters_entered names) (parameter_entered name (standard_file name) b)
 
 -- nothing is declared yet in the block of a unit, which has `output` as a parameter or has not
 abbrev pub first_block : List ℕ → Bool → Block
 first_block name output =
-    record { unit = name; output = output; scopes = row_of []; types = []; constants = []; variables = []; declarations = 0; own = record { parameters = []; result = None; variables = []; enclosing = [] }; routines = []; forwards = []; bodies = []; waits = None }
+    record {
+      unit = name;
+      output = output;
+      scopes = row_of [];
+      types = [];
+      constants = [];
+      variables = [];
+      declarations = 0;
+      own = record { parameters = []; result = None; variables = []; enclosing = [] };
+      routines = [];
+      forwards = [];
+      bodies = [];
+      waits = None;
+    }
 
 -- ---- programs
 
@@ -61,7 +78,8 @@ abbrev pub first_missing : List Forward → List ℕ → Option ℕ
 first_missing [] bodies = None
 first_missing (f ∷ fs) bodies = if has_number f.number bodies then first_missing fs bodies else Some f.line
 
--- A routine that is declared `forward` has a body (ISO 10206, 6.7.1 and 6.7.2). It is tested only where all items break no other rule (own).
+-- A routine that is declared `forward` has a body (ISO 10206, 6.7.1 and 6.7.2). It is tested only where all items
+-- break no other rule (own).
 abbrev pub unless_missing : {A : Type 0} → Option ℕ → Judgement A → Judgement A
 unless_missing None row = row
 unless_missing (Some line) (Passes form) = Fails line (rule.NO_BODY ∷ [])
@@ -78,11 +96,15 @@ program_form b ss = record { block = b; statements = ss }
 
 -- the declarations, then the statements, and then the `forward` declarations once more
 abbrev pub body_judged : Program → Standing → Judgement ProgramForm
-body_judged p (Stands b) = unless_missing (first_missing b.forwards b.bodies) (after program_form (declarations_wait b b.waits) (statements_judged b p.body))
+body_judged p (Stands b) =
+    unless_missing (first_missing b.forwards b.bodies)
+    (after program_form (declarations_wait b b.waits) (statements_judged b p.body))
 body_judged p (Falls line rules) = Fails line rules
 
 abbrev pub program_judged : Program → Judgement ProgramForm
-program_judged p = body_judged p (and_then (parts_declared p.parts) (at_line p.line (parameters_entered p.parameters (program_block p))))
+program_judged p =
+    body_judged p
+    (and_then (parts_declared p.parts) (at_line p.line (parameters_entered p.parameters (program_block p))))
 
 -- no module is built
 abbrev pub component_judged : Component → Judgement ProgramForm
@@ -107,7 +129,8 @@ import_if false interface = []
 -- in this order, whatever the order of the parameters
 abbrev pub imports_of : List (List ℕ) → List ImportSpec
 imports_of names =
-    import_if (has_name (codes "input") names) (standard_interface file.Input) ++ import_if (has_name (codes "output") names) (standard_interface file.Output)
+    import_if (has_name (codes "input") names) (standard_interface file.Input)
+    ++ import_if (has_name (codes "output") names) (standard_interface file.Output)
 
 -- the typed unit of a program of this form
 pub record IsUnitOf (p : Program) (form : ProgramForm) (u : TypedUnit) : Type 0 where

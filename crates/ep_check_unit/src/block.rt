@@ -12,8 +12,14 @@ use crate::sets::set_denoter;
 use crate::types::{Written, host_type, type_denoter};
 use ep_base::{Line, List, Name, NoMemory};
 use ep_rules::Refusal;
-use ep_scope::{Declaration, Declared, FormalParameters, Host, Kind, ScopeRefusal, Scopes, Thing, WrittenType, rule};
-use ep_typed::{ConstantEntries, ConstantEntry, Denoter, ImportSpecs, TypeEntry, TypedStmt, TypedStmts, Unit, UnitRoutine, UnitType, UnitTypes, UnitVariables, Value};
+use ep_scope::{
+    Declaration, Declared, FormalParameters, Host, Kind, ScopeRefusal, Scopes, Thing, WrittenType,
+    rule,
+};
+use ep_typed::{
+    ConstantEntries, ConstantEntry, Denoter, ImportSpecs, TypeEntry, TypedStmt, TypedStmts, Unit,
+    UnitRoutine, UnitType, UnitTypes, UnitVariables, Value,
+};
 use std::alloc::{AllocError, Global};
 
 /// What has been declared so far in the block of a unit.

@@ -61,7 +61,8 @@ fn field_type(
 
 /// The values that members of a set type may have, by its own denoter, whatever it begins with.
 fn base_values(types: &[UnitType], denoter: &Denoter) -> Result<TagValues, Refusal>
-    ensures { AnswersForm (λ t. t) result (values_of host.Integer (spec.base_value types.now (denoter_of denoter.now))) }
+    ensures { AnswersForm (λ t. t) result
+        (values_of host.Integer (spec.base_value types.now (denoter_of denoter.now))) }
 {
     match denoter {
         Denoter::Set(base) => match base.get() {

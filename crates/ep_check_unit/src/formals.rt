@@ -12,7 +12,10 @@ use crate::block::{Block, number};
 use crate::types::{NamedType, type_denoter};
 use ep_base::{List, Name, NoMemory};
 use ep_rules::Refusal;
-use ep_scope::{Declaration, FormalParameter, FormalParameters, Kind, WrittenType, protection_of, rule, same_parameters};
+use ep_scope::{
+    Declaration, FormalParameter, FormalParameters, Kind, WrittenType, protection_of, rule,
+    same_parameters,
+};
 use ep_tree::{FormalSection, FormalType, QualifiedName};
 use ep_typed::{Formal, FormalMode, Formals};
 use std::alloc::Global;

@@ -14,9 +14,14 @@ ghost use Rattle.ep_scope.specs.Meanings.{meant_by};
 use crate::block::{Block, OwnResult, has_number};
 use crate::types::type_denoter;
 use ep_base::{Line, List, Name, NoMemory};
-use ep_check_stmt::{CheckRefusal, Entire, FunctionResult, Outcome, assigns, inner_threatens, refused_at, threatens};
+use ep_check_stmt::{
+    CheckRefusal, Entire, FunctionResult, Outcome, assigns, inner_threatens, refused_at, threatens,
+};
 use ep_rules::Refusal;
-use ep_scope::{Declaration, FormalParameters, Kind, Meaning, Protection, WrittenType, meaning_of, rule, same_type};
+use ep_scope::{
+    Declaration, FormalParameters, Kind, Meaning, Protection, WrittenType, meaning_of, rule,
+    same_type,
+};
 use ep_tree::{Compound, Part, QualifiedName, Routine, RoutineBody};
 use ep_typed::{RoutineResult, TypedStmt, TypedStmts, UnitRoutine};
 use std::alloc::{AllocError, Global};

@@ -20,7 +20,9 @@ use ep_check_expr::{ConstantForm, constant_expression_value};
 use ep_rules::Refusal;
 use ep_scope::{Host, Kind, TypeName, View, rule, same_host};
 use ep_tree::{Expression, Label};
-use ep_typed::{Bound, CaseRange, CaseRanges, Denoter, RequiredType, UnitType, Value, VariantLabels};
+use ep_typed::{
+    Bound, CaseRange, CaseRanges, Denoter, RequiredType, UnitType, Value, VariantLabels,
+};
 use std::alloc::Global;
 use std::mem;
 

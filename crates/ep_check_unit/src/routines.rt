@@ -13,7 +13,9 @@ use crate::block::{Block, Forward, OwnVariables, number};
 use crate::functions::if_given;
 use crate::headings::{Heading, start_name};
 use ep_base::{Line, Name, NoMemory};
-use ep_check_stmt::{CheckRefusal, Context, Locals, Outcome, assigns_tag, has_for, has_for_in, refused_at};
+use ep_check_stmt::{
+    CheckRefusal, Context, Locals, Outcome, assigns_tag, has_for, has_for_in, refused_at,
+};
 use ep_rules::Refusal;
 use ep_scope::View;
 use ep_tree::{Compound, Part, Routine, RoutineBody, RoutineStart};

@@ -19,8 +19,14 @@ use crate::variants::{Gathered, variant_list};
 use ep_base::{Boxed, Line, List, Name, Names, NoMemory};
 use ep_check_expr::{ConstantForm, bound_value};
 use ep_rules::{Refusal, undeclared};
-use ep_scope::{ArrayType, Composition, Declaration, Enumeration, Host, Kind, Meaning, Required, StructuredType, TypeName, WrittenType, meaning_in, meaning_of, rule, same_host};
-use ep_tree::{Core, Expression, FieldSection, Fields, Plain, QualifiedName, Structure, TypeDenoter, Variant, VariantPart};
+use ep_scope::{
+    ArrayType, Composition, Declaration, Enumeration, Host, Kind, Meaning, Required,
+    StructuredType, TypeName, WrittenType, meaning_in, meaning_of, rule, same_host,
+};
+use ep_tree::{
+    Core, Expression, FieldSection, Fields, Plain, QualifiedName, Structure, TypeDenoter, Variant,
+    VariantPart,
+};
 use ep_typed::{Bound, Denoter, RequiredType, Value};
 use std::alloc::Global;
 

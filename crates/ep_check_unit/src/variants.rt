@@ -17,7 +17,10 @@ use ep_base::{Boxed, Line, List, Name, NoMemory};
 use ep_rules::Refusal;
 use ep_scope::{FieldType, FieldTypes, Kind, TagType, VariantPath, VariantStep, rule};
 use ep_tree::{Label, VariantSelector};
-use ep_typed::{CaseRange, CaseRanges, FieldPart, Selection, Selector, Shared, Variant, VariantLabels, VariantPart, Variants};
+use ep_typed::{
+    CaseRange, CaseRanges, FieldPart, Selection, Selector, Shared, Variant, VariantLabels,
+    VariantPart, Variants,
+};
 use std::alloc::Global;
 
 /// The tag of a variant part that is written.

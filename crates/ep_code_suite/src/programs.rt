@@ -5,7 +5,10 @@ use crate::typed_trees::{Row, are, unit_of};
 use ep_base::{Boxed, Line, List, Name};
 use ep_gen_unit::{laws_of_programs, program_code};
 use ep_object::{Object, op};
-use ep_typed::{Bound, Denoter, RequiredType, TypeEntry, Unit, UnitType, UnitTypes, UnitVariable, UnitVariables, Value, laws_of_denoters, unit_nodes};
+use ep_typed::{
+    Bound, Denoter, RequiredType, TypeEntry, Unit, UnitType, UnitTypes, UnitVariable,
+    UnitVariables, Value, laws_of_denoters, unit_nodes,
+};
 use std::alloc::Global;
 use std::test::Fail;
 

@@ -8,8 +8,8 @@ use ep_gen_code::Code;
 use ep_gen_expr::{expression_code, laws_of_code};
 use ep_gen_unit::{laws_of_statements, statement_code};
 use ep_object::{Instr, op};
-use ep_values::{Binary, Print, Unary, run_error};
 use ep_typed::{TypedStmt, Unit, UnitTypes, UnitVariables};
+use ep_values::{Binary, Print, Unary, run_error};
 use std::alloc::Global;
 use std::test::Fail;
 

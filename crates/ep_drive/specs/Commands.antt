@@ -29,12 +29,16 @@ pub record IsTicks (text : List ℕ) (ticks : ℕ) : Type 0 where
 pub data IsWordRow : List (List ℕ) → List ℕ → List (List ℕ) → Type 0 where
   nothing : IsWordRow [] [] []
   -- the number is the word that follows
-  option : {word text : List ℕ} {n : ℕ} {words sources : List (List ℕ)} {ticks : List ℕ} → word ≡ codes "--ticks" → IsTicks text n → IsWordRow words ticks sources → IsWordRow (word ∷ text ∷ words) (n ∷ ticks) sources
+  option : {word text : List ℕ} {n : ℕ} {words sources : List (List ℕ)} {ticks : List ℕ} → word ≡ codes "--ticks"
+      → IsTicks text n → IsWordRow words ticks sources → IsWordRow (word ∷ text ∷ words) (n ∷ ticks) sources
   -- the number stands behind an equals sign
-  joined : {word : List ℕ} (text : List ℕ) {n : ℕ} {words sources : List (List ℕ)} {ticks : List ℕ} → word ≡ codes "--ticks=" ++ text → IsTicks text n → IsWordRow words ticks sources → IsWordRow (word ∷ words) (n ∷ ticks) sources
+  joined : {word : List ℕ} (text : List ℕ) {n : ℕ} {words sources : List (List ℕ)} {ticks : List ℕ}
+      → word ≡ codes "--ticks=" ++ text → IsTicks text n → IsWordRow words ticks sources
+      → IsWordRow (word ∷ words) (n ∷ ticks) sources
   -- the options end, and all words that follow are sources
   ended : {word : List ℕ} {words : List (List ℕ)} → word ≡ codes "--" → IsWordRow (word ∷ words) [] words
-  named : {word : List ℕ} {words sources : List (List ℕ)} {ticks : List ℕ} → is_option word ≡ false → IsWordRow words ticks sources → IsWordRow (word ∷ words) ticks (word ∷ sources)
+  named : {word : List ℕ} {words sources : List (List ℕ)} {ticks : List ℕ} → is_option word ≡ false
+      → IsWordRow words ticks sources → IsWordRow (word ∷ words) ticks (word ∷ sources)
 
 -- the ticks of a run where no option says how many
 abbrev pub usual_budget : ℕ

@@ -39,7 +39,8 @@ answer_line (end.Broken pc) = end_line (Broken pc)
 answer_line end.Budget = Some budget_line
 answer_line _ = None
 
--- All events of the run were done and the answer is where it stands, or a write had a fault and a part of them was done, or memory is wanting and some first ones were.
+-- All events of the run were done and the answer is where it stands, or a write had a fault and a part of them was
+-- done, or memory is wanting and some first ones were.
 abbrev pub CameTo : End → Going → Outside → Outside → Type 0
 CameTo end.ReadFault g old new = ⊥
 CameTo end.FileFault g old new = ⊥

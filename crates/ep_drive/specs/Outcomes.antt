@@ -16,7 +16,8 @@ end_status (Broken place) = status.BrokenImage
 
 -- the line that reports an error of a run
 abbrev pub error_line : ℕ → List ℕ → ℕ → List ℕ
-error_line number unit line = codes "error " ++ decimal number ++ codes " in " ++ unit ++ codes " at line " ++ decimal line ++ codes "\n"
+error_line number unit line =
+    codes "error " ++ decimal number ++ codes " in " ++ unit ++ codes " at line " ++ decimal line ++ codes "\n"
 
 -- the line that reports such an end, where there is one
 abbrev pub end_line : End → Option (List ℕ)
@@ -52,7 +53,8 @@ IsReportedPart None old new = ⊥
 IsReportedPart (Some line) old new = AppendsFront old new line
 
 -- a status with its whole line, a fault with a front of the line, or no memory with none of it
-pub data IsToldAs (own : Status) (line : Option (List ℕ)) (answer : Status) (old new : Option (List ℕ)) (m n : ℕ) : Type 0 where
+pub data IsToldAs (own : Status) (line : Option (List ℕ)) (answer : Status) (old new : Option (List ℕ)) (m n : ℕ) :
+    Type 0 where
   whole : answer ≡ own → IsReported line old new → IsToldAs own line answer old new m n
   fault : answer ≡ status.WriteFault → IsReportedPart line old new → m < n → IsToldAs own line answer old new m n
   nothing : answer ≡ status.NoMemory → Keeps old new → IsToldAs own line answer old new m n

@@ -29,7 +29,8 @@ pub record IsProgram (component : Component) (unit : TypedUnit) : Type 0 where
   pub typed : IsTyped component unit
   pub small : unit_nodes unit ≤ node_limit
 
--- the typed form of the component has this name and more nodes than a unit may have, which are told as far as a number of 64 bits goes
+-- the typed form of the component has this name and more nodes than a unit may have, which are told as far as a number
+-- of 64 bits goes
 pub record IsTooLarge (component : Component) (name : List ℕ) (nodes : ℕ) : Type 0 where
   pub unit : TypedUnit
   pub typed : IsTyped component unit
@@ -61,7 +62,8 @@ abbrev pub components_unbuilt : List Component → Option ℕ
 components_unbuilt [] = None
 components_unbuilt (component ∷ components) = option_or (component_unbuilt component) (second_line components)
 
--- the text has tokens, which derive components, and this is the line of their first node that is not built, if there is one
+-- the text has tokens, which derive components, and this is the line of their first node that is not built, if there
+-- is one
 pub record HasUnbuilt (text : List ℕ) (line : Option ℕ) : Type 0 where
   pub tokens : List Token
   pub are_tokens : Tokens text tokens

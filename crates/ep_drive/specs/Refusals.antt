@@ -91,7 +91,9 @@ IsOutside text (source.NotBuilt line) = ⊥
 IsOutside text (source.Broken b) = ⊥
 IsOutside text (source.TooLarge name nodes) = ⊥
 
--- The component, all of whose nodes are built, is ruled out so: its first item that breaks a static rule begins on this line and the rule fails there; or it breaks none, and its first item that is accepted and not built begins on this line; or its unit has too many nodes.
+-- The component, all of whose nodes are built, is ruled out so: its first item that breaks a static rule begins on
+-- this line and the rule fails there; or it breaks none, and its first item that is accepted and not built begins on
+-- this line; or its unit has too many nodes.
 abbrev pub RulesOut : Component → SourceRefusal → Type 0
 RulesOut component (source.Broken b) = BreaksAt component b.rule b.line
 RulesOut component (source.NotBuilt line) = WaitsAt component line
@@ -102,7 +104,8 @@ RulesOut component _ = ⊥
 abbrev pub IsRuledOut : List ℕ → SourceRefusal → Type 0
 IsRuledOut text why = HasBuilt text (λ component. RulesOut component why)
 
--- the text is refused so: it is outside the language, or its first node that is not built begins on this line, or it is ruled out
+-- the text is refused so: it is outside the language, or its first node that is not built begins on this line, or it
+-- is ruled out
 abbrev pub IsRefusedText : List ℕ → SourceRefusal → Type 0
 IsRefusedText text (source.NotBuilt line) = HasUnbuilt text (Some line) ⊎ IsRuledOut text (source.NotBuilt line)
 IsRefusedText text (source.Broken b) = IsRuledOut text (source.Broken b)

@@ -4,7 +4,8 @@ use Rattle.ep_drive.specs.Seen.{Seen}
 use Rattle.ep_drive.specs.declared.status.Status.{Status}
 use Rattle.ep_drive.specs.declared.status.Status.TheVariants as status
 
--- a job came to its end or to the end of its budget; the call was refused; a call of the outside had a fault; memory is wanting
+-- a job came to its end or to the end of its budget; the call was refused; a call of the outside had a fault; memory
+-- is wanting
 pub data Kind : Type 0 where
   Finished : Kind
   Refused : Kind
@@ -35,6 +36,7 @@ IsStop answer = (kind_of answer ≡ Faulted) ⊎ (kind_of answer ≡ Starved)
 -- a fault that the status names was counted
 abbrev pub Rose : Status → Seen → Seen → Type 0
 Rose status.ReadFault before after = before.input_faults < after.input_faults
-Rose status.WriteFault before after = (before.output_faults < after.output_faults) ⊎ (before.report_faults < after.report_faults)
+Rose status.WriteFault before after =
+    (before.output_faults < after.output_faults) ⊎ (before.report_faults < after.report_faults)
 Rose status.FileFault before after = before.file_faults < after.file_faults
 Rose _ before after = ⊤

@@ -1,5 +1,6 @@
 -- The command of a list of words, word by word from the left, as the reader finds it.
-use Rattle.std.specs.Prelude.{◌≡◌, ℕ, ◌^◌, ◌&&◌, ◌==◌, nat_lt, nat_le, if◌then◌else◌, List, [], ◌∷◌, length, codes, Option, Some, None, is_some, unwrap_or}
+use Rattle.std.specs.Prelude.{◌≡◌, ℕ, ◌^◌, ◌&&◌, ◌==◌, nat_lt, nat_le, if◌then◌else◌, List, [], ◌∷◌, length, codes}
+use Rattle.std.specs.Prelude.{Option, Some, None, is_some, unwrap_or}
 use Rattle.std.specs.Char.{is_ascii_digit}
 use Rattle.std.specs.List.{list_all}
 use Rattle.std.specs.Option.{option_map}
@@ -100,4 +101,5 @@ read_row words = take_words nothing_taken words >>= asked
 -- the command of all words
 abbrev pub read_words : List (List ℕ) → Option Command
 read_words [] = None
-read_words (word ∷ words) = if bytes_eq word (codes "go") && nat_lt (length (word ∷ words)) (2 ^ 32) then read_row words else None
+read_words (word ∷ words) =
+    if bytes_eq word (codes "go") && nat_lt (length (word ∷ words)) (2 ^ 32) then read_row words else None

@@ -5,7 +5,10 @@ ghost use Rattle.ep_object.specs.Placing.{alone, first_placement, first_span, mo
 ghost use Rattle.ep_drive.specs.Images.{placed_in, placements_in};
 
 use ep_base::{List, NoMemory};
-use ep_object::{CodeRoutine, Image, ImageRoutine, ImageRoutines, ImageUnit, Instr, Instrs, Object, Reference, op};
+use ep_object::{
+    CodeRoutine, Image, ImageRoutine, ImageRoutines, ImageUnit, Instr, Instrs, Object, Reference,
+    op,
+};
 use std::alloc::Global;
 
 /// The number of what is not there.

@@ -1,5 +1,6 @@
 -- Declarations that hold what scopes declare, under which typed forms are valid.
-use Rattle.std.specs.Prelude.{◌≡◌, ℕ, pos, Bool, true, All, List, [], ◌∷◌, ◌++◌, Option, Some, None, IsTrue, int_le, ⊤, ℤ, if◌then◌else◌}
+use Rattle.std.specs.Prelude.{◌≡◌, ℕ, pos, Bool, true, All, List, [], ◌∷◌, ◌++◌, Option, Some, None, IsTrue, int_le, ⊤}
+use Rattle.std.specs.Prelude.{ℤ, if◌then◌else◌}
 use Rattle.ep_typed.specs.Denoters.{ArrayParts, array_of, base_of, denoter_at, host_of, record_of, bare_type_of}
 use Rattle.ep_typed.specs.Hosts.{greatest, is_of_host, least}
 use Rattle.ep_typed.specs.Hosts as typed
@@ -7,8 +8,13 @@ use Rattle.ep_values.specs.Operations.{maxint}
 use Rattle.ep_values.specs.Sets.{IsSet, are_between}
 use Rattle.ep_typed.specs.Selections.{variant_number}
 use Rattle.ep_typed.specs.Trees as tree
-use Rattle.ep_typed.specs.Trees.{Denoter, Denoters, Named, Record, no_denoter, next_denoter, Callee, Place, Variable, Field, entire, Expr, Constant, Text, Read, One, Two, Short, Step, Function, IndexedValue, FieldValue, VariantValue, SetConstant, SetOf, OnSets, Card, Actual, actuals}
-use Rattle.ep_meaning.specs.Valid.{Declarations, AreGiven, IsCallee, IsDenoter, IsFunction, IsOfKind, IsPlace, IsPlaceWhere, IsExpr, IsProcedure, IsSelection, IsSetOf, IsStartFor, IsStructured, IsTagged, IsTypeOf, IsVariableOf, tag_type}
+use Rattle.ep_typed.specs.Trees.{Denoter, Denoters, Named, Record, no_denoter, next_denoter, Callee, Place, Variable}
+use Rattle.ep_typed.specs.Trees.{Field, entire, Expr, Constant, Text, Read, One, Two, Short, Step, Function}
+use Rattle.ep_typed.specs.Trees.{IndexedValue, FieldValue, VariantValue, SetConstant, SetOf, OnSets, Card, Actual}
+use Rattle.ep_typed.specs.Trees.{actuals}
+use Rattle.ep_meaning.specs.Valid.{Declarations, AreGiven, IsCallee, IsDenoter, IsFunction, IsOfKind, IsPlace}
+use Rattle.ep_meaning.specs.Valid.{IsPlaceWhere, IsExpr, IsProcedure, IsSelection, IsSetOf, IsStartFor, IsStructured}
+use Rattle.ep_meaning.specs.Valid.{IsTagged, IsTypeOf, IsVariableOf, tag_type}
 use Rattle.ep_meaning.specs.Valid as valid
 use Rattle.ep_typed.specs.Viewed.{constant_expr, denoter_of}
 use Rattle.ep_typed.specs.declared.interface.Formal.{Formal}
@@ -106,11 +112,13 @@ IsStructuredDenoter list d n = (s : Structure) × HasStructure list d s × HasSt
 abbrev pub IsValueOf : TypeValues → ℕ → TypeValue → Type 0
 IsValueOf types n t = (types (type_name.Entry n) ≡ Some t) × IsStructured t
 
--- Under a list of types the constant is of its kind: that of the empty set is one over each host, and what an array or a record
+-- Under a list of types the constant is of its kind: that of the empty set is one over each host, and what an array or
+-- a record
 -- is given may begin the one type value of its type.
 abbrev pub IsConstantOf : TypeValues → List UnitType → Kind → Value → Type 0
 IsConstantOf types list (kind.Ordinal h) (value.Word z) = IsHost h × IsTrue (is_of_host (typed_host h) z)
-IsConstantOf types list (kind.Structured n) (value.Structured of es) = (t : TypeValue) × IsValueOf types n t × IsStartFor list t (constant_expr (value.Structured of es))
+IsConstantOf types list (kind.Structured n) (value.Structured of es) =
+    (t : TypeValue) × IsValueOf types n t × IsStartFor list t (constant_expr (value.Structured of es))
 IsConstantOf types list (kind.Set h) (value.Set ms) = IsHost h × IsSetOver (typed_host h) ms
 IsConstantOf types list kind.EmptySet (value.Set ms) = (h : typed.Host) → IsSetOver h ms
 IsConstantOf types list kind.Text (value.Text bytes) = ⊤
@@ -124,8 +132,10 @@ IsConstantIf built types list k v = IsConstantOf types list k v
 -- the denoter is one of the kind; none is of a string type or of a file type so far
 abbrev pub HasKind : TypeValues → List UnitType → Denoter → Kind → Type 0
 HasKind types list d (kind.Ordinal h) = IsHost h × (host_of list d ≡ Some (typed_host h))
-HasKind types list d (kind.Structured n) = IsStructuredDenoter list d n × ((t : TypeValue) × IsValueOf types n t × (bare_type_of list d ≡ Some t))
-HasKind types list d (kind.Set h) = IsHost h × ((base : Denoter) × (base_of list d ≡ Some base) × (host_of list base ≡ Some (typed_host h)))
+HasKind types list d (kind.Structured n) =
+    IsStructuredDenoter list d n × ((t : TypeValue) × IsValueOf types n t × (bare_type_of list d ≡ Some t))
+HasKind types list d (kind.Set h) =
+    IsHost h × ((base : Denoter) × (base_of list d ≡ Some base) × (host_of list base ≡ Some (typed_host h)))
 HasKind types list d kind.EmptySet = ⊥
 HasKind types list d kind.Text = ⊥
 HasKind types list d kind.File = ⊥
@@ -133,12 +143,16 @@ HasKind types list d kind.File = ⊥
 -- ---- type values of structured types
 -- the components are those of a record whose variants a tag of an ordinal type selects so
 abbrev pub HasTagValue : Selection → ComponentTypes → Type 0
-HasTagValue s ts = (h : typed.Host) × (low high : ℤ) × IsTypeOf h (type.Ordinal low high) × (type_among ts s.tag ≡ Some (tag_type low high))
+HasTagValue s ts =
+    (h : typed.Host) × (low high : ℤ) × IsTypeOf h (type.Ordinal low high)
+    × (type_among ts s.tag ≡ Some (tag_type low high))
 
 -- this holds of the components of the variant to which these steps lead from a record with these components
 abbrev pub IsValueAlong : (ComponentTypes → Type 0) → List VariantStep → ComponentTypes → Type 0
 IsValueAlong Holds [] ts = Holds ts
-IsValueAlong Holds (s ∷ path) ts = HasTagValue s.selection ts × (inner : ComponentTypes) × (type_among ts (variant_number s.selection s.variant) ≡ Some (type.Record inner)) × IsValueAlong Holds path inner
+IsValueAlong Holds (s ∷ path) ts =
+    HasTagValue s.selection ts × (inner : ComponentTypes)
+    × (type_among ts (variant_number s.selection s.variant) ≡ Some (type.Record inner)) × IsValueAlong Holds path inner
 
 module _ (types : TypeValues) where
   -- the type value is one of the kind; none is of a string type or of a file type so far
@@ -152,12 +166,16 @@ module _ (types : TypeValues) where
 
   -- it is that of an array with an index type of this host and these bounds, and components of their kind
   abbrev pub IsArrayValue : ArrayType → TypeValue → Type 0
-  IsArrayValue a t = (of : TypeValue) × (t ≡ type.Array a.low a.high of) × IsTypeOf (typed_host a.index) (type.Ordinal a.low a.high) × IsValueOfKind a.kind of
+  IsArrayValue a t =
+      (of : TypeValue) × (t ≡ type.Array a.low a.high of) × IsTypeOf (typed_host a.index) (type.Ordinal a.low a.high)
+      × IsValueOfKind a.kind of
 
   -- the component of this number is of the kind; a tag is the one component of a record that has the number
   abbrev pub IsPartValue : Option TagType → ℕ → Kind → ComponentTypes → Type 0
   IsPartValue None number k ts = (t : TypeValue) × (type_among ts number ≡ Some t) × IsValueOfKind k t
-  IsPartValue (Some tag) number k ts = (t : TypeValue) × (type_among ts number ≡ Some (type.Record (type.next_component t type.no_component))) × IsValueOfKind k t
+  IsPartValue (Some tag) number k ts =
+      (t : TypeValue) × (type_among ts number ≡ Some (type.Record (type.next_component t type.no_component)))
+      × IsValueOfKind k t
 
   -- so is that of a field, in the variant to which its steps lead
   abbrev pub IsFieldValue : FieldType → ComponentTypes → Type 0
@@ -175,30 +193,38 @@ module _ (types : TypeValues) where
 module _ (types : TypeValues) (list : List UnitType) where
   -- the denoter is one of this type and kind
   abbrev pub IsDenoterOf : TypeName → Kind → Denoter → Type 0
-  IsDenoterOf of k d = HasKind types list d k × ((v : TypeValue) × (types of ≡ Some v) × (bare_type_of list d ≡ Some v))
+  IsDenoterOf of k d =
+      HasKind types list d k × ((v : TypeValue) × (types of ≡ Some v) × (bare_type_of list d ≡ Some v))
 
   -- an array has an index type of its host, and components of their type and kind
   abbrev pub IsArrayOf : ArrayType → ArrayParts → Type 0
-  IsArrayOf a p = IsHost a.index × (host_of list p.index ≡ Some (typed_host a.index)) × IsDenoterOf a.component a.kind p.component
+  IsArrayOf a p =
+      IsHost a.index × (host_of list p.index ≡ Some (typed_host a.index)) × IsDenoterOf a.component a.kind p.component
 
-  -- The components are those of a record, or of a variant, whose variants a tag with this denoter selects: its type is of the
+  -- The components are those of a record, or of a variant, whose variants a tag with this denoter selects: its type is
+  -- of the
   -- host, and has these bounds (ISO 10206, 6.4.3.4).
   abbrev pub Selects : TagType → Denoter → Denoters → Type 0
   Selects tag d ds =
-      (declared : Declarations) → (s : IsSelection declared list ds tag.selection) × (s.tag ≡ d) × (s.host ≡ typed_host tag.host) × (bare_type_of list d ≡ Some (type.Ordinal tag.low tag.high))
+      (declared : Declarations)
+      → (s : IsSelection declared list ds tag.selection) × (s.tag ≡ d) × (s.host
+      ≡ typed_host tag.host) × (bare_type_of list d ≡ Some (type.Ordinal tag.low tag.high))
 
-  -- The component of this number is of the type and kind. A tag is the one component of a record that has the number, and
+  -- The component of this number is of the type and kind. A tag is the one component of a record that has the number,
+  -- and
   -- selects the variants behind it.
   abbrev pub IsPartOf : Option TagType → ℕ → TypeName → Kind → Denoters → Type 0
   IsPartOf None number of k ds = (d : Denoter) × (denoter_at ds number ≡ Some d) × IsDenoterOf of k d
   IsPartOf (Some tag) number of k ds =
-      (d : Denoter) × (denoter_at ds number ≡ Some (Record (next_denoter d no_denoter))) × IsDenoterOf of k d × (tag.selection.tag ≡ number) × Selects tag d ds
+      (d : Denoter) × (denoter_at ds number ≡ Some (Record (next_denoter d no_denoter))) × IsDenoterOf of k d
+      × (tag.selection.tag ≡ number) × Selects tag d ds
 
   -- this holds of the components of the variant to which these steps lead from a record with these components
   abbrev pub IsAlong : (Denoters → Type 0) → List VariantStep → Denoters → Type 0
   IsAlong Holds [] ds = Holds ds
   IsAlong Holds (s ∷ path) ds =
-      ((declared : Declarations) → IsSelection declared list ds s.selection) × (inner : Denoters) × (denoter_at ds (variant_number s.selection s.variant) ≡ Some (Record inner)) × IsAlong Holds path inner
+      ((declared : Declarations) → IsSelection declared list ds s.selection) × (inner : Denoters)
+      × (denoter_at ds (variant_number s.selection s.variant) ≡ Some (Record inner)) × IsAlong Holds path inner
 
   -- a record with these components has the field
   abbrev pub IsFieldOf : Denoters → FieldType → Type 0
@@ -226,11 +252,14 @@ module _ (types : TypeValues) (list : List UnitType) where
 abbrev pub AreHeld : TypeValues → List StructuredType → Type 0
 AreHeld types structures = (list : List UnitType) × All (HoldsStructure types list) structures
 
--- In the list of types of the unit in whose code it is named, the structured type is valid under its number, with the one type
+-- In the list of types of the unit in whose code it is named, the structured type is valid under its number, with the
+-- one type
 -- value that it has without initial states, and the list holds it.
 abbrev pub IsListed : Declarations → TypeValues → StructuredType → Type 0
 IsListed declared types s =
-    (d : IsDenoter declared.routine_types (Named s.number [])) × (types (type_name.Entry s.number) ≡ Some (bare_of d.type_value)) × HoldsStructure types declared.routine_types s
+    (d : IsDenoter declared.routine_types (Named s.number []))
+    × (types (type_name.Entry s.number) ≡ Some (bare_of d.type_value))
+    × HoldsStructure types declared.routine_types s
 
 -- the structured types of the scopes in view
 abbrev pub structures_of : List Region → List StructuredType
@@ -258,11 +287,15 @@ module _ (declared : Declarations) where
 
 -- where each type has one type value wherever it is named, and these structured types are in view
 module _ (declared : Declarations) (types : TypeValues) (structures : List StructuredType) where
-  -- the place is that of a variable of the structured type of this number, under a list of types that holds the structured types
+  -- the place is that of a variable of the structured type of this number, under a list of types that holds the
+  -- structured types
   abbrev pub IsStructuredAt : ℕ → Place → Type 0
-  IsStructuredAt n place = IsPlaceWhere declared (λ list d. HasKind types list d (kind.Structured n) × All (HoldsStructure types list) structures) place
+  IsStructuredAt n place =
+      IsPlaceWhere declared
+      (λ list d. HasKind types list d (kind.Structured n) × All (HoldsStructure types list) structures) place
 
-  -- the place is that of a variable that is declared, with a type of this kind; there are no variables of string types so far
+  -- the place is that of a variable that is declared, with a type of this kind; there are no variables of string types
+  -- so far
   abbrev pub IsStoredIn : Place → Kind → Type 0
   IsStoredIn place (kind.Ordinal h) = IsHost h × IsPlace declared (typed_host h) place
   IsStoredIn place (kind.Structured n) = IsStructuredAt n place
@@ -273,9 +306,11 @@ module _ (declared : Declarations) (types : TypeValues) (structures : List Struc
 
   -- The expression is one of the type value of this number, with the structured types in view.
   abbrev pub IsStructuredValue : ℕ → Expr → Type 0
-  IsStructuredValue n x = ((t : TypeValue) × IsValueOf types n t × IsExpr declared (valid.Structured t) x) × AreHeld types structures
+  IsStructuredValue n x =
+      ((t : TypeValue) × IsValueOf types n t × IsExpr declared (valid.Structured t) x) × AreHeld types structures
 
-  -- The expression has a value of the structured type of this number: it is read of a variable of that type, or a function is called whose result is of that type, or it is a component of that type of such a value.
+  -- The expression has a value of the structured type of this number: it is read of a variable of that type, or a
+  -- function is called whose result is of that type, or it is a component of that type of such a value.
   abbrev pub IsStructuredForm : ℕ → Expr → Type 0
   IsStructuredForm n (Constant z) = ⊥
   IsStructuredForm n (Text bytes) = ⊥
@@ -316,7 +351,8 @@ module _ (declared : Declarations) (types : TypeValues) where
 
   -- the place is that of a record whose variants the tag selects
   abbrev pub IsTaggedBy : TagType → Place → Type 0
-  IsTaggedBy tag place = IsPlaceWhere declared (IsTagged declared (typed_host tag.host) tag.low tag.high tag.selection) place
+  IsTaggedBy tag place =
+      IsPlaceWhere declared (IsTagged declared (typed_host tag.host) tag.low tag.high tag.selection) place
 
   -- where there is one
   abbrev pub IsTaggedIf : Option TagType → Place → Type 0
@@ -329,20 +365,26 @@ module _ (declared : Declarations) (types : TypeValues) where
   IsAccessOf (access.Variable of guarded) (Some x) = (place : Place) × (x ≡ Read place) × IsOfType place of
   IsAccessOf (access.Tag of guarded tag) None = ⊤
   IsAccessOf (access.Tag of guarded tag) (Some x) =
-      (whole : Place) × (number : ℕ) × (x ≡ Read (Field (Field whole number) 0)) × IsOfType (Field (Field whole number) 0) of × IsTaggedBy tag whole
+      (whole : Place) × (number : ℕ) × (x ≡ Read (Field (Field whole number) 0))
+      × IsOfType (Field (Field whole number) 0) of × IsTaggedBy tag whole
   IsAccessOf access.File form = ⊤
   IsAccessOf access.Constant form = ⊤
   IsAccessOf access.Value form = ⊤
 
   -- a procedure with these formal parameters is called so
   abbrev pub IsProcedureOf : Callee → List FormalParameter → Type 0
-  IsProcedureOf callee ps = (r : RoutineEntry) × IsCallee declared callee r × IsProcedure r × AreParameters types (declared.types callee.unit) ps r.formals
+  IsProcedureOf callee ps =
+      (r : RoutineEntry) × IsCallee declared callee r × IsProcedure r
+      × AreParameters types (declared.types callee.unit) ps r.formals
 
 module _ (declared : Declarations) (types : TypeValues) (structures : List StructuredType) where
-  -- The heading of a function whose result is of this kind, in a unit with this list of types, which holds the structured types where it is structured. None is of a string type or of a file type so far.
+  -- The heading of a function whose result is of this kind, in a unit with this list of types, which holds the
+  -- structured types where it is structured. None is of a string type or of a file type so far.
   abbrev pub IsFunctionWith : List UnitType → Kind → RoutineEntry → Type 0
   IsFunctionWith list (kind.Ordinal h) r = IsFunction list (valid.Ordinal (typed_host h)) r × IsHost h
-  IsFunctionWith list (kind.Structured n) r = (result : RoutineResult) × (r.result ≡ Some result) × HasKind types list (denoter_of result.denoter) (kind.Structured n) × All (HoldsStructure types list) structures
+  IsFunctionWith list (kind.Structured n) r =
+      (result : RoutineResult) × (r.result ≡ Some result)
+      × HasKind types list (denoter_of result.denoter) (kind.Structured n) × All (HoldsStructure types list) structures
   IsFunctionWith list (kind.Set h) r = IsFunction list (valid.Set (typed_host h)) r × IsHost h
   IsFunctionWith list kind.EmptySet r = ⊥
   IsFunctionWith list kind.Text r = ⊥
@@ -351,11 +393,13 @@ module _ (declared : Declarations) (types : TypeValues) (structures : List Struc
   -- a function with these formal parameters and a result of this kind is called so
   abbrev pub IsFunctionOf : Callee → List FormalParameter → Kind → Type 0
   IsFunctionOf callee ps k =
-      (r : RoutineEntry) × IsCallee declared callee r × IsFunctionWith (declared.types callee.unit) k r × AreParameters types (declared.types callee.unit) ps r.formals
+      (r : RoutineEntry) × IsCallee declared callee r × IsFunctionWith (declared.types callee.unit) k r
+      × AreParameters types (declared.types callee.unit) ps r.formals
 
   -- a constant is of its kind, and where that is structured, some list of types holds the structured types in view
   abbrev pub IsConstantIn : Kind → Value → Type 0
-  IsConstantIn (kind.Structured n) v = IsConstantOf types declared.routine_types (kind.Structured n) v × AreHeld types structures
+  IsConstantIn (kind.Structured n) v =
+      IsConstantOf types declared.routine_types (kind.Structured n) v × AreHeld types structures
   IsConstantIn k v = IsConstantOf types declared.routine_types k v
 
 -- for code that so many routines are around
@@ -363,15 +407,20 @@ module _ (declared : Declarations) (types : TypeValues) (structures : List Struc
   abbrev pub IsDeclaration : Declared → Declaration → Type 0
   IsDeclaration d (declaration.Constant kind value deep) = IsConstantIn declared types structures kind value
   IsDeclaration d (declaration.«Type» of kind nodes) = IsKind kind
-  IsDeclaration d (declaration.Variable of kind) = IsStoredIn declared types structures (Variable d.unit d.number) kind × IsOfType declared types (Variable d.unit d.number) of
-  IsDeclaration d (declaration.Own of kind guarded) = IsStoredIn declared types structures (own_place depth d) kind × IsOfType declared types (own_place depth d) of
+  IsDeclaration d (declaration.Variable of kind) =
+      IsStoredIn declared types structures (Variable d.unit d.number) kind
+      × IsOfType declared types (Variable d.unit d.number) of
+  IsDeclaration d (declaration.Own of kind guarded) =
+      IsStoredIn declared types structures (own_place depth d) kind × IsOfType declared types (own_place depth d) of
   IsDeclaration d (declaration.Procedure parameters) = IsProcedureOf declared types (callee_at depth d) parameters
-  IsDeclaration d (declaration.Function parameters of kind) = IsFunctionOf declared types structures (callee_at depth d) parameters kind
+  IsDeclaration d (declaration.Function parameters of kind) =
+      IsFunctionOf declared types structures (callee_at depth d) parameters kind
 
   -- a record at this place has a field of its type and kind, and where that is a tag, it selects the variants
   abbrev pub IsFieldAt : FieldType → Place → Type 0
   IsFieldAt f whole =
-      IsStoredIn declared types structures (reached f whole) f.kind × IsOfType declared types (reached f whole) f.of × IsTaggedIf declared types f.tag (along f.path whole)
+      IsStoredIn declared types structures (reached f whole) f.kind × IsOfType declared types (reached f whole) f.of
+      × IsTaggedIf declared types f.tag (along f.path whole)
 
   abbrev pub IsThing : Thing → Type 0
   IsThing (thing.Declared d) = IsDeclaration d d.what
@@ -396,7 +445,9 @@ module _ (declared : Declarations) (types : TypeValues) (structures : List Struc
   -- the declarations hold all that the scopes declare, and list their structured types
   abbrev pub AgreesBy : List Region → Type 0
   AgreesBy [] = ⊤
-  AgreesBy (r ∷ rs) = AreThings r.entries × AreInterfaces r.qualified × AgreesBy rs × AreOpen r.records × All (IsListed declared types) r.structures
+  AgreesBy (r ∷ rs) =
+      AreThings r.entries × AreInterfaces r.qualified × AgreesBy rs × AreOpen r.records
+      × All (IsListed declared types) r.structures
 
 -- alike, where each type has one type value wherever it is named
 abbrev pub Agrees : Declarations → List Region → Type 0
@@ -404,18 +455,30 @@ Agrees declared scopes = (types : TypeValues) × AgreesBy declared types (struct
 
 -- under all declarations that hold what the scopes declare, the typed form is valid
 abbrev pub IsSound : List Region → Typed → Type 0
-IsSound scopes t = (declared : Declarations) (types : TypeValues) → AgreesBy declared types (structures_of scopes) (depth_in scopes) scopes → IsFormOf declared types (structures_of scopes) t.kind t.form
+IsSound scopes t =
+    (declared : Declarations) (types : TypeValues)
+    → AgreesBy declared types (structures_of scopes) (depth_in scopes) scopes
+    → IsFormOf declared types (structures_of scopes) t.kind t.form
 
 -- alike, what is a variable is read of the place of a variable of its type
 abbrev pub IsSoundAccess : List Region → Typed → Type 0
-IsSoundAccess scopes t = (declared : Declarations) (types : TypeValues) → AgreesBy declared types (structures_of scopes) (depth_in scopes) scopes → IsAccessOf declared types t.access t.form
+IsSoundAccess scopes t =
+    (declared : Declarations) (types : TypeValues)
+    → AgreesBy declared types (structures_of scopes) (depth_in scopes) scopes
+    → IsAccessOf declared types t.access t.form
 
 -- alike, what is given is valid for the formal parameters of each routine that has these
 abbrev pub IsSoundTaken : List Region → List FormalParameter → Taken → Type 0
 IsSoundTaken scopes ps t =
-    (declared : Declarations) (types : TypeValues) → AgreesBy declared types (structures_of scopes) (depth_in scopes) scopes → (list : List UnitType) (fs : List Formal) → AreParameters types list ps fs → AreActuals declared list fs t.actuals
+    (declared : Declarations) (types : TypeValues)
+    → AgreesBy declared types (structures_of scopes) (depth_in scopes) scopes
+    → (list : List UnitType) (fs : List Formal) → AreParameters types list ps fs
+    → AreActuals declared list fs t.actuals
 
--- under all declarations that hold what the scopes declare, where each type has one type value, the constant is of its kind
+-- under all declarations that hold what the scopes declare, where each type has one type value, the constant is of its
+-- kind
 abbrev pub IsSoundConstant : List Region → ConstantForm → Type 0
 IsSoundConstant scopes c =
-    (declared : Declarations) (types : TypeValues) → AgreesBy declared types (structures_of scopes) (depth_in scopes) scopes → IsConstantIf c.built types declared.routine_types c.kind c.value
+    (declared : Declarations) (types : TypeValues)
+    → AgreesBy declared types (structures_of scopes) (depth_in scopes) scopes
+    → IsConstantIf c.built types declared.routine_types c.kind c.value

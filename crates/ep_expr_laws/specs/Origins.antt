@@ -74,7 +74,10 @@ RecordsHaveHost (r ∷ more) h = FieldsHaveHost r.fields h ⊎ RecordsHaveHost m
 
 abbrev pub ScopesHaveHost : List Region → Host → Type 0
 ScopesHaveHost [] h = ⊥
-ScopesHaveHost (r ∷ rs) h = EntriesHaveHost r.entries h ⊎ (InterfacesHaveHost r.qualified h ⊎ (StructuresHaveHost r.structures h ⊎ (ScopesHaveHost rs h ⊎ RecordsHaveHost r.records h)))
+ScopesHaveHost (r ∷ rs) h =
+    EntriesHaveHost r.entries h
+    ⊎ (InterfacesHaveHost r.qualified h
+    ⊎ (StructuresHaveHost r.structures h ⊎ (ScopesHaveHost rs h ⊎ RecordsHaveHost r.records h)))
 
 -- the host is required, or the scopes declare something that has it
 abbrev pub IsKnownHost : List Region → Host → Type 0

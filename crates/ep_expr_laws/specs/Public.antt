@@ -23,18 +23,21 @@ abbrev pub UnlessUnbuilt : {A : Type 0} → Option ℕ → Result A ExpressionRe
 UnlessUnbuilt (Some line) result by_rules = result ≡ Err (refusal.NotBuilt line)
 UnlessUnbuilt None result by_rules = by_rules
 
--- The typed form exactly where the expression has one, a rule that fails in it on its line exactly where rules fail, and that it is not built exactly where it is accepted and has no code.
+-- The typed form exactly where the expression has one, a rule that fails in it on its line exactly where rules fail,
+-- and that it is not built exactly where it is accepted and has no code.
 abbrev pub AnswersExpression : Result TypedExpr ExpressionRefusal → ℕ → Judged Typed → Type 0
 AnswersExpression (Ok e) line judged = (t : Typed) × (judged ≡ Accepts t) × (t.form ≡ Some (expr_of e))
 AnswersExpression (Err (refusal.Broken b)) line judged = IsTrue (breaks b.rule judged) × (b.line ≡ line)
-AnswersExpression (Err (refusal.NotBuilt at)) line judged = ((t : Typed) × (judged ≡ Accepts t) × (t.form ≡ None)) × (at ≡ line)
+AnswersExpression (Err (refusal.NotBuilt at)) line judged =
+    ((t : Typed) × (judged ≡ Accepts t) × (t.form ≡ None)) × (at ≡ line)
 AnswersExpression (Err refusal.NoMemory) line judged = ⊤
 
 -- alike, of the value of a constant expression
 abbrev pub AnswersConstant : Result Value ExpressionRefusal → ℕ → Judged ConstantForm → Type 0
 AnswersConstant (Ok v) line judged = (c : ConstantForm) × (judged ≡ Accepts c) × (c.built ≡ true) × (c.value ≡ v)
 AnswersConstant (Err (refusal.Broken b)) line judged = IsTrue (breaks b.rule judged) × (b.line ≡ line)
-AnswersConstant (Err (refusal.NotBuilt at)) line judged = ((c : ConstantForm) × (judged ≡ Accepts c) × (c.built ≡ false)) × (at ≡ line)
+AnswersConstant (Err (refusal.NotBuilt at)) line judged =
+    ((c : ConstantForm) × (judged ≡ Accepts c) × (c.built ≡ false)) × (at ≡ line)
 AnswersConstant (Err refusal.NoMemory) line judged = ⊤
 
 -- the form that is accepted is valid under all declarations that hold what the scopes declare

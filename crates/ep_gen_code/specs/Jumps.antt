@@ -18,4 +18,7 @@ pub record LeavesHole (old new : Code) (k : ℕ) : Type 0 where
 
 -- in place of the filler stands a jump to the place after the code, and all else is as before
 abbrev pub landed : Code → ℕ → ℕ → ℕ → Code
-landed code hole jump line = record code { instructions = slice_set code.instructions hole (instr jump (pos (length code.instructions)) 0 line) }
+landed code hole jump line =
+    record code {
+      instructions = slice_set code.instructions hole (instr jump (pos (length code.instructions)) 0 line);
+    }

@@ -14,23 +14,29 @@ type_reference number = routine.TYPES + number
 -- each type of a unit has that reference, to the routine that elaborates it
 abbrev pub AreReferred : Declarations → List ℕ → List UnitType → List Reference → Type 0
 AreReferred declared unit types references =
-    (index : ℕ) → index < length types → slice_get references (type_reference index) ≡ Some (reference unit (type_routine (length (declared.routines unit)) index))
+    (index : ℕ) → index < length types
+    → slice_get references (type_reference index) ≡ Some (reference unit
+    (type_routine (length (declared.routines unit)) index))
 
 -- there is a reference to the unit's routine that leaves two operands in the other order
 abbrev pub IsSwapReferred : Declarations → List ℕ → List Reference → Type 0
-IsSwapReferred declared unit references = slice_get references routine.SWAP ≡ Some (reference unit (swap_routine (length (declared.routines unit))))
+IsSwapReferred declared unit references =
+    slice_get references routine.SWAP ≡ Some (reference unit (swap_routine (length (declared.routines unit))))
 
 -- and one to the routine that gives the value of a component of an array to others
 abbrev pub IsFillReferred : Declarations → List ℕ → List Reference → Type 0
-IsFillReferred declared unit references = slice_get references routine.FILL ≡ Some (reference unit (fill_routine (length (declared.routines unit))))
+IsFillReferred declared unit references =
+    slice_get references routine.FILL ≡ Some (reference unit (fill_routine (length (declared.routines unit))))
 
 -- to the one that leaves the indexes of a range
 abbrev pub IsRangeReferred : Declarations → List ℕ → List Reference → Type 0
-IsRangeReferred declared unit references = slice_get references routine.RANGE ≡ Some (reference unit (range_routine (length (declared.routines unit))))
+IsRangeReferred declared unit references =
+    slice_get references routine.RANGE ≡ Some (reference unit (range_routine (length (declared.routines unit))))
 
 -- to the one that leaves what components are given by
 abbrev pub IsSpreadReferred : Declarations → List ℕ → List Reference → Type 0
-IsSpreadReferred declared unit references = slice_get references routine.SPREAD ≡ Some (reference unit (spread_routine (length (declared.routines unit))))
+IsSpreadReferred declared unit references =
+    slice_get references routine.SPREAD ≡ Some (reference unit (spread_routine (length (declared.routines unit))))
 
 -- to all of those that give values to components of arrays
 pub record AreArraysReferred (declared : Declarations) (unit : List ℕ) (references : List Reference) : Type 0 where

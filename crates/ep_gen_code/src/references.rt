@@ -37,7 +37,10 @@ pub fn type_reference(number: u32) -> i64
 /// one that leaves two operands in the other order, those that give values to components of arrays, and those that elaborate the
 /// unit's types.
 pub fn first_references(alloc: Global, unit: &Unit) -> Result<References, NoMemory>
-    ensures row { IfOk result (λ references. references ≡ in_row unit.now.name (swap_routine (length unit.now.routines)) (type_reference (length unit.now.types))) }
+    ensures row { IfOk result
+        (λ references. references
+        ≡ in_row unit.now.name (swap_routine (length unit.now.routines)) (type_reference (length
+        unit.now.types))) }
     ensures small { IfOk result (λ references. IsTable references) }
 {
     let first = field_number(unit.routines.items().len())? as u64 + 2;

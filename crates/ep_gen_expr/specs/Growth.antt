@@ -5,7 +5,8 @@ use Rattle.ep_object.specs.declared.code.Reference.{Reference}
 use Rattle.ep_typed.specs.Trees.{Element, Elements, Place, Expr, Actual, Actuals, Designator, Designators}
 use Rattle.ep_gen_code.specs.Instructions.{bare}
 use Rattle.ep_gen_code.specs.Growth.{Grows}
-use Rattle.ep_gen_expr.specs.ExprCode.{IsElementCode, AreElementsCode, AreIndexesCode, IsRangeCode, keep_code, IsPlaceCode, IsExprCode, IsActualCode, AreActualsCode, IsDesignatorCode}
+use Rattle.ep_gen_expr.specs.ExprCode.{IsElementCode, AreElementsCode, AreIndexesCode, IsRangeCode, keep_code}
+use Rattle.ep_gen_expr.specs.ExprCode.{IsPlaceCode, IsExprCode, IsActualCode, AreActualsCode, IsDesignatorCode}
 use Rattle.ep_values.specs.declared.operations.ShortOperation.{ShortOperation}
 use Rattle.ep_object.specs.declared.op.TheConstants as op
 use Rattle.ep_typed.specs.Nodes.{place_nodes, expr_nodes}
@@ -22,7 +23,8 @@ pub record NumbersReference (old new : Code) (r : Reference) (k : ℕ) : Type 0 
   pub there : slice_get new.references k ≡ Some r
   pub grows : Grows old new []
 
--- a left operand is kept where it decides: the instruction at this place is to be replaced by a jump behind the right one
+-- a left operand is kept where it decides: the instruction at this place is to be replaced by a jump behind the right
+-- one
 pub record KeepsOperand (old new : Code) (operation : ShortOperation) (k : ℕ) : Type 0 where
   pub filler : Instr
   pub grows : Grows old new (keep_code old.line operation ++ filler ∷ bare old.line op.DROP ∷ [])

@@ -13,8 +13,8 @@ use crate::operations::{apply_binary, apply_on_sets, apply_step, apply_unary};
 use ep_base::NoMemory;
 use ep_gen_code::{Code, emit};
 use ep_object::op;
-use ep_values::{Binary, SetOperation, Unary};
 use ep_typed::{ForControl, MemberControl};
+use ep_values::{Binary, SetOperation, Unary};
 use std::alloc::Global;
 
 /// How the initial value is compared with the final one: whether the first may come before the second.

@@ -17,7 +17,10 @@ use crate::variants::{active_code, active_part_code};
 use ep_base::{Name, NoMemory};
 use ep_gen_code::{Code, emit, land, next_place};
 use ep_object::op;
-use ep_typed::{Actual, Callee, CaseRange, Element, EntireVariable, MemberDesignator, Selection, TypedExpr, TypedPlace};
+use ep_typed::{
+    Actual, Callee, CaseRange, Element, EntireVariable, MemberDesignator, Selection, TypedExpr,
+    TypedPlace,
+};
 use ep_values::{Binary, SetOperation, ShortOperation, Unary};
 use std::alloc::Global;
 
@@ -253,7 +256,8 @@ fn step_code(
     count: &TypedExpr,
     code: &mut Code,
 ) -> Result<(), NoMemory>
-    ensures { OnOk result (AppendsExpr code.old code.new (Step down low high (expr_of value.now) (expr_of count.now))) }
+    ensures { OnOk result
+        (AppendsExpr code.old code.new (Step down low high (expr_of value.now) (expr_of count.now))) }
 {
     expression_code(alloc, value, code)?;
     expression_code(alloc, count, code)?;
@@ -453,7 +457,8 @@ fn structured_code(
     elements: &[Element],
     code: &mut Code,
 ) -> Result<(), NoMemory>
-    ensures { OnOk result (AppendsExpr code.old code.new (Structured number (tree.elements (map element_of elements.now)))) }
+    ensures { OnOk result
+        (AppendsExpr code.old code.new (Structured number (tree.elements (map element_of elements.now)))) }
 {
     begin_structured(number, code)?;
     elements_code(alloc, elements, code)?;

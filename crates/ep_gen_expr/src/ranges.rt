@@ -14,7 +14,8 @@ pub const TEST_LENGTH: u64 = 6;
 
 /// Appends the tests of ranges, with a value on top: where one of them has it, the code at this place comes next.
 pub fn tests_code(body: u32, ranges: &[CaseRange], code: &mut Code) -> Result<(), NoMemory>
-    ensures { OnOk result (Grows code.old code.new (tests_code code.old.line body (length code.old.instructions) ranges.now)) }
+    ensures { OnOk result
+        (Grows code.old code.new (tests_code code.old.line body (length code.old.instructions) ranges.now)) }
 {
     for range in ranges {
         test_code(body, range.low, range.high, code)?;

@@ -82,7 +82,8 @@ pub fn fill_ranges(ranges: &[CaseRange], code: &mut Code) -> Result<(), NoMemory
 
 /// Appends what gives the value of the component with an index to those with the indexes of a range.
 fn fill_range(from: i64, low: i64, high: i64, code: &mut Code) -> Result<(), NoMemory>
-    ensures { OnOk result (Grows code.old code.new (range_code code.old.line from (record { low = low; high = high }))) }
+    ensures { OnOk result
+        (Grows code.old code.new (range_code code.old.line from (record { low = low; high = high }))) }
 {
     emit(code, op::DUP, 0, 0)?;
     emit(code, op::PUSH, from, 0)?;
@@ -115,7 +116,8 @@ pub fn test_range(code: &mut Code) -> Result<(), NoMemory>
 /// Appends what gives the value on top to the components of the array below it with the indexes of so many ranges below both,
 /// and leaves the array and the value.
 pub fn spread_values(ranges: usize, code: &mut Code) -> Result<(), NoMemory>
-    ensures { OnOk result (Grows code.old code.new (spreads_code code.old.line (length code.old.instructions) ranges)) }
+    ensures { OnOk result
+        (Grows code.old code.new (spreads_code code.old.line (length code.old.instructions) ranges)) }
 {
     for _range in 0..ranges {
         spread_value(code)?;

@@ -9,9 +9,14 @@ ghost use Rattle.ep_gen_type.specs.TypeCode.{each_code, ordinal_code, part_code 
 
 use ep_base::{Name, NoMemory};
 use ep_gen_code::{Code, emit, field_number, place_number, type_reference};
-use ep_gen_expr::{begin_structured, end_structured, fill_ranges, reach_field, reach_first, same_field};
+use ep_gen_expr::{
+    begin_structured, end_structured, fill_ranges, reach_field, reach_first, same_field,
+};
 use ep_object::op;
-use ep_typed::{Bound, CaseRange, Denoter, Element, FieldPart, RecordField, RequiredType, Selector, TypedExpr, UnitType, Value, Variant, VariantPart};
+use ep_typed::{
+    Bound, CaseRange, Denoter, Element, FieldPart, RecordField, RequiredType, Selector, TypedExpr,
+    UnitType, Value, Variant, VariantPart,
+};
 
 /// Appends the code that elaborates a denoter and leaves the type. What has no type value has no meaning and no code.
 #[cycle(denoters)]

@@ -9,8 +9,12 @@ use Rattle.ep_typed.specs.Trees.{Stmt}
 
 -- the code of a statement is that under larger tables too
 abbrev pub StmtCodeStays : Type 0
-StmtCodeStays = (ts us : List (List ℕ)) (rs ss : List Reference) (at : ℕ) (s : Stmt) (is : List Instr) → IsPrefix ts us → IsPrefix rs ss → IsStmtCode ts rs at s is → IsStmtCode us ss at s is
+StmtCodeStays =
+    (ts us : List (List ℕ)) (rs ss : List Reference) (at : ℕ) (s : Stmt) (is : List Instr) → IsPrefix ts us
+    → IsPrefix rs ss → IsStmtCode ts rs at s is → IsStmtCode us ss at s is
 
 -- at most 32 instructions for each typed node
 abbrev pub StmtCodeIsShort : Type 0
-StmtCodeIsShort = (ts : List (List ℕ)) (rs : List Reference) (at : ℕ) (s : Stmt) (is : List Instr) → IsStmtCode ts rs at s is → length is ≤ 32 * stmt_nodes s
+StmtCodeIsShort =
+    (ts : List (List ℕ)) (rs : List Reference) (at : ℕ) (s : Stmt) (is : List Instr) → IsStmtCode ts rs at s is
+    → length is ≤ 32 * stmt_nodes s

@@ -5,9 +5,12 @@ use Rattle.ep_gen_code.specs.Instructions.{instr}
 use Rattle.ep_gen_code.specs.Growth.{TableGrows, Grows, IsTable, AreDistinct}
 use Rattle.ep_gen_code.specs.Jumps.{landed}
 use Rattle.ep_gen_code.specs.declared.code.Code.{Code}
-use Rattle.ep_gen_unit.specs.StmtCode.{IsItemCode, AreItemsCode, IsStmtCode, AreStmtsCode, AreBoundsCode, IsFirstCode, IsTestCode, IsUndefineCode, IsLeastCode, IsKeptCode, IsBindCode, make_all_code, return_code, end_code, AreArmsCode, IsOtherCode}
+use Rattle.ep_gen_unit.specs.StmtCode.{IsItemCode, AreItemsCode, IsStmtCode, AreStmtsCode, AreBoundsCode, IsFirstCode}
+use Rattle.ep_gen_unit.specs.StmtCode.{IsTestCode, IsUndefineCode, IsLeastCode, IsKeptCode, IsBindCode, make_all_code}
+use Rattle.ep_gen_unit.specs.StmtCode.{return_code, end_code, AreArmsCode, IsOtherCode}
 use Rattle.ep_gen_unit.specs.TagCode.{IsTriedCode, IsChangeCode, IsTakenCode}
-use Rattle.ep_gen_unit.specs.UnitCode.{IsFillCode, IsShuffleCode, fill_code, range_code, spread_code, swap_code, AreRoutinesCode, AreTypesCode, elaborating_code, own_code, entry_of, its_end}
+use Rattle.ep_gen_unit.specs.UnitCode.{IsFillCode, IsShuffleCode, fill_code, range_code, spread_code, swap_code}
+use Rattle.ep_gen_unit.specs.UnitCode.{AreRoutinesCode, AreTypesCode, elaborating_code, own_code, entry_of, its_end}
 use Rattle.ep_object.specs.declared.code.CodeRoutine.{CodeRoutine}
 use Rattle.ep_object.specs.declared.code.Instr.{Instr}
 use Rattle.ep_object.specs.declared.code.Object.{Object}
@@ -52,7 +55,8 @@ pub record AppendsStmt (old new : Code) (s : Stmt) : Type 0 where
   pub follows : Follows old new code
   pub short : length code ≤ 32 * stmt_nodes s
 
--- a part of the code of a statement is appended, which is such code under the tables and from the place where it begins
+-- a part of the code of a statement is appended, which is such code under the tables and from the place where it
+-- begins
 pub record AppendsPart (Is : List (List ℕ) → List Reference → ℕ → List Instr → Type 0) (old new : Code) : Type 0 where
   pub code : List Instr
   pub is_code : Is new.texts new.references (length old.instructions) code
@@ -60,7 +64,8 @@ pub record AppendsPart (Is : List (List ℕ) → List Reference → ℕ → List
 
 -- the parts of a `for` on this line
 abbrev pub AppendsBounds : ℕ → Code → Code → Control → Expr → Expr → Type 0
-AppendsBounds line old new c x y = AppendsPart (λ texts references at is. AreBoundsCode texts references line at c x y is) old new
+AppendsBounds line old new c x y =
+    AppendsPart (λ texts references at is. AreBoundsCode texts references line at c x y is) old new
 
 abbrev pub AppendsFirst : ℕ → Code → Code → Control → Type 0
 AppendsFirst line old new c = AppendsPart (λ texts references at is. IsFirstCode texts references line at c is) old new
@@ -69,11 +74,13 @@ abbrev pub AppendsTest : ℕ → Code → Code → Control → Type 0
 AppendsTest line old new c = AppendsPart (λ texts references at is. IsTestCode texts references line at c is) old new
 
 abbrev pub AppendsUndefine : ℕ → Code → Code → Entire → Type 0
-AppendsUndefine line old new v = AppendsPart (λ texts references at is. IsUndefineCode texts references line at v is) old new
+AppendsUndefine line old new v =
+    AppendsPart (λ texts references at is. IsUndefineCode texts references line at v is) old new
 
 -- the parts of a `for` over members on this line
 abbrev pub AppendsMore : ℕ → Code → Code → MemberControl → Type 0
-AppendsMore line old new c = AppendsPart (λ texts references at is. IsExprCode texts references line at (has_more c) is) old new
+AppendsMore line old new c =
+    AppendsPart (λ texts references at is. IsExprCode texts references line at (has_more c) is) old new
 
 abbrev pub AppendsLeast : ℕ → Code → Code → MemberControl → Type 0
 AppendsLeast line old new c = AppendsPart (λ texts references at is. IsLeastCode texts references line at c is) old new
@@ -82,23 +89,28 @@ abbrev pub AppendsKept : ℕ → Code → Code → MemberControl → Type 0
 AppendsKept line old new c = AppendsPart (λ texts references at is. IsKeptCode texts references line at c is) old new
 
 -- a part of the code of an assignment to a tag is appended, at the line that is set
-pub record AppendsTagPart (Is : List (List ℕ) → List Reference → ℕ → ℕ → List Instr → Type 0) (old new : Code) : Type 0 where
+pub record AppendsTagPart (Is : List (List ℕ) → List Reference → ℕ → ℕ → List Instr → Type 0) (old new : Code) : Type
+    0 where
   pub code : List Instr
   pub is_code : Is new.texts new.references old.line (length old.instructions) code
   pub grows : Grows old new code
 
 abbrev pub AppendsTried : Code → Code → Tagging → Selection → Type 0
-AppendsTried old new c s = AppendsTagPart (λ texts references line at is. IsTriedCode texts references line at c s is) old new
+AppendsTried old new c s =
+    AppendsTagPart (λ texts references line at is. IsTriedCode texts references line at c s is) old new
 
 abbrev pub AppendsChange : Code → Code → Tagging → Selection → Type 0
-AppendsChange old new c s = AppendsTagPart (λ texts references line at is. IsChangeCode texts references line at c s is) old new
+AppendsChange old new c s =
+    AppendsTagPart (λ texts references line at is. IsChangeCode texts references line at c s is) old new
 
 abbrev pub AppendsTaken : Code → Code → Tagging → Selection → Type 0
-AppendsTaken old new c s = AppendsTagPart (λ texts references line at is. IsTakenCode texts references line at c s is) old new
+AppendsTaken old new c s =
+    AppendsTagPart (λ texts references line at is. IsTakenCode texts references line at c s is) old new
 
 -- the beginning of a `with` on this line
 abbrev pub AppendsBind : ℕ → Code → Code → Entire → Place → Type 0
-AppendsBind line old new v p = AppendsPart (λ texts references at is. IsBindCode texts references line at v p is) old new
+AppendsBind line old new v p =
+    AppendsPart (λ texts references at is. IsBindCode texts references line at v p is) old new
 
 -- the code of the statements is appended
 pub record AppendsStmts (old new : Code) (ss : Stmts) : Type 0 where
@@ -118,16 +130,19 @@ pub record AppendsOther (line : ℕ) (old new : Code) (other : Other) : Type 0 w
   pub is_code : IsOtherCode new.texts new.references line (length old.instructions) other code
   pub follows : Follows old new code
 
--- The beginning of a `case` on this line is appended: the selector, the jump over the place from which the `case` is left, an instruction at that place that is to be replaced by a jump, and the arms.
+-- The beginning of a `case` on this line is appended: the selector, the jump over the place from which the `case` is
+-- left, an instruction at that place that is to be replaced by a jump, and the arms.
 pub record OpensCase (line leave : ℕ) (old new : Code) (x : Expr) (arms : Arms) : Type 0 where
   pub selector : List Instr
   pub filler : Instr
   pub code : List Instr
   pub is_selector : IsExprCode new.texts new.references line (length old.instructions) x selector
-  pub is_code : AreArmsCode new.texts new.references line leave (length old.instructions + length selector + 2) arms code
+  pub is_code : AreArmsCode new.texts new.references line leave (length old.instructions + length selector + 2) arms
+      code
   pub is_place : leave ≡ length old.instructions + length selector + 1
   pub inside : leave < length new.instructions
-  pub follows : Follows old new (selector ++ instr op.JUMP (pos (length old.instructions + length selector + 2)) 0 line ∷ filler ∷ code)
+  pub follows : Follows old new
+      (selector ++ instr op.JUMP (pos (length old.instructions + length selector + 2)) 0 line ∷ filler ∷ code)
 
 -- the `otherwise` part is appended, and at the place from which the `case` is left stands the jump behind it
 pub record ClosesCase (line leave : ℕ) (old new : Code) (other : Other) : Type 0 where
@@ -137,14 +152,18 @@ pub record ClosesCase (line leave : ℕ) (old new : Code) (other : Other) : Type
 
 -- The tests of an arm are appended. Its statement is to stand behind them and one more instruction.
 abbrev pub AppendsTests : Code → Code → List CaseRange → Type 0
-AppendsTests old new ranges = Grows old new (tests_code old.line (length old.instructions + 6 * length ranges + 1) (length old.instructions) ranges)
+AppendsTests old new ranges =
+    Grows old new
+    (tests_code old.line (length old.instructions + 6 * length ranges + 1) (length old.instructions) ranges)
 
--- The code of the start and of the stop of a program is appended. The start makes the variables and runs the block; the
+-- The code of the start and of the stop of a program is appended. The start makes the variables and runs the block;
+-- the
 -- stop does nothing, and this is its entry.
 pub record AppendsStart (old new : Code) (u : TypedUnit) (stop_entry : ℕ) : Type 0 where
   -- the code of the block
   pub code : List Instr
-  pub is_code : IsStmtCode new.texts new.references (length old.instructions + length (make_all_code 0 (made_by_unit u))) (stmt_of u.start) code
+  pub is_code : IsStmtCode new.texts new.references
+      (length old.instructions + length (make_all_code 0 (made_by_unit u))) (stmt_of u.start) code
   pub follows : Follows old new (make_all_code 0 (made_by_unit u) ++ (code ++ return_code ∷ return_code ∷ []))
   pub stops : stop_entry ≡ length old.instructions + length (make_all_code 0 (made_by_unit u)) + length code + 1
   pub small : IsTable new.instructions
@@ -153,11 +172,14 @@ pub record AppendsStart (old new : Code) (u : TypedUnit) (stop_entry : ℕ) : Ty
 pub record AppendsRoutine (old new : Code) (types : List UnitType) (r : UnitRoutine) (x : CodeRoutine) : Type 0 where
   pub plain : x ≡ entry_of (length old.instructions) r
   pub code : List Instr
-  pub is_code : IsStmtCode new.texts new.references (length old.instructions + length (own_code r)) (stmt_of r.block) code
-  pub follows : Follows old new (own_code r ++ (code ++ its_end types (length old.instructions + length (own_code r) + length code) r))
+  pub is_code : IsStmtCode new.texts new.references (length old.instructions + length (own_code r)) (stmt_of r.block)
+      code
+  pub follows : Follows old new
+      (own_code r ++ (code ++ its_end types (length old.instructions + length (own_code r) + length code) r))
 
 -- the code of routines is appended, and these are their entries
-pub record AppendsRoutines (old new : Code) (types : List UnitType) (rs : List UnitRoutine) (entries : List CodeRoutine) : Type 0 where
+pub record AppendsRoutines (old new : Code) (types : List UnitType) (rs : List UnitRoutine)
+    (entries : List CodeRoutine) : Type 0 where
   pub code : List Instr
   pub follows : Follows old new code
   pub blocks : AreRoutinesCode new.texts new.references new.instructions types rs entries
@@ -177,7 +199,8 @@ pub record AppendsShuffle (old new : Code) (its : List Instr) (entry : ℕ) : Ty
   pub starts : entry ≡ length old.instructions
   pub follows : Follows old new its
 
--- The code of the routines that give values to components of arrays is appended, and their entries to those that there were.
+-- The code of the routines that give values to components of arrays is appended, and their entries to those that there
+-- were.
 pub record AppendsArrays (old new : Code) (before after : List CodeRoutine) : Type 0 where
   pub code : List Instr
   pub follows : Follows old new code
@@ -202,7 +225,8 @@ pub record AppendsTypes (old new : Code) (ts : List UnitType) (before after : Li
   pub are : after ≡ before ++ entries
   pub types : AreTypesCode new.instructions ts entries
 
--- the tables and the code of an object have places that a field of 32 bits holds, and each text and reference is there once
+-- the tables and the code of an object have places that a field of 32 bits holds, and each text and reference is there
+-- once
 pub record IsCompact (o : Object) : Type 0 where
   pub few_texts : IsTable o.texts
   pub few_references : IsTable o.references
@@ -210,7 +234,8 @@ pub record IsCompact (o : Object) : Type 0 where
   pub texts : AreDistinct o.texts
   pub references : AreDistinct o.references
 
--- the object of a program of this name, from its code, its routines, the number of those before its start, and the number
+-- the object of a program of this name, from its code, its routines, the number of those before its start, and the
+-- number
 -- of its variables
 abbrev pub assembled : List ℕ → Code → List CodeRoutine → ℕ → ℕ → Object
 assembled name code routines start slots = record {
@@ -228,7 +253,8 @@ assembled name code routines start slots = record {
   instructions = code.instructions;
 }
 
--- The code that makes the variables of a routine's own is appended, and the routine has so many slots, with those of the variables that are not made.
+-- The code that makes the variables of a routine's own is appended, and the routine has so many slots, with those of
+-- the variables that are not made.
 pub record MakesOwn (old new : Code) (r : UnitRoutine) (slots : ℕ) : Type 0 where
   pub follows : Follows old new (make_all_code (length r.formals) (made_variables r))
   pub count : slots ≡ length (variables_of r)
@@ -239,12 +265,14 @@ pub record MakesBlock (old new : Code) (first : ℕ) (vs : List UnitVariable) (b
   pub follows : Follows old new (make_all_code first (vs ++ block_auxiliaries block))
   pub count : behind ≡ first + length (vs ++ block_auxiliaries block)
 
--- The code that makes the variable of a routine's result is appended, where it has one, and the first variable behind it
+-- The code that makes the variable of a routine's result is appended, where it has one, and the first variable behind
+-- it
 -- has this number.
 pub record MakesResult (old new : Code) (r : UnitRoutine) (first : ℕ) : Type 0 where
   pub follows : Follows old new (make_all_code (length r.formals) (result_variable r.name r.line r.result))
   pub count : first ≡ (length r.formals + length (result_variable r.name r.line r.result))
 
--- the code with which a routine of a unit with these types ends is appended, where a function has its result in the variable of this number
+-- the code with which a routine of a unit with these types ends is appended, where a function has its result in the
+-- variable of this number
 abbrev pub AppendsEnd : Code → Code → List UnitType → UnitRoutine → ℕ → Type 0
 AppendsEnd old new types r number = Follows old new (end_code types r.line number (length old.instructions) r.result)

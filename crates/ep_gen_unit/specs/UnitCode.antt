@@ -1,4 +1,5 @@
--- Which object is the code of a program: its start makes the variables and runs the block, its stop does nothing, and behind
+-- Which object is the code of a program: its start makes the variables and runs the block, its stop does nothing, and
+-- behind
 -- them stands the code of its routines, of the two that structured values call, and of those that elaborate its types.
 use Rattle.std.specs.Prelude.{◌≡◌, ℕ, pos, ◌+◌, false, List, [], ◌∷◌, ◌++◌, Some, length, slice_get}
 use Rattle.ep_gen_code.specs.Growth.{in_row}
@@ -52,14 +53,16 @@ entry_of entry r = routine_at entry (length r.formals) (length (variables_of r))
 abbrev pub its_end : List UnitType → ℕ → UnitRoutine → List Instr
 its_end types at r = end_code types r.line (length r.formals) at r.result
 
--- At the entry of a routine of a unit with these types stands the code with which it begins, and behind that the one of its
+-- At the entry of a routine of a unit with these types stands the code with which it begins, and behind that the one
+-- of its
 -- block, and that with which it ends.
 pub record IsRoutineCode (texts : List (List ℕ)) (references : List Reference) (instructions : List Instr)
     (types : List UnitType) (r : UnitRoutine) (x : CodeRoutine) : Type 0 where
   pub plain : x ≡ entry_of x.entry r
   pub code : List Instr
   pub is_code : IsStmtCode texts references (x.entry + length (own_code r)) (stmt_of r.block) code
-  pub stands : StandsIn instructions x.entry (own_code r ++ (code ++ its_end types (x.entry + length (own_code r) + length code) r))
+  pub stands : StandsIn instructions x.entry
+      (own_code r ++ (code ++ its_end types (x.entry + length (own_code r) + length code) r))
 
 -- the routines of a unit have these entries, one for each and in order
 pub record AreRoutinesCode (texts : List (List ℕ)) (references : List Reference) (instructions : List Instr)
@@ -80,7 +83,8 @@ pub record IsTypeCode (instructions : List Instr) (t : UnitType) (x : CodeRoutin
 -- the routines that elaborate types have these entries, one for each and in order
 pub record AreTypesCode (instructions : List Instr) (ts : List UnitType) (entries : List CodeRoutine) : Type 0 where
   pub count : length entries ≡ length ts
-  pub each : (k : ℕ) (t : UnitType) (x : CodeRoutine) → slice_get ts k ≡ Some t → slice_get entries k ≡ Some x → IsTypeCode instructions t x
+  pub each : (k : ℕ) (t : UnitType) (x : CodeRoutine) → slice_get ts k ≡ Some t → slice_get entries k ≡ Some x
+      → IsTypeCode instructions t x
 
 -- the code that takes two operands, and leaves them in the other order
 abbrev pub swap_code : List Instr
@@ -134,8 +138,11 @@ pub record IsProgramCode (u : TypedUnit) (o : Object) : Type 0 where
   pub elaborating : List CodeRoutine
   pub types : AreTypesCode o.instructions u.types elaborating
   -- the first references, to the routines behind the stop
-  pub named : IsPrefix (in_row u.name (swap_routine (length u.routines)) (type_reference (length u.types))) o.references
-  pub routines : o.routines ≡ entries ++ plain_at 0 ∷ plain_at (length (make_all_code 0 (made_by_unit u)) + length code + 1) ∷ swapping ∷ filling ∷ ranging ∷ spreading ∷ elaborating
+  pub named : IsPrefix (in_row u.name (swap_routine (length u.routines)) (type_reference (length u.types)))
+      o.references
+  pub routines : o.routines ≡ entries ++ plain_at 0
+      ∷ plain_at (length (make_all_code 0 (made_by_unit u)) + length code + 1) ∷ swapping ∷ filling ∷ ranging
+      ∷ spreading ∷ elaborating
   pub start : o.start ≡ length u.routines
   pub stop : o.stop ≡ length u.routines + 1
   pub unit_slots : o.unit_slots ≡ length (unit_variables u)

@@ -1,4 +1,5 @@
--- What holds of the code of every unit: wherever its object stands in an image, its routines simulate the start and the stop of the unit.
+-- What holds of the code of every unit: wherever its object stands in an image, its routines simulate the start and
+-- the stop of the unit.
 use Rattle.std.specs.Prelude.{◌≡◌, ℕ, ◌+◌, List, [], ◌∷◌, Some, length, slice_get}
 use Rattle.ep_gen_unit.specs.UnitCode.{IsProgramCode}
 use Rattle.ep_simulation.specs.Follows.{Bare}
@@ -27,7 +28,8 @@ AreDeclared declared unit number vs = (i : ℕ) (v : UnitVariable) → slice_get
 abbrev pub idle_stop : Computation (Unit {0})
 idle_stop = spend 1 (give tt)
 
--- Wherever the object of a valid unit stands in an image whose units have names of their own, its start routine simulates
+-- Wherever the object of a valid unit stands in an image whose units have names of their own, its start routine
+-- simulates
 -- the meaning of the start with so many steps, whatever calls do for which the routines keep their promises.
 abbrev pub StartsAreSimulated : Type 0
 StartsAreSimulated =
@@ -36,11 +38,14 @@ StartsAreSimulated =
     → (call : Handler) → IsSteadyHandler call → (n : ℕ) → CallsAreKept (own u) G ps call n
     → Simulates (own u) G p.unit (moved p.routines o.start) n (start_of call n u) Bare
 
--- The same under any declarations of the unit's own block that have its types, as many routines and its variables, where all that is declared stands in the image and the block is valid under them.
+-- The same under any declarations of the unit's own block that have its types, as many routines and its variables,
+-- where all that is declared stands in the image and the block is valid under them.
 abbrev pub StartsAreSimulatedUnder : Type 0
 StartsAreSimulatedUnder =
-    (declared : Declarations) (u : TypedUnit) (o : Object) → IsProgramCode u o → declared.types u.name ≡ u.types → declared.levels ≡ [] → declared.routine_unit ≡ u.name
-    → length (declared.routines u.name) ≡ length u.routines → AreDeclared declared u.name 0 (unit_variables u) → IsStmt declared (stmt_of u.start)
+    (declared : Declarations) (u : TypedUnit) (o : Object) → IsProgramCode u o → declared.types u.name ≡ u.types
+    → declared.levels ≡ [] → declared.routine_unit ≡ u.name
+    → length (declared.routines u.name) ≡ length u.routines → AreDeclared declared u.name 0 (unit_variables u)
+    → IsStmt declared (stmt_of u.start)
     → (G : Image) (ps : List Placement) (p : Placement) → Stands G ps p o → HasDistinctNames G
     → Scene declared G ps p o.texts
     → (call : Handler) → IsSteadyHandler call → (n : ℕ) → CallsAreKept declared G ps call n

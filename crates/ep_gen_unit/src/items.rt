@@ -12,8 +12,8 @@ use ep_base::NoMemory;
 use ep_gen_code::{Code, emit};
 use ep_gen_expr::{expression_code, standard_code};
 use ep_object::op;
-use ep_values::Print;
 use ep_typed::{StandardFile, TypedExpr, WriteItem};
+use ep_values::Print;
 use std::alloc::Global;
 
 /// The char that ends a line.

@@ -8,10 +8,13 @@ ghost use Rattle.ep_gen_unit.specs.StmtGrowth.{AppendsBounds, AppendsFirst, Appe
 
 use ep_base::{Line, NoMemory};
 use ep_gen_code::{Code, emit};
-use ep_gen_expr::{apply_binary, entire_code, entire_value_code, expression_code, has_more_code, in_order_code, next_value_code, others_code};
+use ep_gen_expr::{
+    apply_binary, entire_code, entire_value_code, expression_code, has_more_code, in_order_code,
+    next_value_code, others_code,
+};
 use ep_object::op;
-use ep_values::Binary;
 use ep_typed::{EntireVariable, ForControl, MemberControl, TypedExpr};
+use ep_values::Binary;
 use std::alloc::Global;
 
 /// Appends the code before the turns: the auxiliary variables get the bounds, and whether there is a turn is left.

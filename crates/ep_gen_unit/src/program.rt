@@ -19,8 +19,11 @@ use ep_gen_code::{Code, NO_LINE, SWAP, emit, field_number, next_place};
 use ep_gen_expr::apply_binary;
 use ep_gen_type::{elaborate, is_ordinal};
 use ep_object::{CodeRoutine, CodeRoutines, Object, op};
+use ep_typed::{
+    Denoter, Formal, FormalMode, TypedStmt, Unit, UnitRoutine, UnitType, UnitVariable,
+    block_auxiliaries, first_for, first_for_in, with_count,
+};
 use ep_values::{Binary, run_error};
-use ep_typed::{Denoter, Formal, FormalMode, TypedStmt, Unit, UnitRoutine, UnitType, UnitVariable, block_auxiliaries, first_for, first_for_in, with_count};
 use std::alloc::{AllocError, Global};
 
 /// The object of a program. Its first routines are those of the program, by their numbers; the one after them makes

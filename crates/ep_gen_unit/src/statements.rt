@@ -20,7 +20,10 @@ use ep_base::{Line, NoMemory};
 use ep_gen_code::{Code, emit, land, leave_hole, next_place};
 use ep_gen_expr::{call_code, expression_code, place_code};
 use ep_object::op;
-use ep_typed::{Actual, Callee, CaseArm, EntireVariable, ForControl, MemberControl, TypedExpr, TypedPlace, TypedStmt, WriteItem};
+use ep_typed::{
+    Actual, Callee, CaseArm, EntireVariable, ForControl, MemberControl, TypedExpr, TypedPlace,
+    TypedStmt, WriteItem,
+};
 use ep_values::run_error;
 use std::alloc::Global;
 
@@ -173,7 +176,8 @@ fn repeat_code(
     condition: &TypedExpr,
     code: &mut Code,
 ) -> Result<(), NoMemory>
-    ensures { OnOk result (AppendsStmt code.old code.new (Repeat line (stmts (map stmt_of body.now)) (expr_of condition.now))) }
+    ensures { OnOk result
+        (AppendsStmt code.old code.new (Repeat line (stmts (map stmt_of body.now)) (expr_of condition.now))) }
 {
     let start = next_place(code)?;
     compound_code(alloc, body, code)?;

@@ -16,8 +16,8 @@ use ep_base::{Line, NoMemory};
 use ep_gen_code::{Code, emit, field_number, land, leave_hole, next_place, place_number};
 use ep_gen_expr::{TEST_LENGTH, apply_binary, entire_value_code, place_code, tests_code};
 use ep_object::op;
-use ep_values::{Binary, run_error};
 use ep_typed::{CaseRange, CaseRanges, Selection, TagControl, TypedExpr, TypedPlace};
+use ep_values::{Binary, run_error};
 use std::alloc::Global;
 
 /// What stands for no variant that was selected before.

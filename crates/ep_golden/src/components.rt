@@ -4,7 +4,9 @@ use crate::declarations::{constants, heading as routine_heading, parts, types, v
 use crate::dump::Dump;
 use crate::statements::{compound, inner};
 use ep_base::{Boxed, Line};
-use ep_tree::{Block, Component, Export, ExportItem, Heading, HeadingPart, Import, Program, Statement};
+use ep_tree::{
+    Block, Component, Export, ExportItem, Heading, HeadingPart, Import, Program, Statement,
+};
 
 /// All components of a text.
 pub fn all(components: &[Component], out: &mut Dump) {

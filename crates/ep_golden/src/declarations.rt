@@ -4,7 +4,10 @@ use crate::dump::Dump;
 use crate::expressions::component_value;
 use crate::statements::compound;
 use crate::types::denoter;
-use ep_tree::{Constants, DiscriminantSection, FormalSection, FormalType, Part, Routine, RoutineBody, RoutineHeading, RoutineStart, Types, Variables};
+use ep_tree::{
+    Constants, DiscriminantSection, FormalSection, FormalType, Part, Routine, RoutineBody,
+    RoutineHeading, RoutineStart, Types, Variables,
+};
 
 #[cycle(routine)]
 pub fn parts(all: &[Part], out: &mut Dump) {

@@ -2,7 +2,10 @@
 
 use crate::dump::Dump;
 use ep_base::Name;
-use ep_tree::{Access, Addend, AddingOperator, Argument, ComponentValue, Element, Expression, Factor, Label, Multiplier, MultiplyingOperator, RelationalOperator, Selector, Sign, Simple, Term, Values};
+use ep_tree::{
+    Access, Addend, AddingOperator, Argument, ComponentValue, Element, Expression, Factor, Label,
+    Multiplier, MultiplyingOperator, RelationalOperator, Selector, Sign, Simple, Term, Values,
+};
 
 #[cycle(expression)]
 pub fn expression(e: &Expression, out: &mut Dump) {

@@ -2,7 +2,10 @@
 
 use crate::dump::Dump;
 use crate::expressions::{component_value, expression, expressions, labels};
-use ep_tree::{Core, FieldSection, Fields, Plain, Structure, TypeDenoter, Variant, VariantPart, VariantSelector};
+use ep_tree::{
+    Core, FieldSection, Fields, Plain, Structure, TypeDenoter, Variant, VariantPart,
+    VariantSelector,
+};
 
 #[cycle(types)]
 pub fn denoter(t: &TypeDenoter, out: &mut Dump) {

@@ -88,7 +88,8 @@ impl Memory {
     #[tactic(auto, using(crate::proofs::Routines::bound_routines))]
     pub fn bind(&mut self, slot: usize, place: Place) -> bool
         requires { HasSlot (slots_of (frames_of self.old)) slot }
-        ensures frames { OnTrue result (IsBound (slots_of (frames_of self.old)) (frames_of self.old) slot place (frames_of self.new)) }
+        ensures frames { OnTrue result
+            (IsBound (slots_of (frames_of self.old)) (frames_of self.old) slot place (frames_of self.new)) }
         ensures routines { routines_of self.new ≡ routines_of self.old }
         ensures store { self.new.store ≡ self.old.store }
         ensures types { self.new.types ≡ self.old.types }

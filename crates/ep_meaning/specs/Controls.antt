@@ -1,6 +1,7 @@
 -- What `for` statements are made of (ISO 10206, 6.9.3.9.2 and 6.9.3.9.3).
 use Rattle.std.specs.Prelude.{pos, if◌then◌else◌}
-use Rattle.ep_typed.specs.Trees.{Control, MemberControl, entire, Expr, Constant, Read, One, Two, Step, SetOf, OnSets, Single, no_member, next_member}
+use Rattle.ep_typed.specs.Trees.{Control, MemberControl, entire, Expr, Constant, Read, One, Two, Step, SetOf, OnSets}
+use Rattle.ep_typed.specs.Trees.{Single, no_member, next_member}
 use Rattle.ep_values.specs.declared.operations.Unary.TheVariants as unary
 use Rattle.ep_values.specs.declared.operations.Binary.TheVariants as binary
 use Rattle.ep_values.specs.declared.operations.SetOperation.TheVariants as set_operation
@@ -19,4 +20,6 @@ has_more c = OnSets set_operation.Unequal (Read (entire c.rest)) (SetOf no_membe
 
 -- those of them that are another one than the control variable has
 abbrev pub others : MemberControl → Expr
-others c = OnSets set_operation.Difference (Read (entire c.rest)) (SetOf (next_member (Single (One unary.Same (Read (entire c.variable)))) no_member))
+others c =
+    OnSets set_operation.Difference (Read (entire c.rest))
+    (SetOf (next_member (Single (One unary.Same (Read (entire c.variable)))) no_member))

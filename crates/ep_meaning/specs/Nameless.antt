@@ -4,7 +4,9 @@ use Rattle.ep_values.specs.Bounds.{count_of}
 use Rattle.ep_meaning.specs.Calls.{nested}
 use Rattle.ep_values.specs.Printing.{Result}
 use Rattle.ep_meaning.specs.Results.{result_of, value_of, weight_of}
-use Rattle.ep_meaning.specs.Steps.{Component, End, State, Gives, Computation, assigned, bind, change, component, component_number, counted, fetch, give, spend, type_at, using, whole, with_all_ended}
+use Rattle.ep_meaning.specs.Steps.{Component, End, State, Gives, Computation, assigned, bind, change, component}
+use Rattle.ep_meaning.specs.Steps.{component_number, counted, fetch, give, spend, type_at, using, whole}
+use Rattle.ep_meaning.specs.Steps.{with_all_ended}
 use Rattle.ep_values.specs.Values.{Value, start_of}
 use Rattle.ep_values.specs.TypeValues.{size_of}
 use Rattle.ep_values.specs.TypeValues.{TypeValue}
@@ -12,13 +14,15 @@ use Rattle.ep_typed.specs.declared.tree.CaseRange.{CaseRange}
 
 -- one more allocation of the type, in its initial state
 abbrev pub made_nameless : TypeValue → State → State
-made_nameless t s = record s { allocations = s.allocations ++ record { type_value = t; value = start_of t; ended = false } ∷ [] }
+made_nameless t s =
+    record s { allocations = s.allocations ++ record { type_value = t; value = start_of t; ended = false } ∷ [] }
 
 -- It is made, and this is its number.
 abbrev pub newest_nameless : TypeValue → Computation ℕ
 newest_nameless t m s = Gives m (suc (length s.allocations)) (made_nameless t s)
 
--- A structured value is begun: its words are counted, as those of any variable, then the step of its node is spent with its
+-- A structured value is begun: its words are counted, as those of any variable, then the step of its node is spent
+-- with its
 -- weight and its size, and then it is there.
 abbrev pub begins_nameless : TypeValue → Computation ℕ
 begins_nameless t = bind (change (counted t)) (λ _. spend (suc (size_of t + size_of t)) (newest_nameless t))
@@ -54,10 +58,13 @@ range_count r = count_of r.low r.high
 abbrev pub range_assigned : Component → CaseRange → Value → State → State
 range_assigned c r value s = assigned_from c (component_number (type_at c s) r.low) (range_count r) value s
 
--- The components of a structured value under way with the indexes of a range get the value that one of them has got. That spends
+-- The components of a structured value under way with the indexes of a range get the value that one of them has got.
+-- That spends
 -- a step, and for each component one more and what the value weighs, all of them before it is done.
 abbrev pub fills : Component → Result → CaseRange → Computation (Unit {0})
-fills c r range = bind (change with_depth) (λ _. spend (suc (range_count range * suc (weight_of r))) (change (range_assigned c range (value_of r))))
+fills c r range =
+    bind (change with_depth)
+    (λ _. spend (suc (range_count range * suc (weight_of r))) (change (range_assigned c range (value_of r))))
 
 -- those with the indexes of ranges, in order
 abbrev pub fills_all : Component → Result → List CaseRange → Computation (Unit {0})

@@ -6,11 +6,14 @@ use Rattle.ep_values.specs.Sets.{are_between}
 use Rattle.ep_meaning.specs.Steps.{Component, State, component_number, is_among, type_at, value_at}
 use Rattle.ep_values.specs.Values.{Value, Word, Undefined, component_of, word_of, set_of}
 use Rattle.ep_meaning.specs.Steps as value
-use Rattle.ep_values.specs.TypeValues.{ComponentTypes, Start, Starts, TypeValue, bare_of, bare_each, component_type, no_component, next_component, no_start, next_start, parts_start, same_type, set_size, set_start, simple_start, size_of, undefined_start}
+use Rattle.ep_values.specs.TypeValues.{ComponentTypes, Start, Starts, TypeValue, bare_of, bare_each, component_type}
+use Rattle.ep_values.specs.TypeValues.{no_component, next_component, no_start, next_start, parts_start, same_type}
+use Rattle.ep_values.specs.TypeValues.{set_size, set_start, simple_start, size_of, undefined_start}
 use Rattle.ep_values.specs.TypeValues as type
 use Rattle.ep_values.specs.declared.run_error.TheConstants as run_error
 
--- the steps that a result spends besides the one of its node: a text has its length, an array or a record its words, and a
+-- the steps that a result spends besides the one of its node: a text has its length, an array or a record its words,
+-- and a
 -- number or a set none
 abbrev pub weight_of : Result → ℕ
 weight_of (Number z) = 0
@@ -19,7 +22,8 @@ weight_of (Structure t v) = size_of t
 weight_of (Members ms) = 0
 
 -- What a variable of a type gives that has this value, where it is defined: an array or a record gives all that its
--- components have, each defined or not, a set its members, and any other one a number (ISO 10206, 6.8.1). The type of what is
+-- components have, each defined or not, a set its members, and any other one a number (ISO 10206, 6.8.1). The type of
+-- what is
 -- given has no initial states, which say only how variables begin.
 abbrev pub given_as : TypeValue → Value → Option Result
 given_as (type.Ordinal low high) v = option_map Number (word_of v)
@@ -51,7 +55,8 @@ part_at (Bytes bytes) z = None
 part_at (Structure t v) z = component_number (Some t) z
 part_at (Members ms) z = None
 
--- Whether a type is this one, which has no initial states: those of the type play no part in it (own). What has no type is of none.
+-- Whether a type is this one, which has no initial states: those of the type play no part in it (own). What has no
+-- type is of none.
 abbrev pub is_type : Option TypeValue → TypeValue → Bool
 is_type None u = false
 is_type (Some t) u = same_type (bare_of t) u
@@ -124,7 +129,8 @@ abbrev mutual
   pub start_in : TypeValue → Value → Start
   start_in (type.Ordinal low high) v = word_start (word_of v)
   start_in type.Text v = undefined_start 1
-  start_in (type.Array low high of) v = parts_start (all_starts (count_of low high) (λ k. start_in of (component_of v k)))
+  start_in (type.Array low high of) v =
+      parts_start (all_starts (count_of low high) (λ k. start_in of (component_of v k)))
   start_in (type.Record ts) v = parts_start (starts_in ts (component_of v))
   start_in (type.Set low high) v = members_start (set_of v)
   start_in (type.Initial of start) v = start_in of v

@@ -16,5 +16,6 @@ pub record Steady {A : Type 0} (c : Computation A) : Type 0 where
 
 -- whatever is called, the state grows
 pub record IsSteadyHandler (call : Handler) : Type 0 where
-  pub routine : (from : List ℕ) (line : ℕ) (callee : Callee) (arguments : List Argument) → Steady (call.routine from line callee arguments)
+  pub routine : (from : List ℕ) (line : ℕ) (callee : Callee) (arguments : List Argument)
+      → Steady (call.routine from line callee arguments)
   pub named_type : (from : List ℕ) (line index : ℕ) → Steady (call.named_type from line index)

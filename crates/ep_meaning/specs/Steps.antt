@@ -1,5 +1,6 @@
 -- Computations, which spend steps and change a state.
-use Rattle.std.specs.Prelude.{ℕ, ℤ, pos, neg_ℤ, zero, suc, ◌+◌, ◌-◌, Bool, true, false, ◌&&◌, ◌||◌, not, nat_le, List, [], ◌∷◌, ◌++◌, Option, Some, None, length, slice_get, slice_set, drop, if◌then◌else◌}
+use Rattle.std.specs.Prelude.{ℕ, ℤ, pos, neg_ℤ, zero, suc, ◌+◌, ◌-◌, Bool, true, false, ◌&&◌, ◌||◌, not, nat_le, List}
+use Rattle.std.specs.Prelude.{[], ◌∷◌, ◌++◌, Option, Some, None, length, slice_get, slice_set, drop, if◌then◌else◌}
 use Rattle.std.specs.List.{list_any}
 use Rattle.std.specs.Str.{bytes_eq}
 use Rattle.ep_values.specs.Events.{Trace}
@@ -8,7 +9,8 @@ use Rattle.ep_typed.specs.declared.tree.Selection.{Selection}
 use Rattle.ep_typed.specs.declared.tree.StandardFile.{StandardFile}
 use Rattle.ep_typed.specs.declared.tree.StandardFile.TheVariants.{Input, Output}
 use Rattle.ep_values.specs.Bounds.{component_at}
-use Rattle.ep_values.specs.TypeValues.{TypeValue, Ordinal, Text, Array, component_type, is_within, size_of, same_type, parts_of, start_size}
+use Rattle.ep_values.specs.TypeValues.{TypeValue, Ordinal, Text, Array, component_type, is_within, size_of, same_type}
+use Rattle.ep_values.specs.TypeValues.{parts_of, start_size}
 use Rattle.ep_values.specs.TypeValues as type
 pub use Rattle.ep_values.specs.Values.{Value, Undefined, Word, Components, Members}
 use Rattle.ep_values.specs.Values.{start_of, value_along, value_with}
@@ -19,7 +21,8 @@ pub data End : Type 0 where
   Halted : End
   Error : (number : ℕ) (unit : List ℕ) (line : ℕ) → End
 
--- a variable (ISO 10206, 6.5.1): the component of an allocation to which a path of numbers leads, and all of the allocation
+-- a variable (ISO 10206, 6.5.1): the component of an allocation to which a path of numbers leads, and all of the
+-- allocation
 -- where the path is empty
 pub record Component : Type 0 where
   pub allocation : ℕ
@@ -65,9 +68,11 @@ held r = r.allocated + r.reserved
 abbrev pub Variables : Type 0
 Variables = ℕ → Option Component
 
--- A call under way: the name of its routine, and the unit and the line of the statement or declaration that made it; and
+-- A call under way: the name of its routine, and the unit and the line of the statement or declaration that made it;
+-- and
 -- its activation: its variables, those of the activations around it, in which its routine and the ones around that are
--- declared, the innermost first, and the allocations that were made in it, in order. While it is under way nothing is made
+-- declared, the innermost first, and the allocations that were made in it, in order. While it is under way nothing is
+-- made
 -- in the activations around it.
 pub record Call : Type 0 where
   pub routine : List ℕ
@@ -176,7 +181,8 @@ value_at c s = value_in (allocation_at s.allocations c.allocation) c.path
 
 abbrev pub changed_at : ℕ → List ℕ → Value → List Allocation → Option Allocation → List Allocation
 changed_at n path value allocations None = allocations
-changed_at n path value allocations (Some a) = slice_set allocations n (record a { value = value_with a.value path value })
+changed_at n path value allocations (Some a) =
+    slice_set allocations n (record a { value = value_with a.value path value })
 
 abbrev pub assigned_at : ℕ → List ℕ → Value → List Allocation → List Allocation
 assigned_at zero path value allocations = allocations
@@ -236,7 +242,8 @@ watched r = record r { lost = r.lost || not (has_room r) }
 
 -- the types that are there before any is elaborated: integer, char, Boolean and text
 abbrev pub first_types : List TypeValue
-first_types = Ordinal (neg_ℤ (pos maxint)) (pos maxint) ∷ Ordinal (pos 0) (pos last_char) ∷ Ordinal (pos 0) (pos 1) ∷ Text ∷ []
+first_types =
+    Ordinal (neg_ℤ (pos maxint)) (pos maxint) ∷ Ordinal (pos 0) (pos last_char) ∷ Ordinal (pos 0) (pos 1) ∷ Text ∷ []
 
 -- the words of a new type value, with those of its initial state; the first types have none
 abbrev pub words_of_type : TypeValue → ℕ
@@ -248,7 +255,12 @@ sized t r = record r { lost = r.lost || not (nat_le (size_of t) room_for_words) 
 
 -- one more type that is elaborated, which counts where it is a new one
 abbrev pub met : TypeValue → Resources → Resources
-met t r = sized t (watched (if list_any (same_type t) r.types then r else record r { types = t ∷ r.types; typed = r.typed + words_of_type t }))
+met t r =
+    sized t (watched
+    (if list_any (same_type t) r.types then r else record r {
+      types = t ∷ r.types;
+      typed = r.typed + words_of_type t;
+    }))
 
 abbrev pub with_type : TypeValue → State → State
 with_type t s = record s { resources = met t s.resources }
@@ -259,7 +271,8 @@ taken n r = watched (record r { allocated = r.allocated + n })
 
 -- the variable of this number of the unit is this one
 abbrev pub bound : List ℕ → ℕ → Component → (List ℕ → ℕ → Option Component) → List ℕ → ℕ → Option Component
-bound unit number c variables u k = if bytes_eq unit u && (nat_le number k && nat_le k number) then Some c else variables u k
+bound unit number c variables u k =
+    if bytes_eq unit u && (nat_le number k && nat_le k number) then Some c else variables u k
 
 -- a variable of a unit is one that there is
 abbrev pub with_bound : List ℕ → ℕ → Component → State → State
@@ -294,7 +307,8 @@ abbrev pub own_variable : ℕ → ℕ → State → Option Component
 own_variable levels k s = own_in s.calls levels k
 
 -- The variables that an activation has around it: none where its routine is one of the unit, and else those of the
--- activation so many levels less one up from the one that runs, in which its routine is declared, and of those around that.
+-- activation so many levels less one up from the one that runs, in which its routine is declared, and of those around
+-- that.
 abbrev pub around_by : ℕ → List Call → List Variables
 around_by zero calls = []
 around_by (suc up) calls = drop up (named_in calls)
@@ -306,7 +320,8 @@ bound_own number c variables k = if nat_le number k && nat_le k number then Some
 -- it was made in the innermost call
 abbrev pub with_own : ℕ → ℕ → List Call → List Call
 with_own number n [] = []
-with_own number n (c ∷ calls) = record c { variables = bound_own number (whole n) c.variables; made = c.made ++ n ∷ [] } ∷ calls
+with_own number n (c ∷ calls) =
+    record c { variables = bound_own number (whole n) c.variables; made = c.made ++ n ∷ [] } ∷ calls
 
 -- a new variable of the routine that runs, in the initial state of its type, once its words are counted
 abbrev pub made_own : ℕ → TypeValue → State → State
@@ -328,7 +343,8 @@ own_bound_in number bound (c ∷ calls) = record c { variables = bound_own numbe
 abbrev pub with_own_bound : ℕ → Component → State → State
 with_own_bound number bound s = record s { calls = own_bound_in number bound s.calls }
 
--- A variable is made: its words are counted, and then it is there, which spends its size. So room is lost before the steps that it is wanted for.
+-- A variable is made: its words are counted, and then it is there, which spends its size. So room is lost before the
+-- steps that it is wanted for.
 abbrev pub allocate : List ℕ → ℕ → TypeValue → Computation (Unit {0})
 allocate unit number t = bind (change (counted t)) (λ _. spend (size_of t) (change (made unit number t)))
 
@@ -359,7 +375,8 @@ living_words (Some a) = if a.ended then 0 else size_of a.type_value + 1
 -- the words that end with these allocations
 abbrev pub words_ending : List ℕ → List Allocation → ℕ
 words_ending [] allocations = 0
-words_ending (n ∷ ns) allocations = living_words (allocation_at allocations n) + words_ending ns (with_ended n allocations)
+words_ending (n ∷ ns) allocations =
+    living_words (allocation_at allocations n) + words_ending ns (with_ended n allocations)
 
 -- these allocations end, and their words are given back
 abbrev pub with_all_ended : List ℕ → State → State

@@ -1,7 +1,9 @@
 -- Which typed trees the static rules give: each form has parts of the kinds, types and numbers that it asks for.
-use Rattle.std.specs.Prelude.{◌≡◌, ℕ, ℤ, pos, zero, suc, ◌+◌, ◌<◌, ◌≤◌, Bool, true, false, All, List, [], ◌∷◌, ◌++◌, map, slice_get, drop, length, Option, Some, None, IsTrue, int_le, ⊤, ◌⊎◌, if◌then◌else◌}
+use Rattle.std.specs.Prelude.{◌≡◌, ℕ, ℤ, pos, zero, suc, ◌+◌, ◌<◌, ◌≤◌, Bool, true, false, All, List, [], ◌∷◌, ◌++◌}
+use Rattle.std.specs.Prelude.{map, slice_get, drop, length, Option, Some, None, IsTrue, int_le, ⊤, ◌⊎◌, if◌then◌else◌}
 use Rattle.std.specs.Str.{bytes_eq}
-use Rattle.ep_typed.specs.Denoters.{ArrayParts, array_of, base_of, definition_of, denoter_at, denoters_count, record_of, required_type, type_of, host_of, bare_type_of}
+use Rattle.ep_typed.specs.Denoters.{ArrayParts, array_of, base_of, definition_of, denoter_at, denoters_count}
+use Rattle.ep_typed.specs.Denoters.{record_of, required_type, type_of, host_of, bare_type_of}
 use Rattle.ep_typed.specs.Hosts.{Host, least, greatest, is_of_host}
 use Rattle.ep_typed.specs.Hosts as host
 use Rattle.ep_values.specs.Operations.{is_integer}
@@ -11,7 +13,16 @@ use Rattle.ep_values.specs.Sets.{IsSet, are_between, is_ordinal}
 use Rattle.ep_values.specs.TypeValues.{is_within}
 use Rattle.ep_typed.specs.Selections.{variant_number, variants_count}
 use Rattle.ep_typed.specs.Trees as tree
-use Rattle.ep_typed.specs.Trees.{Fixed, Denoter, Required, Named, Subrange, Enumeration, Array, Record, Denoters, no_denoter, next_denoter, Initial, Callee, Place, Variable, Own, Standard, Indexed, Field, Variant, Expr, Constant, Text, Read, One, Two, Short, Step, Function, IndexedValue, FieldValue, VariantValue, SetOf, OnSets, Card, Designator, Single, Range, Designators, no_member, next_member, Actual, Evaluated, Accessed, Actuals, no_actual, next_actual, Item, Plain, Wide, Stmt, Stmts, Empty, Compound, Assign, Tagging, AssignTag, If, While, Repeat, Control, For, MemberControl, ForIn, With, Procedure, Halt, Write, none, next, Case, Arms, no_arm, next_arm, Other, no_other, otherwise_do, Entire, OfUnit, OfRoutine, entire, SetConstant, Element, AtIndex, AtField, SameField, AtRanges, AtIndexes, Elements, no_element, next_element}
+use Rattle.ep_typed.specs.Trees.{Fixed, Denoter, Required, Named, Subrange, Enumeration, Array, Record, Denoters}
+use Rattle.ep_typed.specs.Trees.{no_denoter, next_denoter, Initial, Callee, Place, Variable, Own, Standard, Indexed}
+use Rattle.ep_typed.specs.Trees.{Field, Variant, Expr, Constant, Text, Read, One, Two, Short, Step, Function}
+use Rattle.ep_typed.specs.Trees.{IndexedValue, FieldValue, VariantValue, SetOf, OnSets, Card, Designator, Single}
+use Rattle.ep_typed.specs.Trees.{Range, Designators, no_member, next_member, Actual, Evaluated, Accessed, Actuals}
+use Rattle.ep_typed.specs.Trees.{no_actual, next_actual, Item, Plain, Wide, Stmt, Stmts, Empty, Compound, Assign}
+use Rattle.ep_typed.specs.Trees.{Tagging, AssignTag, If, While, Repeat, Control, For, MemberControl, ForIn, With}
+use Rattle.ep_typed.specs.Trees.{Procedure, Halt, Write, none, next, Case, Arms, no_arm, next_arm, Other, no_other}
+use Rattle.ep_typed.specs.Trees.{otherwise_do, Entire, OfUnit, OfRoutine, entire, SetConstant, Element, AtIndex}
+use Rattle.ep_typed.specs.Trees.{AtField, SameField, AtRanges, AtIndexes, Elements, no_element, next_element}
 use Rattle.ep_typed.specs.Routines.{heading_of, formal_variable, variables_of, unit_variables}
 use Rattle.ep_typed.specs.Routines.{first_with, made_by_unit}
 use Rattle.ep_typed.specs.Viewed.{constant_expr, denoter_of, stmt_of}
@@ -41,7 +52,8 @@ use Rattle.ep_typed.specs.declared.unit.UnitType.{UnitType}
 use Rattle.ep_typed.specs.declared.unit.UnitVariable.{UnitVariable}
 use Rattle.ep_typed.specs.declared.unit.Unit.{Unit as TypedUnit}
 
--- What an expression is: of an ordinal type with this host, a text, of an array or record type without initial states, or a
+-- What an expression is: of an ordinal type with this host, a text, of an array or record type without initial states,
+-- or a
 -- set over this host.
 pub data Kind : Type 0 where
   Ordinal : (host : Host) → Kind
@@ -67,7 +79,9 @@ IsOfKind (Set h) types d = (base : Denoter) × (base_of types d ≡ Some base) �
 
 -- a type without initial states is not empty, and its values are integers of the host
 abbrev pub IsTypeOf : Host → TypeValue → Type 0
-IsTypeOf h (type.Ordinal low high) = IsTrue (int_le low high) × IsTrue (is_of_host h low) × IsTrue (is_of_host h high) × IsTrue (is_integer low) × IsTrue (is_integer high)
+IsTypeOf h (type.Ordinal low high) =
+    IsTrue (int_le low high) × IsTrue (is_of_host h low) × IsTrue (is_of_host h high) × IsTrue (is_integer low)
+    × IsTrue (is_integer high)
 IsTypeOf h type.Text = ⊥
 IsTypeOf h (type.Array low high of) = ⊥
 IsTypeOf h (type.Record ts) = ⊥
@@ -94,11 +108,13 @@ IsTypeOfKind (Set h) t = IsSetOf h t
 abbrev pub IsRangeWithin : ℤ → ℤ → CaseRange → Type 0
 IsRangeWithin low high r = IsTrue (int_le low r.low) × IsTrue (int_le r.low r.high) × IsTrue (int_le r.high high)
 
--- the steps, of which there is at least one, lead through records from one with these components to a component of the type
+-- the steps, of which there is at least one, lead through records from one with these components to a component of the
+-- type
 abbrev pub LeadTo : ComponentTypes → List ℕ → TypeValue → Type 0
 LeadTo ts [] of = ⊥
 LeadTo ts (k ∷ []) of = type_among ts k ≡ Some of
-LeadTo ts (k ∷ j ∷ more) of = (us : ComponentTypes) × (type_among ts k ≡ Some (type.Record us)) × LeadTo us (j ∷ more) of
+LeadTo ts (k ∷ j ∷ more) of =
+    (us : ComponentTypes) × (type_among ts k ≡ Some (type.Record us)) × LeadTo us (j ∷ more) of
 
 -- they lead to one whose values are of the kind
 abbrev pub LeadToKind : ComponentTypes → List ℕ → Kind → Type 0
@@ -120,8 +136,10 @@ pub record Declarations : Type 0 where
   pub routines : List ℕ → List RoutineEntry
   -- the routines around the routine of this number of the unit, the innermost first
   pub around : List ℕ → ℕ → List Level
-  -- The routine in whose block they may be named and the ones around it, the innermost first, and their unit and its types,
-  -- and the first number of the variables of that unit that no code makes. Without routines they may be named in its start.
+  -- The routine in whose block they may be named and the ones around it, the innermost first, and their unit and its
+  -- types,
+  -- and the first number of the variables of that unit that no code makes. Without routines they may be named in its
+  -- start.
   pub levels : List Level
   pub routine_unit : List ℕ
   pub routine_types : List UnitType
@@ -141,25 +159,32 @@ variables_up declared up = variables_at (slice_get declared.levels up)
 
 -- the variable is one of the routine, or else of the unit, in whose block it is named, and no code makes it
 abbrev pub IsUnmade : Declarations → Entire → Type 0
-IsUnmade declared (OfUnit unit number) = (declared.levels ≡ []) × (unit ≡ declared.routine_unit) × (declared.first_with ≤ number)
-IsUnmade declared (OfRoutine zero number) = (level : Level) × (slice_get declared.levels 0 ≡ Some level) × (level.first_with ≤ number)
+IsUnmade declared (OfUnit unit number) =
+    (declared.levels ≡ []) × (unit ≡ declared.routine_unit) × (declared.first_with ≤ number)
+IsUnmade declared (OfRoutine zero number) =
+    (level : Level) × (slice_get declared.levels 0 ≡ Some level) × (level.first_with ≤ number)
 IsUnmade declared (OfRoutine (suc up) number) = ⊥
 
--- A routine is declared so: 0 says that it is one of the unit, and other numbers that the routine in which it is declared
+-- A routine is declared so: 0 says that it is one of the unit, and other numbers that the routine in which it is
+-- declared
 -- is the one so many levels less one up from the one in which code stands.
 abbrev pub IsDeclaredUp : Declarations → Callee → ℕ → Type 0
 IsDeclaredUp declared callee zero = declared.around callee.unit callee.number ≡ []
 IsDeclaredUp declared callee (suc up) =
-    (callee.unit ≡ declared.routine_unit) × (up < length declared.levels) × (declared.around callee.unit callee.number ≡ drop up declared.levels)
+    (callee.unit ≡ declared.routine_unit) × (up < length declared.levels)
+    × (declared.around callee.unit callee.number ≡ drop up declared.levels)
 
 -- the routine has this heading, and is declared as many levels up as the call says
 pub record IsCallee (declared : Declarations) (callee : Callee) (r : RoutineEntry) : Type 0 where
   pub there : slice_get (declared.routines callee.unit) callee.number ≡ Some r
   pub declared_up : IsDeclaredUp declared callee callee.levels
 
--- the kinds of an operation's operand and result; a value of which the number is taken is of a host whose numbers are integers
+-- the kinds of an operation's operand and result; a value of which the number is taken is of a host whose numbers are
+-- integers
 abbrev pub IsUnary : Unary → Kind → Kind → Type 0
-IsUnary unary.Same operand result = ((h : Host) × (operand ≡ Ordinal h) × IsTrue (int_le (greatest h) (greatest host.Integer))) × (result ≡ Ordinal host.Integer)
+IsUnary unary.Same operand result =
+    ((h : Host) × (operand ≡ Ordinal h) × IsTrue (int_le (greatest h) (greatest host.Integer)))
+    × (result ≡ Ordinal host.Integer)
 IsUnary unary.Negate operand result = (operand ≡ Ordinal host.Integer) × (result ≡ Ordinal host.Integer)
 IsUnary unary.Not operand result = (operand ≡ Ordinal host.Boolean) × (result ≡ Ordinal host.Boolean)
 IsUnary unary.Absolute operand result = (operand ≡ Ordinal host.Integer) × (result ≡ Ordinal host.Integer)
@@ -169,15 +194,18 @@ IsUnary unary.Character operand result = (operand ≡ Ordinal host.Integer) × (
 
 -- arithmetic takes and gives integers
 abbrev pub IsArithmetic : Kind → Kind → Kind → Type 0
-IsArithmetic left right result = (left ≡ Ordinal host.Integer) × (right ≡ Ordinal host.Integer) × (result ≡ Ordinal host.Integer)
+IsArithmetic left right result =
+    (left ≡ Ordinal host.Integer) × (right ≡ Ordinal host.Integer) × (result ≡ Ordinal host.Integer)
 
 -- logic takes and gives Booleans
 abbrev pub IsLogical : Kind → Kind → Kind → Type 0
-IsLogical left right result = (left ≡ Ordinal host.Boolean) × (right ≡ Ordinal host.Boolean) × (result ≡ Ordinal host.Boolean)
+IsLogical left right result =
+    (left ≡ Ordinal host.Boolean) × (right ≡ Ordinal host.Boolean) × (result ≡ Ordinal host.Boolean)
 
 -- a comparison takes two values of one host
 abbrev pub IsComparison : Kind → Kind → Kind → Type 0
-IsComparison left right result = ((h : Host) × (left ≡ Ordinal h) × (right ≡ Ordinal h)) × (result ≡ Ordinal host.Boolean)
+IsComparison left right result =
+    ((h : Host) × (left ≡ Ordinal h) × (right ≡ Ordinal h)) × (result ≡ Ordinal host.Boolean)
 
 abbrev pub IsBinary : Binary → Kind → Kind → Kind → Type 0
 IsBinary binary.Add = IsArithmetic
@@ -254,50 +282,70 @@ abbrev pub HasRange : List CaseRange → Type 0
 HasRange [] = ⊥
 HasRange (r ∷ rs) = ⊤
 
--- The denoter has the type value, which has no initial states, and breaks no rule: the bounds of a subrange are in order and of its
--- host, and an enumeration has no more constants than there are integers; the values of a set's base type may be members; an
+-- The denoter has the type value, which has no initial states, and breaks no rule: the bounds of a subrange are in
+-- order and of its
+-- host, and an enumeration has no more constants than there are integers; the values of a set's base type may be
+-- members; an
 -- initial state is one for the type.
 mutual
   pub data IsTyped (types : List UnitType) : Denoter → TypeValue → Type 0 where
     required : (r : RequiredType) → IsTyped types (Required r) (required_type r)
-    named : (index : ℕ) (t : UnitType) {v : TypeValue} → slice_get types index ≡ Some t → IsTyped types (definition_of t) v → IsTyped types (Named index []) v
-    subrange : (of : Denoter) (low high : ℤ) (h : Host) → host_of types of ≡ Some h → IsTypeOf h (type.Ordinal low high)
+    named : (index : ℕ) (t : UnitType) {v : TypeValue} → slice_get types index ≡ Some t
+        → IsTyped types (definition_of t) v → IsTyped types (Named index []) v
+    subrange : (of : Denoter) (low high : ℤ) (h : Host) → host_of types of ≡ Some h
+        → IsTypeOf h (type.Ordinal low high)
         → IsTyped types (Subrange of (Fixed low) (Fixed high)) (type.Ordinal low high)
     enumeration : (first : List ℕ) (others : List (List ℕ)) → IsTrue (is_integer (pos (length others)))
         → IsTyped types (Enumeration (first ∷ others)) (type.Ordinal (pos 0) (pos (length others)))
-    array : (index component : Denoter) (i : TypeValue) (low high : ℤ) (of : TypeValue) → IsTyped types index i → bare_of i ≡ type.Ordinal low high
+    array : (index component : Denoter) (i : TypeValue) (low high : ℤ) (of : TypeValue) → IsTyped types index i
+        → bare_of i ≡ type.Ordinal low high
         → IsTyped types component of → IsTyped types (Array index component) (type.Array low high of)
-    components : (ds : Denoters) (ts : ComponentTypes) → AreTyped types ds ts → IsTyped types (Record ds) (type.Record ts)
-    set : (base : Denoter) (b : TypeValue) (low high : ℤ) → IsTyped types base b → bare_of b ≡ type.Ordinal low high → IsTrue (is_ordinal low) → IsTrue (is_ordinal high)
+    components : (ds : Denoters) (ts : ComponentTypes) → AreTyped types ds ts
+        → IsTyped types (Record ds) (type.Record ts)
+    set : (base : Denoter) (b : TypeValue) (low high : ℤ) → IsTyped types base b → bare_of b ≡ type.Ordinal low high
+        → IsTrue (is_ordinal low) → IsTrue (is_ordinal high)
         → IsTyped types (tree.Set base) (type.Set low high)
-    initial : (of : Denoter) (x : Expr) (t : TypeValue) → IsTyped types of t → IsStartFor types t x → IsTyped types (Initial of x) t
+    initial : (of : Denoter) (x : Expr) (t : TypeValue) → IsTyped types of t → IsStartFor types t x
+        → IsTyped types (Initial of x) t
 
   -- one for one
   pub data AreTyped (types : List UnitType) : Denoters → ComponentTypes → Type 0 where
     none_typed : AreTyped types no_denoter type.no_component
-    next_typed : (d : Denoter) (ds : Denoters) (t : TypeValue) (ts : ComponentTypes) → IsTyped types d t → AreTyped types ds ts
+    next_typed : (d : Denoter) (ds : Denoters) (t : TypeValue) (ts : ComponentTypes) → IsTyped types d t
+        → AreTyped types ds ts
         → AreTyped types (next_denoter d ds) (type.next_component t ts)
 
-  -- The constant may be the initial state of a type, whose values it may still lie outside of (ISO 10206, 6.6): a value of the host
-  -- of an ordinal type, a set over that of a set type, or an array or a record of that type of the list, whose components are given
+  -- The constant may be the initial state of a type, whose values it may still lie outside of (ISO 10206, 6.6): a
+  -- value of the host
+  -- of an ordinal type, a set over that of a set type, or an array or a record of that type of the list, whose
+  -- components are given
   -- such constants.
   pub data IsStartFor (types : List UnitType) : TypeValue → Expr → Type 0 where
-    word_start : (low high : ℤ) (h : Host) (w : ℤ) → IsTypeOf h (type.Ordinal low high) → IsTrue (is_of_host h w) → IsStartFor types (type.Ordinal low high) (Constant w)
-    set_start : (low high : ℤ) (h : Host) (ms : List ℕ) → IsBaseOf h low high → IsSet ms → IsTrue (are_between (least h) (greatest h) ms)
+    word_start : (low high : ℤ) (h : Host) (w : ℤ) → IsTypeOf h (type.Ordinal low high) → IsTrue (is_of_host h w)
+        → IsStartFor types (type.Ordinal low high) (Constant w)
+    set_start : (low high : ℤ) (h : Host) (ms : List ℕ) → IsBaseOf h low high → IsSet ms
+        → IsTrue (are_between (least h) (greatest h) ms)
         → IsStartFor types (type.Set low high) (SetConstant ms)
-    structured_start : (of : ℕ) (t : TypeValue) (es : Elements) → type_of types (Named of []) ≡ Some t → IsTyped types (Named of []) t → IsStructured t → AreStartsFor types t es
+    structured_start : (of : ℕ) (t : TypeValue) (es : Elements) → type_of types (Named of []) ≡ Some t
+        → IsTyped types (Named of []) t → IsStructured t → AreStartsFor types t es
         → IsStartFor types t (tree.Structured of es)
 
   -- what components are given
   pub data AreStartsFor (types : List UnitType) : TypeValue → Elements → Type 0 where
     none_given : (t : TypeValue) → AreStartsFor types t no_element
-    ranges_given : (low high : ℤ) (h : Host) (of : TypeValue) (ranges : List CaseRange) (x : Expr) (more : Elements) → IsTypeOf h (type.Ordinal low high)
-        → HasRange ranges → All (IsRangeWithin low high) ranges → IsStartFor types of x → AreStartsFor types (type.Array low high of) more
+    ranges_given : (low high : ℤ) (h : Host) (of : TypeValue) (ranges : List CaseRange) (x : Expr) (more : Elements)
+        → IsTypeOf h (type.Ordinal low high)
+        → HasRange ranges → All (IsRangeWithin low high) ranges → IsStartFor types of x
+        → AreStartsFor types (type.Array low high of) more
         → AreStartsFor types (type.Array low high of) (next_element (AtRanges ranges x) more)
-    field_given : (ts : ComponentTypes) (steps : List ℕ) (of : TypeValue) (x : Expr) (more : Elements) → LeadTo ts steps of
-        → IsStartFor types of x → AreStartsFor types (type.Record ts) more → AreStartsFor types (type.Record ts) (next_element (AtField steps x) more)
-    same_given : (ts : ComponentTypes) (from to : List ℕ) (k : Kind) (more : Elements) → LeadToKind ts from k → LeadToKind ts to k
-        → AreStartsFor types (type.Record ts) more → AreStartsFor types (type.Record ts) (next_element (SameField from to) more)
+    field_given : (ts : ComponentTypes) (steps : List ℕ) (of : TypeValue) (x : Expr) (more : Elements)
+        → LeadTo ts steps of
+        → IsStartFor types of x → AreStartsFor types (type.Record ts) more
+        → AreStartsFor types (type.Record ts) (next_element (AtField steps x) more)
+    same_given : (ts : ComponentTypes) (from to : List ℕ) (k : Kind) (more : Elements) → LeadToKind ts from k
+        → LeadToKind ts to k
+        → AreStartsFor types (type.Record ts) more
+        → AreStartsFor types (type.Record ts) (next_element (SameField from to) more)
 
 -- under a list of types a valid denoter has a type value
 pub record IsDenoter (types : List UnitType) (d : Denoter) : Type 0 where
@@ -314,8 +362,10 @@ module _ (declared : Declarations) where
   abbrev pub IsRange : Host → CaseRange → Type 0
   IsRange h r = IsTrue (int_le r.low r.high) × IsTrue (is_of_host h r.low) × IsTrue (is_of_host h r.high)
 
-  -- Under a list of types the components of a record end with the record of a tag and with variants that it selects so: the
-  -- tag is of an ordinal type, and the labels are values of its host, of which none is in two ranges (ISO 10206, 6.4.3.4).
+  -- Under a list of types the components of a record end with the record of a tag and with variants that it selects
+  -- so: the
+  -- tag is of an ordinal type, and the labels are values of its host, of which none is in two ranges (ISO 10206,
+  -- 6.4.3.4).
   pub record IsSelection (types : List UnitType) (ds : Denoters) (s : Selection) : Type 0 where
     pub tag : Denoter
     pub host : Host
@@ -327,18 +377,32 @@ module _ (declared : Declarations) where
     pub apart : AreApart (labels_joined s.labels)
 
   abbrev mutual
-    -- The place of a variable that is declared or of one of a routine, or of a component, of whose denoter, in the list of
+    -- The place of a variable that is declared or of one of a routine, or of a component, of whose denoter, in the
+    -- list of
     -- types in which it names, this holds; a standard file has no denoter.
     pub IsPlaceWhere : (List UnitType → Denoter → Type 0) → Place → Type 0
-    IsPlaceWhere Holds (Variable unit number) = (v : UnitVariable) × (declared.variables unit number ≡ Some v) × Holds (declared.types unit) (denoter_of v.denoter)
-    IsPlaceWhere Holds (Own up number) = (v : UnitVariable) × (slice_get (variables_up declared up) number ≡ Some v) × Holds declared.routine_types (denoter_of v.denoter)
+    IsPlaceWhere Holds (Variable unit number) =
+        (v : UnitVariable) × (declared.variables unit number ≡ Some v)
+        × Holds (declared.types unit) (denoter_of v.denoter)
+    IsPlaceWhere Holds (Own up number) =
+        (v : UnitVariable) × (slice_get (variables_up declared up) number ≡ Some v)
+        × Holds declared.routine_types (denoter_of v.denoter)
     IsPlaceWhere Holds (Standard file) = ⊥
     IsPlaceWhere Holds (Indexed p x) =
-        IsPlaceWhere (λ types d. (a : ArrayParts) × (array_of types d ≡ Some a) × Holds types a.component × ((h : Host) × (host_of types a.index ≡ Some h) × IsExpr (Ordinal h) x)) p
+        IsPlaceWhere
+        (λ types d. (a : ArrayParts) × (array_of types d ≡ Some a) × Holds types a.component
+        × ((h : Host) × (host_of types a.index ≡ Some h) × IsExpr (Ordinal h) x))
+        p
     IsPlaceWhere Holds (Field p number) =
-        IsPlaceWhere (λ types d. (ds : Denoters) × (record_of types d ≡ Some ds) × (c : Denoter) × (denoter_at ds number ≡ Some c) × Holds types c) p
+        IsPlaceWhere
+        (λ types d. (ds : Denoters) × (record_of types d ≡ Some ds) × (c : Denoter)
+        × (denoter_at ds number ≡ Some c) × Holds types c)
+        p
     IsPlaceWhere Holds (Variant p selection number) =
-        IsPlaceWhere (λ types d. (ds : Denoters) × (record_of types d ≡ Some ds) × IsSelection types ds selection × (c : Denoter) × (denoter_at ds (variant_number selection number) ≡ Some c) × Holds types c) p
+        IsPlaceWhere
+        (λ types d. (ds : Denoters) × (record_of types d ≡ Some ds) × IsSelection types ds selection
+        × (c : Denoter) × (denoter_at ds (variant_number selection number) ≡ Some c) × Holds types c)
+        p
 
     -- an expression of this kind
     pub IsExpr : Kind → Expr → Type 0
@@ -347,34 +411,50 @@ module _ (declared : Declarations) where
     IsExpr kind (Read p) = IsPlaceWhere (IsOfKind kind) p
     IsExpr kind (One operation x) = (k : Kind) × IsUnary operation k kind × IsExpr k x
     IsExpr kind (Two operation x y) = (k l : Kind) × IsBinary operation k l kind × IsExpr k x × IsExpr l y
-    IsExpr kind (Short operation x y) = (kind ≡ Ordinal host.Boolean) × IsExpr (Ordinal host.Boolean) x × IsExpr (Ordinal host.Boolean) y
-    IsExpr kind (Step down low high x y) = (h : Host) × (kind ≡ Ordinal h) × (low ≡ least h) × (high ≡ greatest h) × IsExpr (Ordinal h) x × IsExpr (Ordinal host.Integer) y
+    IsExpr kind (Short operation x y) =
+        (kind ≡ Ordinal host.Boolean) × IsExpr (Ordinal host.Boolean) x × IsExpr (Ordinal host.Boolean) y
+    IsExpr kind (Step down low high x y) =
+        (h : Host) × (kind ≡ Ordinal h) × (low ≡ least h) × (high ≡ greatest h) × IsExpr (Ordinal h) x
+        × IsExpr (Ordinal host.Integer) y
     IsExpr kind (Function callee given) =
-        (r : RoutineEntry) × IsCallee declared callee r × IsFunction (declared.types callee.unit) kind r × AreGiven (declared.types callee.unit) r.formals given
+        (r : RoutineEntry) × IsCallee declared callee r × IsFunction (declared.types callee.unit) kind r
+        × AreGiven (declared.types callee.unit) r.formals given
     IsExpr kind (IndexedValue x y) =
-        (low high : ℤ) × (of : TypeValue) × IsExpr (Structured (type.Array low high of)) x × IsTypeOfKind kind of × ((h : Host) × IsTypeOf h (type.Ordinal low high) × IsExpr (Ordinal h) y)
-    IsExpr kind (SetConstant ms) = (h : Host) × (kind ≡ Set h) × IsSet ms × IsTrue (are_between (least h) (greatest h) ms)
+        (low high : ℤ) × (of : TypeValue) × IsExpr (Structured (type.Array low high of)) x × IsTypeOfKind kind of
+        × ((h : Host) × IsTypeOf h (type.Ordinal low high) × IsExpr (Ordinal h) y)
+    IsExpr kind (SetConstant ms) =
+        (h : Host) × (kind ≡ Set h) × IsSet ms × IsTrue (are_between (least h) (greatest h) ms)
     IsExpr kind (SetOf ds) = (h : Host) × (kind ≡ Set h) × AreDesignators h ds
     IsExpr kind (OnSets operation x y) = (k l : Kind) × IsOnSets operation k l kind × IsExpr k x × IsExpr l y
     IsExpr kind (Card x) = (h : Host) × (kind ≡ Ordinal host.Integer) × IsExpr (Set h) x
     -- a structured value of an array or record type of the unit in whose code it stands
     IsExpr kind (tree.Structured of es) =
-        (d : IsDenoter declared.routine_types (Named of [])) × (kind ≡ Structured (bare_of d.type_value)) × IsStructured (bare_of d.type_value) × AreElements (bare_of d.type_value) es
+        (d : IsDenoter declared.routine_types (Named of [])) × (kind ≡ Structured (bare_of d.type_value))
+        × IsStructured (bare_of d.type_value) × AreElements (bare_of d.type_value) es
     -- the record has the tag where the variants are selected by it, of an ordinal type
     IsExpr kind (VariantValue x selection number) =
-        (ts inner : ComponentTypes) × (low high : ℤ) × IsExpr (Structured (type.Record ts)) x × (type_among ts selection.tag ≡ Some (tag_type low high)) × (type_among ts (variant_number selection number) ≡ Some (type.Record inner)) × (kind ≡ Structured (type.Record inner))
+        (ts inner : ComponentTypes) × (low high : ℤ) × IsExpr (Structured (type.Record ts)) x
+        × (type_among ts selection.tag ≡ Some (tag_type low high))
+        × (type_among ts (variant_number selection number) ≡ Some (type.Record inner))
+        × (kind ≡ Structured (type.Record inner))
         × ((h : Host) × IsTypeOf h (type.Ordinal low high))
-    IsExpr kind (FieldValue x number) = (ts : ComponentTypes) × (of : TypeValue) × IsExpr (Structured (type.Record ts)) x × (type_among ts number ≡ Some of) × IsTypeOfKind kind of
+    IsExpr kind (FieldValue x number) =
+        (ts : ComponentTypes) × (of : TypeValue) × IsExpr (Structured (type.Record ts)) x
+        × (type_among ts number ≡ Some of) × IsTypeOfKind kind of
 
     -- what a component of the type is given is of a kind that it may have
     pub IsElement : TypeValue → Element → Type 0
-    IsElement (type.Array low high of) (AtIndex x y) = ((h : Host) × IsTypeOf h (type.Ordinal low high) × IsExpr (Ordinal h) x) × ((k : Kind) × IsTypeOfKind k of × IsExpr k y)
+    IsElement (type.Array low high of) (AtIndex x y) =
+        ((h : Host) × IsTypeOf h (type.Ordinal low high) × IsExpr (Ordinal h) x)
+        × ((k : Kind) × IsTypeOfKind k of × IsExpr k y)
     IsElement (type.Record ts) (AtField steps x) = (k : Kind) × LeadToKind ts steps k × IsExpr k x
     IsElement (type.Record ts) (SameField from to) = (k : Kind) × LeadToKind ts from k × LeadToKind ts to k
     IsElement (type.Array low high of) (AtRanges ranges x) =
-        ((h : Host) × IsTypeOf h (type.Ordinal low high)) × HasRange ranges × All (IsRangeWithin low high) ranges × ((k : Kind) × IsTypeOfKind k of × IsExpr k x)
+        ((h : Host) × IsTypeOf h (type.Ordinal low high)) × HasRange ranges × All (IsRangeWithin low high) ranges
+        × ((k : Kind) × IsTypeOfKind k of × IsExpr k x)
     IsElement (type.Array low high of) (AtIndexes ds x) =
-        ((h : Host) × IsTypeOf h (type.Ordinal low high) × AreDesignators h ds) × ((k : Kind) × IsTypeOfKind k of × IsExpr k x)
+        ((h : Host) × IsTypeOf h (type.Ordinal low high) × AreDesignators h ds)
+        × ((k : Kind) × IsTypeOfKind k of × IsExpr k x)
     IsElement t e = ⊥
 
     pub AreElements : TypeValue → Elements → Type 0
@@ -390,13 +470,19 @@ module _ (declared : Declarations) where
     AreDesignators h no_member = ⊤
     AreDesignators h (next_member d more) = IsDesignator h d × AreDesignators h more
 
-    -- What may be given for a formal parameter of a unit with these types: for a value parameter an expression of its kind,
+    -- What may be given for a formal parameter of a unit with these types: for a value parameter an expression of its
+    -- kind,
     -- and for a variable parameter a variable of its type.
     pub IsGiven : List UnitType → FormalMode → Formal → Actual → Type 0
     IsGiven types mode.Value f (Evaluated x) = (k : Kind) × IsOfKind k types (denoter_of f.denoter) × IsExpr k x
-    IsGiven types mode.ProtectedValue f (Evaluated x) = (k : Kind) × IsOfKind k types (denoter_of f.denoter) × IsExpr k x
-    IsGiven types mode.Variable f (Accessed p) = (t : TypeValue) × (bare_type_of types (denoter_of f.denoter) ≡ Some t) × IsPlaceWhere (λ list d. bare_type_of list d ≡ Some t) p
-    IsGiven types mode.ProtectedVariable f (Accessed p) = (t : TypeValue) × (bare_type_of types (denoter_of f.denoter) ≡ Some t) × IsPlaceWhere (λ list d. bare_type_of list d ≡ Some t) p
+    IsGiven types mode.ProtectedValue f (Evaluated x) =
+        (k : Kind) × IsOfKind k types (denoter_of f.denoter) × IsExpr k x
+    IsGiven types mode.Variable f (Accessed p) =
+        (t : TypeValue) × (bare_type_of types (denoter_of f.denoter) ≡ Some t)
+        × IsPlaceWhere (λ list d. bare_type_of list d ≡ Some t) p
+    IsGiven types mode.ProtectedVariable f (Accessed p) =
+        (t : TypeValue) × (bare_type_of types (denoter_of f.denoter) ≡ Some t)
+        × IsPlaceWhere (λ list d. bare_type_of list d ≡ Some t) p
     IsGiven types mode f a = ⊥
 
     -- one for each, in order
@@ -428,7 +514,8 @@ module _ (declared : Declarations) where
   WritesSomething [] true = ⊤
   WritesSomething (i ∷ is) ends_line = ⊤
 
-  -- The control variable has this host, whose least and greatest values those are, and the auxiliary variables are integers.
+  -- The control variable has this host, whose least and greatest values those are, and the auxiliary variables are
+  -- integers.
   pub record IsControl (h : Host) (c : Control) : Type 0 where
     pub variable : IsPlace h (entire c.variable)
     pub initial : IsPlace host.Integer (entire c.initial)
@@ -439,26 +526,32 @@ module _ (declared : Declarations) where
   -- The denoter is that of a record with variants that are selected so, by a tag of this host and with these bounds.
   abbrev pub IsTagged : Host → ℤ → ℤ → Selection → List UnitType → Denoter → Type 0
   IsTagged h low high s types d =
-      (ds : Denoters) × (record_of types d ≡ Some ds) × ((selection : IsSelection types ds s) × (selection.host ≡ h) × (bare_type_of types selection.tag ≡ Some (type.Ordinal low high)))
+      (ds : Denoters) × (record_of types d ≡ Some ds)
+      × ((selection : IsSelection types ds s) × (selection.host ≡ h)
+      × (bare_type_of types selection.tag ≡ Some (type.Ordinal low high)))
 
-  -- The auxiliary variable of an assignment to a tag is an integer, and the tag of the record is of this host and has those
+  -- The auxiliary variable of an assignment to a tag is an integer, and the tag of the record is of this host and has
+  -- those
   -- bounds.
   pub record IsTagging (h : Host) (c : Tagging) (p : Place) (s : Selection) : Type 0 where
     pub value : IsPlace host.Integer (entire c.value)
     pub record_is : IsPlaceWhere (IsTagged h c.low c.high s) p
 
-  -- The control variable has this host, whose numbers are integers, and the auxiliary variable is of a set type over integers.
+  -- The control variable has this host, whose numbers are integers, and the auxiliary variable is of a set type over
+  -- integers.
   pub record IsMemberControl (h : Host) (c : MemberControl) : Type 0 where
     pub variable : IsPlace h (entire c.variable)
     pub rest : IsPlaceWhere (IsOfKind (Set host.Integer)) (entire c.rest)
     pub numbered : IsTrue (int_le (greatest h) (greatest host.Integer))
 
-  -- The variable that stands for the place is one that no code makes, of the record type of this number, which the place
+  -- The variable that stands for the place is one that no code makes, of the record type of this number, which the
+  -- place
   -- has too (ISO 10206, 6.9.3.10).
   pub record IsWith (v : Entire) (of : ℕ) (p : Place) : Type 0 where
     pub components : ComponentTypes
     pub unmade : IsUnmade declared v
-    pub variable : IsPlaceWhere (λ types d. (d ≡ Named of []) × (bare_type_of types d ≡ Some (type.Record components))) (entire v)
+    pub variable : IsPlaceWhere
+        (λ types d. (d ≡ Named of []) × (bare_type_of types d ≡ Some (type.Record components))) (entire v)
     pub place : IsVariableOf (type.Record components) p
 
   abbrev mutual
@@ -474,8 +567,10 @@ module _ (declared : Declarations) where
     IsStmt (ForIn line c x s) = ((h : Host) × IsMemberControl h c × IsExpr (Set h) x) × IsStmt s
     IsStmt (With line v of p s) = IsWith v of p × IsStmt s
     IsStmt (Procedure line callee given) =
-        (r : RoutineEntry) × IsCallee declared callee r × IsProcedure r × AreGiven (declared.types callee.unit) r.formals given
-    IsStmt (Case line x arms o) = ((h : Host) × IsExpr (Ordinal h) x × AreArms h arms) × IsOther o × AreApart (ranges_of arms)
+        (r : RoutineEntry) × IsCallee declared callee r × IsProcedure r
+        × AreGiven (declared.types callee.unit) r.formals given
+    IsStmt (Case line x arms o) =
+        ((h : Host) × IsExpr (Ordinal h) x × AreArms h arms) × IsOther o × AreApart (ranges_of arms)
     IsStmt (Halt line) = ⊤
     IsStmt (Write line items ends_line) = AreItems items × WritesSomething items ends_line
 
@@ -497,9 +592,12 @@ abbrev mutual
   pub IsTypeValue : TypeValue → Type 0
   IsTypeValue (type.Ordinal low high) = IsTrue (int_le low high) × IsTrue (is_integer low) × IsTrue (is_integer high)
   IsTypeValue type.Text = ⊥
-  IsTypeValue (type.Array low high of) = (IsTrue (int_le low high) × IsTrue (is_integer low) × IsTrue (is_integer high)) × IsTypeValue of
+  IsTypeValue (type.Array low high of) =
+      (IsTrue (int_le low high) × IsTrue (is_integer low) × IsTrue (is_integer high)) × IsTypeValue of
   IsTypeValue (type.Record ts) = AreTypeValues ts
-  IsTypeValue (type.Set low high) = (IsTrue (int_le low high) × IsTrue (is_integer low) × IsTrue (is_integer high)) × IsTrue (is_ordinal low) × IsTrue (is_ordinal high)
+  IsTypeValue (type.Set low high) =
+      (IsTrue (int_le low high) × IsTrue (is_integer low) × IsTrue (is_integer high)) × IsTrue (is_ordinal low)
+      × IsTrue (is_ordinal high)
   IsTypeValue (type.Initial of start) = IsTypeValue of
 
   pub AreTypeValues : ComponentTypes → Type 0
@@ -540,7 +638,8 @@ abbrev mutual
   pub ElementLiesIn : TypeValue → Elements → Element → Type 0
   ElementLiesIn (type.Array low high of) all (AtRanges ranges x) = LiesIn of x
   ElementLiesIn (type.Record ts) all (AtField steps x) = (of : TypeValue) × LeadTo ts steps of × LiesIn of x
-  ElementLiesIn (type.Record ts) all (SameField from to) = (of : TypeValue) × LeadTo ts to of × ((x : Expr) × Gives all from x × IsPlainIn of x)
+  ElementLiesIn (type.Record ts) all (SameField from to) =
+      (of : TypeValue) × LeadTo ts to of × ((x : Expr) × Gives all from x × IsPlainIn of x)
   ElementLiesIn t all e = ⊥
 
   pub AllLieIn : TypeValue → Elements → Elements → Type 0
@@ -552,7 +651,8 @@ abbrev pub IsValue : List UnitType → TypeValue → Value → Type 0
 IsValue types t (value.Word w) = IsTrue (is_within t w)
 IsValue types t (value.Text bytes) = ⊥
 IsValue types t (value.Set ms) = IsSet ms × IsTrue (has_base_for (Some t) ms)
-IsValue types t (value.Structured of es) = IsStartFor types t (constant_expr (value.Structured of es)) × LiesIn t (constant_expr (value.Structured of es))
+IsValue types t (value.Structured of es) =
+    IsStartFor types t (constant_expr (value.Structured of es)) × LiesIn t (constant_expr (value.Structured of es))
 
 -- a type that is no schema, of a valid denoter
 pub record IsType (types : List UnitType) (t : UnitType) : Type 0 where
@@ -584,7 +684,13 @@ first_with_in (Some r) = first_with r
 -- the routines of these numbers
 abbrev pub levels_of : List UnitRoutine → List ℕ → List Level
 levels_of routines [] = []
-levels_of routines (n ∷ ns) = record { number = n; variables = variables_in (slice_get routines n); first_with = first_with_in (slice_get routines n) } ∷ levels_of routines ns
+levels_of routines (n ∷ ns) =
+    record {
+      number = n;
+      variables = variables_in (slice_get routines n);
+      first_with = first_with_in (slice_get routines n);
+    }
+    ∷ levels_of routines ns
 
 abbrev pub around_in : List UnitRoutine → Option UnitRoutine → List Level
 around_in routines None = []
@@ -607,7 +713,10 @@ own u =
 
 -- the same in the block of the routine of this number
 abbrev pub in_block : TypedUnit → ℕ → UnitRoutine → Declarations
-in_block u number r = in_routine (record { number = number; variables = variables_of r; first_with = first_with r } ∷ levels_of u.routines r.around) (own u)
+in_block u number r =
+    in_routine
+    (record { number = number; variables = variables_of r; first_with = first_with r } ∷ levels_of u.routines r.around)
+    (own u)
 
 -- a value parameter is of a kind that values have, and a variable parameter of any type
 abbrev pub IsFormalBy : FormalMode → List UnitType → Denoter → Type 0
@@ -628,7 +737,8 @@ IsResult types (Some r) = HasKind types (denoter_of r.denoter)
 -- The routines around one of this number: the innermost stands before it, and the others are those around that one.
 abbrev pub IsAround : List UnitRoutine → ℕ → List ℕ → Type 0
 IsAround routines number [] = ⊤
-IsAround routines number (n ∷ ns) = (n < number) × ((r : UnitRoutine) × (slice_get routines n ≡ Some r) × (r.around ≡ ns))
+IsAround routines number (n ∷ ns) =
+    (n < number) × ((r : UnitRoutine) × (slice_get routines n ≡ Some r) × (r.around ≡ ns))
 
 -- The routine of this number of a unit: the one in which it is declared stands before it in the text.
 pub record IsRoutine (u : TypedUnit) (number : ℕ) (r : UnitRoutine) : Type 0 where

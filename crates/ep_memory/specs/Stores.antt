@@ -1,5 +1,6 @@
 -- What a memory is to contracts, and what each call makes of it.
-use Rattle.std.specs.Prelude.{◌≡◌, ◌<◌, ◌≤◌, ℕ, ℤ, ◌+◌, ◌-◌, max, List, [], ◌∷◌, ◌++◌, Option, Some, None, Result, Ok, Err, cond, leb, ltb, length, slice_get, slice_set}
+use Rattle.std.specs.Prelude.{◌≡◌, ◌<◌, ◌≤◌, ℕ, ℤ, ◌+◌, ◌-◌, max, List, [], ◌∷◌, ◌++◌, Option, Some, None, Result, Ok}
+use Rattle.std.specs.Prelude.{Err, cond, leb, ltb, length, slice_get, slice_set}
 use Rattle.std.specs.List.{sum_by}
 use Rattle.ep_object.specs.Places.{words_replaced}
 use Rattle.ep_object.specs.State.{Segments, live_limit}
@@ -108,7 +109,8 @@ with_words_at n offset ws m = stored_in (segment_at m n)
   where
     stored_in : Option Segment → Store
     stored_in None = m
-    stored_in (Some s) = cond (leb (offset + length ws) (length s.words)) (with_words n s (words_replaced s.words offset ws) m) m
+    stored_in (Some s) =
+        cond (leb (offset + length ws) (length s.words)) (with_words n s (words_replaced s.words offset ws) m) m
 
 -- ---- what is answered
 

@@ -16,7 +16,9 @@ settled limit x = settled_going limit x.ticks x.going
 
 -- instruction by instruction and tick by tick a run comes to the same
 abbrev pub RunsAgree : Type 0
-RunsAgree = (G : Image) (limit ticks : ℕ) (s : State) → ticks ≤ limit → settled limit (run_to G limit (timed ticks (Running 0 s))) ≡ run G (limit - ticks) 0 s
+RunsAgree =
+    (G : Image) (limit ticks : ℕ) (s : State) → ticks ≤ limit
+    → settled limit (run_to G limit (timed ticks (Running 0 s))) ≡ run G (limit - ticks) 0 s
 
 -- a longer run goes on from a shorter one
 abbrev pub RunsExtend : Type 0
@@ -24,7 +26,9 @@ RunsExtend = (G : Image) (t k : ℕ) (g : Going) → run_from G (t + k) g ≡ ru
 
 -- a run that has ended stays as it is
 abbrev pub EndsStay : Type 0
-EndsStay = (G : Image) (t k : ℕ) (g : Going) (e : End) (trace : Trace) → run_from G t g ≡ Stopped e trace → run_from G (t + k) g ≡ Stopped e trace
+EndsStay =
+    (G : Image) (t k : ℕ) (g : Going) (e : End) (trace : Trace) → run_from G t g ≡ Stopped e trace
+    → run_from G (t + k) g ≡ Stopped e trace
 
 -- the events of a longer run begin with those of a shorter one
 abbrev pub EventsGrow : Type 0
@@ -43,4 +47,6 @@ pub record EndsAt (G : Image) (g : Going) (from t : ℕ) (e : End) (trace : Trac
 
 -- a run that has ended within a limit ended at exactly the ticks that it tells
 abbrev pub EndsExactly : Type 0
-EndsExactly = (G : Image) (limit ticks : ℕ) (s : State) (t : ℕ) (e : End) (trace : Trace) → run_to G limit (timed ticks (Running 0 s)) ≡ timed t (Stopped e trace) → EndsAt G (Running 0 s) ticks t e trace
+EndsExactly =
+    (G : Image) (limit ticks : ℕ) (s : State) (t : ℕ) (e : End) (trace : Trace)
+    → run_to G limit (timed ticks (Running 0 s)) ≡ timed t (Stopped e trace) → EndsAt G (Running 0 s) ticks t e trace

@@ -1,6 +1,7 @@
 -- How objects stand in an image: linking joins the routines, texts, constant types and instructions of the objects
 -- in order, and adds to each number the length of what stands before.
-use Rattle.std.specs.Prelude.{◌≡◌, ⊤, ℕ, ℤ, pos, negsuc, zero, suc, ◌+◌, ◌-◌, List, [], ◌∷◌, ◌++◌, Option, Some, None, cond, ltb, length, slice_get, map}
+use Rattle.std.specs.Prelude.{◌≡◌, ⊤, ℕ, ℤ, pos, negsuc, zero, suc, ◌+◌, ◌-◌, List, [], ◌∷◌, ◌++◌, Option, Some, None}
+use Rattle.std.specs.Prelude.{cond, ltb, length, slice_get, map}
 use Rattle.std.specs.Str.{bytes_eq}
 use Rattle.ep_object.specs.Table.{Op, op_of, Text, Jump, JumpFalse, Call, Unit, TConst}
 use Rattle.ep_object.specs.declared.code.CodeRoutine.{CodeRoutine}
@@ -157,17 +158,22 @@ placed_type span (Rec components) = Rec (map (moved_type span) components)
 placed_type span (Init n words) = Init (moved_type span n) words
 
 abbrev pub placed_routine : Placement → CodeRoutine → ImageRoutine
-placed_routine p r = record { entry = moved p.instructions r.entry; unit = p.unit; arguments = r.arguments; slots = r.slots }
+placed_routine p r =
+    record { entry = moved p.instructions r.entry; unit = p.unit; arguments = r.arguments; slots = r.slots }
 
 abbrev pub placed_object_unit : Placement → Object → ImageUnit
-placed_object_unit p o = record { name = o.name; slots = o.unit_slots; start = moved p.routines o.start; stop = moved p.routines o.stop }
+placed_object_unit p o =
+    record { name = o.name; slots = o.unit_slots; start = moved p.routines o.start; stop = moved p.routines o.stop }
 
 -- These instructions of an object stand in the image from this place of the object on.
 abbrev pub CodeStands : Image → List Placement → Placement → List Reference → ℕ → List Instr → Type 0
 CodeStands G ps p references place [] = ⊤
-CodeStands G ps p references place (i ∷ is) = (slice_get G.instructions (p.instructions.before + place) ≡ Some (placed ps p references i)) × CodeStands G ps p references (place + 1) is
+CodeStands G ps p references place (i ∷ is) =
+    (slice_get G.instructions (p.instructions.before + place) ≡ Some (placed ps p references i))
+    × CodeStands G ps p references (place + 1) is
 
--- the placement is one of the object: the name and the slots are the object's, and so is how many parts it has of its own
+-- the placement is one of the object: the name and the slots are the object's, and so is how many parts it has of its
+-- own
 pub record IsPlacementOf (p : Placement) (o : Object) : Type 0 where
   pub name : p.name ≡ o.name
   pub slots : p.slots ≡ o.unit_slots
@@ -182,9 +188,12 @@ pub record Stands (G : Image) (ps : List Placement) (p : Placement) (o : Object)
   pub listed : placement_of ps o.name ≡ Some p
   pub unit : slice_get G.units p.unit ≡ Some (placed_object_unit p o)
   pub code : CodeStands G ps p o.references 0 o.instructions
-  pub routines : (r : ℕ) (x : CodeRoutine) → slice_get o.routines r ≡ Some x → slice_get G.routines (p.routines.before + r) ≡ Some (placed_routine p x)
-  pub texts : (k : ℕ) (bytes : List ℕ) → slice_get o.texts k ≡ Some bytes → slice_get G.texts (p.texts.before + k) ≡ Some bytes
-  pub constant_types : (k : ℕ) (t : ConstantType) → slice_get o.constant_types k ≡ Some t → slice_get G.constant_types (p.constant_types.before + k) ≡ Some (placed_type p.constant_types t)
+  pub routines : (r : ℕ) (x : CodeRoutine) → slice_get o.routines r ≡ Some x
+      → slice_get G.routines (p.routines.before + r) ≡ Some (placed_routine p x)
+  pub texts : (k : ℕ) (bytes : List ℕ) → slice_get o.texts k ≡ Some bytes
+      → slice_get G.texts (p.texts.before + k) ≡ Some bytes
+  pub constant_types : (k : ℕ) (t : ConstantType) → slice_get o.constant_types k ≡ Some t
+      → slice_get G.constant_types (p.constant_types.before + k) ≡ Some (placed_type p.constant_types t)
 
 -- the image has the object
 pub record Holds (G : Image) (o : Object) : Type 0 where
@@ -194,7 +203,8 @@ pub record Holds (G : Image) (o : Object) : Type 0 where
 
 -- no two units of the image have the same name
 abbrev pub HasDistinctNames : Image → Type 0
-HasDistinctNames G = (i j : ℕ) (a b : ImageUnit) → slice_get G.units i ≡ Some a → slice_get G.units j ≡ Some b → a.name ≡ b.name → i ≡ j
+HasDistinctNames G =
+    (i j : ℕ) (a b : ImageUnit) → slice_get G.units i ≡ Some a → slice_get G.units j ≡ Some b → a.name ≡ b.name → i ≡ j
 
 -- two images, the parts of one after those of the other
 abbrev pub joined : Image → Image → Image

@@ -1,5 +1,6 @@
 -- Which types are equal, and what a hasher gets of a type: the laws by which a table finds a type by hash.
-use Rattle.std.specs.Prelude.{◌≡◌, ℕ, ℤ, Bool, true, false, IsTrue, int_le, ◌==◌, ◌&&◌, List, [], ◌∷◌, ◌++◌, Option, Some, None}
+use Rattle.std.specs.Prelude.{◌≡◌, ℕ, ℤ, Bool, true, false, IsTrue, int_le, ◌==◌, ◌&&◌, List, [], ◌∷◌, ◌++◌, Option}
+use Rattle.std.specs.Prelude.{Some, None}
 use Rattle.std.proofs.Common.{refl, ap, subst, arith}
 use Rattle.std.proofs.lemmas.Bool.Decides.{nat_tests}
 use Rattle.std.proofs.lemmas.Int.{ints}
@@ -56,7 +57,9 @@ same_number x y h = let p = both (int_le x y) (int_le y x) h in omega (arith, in
 
 -- the same bounds
 pub bounds_are : (low high l h : ℤ) → IsTrue (same_bounds l h low high) → (l ≡ low) × (h ≡ high)
-bounds_are low high l h t = let p = both (int_le l low && int_le low l) (int_le h high && int_le high h) t in (same_number l low p.0, same_number h high p.1)
+bounds_are low high l h t =
+    let p = both (int_le l low && int_le low l) (int_le h high && int_le high h) t in
+    (same_number l low p.0, same_number h high p.1)
 
 -- equal numbers are told to be so
 same_count : (m n : ℕ) → IsTrue (m == n) → m ≡ n
@@ -133,7 +136,10 @@ count-refl n = grind (arith, nat_tests)
 parts-refl : (ps : List RecordPart) → IsTrue (same_parts ps ps)
 parts-refl [] = refl
 parts-refl (p ∷ ps) =
-    both_true (p.type_number == p.type_number && p.offset == p.offset) (same_parts ps ps) (both_true (p.type_number == p.type_number) (p.offset == p.offset) (count-refl p.type_number) (count-refl p.offset)) (parts-refl ps)
+    both_true (p.type_number == p.type_number && p.offset == p.offset) (same_parts ps ps)
+    (both_true (p.type_number == p.type_number) (p.offset == p.offset) (count-refl p.type_number)
+    (count-refl p.offset))
+    (parts-refl ps)
 
 pub kind-refl : (k : Kind) → IsTrue (same_kind k k)
 kind-refl (Ord lo hi) = bounds-refl lo hi

@@ -1,6 +1,7 @@
 -- What each answer of an object outside says of its call.
 use Rattle.std.specs.Prelude.{◌≡◌, ℕ, ◌<◌, ◌≤◌, List, [], length, take, Option, None, Some, ◌⊎◌}
-use Rattle.ep_outside.specs.Known.{Keeps, Appends, AppendsFront, Consumes, IsAtEnd, Directory, created, appended, ChangesBy, KeepsFiles, AppendsFrontTo, HasFile, HasLength}
+use Rattle.ep_outside.specs.Known.{Keeps, Appends, AppendsFront, Consumes, IsAtEnd, Directory, created, appended}
+use Rattle.ep_outside.specs.Known.{ChangesBy, KeepsFiles, AppendsFrontTo, HasFile, HasLength}
 use Rattle.ep_outside.specs.declared.answers.ReadAnswer.{ReadAnswer}
 use Rattle.ep_outside.specs.declared.answers.ReadAnswer.TheVariants as read
 use Rattle.ep_outside.specs.declared.answers.WriteAnswer.{WriteAnswer}

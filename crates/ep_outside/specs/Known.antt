@@ -1,7 +1,8 @@
 -- What is known of the bytes of an object outside and of its files, and how a call changes it. Where an object
 -- tells nothing, nothing is claimed. Bytes that are known stay known. `Keeps`, `Appends`, `Consumes` and
 -- `IsAtEnd` are std's words for the same of readers and writers.
-use Rattle.std.specs.Prelude.{◌≡◌, ℕ, List, [], ◌++◌, ⊤, length, Option, None, Some, IsSomeAnd, if◌then◌else◌, unwrap_or}
+use Rattle.std.specs.Prelude.{◌≡◌, ℕ, List, [], ◌++◌, ⊤, length, Option, None, Some, IsSomeAnd, if◌then◌else◌}
+use Rattle.std.specs.Prelude.{unwrap_or}
 use Rattle.std.specs.Str.{bytes_eq}
 pub use Rattle.std.specs.Io.KnownBytes.{Keeps, Appends, Consumes, IsAtEnd}
 

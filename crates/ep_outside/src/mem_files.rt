@@ -45,7 +45,9 @@ impl FileTable {
 
     /// Makes the file of that name have these bytes.
     fn put(&mut self, name: &[u8], bytes: Vec<u8>) -> Result<(), NoMemory>
-        ensures ok { OnOk result ((other : List ℕ) → directory_of self.new other ≡ with_file (directory_of self.old) name.now bytes.items other) }
+        ensures ok { OnOk result
+            ((other : List ℕ)
+            → directory_of self.new other ≡ with_file (directory_of self.old) name.now bytes.items other) }
         ensures err { OnErr result ((other : List ℕ) → directory_of self.new other ≡ directory_of self.old other) }
     {
         let key = Vec::from_slice(self.alloc, name)?;
@@ -67,7 +69,9 @@ impl FileTable {
 
     /// Appends a piece to the file of that name, and makes it where it is missing.
     fn append(&mut self, name: &[u8], piece: &[u8]) -> Result<(), NoMemory>
-        ensures ok { OnOk result ((other : List ℕ) → directory_of self.new other ≡ appended name.now piece.now (directory_of self.old) other) }
+        ensures ok { OnOk result
+            ((other : List ℕ)
+            → directory_of self.new other ≡ appended name.now piece.now (directory_of self.old) other) }
         ensures err { OnErr result ((other : List ℕ) → directory_of self.new other ≡ directory_of self.old other) }
     {
         let bytes = self.extended(name, piece)?;
@@ -129,8 +133,11 @@ impl MemFiles {
 
     /// Makes the file of that name have these bytes. It is no counted call.
     pub fn hold(&mut self, name: &[u8], bytes: &[u8]) -> Result<(), NoMemory>
-        ensures ok { OnOk result (ChangesBy (λ files. with_file files name.now bytes.now) (⟦<MemFiles as Files>⟧.files self.old) (⟦<MemFiles as Files>⟧.files self.new)) }
-        ensures err { OnErr result (KeepsFiles (⟦<MemFiles as Files>⟧.files self.old) (⟦<MemFiles as Files>⟧.files self.new)) }
+        ensures ok { OnOk result
+            (ChangesBy (λ files. with_file files name.now bytes.now) (⟦<MemFiles as Files>⟧.files self.old)
+            (⟦<MemFiles as Files>⟧.files self.new)) }
+        ensures err { OnErr result
+            (KeepsFiles (⟦<MemFiles as Files>⟧.files self.old) (⟦<MemFiles as Files>⟧.files self.new)) }
         ensures faults { ⟦<MemFiles as Files>⟧.faults self.new ≡ ⟦<MemFiles as Files>⟧.faults self.old }
         ensures schedule { files_schedule self.new ≡ files_schedule self.old }
     {
@@ -216,8 +223,11 @@ impl SureFiles {
 
     /// Makes the file of that name have these bytes.
     pub fn hold(&mut self, name: &[u8], bytes: &[u8]) -> Result<(), NoMemory>
-        ensures ok { OnOk result (ChangesBy (λ files. with_file files name.now bytes.now) (⟦<SureFiles as Files>⟧.files self.old) (⟦<SureFiles as Files>⟧.files self.new)) }
-        ensures err { OnErr result (KeepsFiles (⟦<SureFiles as Files>⟧.files self.old) (⟦<SureFiles as Files>⟧.files self.new)) }
+        ensures ok { OnOk result
+            (ChangesBy (λ files. with_file files name.now bytes.now) (⟦<SureFiles as Files>⟧.files self.old)
+            (⟦<SureFiles as Files>⟧.files self.new)) }
+        ensures err { OnErr result
+            (KeepsFiles (⟦<SureFiles as Files>⟧.files self.old) (⟦<SureFiles as Files>⟧.files self.new)) }
     {
         let bytes = Vec::from_slice(self.table.alloc, bytes)?;
         self.table.put(name, bytes)

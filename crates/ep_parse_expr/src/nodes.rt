@@ -5,7 +5,10 @@ ghost use Rattle.ep_grammar.specs.Expressions.{expression_from};
 ghost use Rattle.ep_parse_expr.specs.Called.{factor_with, last_field};
 
 use ep_base::{Boxed, Line, List, Name, NoMemory};
-use ep_tree::{Access, Addend, Comparison, Expression, Factor, Multiplier, QualifiedName, Selector, Simple, Term, Values};
+use ep_tree::{
+    Access, Addend, Comparison, Expression, Factor, Multiplier, QualifiedName, Selector, Simple,
+    Term, Values,
+};
 use std::alloc::Global;
 
 /// The name of the field that the last of these selectors takes.

@@ -13,7 +13,10 @@ use ep_grammar::Stop;
 use ep_parse_expr::{component_value, expression, labels, qualified_name};
 use ep_reader::{Reader, closed, level, separated};
 use ep_token::{symbol, word};
-use ep_tree::{ComponentValue, Core, Expression, FieldSection, Fields, Plain, Structure, TypeDenoter, Variant, VariantPart, VariantSelector};
+use ep_tree::{
+    ComponentValue, Core, Expression, FieldSection, Fields, Plain, Structure, TypeDenoter, Variant,
+    VariantPart, VariantSelector,
+};
 use std::alloc::Global;
 
 /// `ids = id { "," id }`

@@ -13,7 +13,11 @@ use ep_parse_stmt::compound;
 use ep_parse_type::{names, type_denoter};
 use ep_reader::{Reader, level, many, separated};
 use ep_token::{symbol, word};
-use ep_tree::{ConstantDefinition, Constants, DiscriminantSection, FormalSection, FormalType, Part, Routine, RoutineBody, RoutineHeading, RoutineStart, TypeDefinition, Types, VariableDeclaration, Variables};
+use ep_tree::{
+    ConstantDefinition, Constants, DiscriminantSection, FormalSection, FormalType, Part, Routine,
+    RoutineBody, RoutineHeading, RoutineStart, TypeDefinition, Types, VariableDeclaration,
+    Variables,
+};
 use std::alloc::Global;
 
 /// `id "=" cvalue ";"`

@@ -16,7 +16,10 @@ use ep_parse_stmt::{boxed_statement, compound};
 use ep_parse_type::names_in_parentheses;
 use ep_reader::{Reader, level, many, separated};
 use ep_token::{symbol, word};
-use ep_tree::{Block, Component, Export, ExportItem, Heading, HeadingPart, Implementation, Import, ImportItem, Module, Program, Statement};
+use ep_tree::{
+    Block, Component, Export, ExportItem, Heading, HeadingPart, Implementation, Import, ImportItem,
+    Module, Program, Statement,
+};
 use std::alloc::Global;
 
 /// What a module does at the start of a program and at its end, each in a box while the rest is read.

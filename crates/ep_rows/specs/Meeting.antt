@@ -10,12 +10,15 @@ use Rattle.ep_rows.specs.Parts.{typing}
 use Rattle.ep_rows.specs.declared.step.Step.{Step}
 use Rattle.ep_rows.specs.declared.step.Step.TheVariants.{Error, NoMemory}
 
--- The answer is the number with which what is done with one goes on, where this table and this store are left, or the error that
+-- The answer is the number with which what is done with one goes on, where this table and this store are left, or the
+-- error that
 -- there is in its place. Nothing is said where memory was wanting.
 abbrev pub IsMet : TypeEntry → TypeTable → Store → Result ℕ Step → TypeTable → Store → Type 0
 IsMet e types m (Ok number) later after =
-    (st : List Operand) (f : ℕ → Typing → Effect Typing) → numbering e f (typing st types m) ≡ f number (typing st later after)
-IsMet e types m (Err (Error n)) later after = (st : List Operand) (f : ℕ → Typing → Effect Typing) → numbering e f (typing st types m) ≡ Fails n
+    (st : List Operand) (f : ℕ → Typing → Effect Typing)
+    → numbering e f (typing st types m) ≡ f number (typing st later after)
+IsMet e types m (Err (Error n)) later after =
+    (st : List Operand) (f : ℕ → Typing → Effect Typing) → numbering e f (typing st types m) ≡ Fails n
 IsMet e types m (Err NoMemory) later after = Unit {0}
 IsMet e types m (Err step) later after = ⊥
 

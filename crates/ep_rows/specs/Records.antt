@@ -1,8 +1,10 @@
 -- What the row that makes record types comes through.
-use Rattle.std.specs.Prelude.{◌≡◌, ◌||◌, ℕ, ℤ, Bool, false, cond, is_some, List, [], ◌∷◌, Option, None, Some, option_map}
+use Rattle.std.specs.Prelude.{◌≡◌, ◌||◌, ℕ, ℤ, Bool, false, cond, is_some, List, [], ◌∷◌, Option, None, Some}
+use Rattle.std.specs.Prelude.{option_map}
 use Rattle.ep_object.specs.Operands.{Operand, Word}
 use Rattle.ep_object.specs.State.{TypeTable}
-use Rattle.ep_object.specs.Types.{Numbered, any_bare, bare_forms, entries_of, entry_of, parts_behind, record_entry, record_over, record_start, starts_joined, words_behind}
+use Rattle.ep_object.specs.Types.{Numbered, any_bare, bare_forms, entries_of, entry_of, parts_behind, record_entry}
+use Rattle.ep_object.specs.Types.{record_over, record_start, starts_joined, words_behind}
 use Rattle.ep_object.specs.declared.state.RecordPart.{RecordPart}
 use Rattle.ep_object.specs.declared.state.TypeEntry.{TypeEntry}
 use Rattle.ep_rows.specs.declared.step.Step.{Step}
@@ -57,7 +59,10 @@ start_of_all types zs = option_map record_start (entries_of types zs)
 
 -- the record of them with so many words, without its bare form, and the bare form, where it has another one
 abbrev pub whole_of : TypeTable → List ℤ → ℕ → Option TypeEntry
-whole_of types zs size = option_map (λ ns. record_over (parts_behind 0 ns) size (record_start ns) None) (entries_of types zs)
+whole_of types zs size =
+    option_map (λ ns. record_over (parts_behind 0 ns) size (record_start ns) None) (entries_of types zs)
 
 abbrev pub bare_of_all : TypeTable → List ℤ → ℕ → Option (Option TypeEntry)
-bare_of_all types zs size = option_map (λ ns. cond (any_bare ns) (Some (record_entry (parts_behind 0 (bare_forms ns)) size)) None) (entries_of types zs)
+bare_of_all types zs size =
+    option_map (λ ns. cond (any_bare ns) (Some (record_entry (parts_behind 0 (bare_forms ns)) size)) None)
+    (entries_of types zs)

@@ -15,7 +15,8 @@ use Rattle.ep_values.specs.declared.run_error.TheConstants as run_error
 abbrev pub part_told : List ℤ → ℕ → ℕ → Part → List Operand → Work (List Operand)
 part_told ws offset n (part.Word w) st = weighing (length ws) (having w (λ x. loaded x st))
 part_told ws offset n (part.Set w m) st = weighing (length ws) (having w (λ x. set_defined x (set_of m) st))
-part_told ws offset n (part.Words size) st = having_weighed (words_at ws offset size) (λ us. weighing (length ws + length us) (Continues (Value n us ∷ st)))
+part_told ws offset n (part.Words size) st =
+    having_weighed (words_at ws offset size) (λ us. weighing (length ws + length us) (Continues (Value n us ∷ st)))
 
 -- what comes of one that was found, or of broken code in its place
 abbrev pub found_told : List ℤ → Option Found → List Operand → Work (List Operand)

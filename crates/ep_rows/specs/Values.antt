@@ -11,7 +11,10 @@ use Rattle.ep_object.specs.declared.state.Segment.{Segment}
 
 -- a variable whose place is on top takes a word
 abbrev pub word_stored : TypeTable → Segments → ℤ → List Operand → Effect (List Operand × Segments)
-word_stored types segments w st = having (place st) (λ p. having (kind_of types p.0.type_number) (λ kind. provided (is_word_kind kind) (store_of kind segments p.0 w p.1)))
+word_stored types segments w st =
+    having (place st)
+    (λ p. having (kind_of types p.0.type_number)
+    (λ kind. provided (is_word_kind kind) (store_of kind segments p.0 w p.1)))
 
 -- a variable of the kind takes a set
 abbrev pub set_stored_by : Kind → Segments → List ℕ → Place → List Operand → Effect (List Operand × Segments)
@@ -20,7 +23,8 @@ set_stored_by _ segments ms p st = Breaks
 
 -- so does one whose place is on top
 abbrev pub set_stored_at : TypeTable → Segments → List ℕ → List Operand → Effect (List Operand × Segments)
-set_stored_at types segments ms st = having (place st) (λ p. having (kind_of types p.0.type_number) (λ k. set_stored_by k segments ms p.0 p.1))
+set_stored_at types segments ms st =
+    having (place st) (λ p. having (kind_of types p.0.type_number) (λ k. set_stored_by k segments ms p.0 p.1))
 
 -- whether variables of the kind have any number of words, which are loaded and stored at once
 abbrev pub has_many_words : Kind → Bool
@@ -32,5 +36,6 @@ has_many_words (kind.Record ps) = true
 has_many_words (kind.Set lo hi) = false
 
 -- a variable in a segment takes the words of a value of this type
-abbrev pub words_stored_in : Segments → Place → ℕ → ℕ → List ℤ → List Operand → Segment → Effect (List Operand × Segments)
+abbrev pub words_stored_in : Segments → Place → ℕ → ℕ → List ℤ → List Operand → Segment
+    → Effect (List Operand × Segments)
 words_stored_in segments p bare n ws st s = words_stored segments p bare n ws s st

@@ -159,7 +159,8 @@ fn spend_part(part: Part, size: usize, limit: u64, ticks: &mut u64) -> bool
 
 /// The component takes the place of the value on top, which it was found in.
 fn put(found: Found, stack: &mut Stack) -> Step
-    ensures { (n : ℕ) (ws : List ℤ) (st : List Operand) → stack.old ≡ Value n ws ∷ st → IsThere ws found.offset found.part
+    ensures { (n : ℕ) (ws : List ℤ) (st : List Operand) → stack.old ≡ Value n ws ∷ st
+        → IsThere ws found.offset found.part
         → IsStep (part_told ws found.offset found.type_number found.part st).effect result stack.new }
 {
     match found.part {
@@ -221,8 +222,8 @@ pub fn field(
 ) -> Step
     requires { ticks.old < limit }
     ensures within { ticks.new < limit }
-    ensures done { IsDone limit (field_any_row types.now memory.now.segments (pos number) stack.old) result ticks.old ticks.new
-        stack.old stack.new }
+    ensures done { IsDone limit (field_any_row types.now memory.now.segments (pos number) stack.old) result ticks.old
+        ticks.new stack.old stack.new }
 {
     let Some((whole, words)) = stack.value_top() else {
         return places::field_at(number, types, memory, stack);

@@ -1,5 +1,7 @@
--- What the static rules say of values that are given to variables, and of the arguments of a call of a procedure or function of a unit (ISO 10206, 6.4.6, 6.7.3 and 6.8.5).
-use Rattle.std.specs.Prelude.{◌≡◌, ⊤, ℕ, zero, suc, ◌-◌, ◌==◌, max, List, [], ◌∷◌, ◌++◌, Option, Some, None, if◌then◌else◌}
+-- What the static rules say of values that are given to variables, and of the arguments of a call of a procedure or
+-- function of a unit (ISO 10206, 6.4.6, 6.7.3 and 6.8.5).
+use Rattle.std.specs.Prelude.{◌≡◌, ⊤, ℕ, zero, suc, ◌-◌, ◌==◌, max, List, [], ◌∷◌, ◌++◌, Option, Some, None}
+use Rattle.std.specs.Prelude.{if◌then◌else◌}
 use Rattle.std.specs.Option.{option_map}
 use Rattle.ep_typed.specs.Trees as tree
 use Rattle.ep_typed.specs.Trees.{Actual, Callee, Expr, Place, actuals}
@@ -28,7 +30,8 @@ use Rattle.ep_rules.specs.Operators.{map_both, within_depth}
 abbrev pub own_place : ℕ → Declared → Place
 own_place depth d = tree.Own (depth - d.level) d.number
 
--- how a call says where a routine is declared: 0 for one of the unit, and else one more than how many levels further up
+-- how a call says where a routine is declared: 0 for one of the unit, and else one more than how many levels further
+-- up
 abbrev pub callee_levels : ℕ → ℕ → ℕ
 callee_levels depth zero = 0
 callee_levels depth (suc level) = suc (depth - suc level)
@@ -39,12 +42,16 @@ callee_at depth d = record { unit = d.unit; number = d.number; levels = callee_l
 
 -- ---- values that are given (ISO 10206, 6.4.6)
 
--- What is made of a value that is given to something of a kind: of an ordinal type whose host is the same, of the same structured type, or a set over the same host. A text that is given to a char is not built.
+-- What is made of a value that is given to something of a kind: of an ordinal type whose host is the same, of the same
+-- structured type, or a set over the same host. A text that is given to a char is not built.
 abbrev pub given_to : {A : Type 0} → (Expr → A) → Kind → Kind → Option Expr → Judged (Option A)
-given_to form (kind.Ordinal h) (kind.Ordinal g) value = if same_host h g then Accepts (option_map form value) else Breaks (rule.ASSIGNMENT ∷ [])
+given_to form (kind.Ordinal h) (kind.Ordinal g) value =
+    if same_host h g then Accepts (option_map form value) else Breaks (rule.ASSIGNMENT ∷ [])
 given_to form (kind.Ordinal host.Char) kind.Text value = Accepts None
-given_to form (kind.Structured m) (kind.Structured n) value = if m == n then Accepts (option_map form value) else Breaks (rule.ASSIGNMENT ∷ [])
-given_to form (kind.Set h) (kind.Set g) value = if same_host h g then Accepts (option_map form value) else Breaks (rule.ASSIGNMENT ∷ [])
+given_to form (kind.Structured m) (kind.Structured n) value =
+    if m == n then Accepts (option_map form value) else Breaks (rule.ASSIGNMENT ∷ [])
+given_to form (kind.Set h) (kind.Set g) value =
+    if same_host h g then Accepts (option_map form value) else Breaks (rule.ASSIGNMENT ∷ [])
 given_to form (kind.Set h) kind.EmptySet value = Accepts (option_map form value)
 given_to form kind.File from value = Breaks (rule.FILE_TYPE ∷ rule.ASSIGNMENT ∷ [])
 given_to form to kind.File value = Breaks (rule.FILE_TYPE ∷ rule.ASSIGNMENT ∷ [])
@@ -92,9 +99,11 @@ accessed form = option_map tree.Accessed (place_read form)
 abbrev pub other_type : TypeName → TypeName → List ℕ
 other_type parameter of = if same_type parameter of then [] else rule.VARIABLE_ARGUMENT ∷ []
 
--- A variable parameter takes a variable of its type that is no tag (ISO 10206, 6.7.3.3); none has the type of text files so far.
+-- A variable parameter takes a variable of its type that is no tag (ISO 10206, 6.7.3.3); none has the type of text
+-- files so far.
 abbrev pub variable_taken : TypeName → Access → Option Expr → Judged (Option Actual)
-variable_taken parameter (access.Variable of guarded) form = if same_type parameter of then Accepts (accessed form) else Breaks (rule.VARIABLE_ARGUMENT ∷ [])
+variable_taken parameter (access.Variable of guarded) form =
+    if same_type parameter of then Accepts (accessed form) else Breaks (rule.VARIABLE_ARGUMENT ∷ [])
 variable_taken parameter (access.Tag of guarded tag) form = Breaks (rule.ARGUMENT_COMPONENT ∷ other_type parameter of)
 variable_taken parameter access.File form = Breaks (rule.VARIABLE_ARGUMENT ∷ [])
 variable_taken parameter access.Constant form = Breaks (rule.CONSTANT_THREATENED ∷ rule.VARIABLE_NEEDED ∷ [])
@@ -115,7 +124,8 @@ threatened access.Value = Accepts tt
 
 -- ---- arguments (ISO 10206, 6.7.3.1)
 
--- what is given for formal parameters: the actual parameters, where all are built, and how deep the deepest argument is
+-- what is given for formal parameters: the actual parameters, where all are built, and how deep the deepest argument
+-- is
 pub record Taken : Type 0 where
   pub actuals : Option (List Actual)
   pub depth : ℕ
@@ -136,7 +146,8 @@ joined x y = record { actuals = map_both (λ xs ys. xs ++ ys) x.actuals y.actual
 abbrev pub actual_taken : FormalMode → FormalParameter → Typed → Judged (Option Actual)
 actual_taken mode.Value p v = value_taken p.kind v
 actual_taken mode.ProtectedValue p v = value_taken p.kind v
-actual_taken mode.Variable p v = both (λ actual done. Accepts actual) (variable_taken p.of.is v.access v.form) (threatened v.access)
+actual_taken mode.Variable p v =
+    both (λ actual done. Accepts actual) (variable_taken p.of.is v.access v.form) (threatened v.access)
 actual_taken mode.ProtectedVariable p v = variable_taken p.of.is v.access v.form
 
 -- a value that is accepted for a formal parameter
@@ -150,12 +161,14 @@ argument_judged p g = when_accepted (argument_taken p) (unless_faults (given_fau
 -- one for each formal parameter, in order; where there are more of the ones or the others, their number is what fails
 abbrev pub arguments_judged : List FormalParameter → List Given → Judged Taken
 arguments_judged [] [] = Accepts nothing_taken
-arguments_judged (p ∷ ps) (g ∷ gs) = both (λ x xs. Accepts (joined x xs)) (argument_judged p g) (arguments_judged ps gs)
+arguments_judged (p ∷ ps) (g ∷ gs) =
+    both (λ x xs. Accepts (joined x xs)) (argument_judged p g) (arguments_judged ps gs)
 arguments_judged ps gs = Breaks (rule.ARGUMENTS ∷ [])
 
 -- ---- function designators (ISO 10206, 6.8.5)
 
--- what is built of a call of a function with a result of this kind: the call where that is ordinal, structured or a set, and so far nothing else
+-- what is built of a call of a function with a result of this kind: the call where that is ordinal, structured or a
+-- set, and so far nothing else
 abbrev pub call_form : Callee → Kind → Option (List Actual) → Option Expr
 call_form callee (kind.Ordinal h) given = option_map (λ xs. tree.Function callee (actuals xs)) given
 call_form callee (kind.Structured n) given = option_map (λ xs. tree.Function callee (actuals xs)) given

@@ -5,7 +5,8 @@ use Rattle.std.specs.Option.{option_and_then, option_or}
 use Rattle.std.specs.Str.{bytes_eq}
 use Rattle.ep_typed.specs.Hosts.{is_of_host}
 use Rattle.ep_typed.specs.CaseRanges.{is_in}
-use Rattle.ep_typed.specs.Trees.{AtField, AtRanges, Constant, Elements, Expr, SameField, SetConstant, Structured, no_element, next_element}
+use Rattle.ep_typed.specs.Trees.{AtField, AtRanges, Constant, Elements, Expr, SameField, SetConstant, Structured}
+use Rattle.ep_typed.specs.Trees.{no_element, next_element}
 use Rattle.ep_typed.specs.declared.tree.CaseRange.{CaseRange}
 use Rattle.ep_scope.specs.declared.kind.Host.{Host}
 use Rattle.ep_scope.specs.declared.kind.Kind.{Kind}
@@ -21,23 +22,28 @@ has_index ranges z = list_any (λ r. is_in r z) ranges
 
 -- ---- what is given
 
--- the value that the component of an array at this index is given by constant ranges: that of the last ones that have it
+-- the value that the component of an array at this index is given by constant ranges: that of the last ones that have
+-- it
 abbrev pub value_at : Elements → ℤ → Option Expr
 value_at no_element z = None
-value_at (next_element (AtRanges ranges x) more) z = option_or (value_at more z) (if has_index ranges z then Some x else None)
+value_at (next_element (AtRanges ranges x) more) z =
+    option_or (value_at more z) (if has_index ranges z then Some x else None)
 value_at (next_element e more) z = value_at more z
 
 -- the value that the component of a record is given to which these steps lead
 abbrev pub value_of_field : Elements → List ℕ → Option Expr
 value_of_field no_element steps = None
-value_of_field (next_element (AtField own x) more) steps = if bytes_eq own steps then Some x else value_of_field more steps
+value_of_field (next_element (AtField own x) more) steps =
+    if bytes_eq own steps then Some x else value_of_field more steps
 value_of_field (next_element e more) steps = value_of_field more steps
 
 -- alike, of one that is given it as one of several fields
 abbrev pub value_for : Elements → Elements → List ℕ → Option Expr
 value_for all no_element steps = None
-value_for all (next_element (AtField own x) more) steps = if bytes_eq own steps then Some x else value_for all more steps
-value_for all (next_element (SameField from to) more) steps = if bytes_eq to steps then value_of_field all from else value_for all more steps
+value_for all (next_element (AtField own x) more) steps =
+    if bytes_eq own steps then Some x else value_for all more steps
+value_for all (next_element (SameField from to) more) steps =
+    if bytes_eq to steps then value_of_field all from else value_for all more steps
 value_for all (next_element e more) steps = value_for all more steps
 
 -- ---- what it is as a constant

@@ -16,7 +16,8 @@ pub record Label : Type 0 where
   pub high : Option (Judged Typed)
   pub name : Option (List ℕ)
 
--- What is gathered of member designators: the designators, where all are built, the host of their values, once there is one, and how deep the deepest value is.
+-- What is gathered of member designators: the designators, where all are built, the host of their values, once there
+-- is one, and how deep the deepest value is.
 pub record Members : Type 0 where
   pub designators : Option (List Designator)
   pub host : Option Host
@@ -37,7 +38,12 @@ may_join (Some g) h = same_host g h
 
 -- with a designator of values of this host
 abbrev pub extended : Members → Option Designator → ℕ → Host → Members
-extended ms d depth h = record { designators = map_both (λ ds e. ds ++ e ∷ []) ms.designators d; host = Some h; depth = max ms.depth depth }
+extended ms d depth h =
+    record {
+      designators = map_both (λ ds e. ds ++ e ∷ []) ms.designators d;
+      host = Some h;
+      depth = max ms.depth depth;
+    }
 
 -- with one of values of this kind, which is ordinal and has the same host as those before
 abbrev pub joined_by : Kind → Members → Option Designator → ℕ → Judged Members
@@ -54,7 +60,9 @@ with_single ms x = joined_by x.kind ms (option_map Single x.form) x.depth
 
 -- with the values from one to another of the same host
 abbrev pub with_range : Members → Typed → Typed → Judged Members
-with_range ms x y = if are_compatible x.kind y.kind then joined_by x.kind ms (map_both Range x.form y.form) (max x.depth y.depth) else no_member
+with_range ms x y =
+    if are_compatible x.kind y.kind then joined_by x.kind ms (map_both Range x.form y.form) (max x.depth y.depth)
+    else no_member
 
 -- two values that are accepted
 abbrev pub pair : Typed → Typed → Judged (Typed × Typed)
@@ -83,7 +91,8 @@ set_kind (Some h) = kind.Set h
 
 -- a set of these members
 abbrev pub constructed : Members → Judged Typed
-constructed ms = within_depth (option_map (λ ds. SetOf (designators ds)) ms.designators) (set_kind ms.host) (suc ms.depth)
+constructed ms =
+    within_depth (option_map (λ ds. SetOf (designators ds)) ms.designators) (set_kind ms.host) (suc ms.depth)
 
 -- a set constructor
 abbrev pub set_judged : List Label → Judged Typed

@@ -1,5 +1,6 @@
 -- What the name of a field gives of a record (ISO 10206, 6.5.3.3).
-use Rattle.std.specs.Prelude.{ℕ, ◌+◌, nat_le, List, [], ◌∷◌, length, slice_get, Option, Some, None, if◌then◌else◌, option_map, unwrap_or}
+use Rattle.std.specs.Prelude.{ℕ, ◌+◌, nat_le, List, [], ◌∷◌, length, slice_get, Option, Some, None, if◌then◌else◌}
+use Rattle.std.specs.Prelude.{option_map, unwrap_or}
 use Rattle.ep_typed.specs.Trees.{Expr, Field, FieldValue, Place, Read, Structured, Variant, VariantValue}
 use Rattle.ep_scope.specs.Fields.{field_number}
 use Rattle.ep_scope.specs.Scopes.{Region, structure_in}
@@ -60,7 +61,8 @@ taken_along (s ∷ path) whole = taken_along path (VariantValue whole s.selectio
 abbrev pub part_taken : FieldType → Expr → Expr
 part_taken f whole = component_taken f.tag f.number (taken_along f.path whole)
 
--- A field is read of its place where the record is (ISO 10206, 6.5.3.3), and else taken of its value. A record that is written out is
+-- A field is read of its place where the record is (ISO 10206, 6.5.3.3), and else taken of its value. A record that is
+-- written out is
 -- a constant, whose fields may be known (6.8.8.3).
 abbrev pub part_form : FieldType → Expr → Expr
 part_form f (Read place) = Read (reached f place)
@@ -88,7 +90,13 @@ field_access f access.Value = access.Value
 abbrev pub field_typed : FieldType → Typed → Judged Typed
 field_typed f x =
     if nat_le (steps_to f + x.depth) limit.DEPTH
-    then Accepts (record { form = field_form f x.form; kind = f.kind; depth = steps_to f + x.depth; access = field_access f x.access })
+    then Accepts
+    (record {
+      form = field_form f x.form;
+      kind = f.kind;
+      depth = steps_to f + x.depth;
+      access = field_access f x.access;
+    })
     else Breaks (rule.TOO_DEEP ∷ [])
 
 -- there is no such field

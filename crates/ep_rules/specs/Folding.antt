@@ -1,10 +1,13 @@
 -- What is known of a typed form as a constant, by the operations that a run has (ISO 10206, 6.8.2).
 use Rattle.std.specs.Prelude.{◌≡◌, ℕ, ℤ, pos, List, [], length, Option, Some, None, Result, Ok, Err, if◌then◌else◌}
-use Rattle.ep_values.specs.Operations.{Answer, Number, Fault, is_integer, decides, unary_answer, binary_answer, step_answer}
+use Rattle.ep_values.specs.Operations.{Answer, Number, Fault, is_integer, decides, unary_answer, binary_answer}
+use Rattle.ep_values.specs.Operations.{step_answer}
 use Rattle.ep_values.specs.Printing as run
 use Rattle.ep_values.specs.Sets.{union, with_number, with_numbers}
 use Rattle.ep_values.specs.SetOperations.{set_answer}
-use Rattle.ep_typed.specs.Trees.{Expr, Constant, Text, Read, One, Two, Short, Step, Function, IndexedValue, FieldValue, VariantValue, Structured, SetConstant, SetOf, OnSets, Card, Designator, Single, Range, Designators, no_member, next_member}
+use Rattle.ep_typed.specs.Trees.{Expr, Constant, Text, Read, One, Two, Short, Step, Function, IndexedValue, FieldValue}
+use Rattle.ep_typed.specs.Trees.{VariantValue, Structured, SetConstant, SetOf, OnSets, Card, Designator, Single, Range}
+use Rattle.ep_typed.specs.Trees.{Designators, no_member, next_member}
 use Rattle.ep_values.specs.declared.operations.ShortOperation.{ShortOperation}
 use Rattle.ep_rules.specs.declared.folding.Folded.{Folded}
 use Rattle.ep_rules.specs.declared.folding.Folded.TheVariants.{Known, Varies, Errs}
@@ -104,7 +107,8 @@ abbrev mutual
   folded (Structured number es) = Varies
   folded (SetConstant members) = Known (known.Members members)
   folded (SetOf members) = folded_members (Known (known.Members [])) members
-  folded (OnSets operation x y) = two_folded (λ a b. as_known (set_answer operation (result_of a) (result_of b))) (folded x) (folded y)
+  folded (OnSets operation x y) =
+      two_folded (λ a b. as_known (set_answer operation (result_of a) (result_of b))) (folded x) (folded y)
   folded (Card x) = counted (folded x)
 
   -- the set of what a designator gives

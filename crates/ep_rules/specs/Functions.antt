@@ -1,5 +1,6 @@
 -- The rules of calls of the required functions (ISO 10206, 6.7.6).
-use Rattle.std.specs.Prelude.{ℕ, pos, suc, max, Bool, true, false, ◌==◌, ◌&&◌, ◌||◌, List, [], ◌∷◌, ◌++◌, length, Option, Some, None, if◌then◌else◌}
+use Rattle.std.specs.Prelude.{ℕ, pos, suc, max, Bool, true, false, ◌==◌, ◌&&◌, ◌||◌, List, [], ◌∷◌, ◌++◌, length}
+use Rattle.std.specs.Prelude.{Option, Some, None, if◌then◌else◌}
 use Rattle.std.specs.Option.{option_map}
 use Rattle.ep_typed.specs.Hosts.{least, greatest}
 use Rattle.ep_typed.specs.Trees.{Card, Constant, Step}
@@ -64,7 +65,8 @@ ordinal_by File x = other_argument
 -- `succ` and `pred` of an ordinal value, within its host (ISO 10206, 6.7.6.4)
 abbrev pub step_typed : Bool → Host → Typed → Typed → Judged Typed
 step_typed down h x count =
-    within_depth (map_both (Step down (least (typed_host h)) (greatest (typed_host h))) x.form count.form) (Ordinal h) (suc (max x.depth count.depth))
+    within_depth (map_both (Step down (least (typed_host h)) (greatest (typed_host h))) x.form count.form) (Ordinal h)
+    (suc (max x.depth count.depth))
 
 abbrev pub stepped_by : Kind → Bool → Typed → Typed → Judged Typed
 stepped_by (Ordinal h) down x count = if is_integer count.kind then step_typed down h x count else other_argument

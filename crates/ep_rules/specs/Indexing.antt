@@ -17,11 +17,13 @@ use Rattle.ep_rules.specs.declared.access.Access.{Access}
 use Rattle.ep_rules.specs.declared.access.Access.TheVariants as access
 use Rattle.ep_rules.specs.declared.forms.TheConstants as limit
 
--- A component of this kind is read of its place where the array is (ISO 10206, 6.5.3.2), and else taken of its value (6.8.6.2).
+-- A component of this kind is read of its place where the array is (ISO 10206, 6.5.3.2), and else taken of its value
+-- (6.8.6.2).
 -- An array that is written out is a constant, whose component is known where the index is (6.8.8.2).
 abbrev pub element_form : Kind → Expr → Expr → Expr
 element_form k (Read place) index = Read (Indexed place index)
-element_form k (Structured of es) index = unwrap_or (element_known k es (folded index)) (IndexedValue (Structured of es) index)
+element_form k (Structured of es) index =
+    unwrap_or (element_known k es (folded index)) (IndexedValue (Structured of es) index)
 element_form k array index = IndexedValue array index
 
 -- a component, where the array and the index are built
@@ -36,7 +38,8 @@ component_access component access.File = access.File
 component_access component access.Constant = access.Constant
 component_access component access.Value = access.Value
 
--- What a component stands above: where it is read of a variable its place, which is above the place of the array and the index, and else the value of the array and the index.
+-- What a component stands above: where it is read of a variable its place, which is above the place of the array and
+-- the index, and else the value of the array and the index.
 abbrev pub below_component : Access → ℕ → ℕ → ℕ
 below_component (access.Variable of guarded) array index = suc (max (array - 1) index)
 below_component (access.Tag of guarded tag) array index = suc (max (array - 1) index)
@@ -51,7 +54,13 @@ component_depth whole array index = suc (below_component whole array index)
 abbrev pub component_typed : ArrayType → Typed → Typed → Judged Typed
 component_typed a x i =
     if nat_le (component_depth x.access x.depth i.depth) limit.DEPTH
-    then Accepts (record { form = component_form a.kind x.form i.form; kind = a.kind; depth = component_depth x.access x.depth i.depth; access = component_access a.component x.access })
+    then Accepts
+    (record {
+      form = component_form a.kind x.form i.form;
+      kind = a.kind;
+      depth = component_depth x.access x.depth i.depth;
+      access = component_access a.component x.access;
+    })
     else Breaks (rule.TOO_DEEP ∷ [])
 
 -- what is indexed has no index, or the index another host

@@ -1,5 +1,6 @@
 -- What fields of constants are, which are records (ISO 10206, 6.8.8.3).
-use Rattle.std.specs.Prelude.{ℕ, ℤ, nat_eq, Bool, true, false, ◌&&◌, List, [], ◌∷◌, ◌++◌, Option, Some, None, if◌then◌else◌, option_and_then}
+use Rattle.std.specs.Prelude.{ℕ, ℤ, nat_eq, Bool, true, false, ◌&&◌, List, [], ◌∷◌, ◌++◌, Option, Some, None}
+use Rattle.std.specs.Prelude.{if◌then◌else◌, option_and_then}
 use Rattle.ep_typed.specs.Trees.{Constant, Elements, Expr}
 use Rattle.ep_scope.specs.declared.structure.FieldType.{FieldType}
 use Rattle.ep_scope.specs.declared.structure.VariantStep.{VariantStep}
@@ -23,8 +24,10 @@ selects s (Some z) = nat_eq (selected_variant s.selection z) s.variant
 -- what the tags on the way are given selects each variant of a path, behind these steps
 abbrev pub are_selected : Elements → List ℕ → List VariantStep → Bool
 are_selected es before [] = true
-are_selected es before (s ∷ path) = selects s (tag_given es before s.selection.tag) && are_selected es (before ++ variant_step s ∷ []) path
+are_selected es before (s ∷ path) =
+    selects s (tag_given es before s.selection.tag) && are_selected es (before ++ variant_step s ∷ []) path
 
 -- a field of what is given these, where its variant is the one that is selected
 abbrev pub field_known : FieldType → Elements → Option Expr
-field_known f es = if are_selected es [] f.path then option_and_then (constant_as f.kind) (value_for es es (field_steps f)) else None
+field_known f es =
+    if are_selected es [] f.path then option_and_then (constant_as f.kind) (value_for es es (field_steps f)) else None

@@ -1,5 +1,6 @@
 -- What names stand for as values and as functions (ISO 10206, 6.7.1 and 6.8.1).
-use Rattle.std.specs.Prelude.{ℕ, ℤ, ◌+◌, pos, nat_eq, Bool, true, false, ◌||◌, List, [], ◌∷◌, ◌++◌, codes, Some, if◌then◌else◌}
+use Rattle.std.specs.Prelude.{ℕ, ℤ, ◌+◌, pos, nat_eq, Bool, true, false, ◌||◌, List, [], ◌∷◌, ◌++◌, codes, Some}
+use Rattle.std.specs.Prelude.{if◌then◌else◌}
 use Rattle.std.specs.List.{list_any}
 use Rattle.std.specs.Str.{bytes_eq}
 use Rattle.ep_typed.specs.Hosts.{is_of_host}
@@ -7,7 +8,8 @@ use Rattle.ep_values.specs.Operations.{maxint, last_char}
 use Rattle.ep_typed.specs.Trees.{Expr, Constant, Read, Place, Variable, Standard, entire}
 use Rattle.ep_typed.specs.Viewed.{constant_expr}
 use Rattle.ep_typed.specs.declared.value.Value.{Value}
-use Rattle.ep_scope.specs.Scopes.{Region, Meant, OpenField, Declares, Requires, FieldOf, Nothing, depth_in, meant, meant_in}
+use Rattle.ep_scope.specs.Scopes.{Region, Meant, OpenField, Declares, Requires, FieldOf, Nothing, depth_in, meant}
+use Rattle.ep_scope.specs.Scopes.{meant_in}
 use Rattle.ep_scope.specs.Scopes as meaning
 use Rattle.ep_scope.specs.declared.kind.Host.{Host}
 use Rattle.ep_scope.specs.declared.kind.Kind.{Kind}
@@ -34,7 +36,8 @@ use Rattle.ep_rules.specs.Operators.{integer, character, boolean}
 abbrev pub leaf : Expr → Kind → Access → Judged Typed
 leaf form kind access = Accepts (record { form = Some form; kind = kind; depth = 1; access = access })
 
--- a number or a character as the text spells it, which is a value of its host: no text has a number above `maxint` (ISO 10206, 6.1.7 and 6.4.2.2)
+-- a number or a character as the text spells it, which is a value of its host: no text has a number above `maxint`
+-- (ISO 10206, 6.1.7 and 6.4.2.2)
 abbrev pub spelled : Host → ℤ → Judged Typed
 spelled h z = if is_of_host (typed_host h) z then leaf (Constant z) (kind.Ordinal h) access.Value else unbuilt
 
@@ -42,9 +45,11 @@ spelled h z = if is_of_host (typed_host h) z then leaf (Constant z) (kind.Ordina
 abbrev pub parenthesized : Typed → Typed
 parenthesized x = record { form = x.form; kind = x.kind; depth = x.depth; access = access.Value }
 
--- the value of a constant, whose form nests so deep; an array or a record is done as a structured value at each use (own)
+-- the value of a constant, whose form nests so deep; an array or a record is done as a structured value at each use
+-- (own)
 abbrev pub constant_typed : Kind → Value → ℕ → Judged Typed
-constant_typed k v deep = Accepts (record { form = Some (constant_expr v); kind = k; depth = deep; access = access.Constant })
+constant_typed k v deep =
+    Accepts (record { form = Some (constant_expr v); kind = k; depth = deep; access = access.Constant })
 
 -- the value of a variable stands above its place
 abbrev pub reading : Expr → Kind → Access → Judged Typed
@@ -54,23 +59,33 @@ reading form kind access = Accepts (record { form = Some form; kind = kind; dept
 abbrev pub field_place : OpenField → Place
 field_place f = reached f.field (entire f.variable)
 
--- the place of the record, or of the variant in it, that such a field belongs to, whose variants it selects where it is a tag
+-- the place of the record, or of the variant in it, that such a field belongs to, whose variants it selects where it
+-- is a tag
 abbrev pub tagged_place : OpenField → Place
 tagged_place f = along f.field.path (entire f.variable)
 
 -- such a field as a value, which stands above its place, those within the record, and that of the variable
 abbrev pub field_read : OpenField → Judged Typed
 field_read f =
-    Accepts (record { form = Some (Read (field_place f)); kind = f.field.kind; depth = steps_to f.field + 2; access = variable_access f.field.of f.guarded f.field.tag })
+    Accepts (record {
+      form = Some (Read
+          (field_place f));
+      kind = f.field.kind;
+      depth = steps_to f.field + 2;
+      access = variable_access f.field.of f.guarded f.field.tag;
+    })
 
 -- what is declared as a value, in code of a depth
 abbrev pub value_declared : ℕ → Declared → Declaration → Judged Typed
 value_declared depth d (declaration.Constant kind value deep) = constant_typed kind value deep
 value_declared depth d (declaration.«Type» of host nodes) = Breaks (rule.OTHER_THING ∷ [])
-value_declared depth d (declaration.Variable of kind) = reading (Read (Variable d.unit d.number)) kind (access.Variable of protection.Unprotected)
-value_declared depth d (declaration.Own of kind guarded) = reading (Read (own_place depth d)) kind (access.Variable of guarded)
+value_declared depth d (declaration.Variable of kind) =
+    reading (Read (Variable d.unit d.number)) kind (access.Variable of protection.Unprotected)
+value_declared depth d (declaration.Own of kind guarded) =
+    reading (Read (own_place depth d)) kind (access.Variable of guarded)
 value_declared depth d (declaration.Procedure parameters) = Breaks (rule.PROCEDURE ∷ rule.OTHER_THING ∷ [])
-value_declared depth d (declaration.Function parameters of kind) = function_called (callee_at depth d) parameters kind []
+value_declared depth d (declaration.Function parameters of kind) =
+    function_called (callee_at depth d) parameters kind []
 
 -- the required constants (ISO 10206, 6.4.2.2)
 abbrev pub constant_required : RequiredConstant → Judged Typed
@@ -114,8 +129,10 @@ call_required (required.Procedure p) gs = Breaks (rule.PROCEDURE ∷ rule.OTHER_
 
 -- what is declared with arguments is a function (ISO 10206, 6.8.5)
 abbrev pub call_declared : ℕ → Declared → Declaration → List Given → Judged Typed
-call_declared depth d (declaration.Function parameters of kind) gs = function_called (callee_at depth d) parameters kind gs
-call_declared depth d (declaration.Procedure parameters) gs = Breaks (rule.PROCEDURE ∷ rule.OTHER_THING ∷ all_faults gs)
+call_declared depth d (declaration.Function parameters of kind) gs =
+    function_called (callee_at depth d) parameters kind gs
+call_declared depth d (declaration.Procedure parameters) gs =
+    Breaks (rule.PROCEDURE ∷ rule.OTHER_THING ∷ all_faults gs)
 call_declared depth d (declaration.Constant kind value deep) gs = Breaks (rule.OTHER_THING ∷ all_faults gs)
 call_declared depth d (declaration.«Type» of host nodes) gs = Breaks (rule.OTHER_THING ∷ all_faults gs)
 call_declared depth d (declaration.Variable of kind) gs = Breaks (rule.OTHER_THING ∷ all_faults gs)
@@ -137,7 +154,9 @@ module _ (scopes : List Region) where
   -- by what the first name means alone, and what the second one means in the interface of the first
   abbrev pub constituent_or_field : List ℕ → List ℕ → Meant → Judged Typed
   constituent_or_field first second within =
-      if is_nothing within then when_accepted (designated scopes second) (value_named (depth_in scopes) first (meant scopes first)) else value_named (depth_in scopes) second within
+      if is_nothing within
+      then when_accepted (designated scopes second) (value_named (depth_in scopes) first (meant scopes first))
+      else value_named (depth_in scopes) second within
 
   -- `i.a`, a name that an interface has (ISO 10206, 6.11.3), or else a field
   abbrev pub qualified_value : List ℕ → List ℕ → Judged Typed

@@ -77,7 +77,10 @@ may_be_in _ _ = false
 
 -- at most so many typed nodes stand one below the other
 abbrev pub within_depth : Option Expr → Kind → ℕ → Judged Typed
-within_depth form kind depth = if nat_le depth limit.DEPTH then Accepts (record { form = form; kind = kind; depth = depth; access = access.Value }) else Breaks (rule.TOO_DEEP ∷ [])
+within_depth form kind depth =
+    if nat_le depth limit.DEPTH
+    then Accepts (record { form = form; kind = kind; depth = depth; access = access.Value })
+    else Breaks (rule.TOO_DEEP ∷ [])
 
 abbrev pub map_both : {A B C : Type 0} → (A → B → C) → Option A → Option B → Option C
 map_both f (Some x) (Some y) = Some (f x y)
@@ -87,13 +90,16 @@ abbrev pub unary_typed : Unary → Kind → Typed → Judged Typed
 unary_typed operation kind x = within_depth (option_map (One operation) x.form) kind (suc x.depth)
 
 abbrev pub binary_typed : Binary → Kind → Typed → Typed → Judged Typed
-binary_typed operation kind x y = within_depth (map_both (Two operation) x.form y.form) kind (suc (max x.depth y.depth))
+binary_typed operation kind x y =
+    within_depth (map_both (Two operation) x.form y.form) kind (suc (max x.depth y.depth))
 
 abbrev pub short_typed : ShortOperation → Kind → Typed → Typed → Judged Typed
-short_typed operation kind x y = within_depth (map_both (Short operation) x.form y.form) kind (suc (max x.depth y.depth))
+short_typed operation kind x y =
+    within_depth (map_both (Short operation) x.form y.form) kind (suc (max x.depth y.depth))
 
 abbrev pub on_sets_typed : SetOperation → Kind → Typed → Typed → Judged Typed
-on_sets_typed operation kind x y = within_depth (map_both (OnSets operation) x.form y.form) kind (suc (max x.depth y.depth))
+on_sets_typed operation kind x y =
+    within_depth (map_both (OnSets operation) x.form y.form) kind (suc (max x.depth y.depth))
 
 -- accepted, but its code is not built yet
 abbrev pub unbuilt_typed : Kind → Typed → Typed → Judged Typed
@@ -118,7 +124,8 @@ negated x = if is_boolean x.kind then unary_typed unary.Not boolean x else misfi
 
 -- two integers give an integer (ISO 10206, 6.8.3.2)
 abbrev pub arithmetic : Binary → Typed → Typed → Judged Typed
-arithmetic operation x y = if is_integer x.kind && is_integer y.kind then binary_typed operation integer x y else misfit
+arithmetic operation x y =
+    if is_integer x.kind && is_integer y.kind then binary_typed operation integer x y else misfit
 
 -- two Booleans give a Boolean (ISO 10206, 6.8.3.3)
 abbrev pub logical : Binary → Typed → Typed → Judged Typed
@@ -126,7 +133,8 @@ logical operation x y = if is_boolean x.kind && is_boolean y.kind then binary_ty
 
 -- so do `and_then` and `or_else`, whose right operand may not be evaluated (ISO 10206, 6.8.3.3)
 abbrev pub short_circuit : ShortOperation → Typed → Typed → Judged Typed
-short_circuit operation x y = if is_boolean x.kind && is_boolean y.kind then short_typed operation boolean x y else misfit
+short_circuit operation x y =
+    if is_boolean x.kind && is_boolean y.kind then short_typed operation boolean x y else misfit
 
 -- `+` besides joins two strings (ISO 10206, 6.8.3.6)
 abbrev pub sum_typed : Typed → Typed → Judged Typed
@@ -134,7 +142,8 @@ sum_typed x y = if is_string x.kind && is_string y.kind then unbuilt_typed Text 
 
 -- two sets over one host give a set (ISO 10206, 6.8.3.4), and what they are else is told by another rule
 abbrev pub combined : SetOperation → Judged Typed → Typed → Typed → Judged Typed
-combined operation other x y = if are_sets x.kind y.kind then on_sets_typed operation (joint_kind x.kind y.kind) x y else other
+combined operation other x y =
+    if are_sets x.kind y.kind then on_sets_typed operation (joint_kind x.kind y.kind) x y else other
 
 abbrev pub added : AddingOperator → Typed → Typed → Judged Typed
 added adding.Plus = λ x y. combined on_sets.Union (sum_typed x y) x y
@@ -153,7 +162,8 @@ multiplied multiplying.AndThen = short_circuit short.AndThen
 -- two values of one host give a Boolean, and so do two strings (ISO 10206, 6.8.3.5)
 abbrev pub comparison : Binary → Typed → Typed → Judged Typed
 comparison operation x y =
-    if are_compatible x.kind y.kind then binary_typed operation boolean x y else (if is_string x.kind && is_string y.kind then unbuilt_typed boolean x y else misfit)
+    if are_compatible x.kind y.kind then binary_typed operation boolean x y
+    else (if is_string x.kind && is_string y.kind then unbuilt_typed boolean x y else misfit)
 
 -- so do two sets over one host, which are not compared by `<` and `>` (ISO 10206, 6.8.3.5)
 abbrev pub related : SetOperation → Judged Typed → Typed → Typed → Judged Typed

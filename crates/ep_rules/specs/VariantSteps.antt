@@ -9,7 +9,8 @@ use Rattle.ep_scope.specs.declared.structure.TagType.{TagType}
 use Rattle.ep_scope.specs.declared.structure.VariantStep.{VariantStep}
 use Rattle.ep_rules.specs.ConstantAccesses.{has_index}
 
--- the steps from the record, or from the innermost variant, to a component; a tag is the one component of a record that has its number
+-- the steps from the record, or from the innermost variant, to a component; a tag is the one component of a record
+-- that has its number
 abbrev pub part_steps : Option TagType → ℕ → List ℕ
 part_steps None number = number ∷ []
 part_steps (Some tag) number = number ∷ 0 ∷ []

@@ -43,7 +43,8 @@ fn value_at(given: &[Element], index: i64) -> Option<&TypedExpr>
 
 /// The value that the component of a record is given to which these steps lead.
 pub fn value_of_field<'a>(given: &'a [Element], steps: &[u32]) -> Option<&'a TypedExpr>
-    ensures { option_map (λ x. expr_of x.now) result ≡ spec.value_of_field (elements (map element_of given.now)) steps.now }
+    ensures { option_map (λ x. expr_of x.now) result
+        ≡ spec.value_of_field (elements (map element_of given.now)) steps.now }
 {
     for one in given {
         if let Element::AtField(own, value) = one {

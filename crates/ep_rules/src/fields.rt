@@ -12,7 +12,10 @@ use crate::access::Access;
 use crate::constant_accesses::field_known;
 use crate::forms::{DEPTH, Refusal, Typed};
 use ep_base::{Boxed, Name, NoMemory};
-use ep_scope::{Composition, FieldType, Kind, Protection, TagType, TypeName, VariantStep, View, copied_selection, field_number, rule, structure_of};
+use ep_scope::{
+    Composition, FieldType, Kind, Protection, TagType, TypeName, VariantStep, View,
+    copied_selection, field_number, rule, structure_of,
+};
 use ep_typed::{Elements, Shared, TypedExpr, TypedPlace};
 use std::alloc::Global;
 

@@ -14,8 +14,8 @@ ghost use Rattle.ep_rules.specs.declared.folding.KnownValue.TheVariants as known
 
 use crate::sets;
 use ep_base::{Bytes, List, NoMemory};
-use ep_values::{Binary, SetOperation, ShortOperation, Unary};
 use ep_typed::{MemberDesignator, TypedExpr};
+use ep_values::{Binary, SetOperation, ShortOperation, Unary};
 use std::alloc::Global;
 
 /// A value that is known.
@@ -103,7 +103,8 @@ fn member(alloc: Global, designator: &MemberDesignator) -> Result<Folded, NoMemo
 /// What is known of member designators.
 #[cycle(folded)]
 fn members(alloc: Global, all: &[MemberDesignator]) -> Result<Folded, NoMemory>
-    ensures { IfOk result (λ f. f ≡ folded_members (Known (known.Members [])) (designators (map designator_of all.now))) }
+    ensures { IfOk result
+        (λ f. f ≡ folded_members (Known (known.Members [])) (designators (map designator_of all.now))) }
 {
     let mut found = set(List::new(alloc));
     for designator in all {

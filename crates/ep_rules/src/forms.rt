@@ -21,8 +21,8 @@ use crate::arguments::Taken;
 use crate::levels::callee_at;
 use ep_base::{Boxed, Bytes, NoMemory};
 use ep_scope::{Declared, Host, Kind, rule};
-use ep_values::{Binary, SetOperation, ShortOperation, Unary};
 use ep_typed::{TypedExpr, TypedPlace, Value};
+use ep_values::{Binary, SetOperation, ShortOperation, Unary};
 use std::alloc::{AllocError, Global};
 
 /// The greatest number of typed nodes of an expression that stand one below the other.

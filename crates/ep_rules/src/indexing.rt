@@ -83,7 +83,8 @@ fn component_form(
     array: Option<Boxed<TypedExpr>>,
     index: Option<Boxed<TypedExpr>>,
 ) -> Result<Option<Boxed<TypedExpr>>, NoMemory>
-    ensures { IfOk result (λ now. option_map expr_of now ≡ component_form kind (option_map expr_of array) (option_map expr_of index)) }
+    ensures { IfOk result
+        (λ now. option_map expr_of now ≡ component_form kind (option_map expr_of array) (option_map expr_of index)) }
 {
     match (array, index) {
         (Some(array), Some(index)) => Ok(Some(element_form(alloc, kind, array, index)?)),

@@ -14,7 +14,10 @@ use crate::fields::{designated, steps, variable_access};
 use crate::forms::{Refusal, Typed};
 use crate::levels::{field_place, own_place};
 use ep_base::{Boxed, Name};
-use ep_scope::{Declaration, Declared, FormalParameter, Host, Kind, Meaning, OpenField, Protection, Required, RequiredConstant, View, depth_in, meaning_in, meaning_of, rule};
+use ep_scope::{
+    Declaration, Declared, FormalParameter, Host, Kind, Meaning, OpenField, Protection, Required,
+    RequiredConstant, View, depth_in, meaning_in, meaning_of, rule,
+};
 use ep_typed::{TypedExpr, TypedPlace};
 use std::alloc::{AllocError, Global};
 

@@ -40,7 +40,8 @@ protection_of mode.ProtectedVariable = protection.Protected
 
 -- one name, section and type, and given alike
 abbrev pub same_parameter : FormalParameter → FormalParameter → Bool
-same_parameter p q = bytes_eq p.name q.name && same_mode p.mode q.mode && p.section == q.section && same_type p.of.is q.of.is
+same_parameter p q =
+    bytes_eq p.name q.name && same_mode p.mode q.mode && p.section == q.section && same_type p.of.is q.of.is
 
 -- as many, and the same one for one
 abbrev pub same_parameters : List FormalParameter → List FormalParameter → Bool

@@ -19,7 +19,9 @@ look_up (e ∷ es) name = if bytes_eq name e.0 then Some e.1 else look_up es nam
 
 -- the required constants (ISO 10206, 6.4.2.2)
 abbrev pub required_constants : List (List ℕ × RequiredConstant)
-required_constants = (codes "maxint", constant.MaxInt) ∷ (codes "maxchar", constant.MaxChar) ∷ (codes "true", constant.True) ∷ (codes "false", constant.False) ∷ []
+required_constants =
+    (codes "maxint", constant.MaxInt) ∷ (codes "maxchar", constant.MaxChar) ∷ (codes "true", constant.True)
+    ∷ (codes "false", constant.False) ∷ []
 
 -- the required types (ISO 10206, 6.4.2.2)
 abbrev pub required_types : List (List ℕ × RequiredType)
@@ -28,12 +30,15 @@ required_types = (codes "integer", type.Integer) ∷ (codes "char", type.Char) �
 -- the required functions (ISO 10206, 6.7.6)
 abbrev pub required_functions : List (List ℕ × Function)
 required_functions =
-    (codes "abs", function.Absolute) ∷ (codes "sqr", function.Square) ∷ (codes "odd", function.Odd) ∷ (codes "ord", function.Ordinal) ∷ (codes "chr", function.Character)
-    ∷ (codes "succ", function.Successor) ∷ (codes "pred", function.Predecessor) ∷ (codes "card", function.Cardinality) ∷ []
+    (codes "abs", function.Absolute) ∷ (codes "sqr", function.Square) ∷ (codes "odd", function.Odd)
+    ∷ (codes "ord", function.Ordinal) ∷ (codes "chr", function.Character)
+    ∷ (codes "succ", function.Successor) ∷ (codes "pred", function.Predecessor) ∷ (codes "card", function.Cardinality)
+    ∷ []
 
 -- the required procedures (ISO 10206, 6.7.5 and 6.10)
 abbrev pub required_procedures : List (List ℕ × Procedure)
-required_procedures = (codes "halt", procedure.Halt) ∷ (codes "write", procedure.Write) ∷ (codes "writeln", procedure.WriteLine) ∷ []
+required_procedures =
+    (codes "halt", procedure.Halt) ∷ (codes "write", procedure.Write) ∷ (codes "writeln", procedure.WriteLine) ∷ []
 
 -- this, or else the other
 abbrev pub or_required : {A : Type 0} → (A → Required) → Option A → Option Required → Option Required
@@ -44,4 +49,6 @@ or_required form (Some x) other = Some (form x)
 abbrev pub required_of : List ℕ → Option Required
 required_of name =
     or_required is.Constant (look_up required_constants name)
-    (or_required is.«Type» (look_up required_types name) (or_required is.Function (look_up required_functions name) (or_required is.Procedure (look_up required_procedures name) None)))
+    (or_required is.«Type» (look_up required_types name)
+    (or_required is.Function (look_up required_functions name) (or_required is.Procedure
+    (look_up required_procedures name) None)))

@@ -18,7 +18,8 @@ use Rattle.ep_scope.specs.declared.thing.Thing.TheVariants as thing
 abbrev pub Entries : Type 0
 Entries = List (List ℕ × Thing)
 
--- A record that is open by `with` (ISO 10206, 6.9.3.10): the variable that stands for it, whether it is protected, and its
+-- A record that is open by `with` (ISO 10206, 6.9.3.10): the variable that stands for it, whether it is protected, and
+-- its
 -- fields, tags and those of variants among them, whose names stand for those of the variable.
 pub record OpenRecord : Type 0 where
   pub variable : Entire
@@ -81,7 +82,8 @@ with_interface r interface name thing = record r { qualified = r.qualified ++ (i
 abbrev pub with_constituent : List (List ℕ × Entries) → List ℕ → List ℕ → Thing → List (List ℕ × Entries)
 with_constituent [] interface name thing = (interface, (name, thing) ∷ []) ∷ []
 with_constituent (e ∷ es) interface name thing =
-    if bytes_eq interface e.0 then (e.0, e.1 ++ (name, thing) ∷ []) ∷ es else e ∷ with_constituent es interface name thing
+    if bytes_eq interface e.0 then (e.0, e.1 ++ (name, thing) ∷ []) ∷ es
+    else e ∷ with_constituent es interface name thing
 
 -- what a name may stand for
 pub data Meant : Type 0 where
@@ -132,7 +134,8 @@ abbrev pub or_outside : Option Thing → Meant → Meant
 or_outside None outside = outside
 or_outside (Some thing) outside = as_thing thing
 
--- The innermost scope that has the name (ISO 10206, 6.2.2.5), or the required identifier (6.2.2.10). The records that are
+-- The innermost scope that has the name (ISO 10206, 6.2.2.5), or the required identifier (6.2.2.10). The records that
+-- are
 -- open in a scope are inside of it.
 abbrev pub meant : List Region → List ℕ → Meant
 meant [] name = as_required (required_of name)
@@ -152,11 +155,14 @@ abbrev pub unless_field : Option OpenField → Meant → Meant
 unless_field None inside = inside
 unless_field (Some f) inside = Nothing
 
--- `i.a`: the innermost scope whose interface i has the name a, where neither it nor a scope or an open record inside of it has i itself (own)
+-- `i.a`: the innermost scope whose interface i has the name a, where neither it nor a scope or an open record inside
+-- of it has i itself (own)
 abbrev pub meant_in : List Region → List ℕ → List ℕ → Meant
 meant_in [] interface name = Nothing
 meant_in (r ∷ rs) interface name =
-    unless_field (field_among r.records interface) (unless_hidden (look_up r.entries interface) (or_outside (look_up_in r interface name) (meant_in rs interface name)))
+    unless_field (field_among r.records interface)
+    (unless_hidden (look_up r.entries interface)
+    (or_outside (look_up_in r interface name) (meant_in rs interface name)))
 
 -- the scopes in view where this record is open inside of all of them
 abbrev pub within : OpenRecord → List Region → List Region

@@ -1,8 +1,10 @@
--- What a routine that was called knows while it runs: where its variables and those of the routines around it are, and what was made in its call.
+-- What a routine that was called knows while it runs: where its variables and those of the routines around it are, and
+-- what was made in its call.
 use Rattle.std.specs.Prelude.{◌≡◌, ℕ, zero, suc, ◌+◌, ◌<◌, List, [], ◌∷◌, length, Option, Some, slice_get, ⊤}
 use Rattle.ep_simulation.specs.Follows.{Facts, StillRuns}
 use Rattle.ep_object.specs.Frames.{level_slots}
-use Rattle.ep_simulation.specs.Matching.{Memory, Injection, IsIn, IsLike, MatchesSlot, own_slot, HasOwnType, HasTypeUnder, Slots, Grown}
+use Rattle.ep_simulation.specs.Matching.{Memory, Injection, IsIn, IsLike, MatchesSlot, own_slot, HasOwnType}
+use Rattle.ep_simulation.specs.Matching.{HasTypeUnder, Slots, Grown}
 use Rattle.ep_object.specs.State.{Frame}
 use Rattle.ep_object.specs.declared.state.Place.{Place}
 use Rattle.ep_meaning.specs.Steps.{Call, Variables, named_in, own_variable}
@@ -12,7 +14,8 @@ use Rattle.ep_typed.specs.declared.unit.UnitType.{UnitType}
 use Rattle.ep_typed.specs.declared.unit.UnitVariable.{UnitVariable}
 use Rattle.ep_values.specs.TypeValues.{TypeValue}
 
--- A variable of the routine has a slot in the frame of its call: it holds a place of the variable once that is made, of a
+-- A variable of the routine has a slot in the frame of its call: it holds a place of the variable once that is made,
+-- of a
 -- type that describes the one of the declaration, and none before.
 pub record OwnSlot (declared : Declarations) (injection : Injection) (s : meaning.State) (memory : Memory) (k : ℕ)
     (v : UnitVariable) : Type 0 where
@@ -25,13 +28,16 @@ pub record OwnSlot (declared : Declarations) (injection : Injection) (s : meanin
 -- each variable has one of the routine in whose block names are declared so
 abbrev pub MatchesOwn : Declarations → Facts
 MatchesOwn declared injection s memory =
-    (k : ℕ) (v : UnitVariable) → slice_get (variables_up declared 0) k ≡ Some v → OwnSlot declared injection s memory k v
+    (k : ℕ) (v : UnitVariable) → slice_get (variables_up declared 0) k ≡ Some v
+    → OwnSlot declared injection s memory k v
 
 -- ---- the routines around
 
--- A variable of a routine around has a slot among these: it holds a place of the variable once that is made, of a type that
+-- A variable of a routine around has a slot among these: it holds a place of the variable once that is made, of a type
+-- that
 -- describes the one of the declaration, but for initial states, and none before.
-pub record LevelSlot (types : List UnitType) (injection : Injection) (variables : Variables) (slots : List (Option Place))
+pub record LevelSlot (types : List UnitType) (injection : Injection) (variables : Variables)
+    (slots : List (Option Place))
     (memory : Memory) (k : ℕ) (v : UnitVariable) : Type 0 where
   pub slot : Option Place
   pub is : slice_get slots k ≡ Some slot
@@ -39,7 +45,8 @@ pub record LevelSlot (types : List UnitType) (injection : Injection) (variables 
   pub described : (place : Place) (t : TypeValue) → slot ≡ Some place → HasTypeUnder types v t
       → IsLike memory.types place.type_number t
 
--- The activation so many levels up from the one that runs has a frame so many levels up from the innermost call, in which
+-- The activation so many levels up from the one that runs has a frame so many levels up from the innermost call, in
+-- which
 -- the variables of this routine of a unit with these types match.
 pub record LevelMatches (types : List UnitType) (level : Level) (injection : Injection) (calls : List Call)
     (memory : Memory) (up : ℕ) : Type 0 where
@@ -65,23 +72,30 @@ pub record IsUnderWay (s : meaning.State) (memory : Memory) : Type 0 where
   pub others : List Call
   pub calls : s.calls ≡ call ∷ others
 
--- The variables of the routine in whose block names are declared so and of the routines around it match. Where there is
+-- The variables of the routine in whose block names are declared so and of the routines around it match. Where there
+-- is
 -- such a routine, a call of it is under way.
-pub record MatchesNames (declared : Declarations) (injection : Injection) (s : meaning.State) (memory : Memory) : Type 0 where
+pub record MatchesNames (declared : Declarations) (injection : Injection) (s : meaning.State) (memory : Memory) : Type
+    0 where
   pub own : MatchesOwn declared injection s memory
   pub around : MatchesAround declared injection s memory
   pub under_way : (level : Level) → slice_get declared.levels 0 ≡ Some level → IsUnderWay s memory
 
 -- facts by which they match
 abbrev pub KnowsNames : Declarations → Facts → Type 0
-KnowsNames declared Here = (injection : Injection) (s : meaning.State) (memory : Memory) → Here injection s memory → MatchesNames declared injection s memory
+KnowsNames declared Here =
+    (injection : Injection) (s : meaning.State) (memory : Memory) → Here injection s memory
+    → MatchesNames declared injection s memory
 
--- What a call needs of the activation that makes it, where the routine is declared so many levels up: 0 says that none is
+-- What a call needs of the activation that makes it, where the routine is declared so many levels up: 0 says that none
+-- is
 -- around it, and other numbers that the ones around it are those of the activations from that level less one on.
 abbrev pub IsCallable : List UnitType → ℕ → List Level → Injection → List Call → Memory → Type 0
 IsCallable types zero around injection calls memory = around ≡ []
 IsCallable types (suc up) around injection calls memory =
-    (0 < length around) × ((n : ℕ) (level : Level) → slice_get around n ≡ Some level → LevelMatches types level injection calls memory (up + n))
+    (0 < length around)
+    × ((n : ℕ) (level : Level) → slice_get around n ≡ Some level
+    → LevelMatches types level injection calls memory (up + n))
 
 -- ---- a call under way
 
@@ -92,7 +106,8 @@ AreMade injection [] (segment ∷ segments) = ⊥
 AreMade injection (n ∷ ns) [] = ⊥
 AreMade injection (n ∷ ns) (segment ∷ segments) = IsIn injection n segment × (2 < n) × AreMade injection ns segments
 
--- What code of a routine knows since its call was made, in this memory: the call is under way, its variables match, and the
+-- What code of a routine knows since its call was made, in this memory: the call is under way, its variables match,
+-- and the
 -- allocations that were made in it are those of the segments that were.
 pub record InActivation (declared : Declarations) (untouched : Slots) (injection : Injection) (memory : Memory)
     (longer : Injection) (s : meaning.State) (after : Memory) : Type 0 where

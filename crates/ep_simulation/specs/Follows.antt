@@ -1,5 +1,6 @@
 -- The machine follows a computation: with costs both ways, in runs that are cut, and for want of room.
-use Rattle.std.specs.Prelude.{◌≡◌, ℕ, ℤ, pos, suc, ◌+◌, ◌*◌, ◌≤◌, ◌<◌, ◌⊎◌, IsTrue, List, [], ◌∷◌, ◌++◌, length, slice_get, ⊤}
+use Rattle.std.specs.Prelude.{◌≡◌, ℕ, ℤ, pos, suc, ◌+◌, ◌*◌, ◌≤◌, ◌<◌, ◌⊎◌, IsTrue, List, [], ◌∷◌, ◌++◌, length}
+use Rattle.std.specs.Prelude.{slice_get, ⊤}
 use Rattle.ep_outside.specs.Known.{IsPrefix}
 use Rattle.ep_values.specs.Events.{Trace}
 use Rattle.ep_values.specs.Printing.{Result, Number, Bytes, Structure, Members}
@@ -10,7 +11,8 @@ use Rattle.ep_meaning.specs.Valid as kind
 use Rattle.ep_meaning.specs.Valid.{Declarations, Kind}
 use Rattle.ep_typed.specs.Hosts.{Host, is_of_host}
 use Rattle.ep_values.specs.TypeValues.{TypeValue, bare_of, size_of}
-use Rattle.ep_simulation.specs.Matching.{Memory, at, Describes, Injection, Matches, Slots, own_slot, Grown, IsBare, IsLike, IsSpot, HasAt}
+use Rattle.ep_simulation.specs.Matching.{Memory, at, Describes, Injection, Matches, Slots, own_slot, Grown, IsBare}
+use Rattle.ep_simulation.specs.Matching.{IsLike, IsSpot, HasAt}
 use Rattle.ep_object.specs.Operands.{Operand, Word, Place, Text, Value, Set}
 use Rattle.ep_object.specs.Sets.{IsSet}
 use Rattle.ep_simulation.specs.Starts.{AreStarts}
@@ -48,7 +50,8 @@ pub record Reaches (Within : State → Type 0) (G : Image) (k : State) (m left d
   pub pays : Pays m left ticks d e
   pub post : Post to
 
--- The machine ends so, and is in such states until then. Of m steps all but those left were spent; the last tick pays for none of them.
+-- The machine ends so, and is in such states until then. Of m steps all but those left were spent; the last tick pays
+-- for none of them.
 pub record EndsToo (Within : State → Type 0) (G : Image) (k : State) (m left d : ℕ) (e : meaning.End)
     (trace : Trace) : Type 0 where
   pub ticks : ℕ
@@ -81,7 +84,8 @@ Meets Within G k m Post d e (Gives left a s) = Reaches Within G k m left d (e a)
 Meets Within G k m Post d e (Ends left end s) = EndsToo Within G k m left d end s.trace
 Meets Within G k m Post d e (Cut s) = RunsOn Within G k m d s.trace
 
--- Room was lost by then, with up to m steps, and the machine ends for want of storage or of depth, with no more ticks than so many steps may take.
+-- Room was lost by then, with up to m steps, and the machine ends for want of storage or of depth, with no more ticks
+-- than so many steps may take.
 pub record GivesUp (G : Image) (k : State) (m d : ℕ) (s : meaning.State) : Type 0 where
   pub lost : IsTrue s.resources.lost
   pub ticks : ℕ
@@ -94,12 +98,15 @@ pub record GivesUp (G : Image) (k : State) (m d : ℕ) (s : meaning.State) : Typ
   pub runs : run G ticks 0 k ≡ Stopped (Error number unit line) trace
   pub begins : IsPrefix trace s.trace
 
--- The machine follows the computation with up to n steps, and is in such states at each tick until it has given a value, is cut or has ended. That room is lost lets it end within ticks that the steps bound, and nothing else: where it goes on, it follows.
+-- The machine follows the computation with up to n steps, and is in such states at each tick until it has given a
+-- value, is cut or has ended. That room is lost lets it end within ticks that the steps bound, and nothing else: where
+-- it goes on, it follows.
 pub record Follows {A : Type 0} (Within : State → Type 0) (G : Image) (n : ℕ) (k : State) (s : meaning.State)
     (c : Computation A) (Post : A → meaning.State → State → Type 0) (d : ℕ) (e : A → ℕ) : Type 0 where
   pub by : (m : ℕ) → m ≤ n → Meets Within G k m Post d e (c m s) ⊎ GivesUp G k m d (state_of (c m s))
 
--- Where the machine stands between two instructions, but for its events: the injection by which it matches, the memory,
+-- Where the machine stands between two instructions, but for its events: the injection by which it matches, the
+-- memory,
 -- the place in the code, and the operands.
 pub record Point : Type 0 where
   pub injection : Injection
@@ -108,7 +115,8 @@ pub record Point : Type 0 where
   pub operands : List Operand
 
 abbrev pub point : Injection → Memory → ℕ → List Operand → Point
-point injection memory place operands = record { injection = injection; memory = memory; place = place; operands = operands }
+point injection memory place operands =
+    record { injection = injection; memory = memory; place = place; operands = operands }
 
 -- the state of the machine at a point
 abbrev pub state_at : Point → Trace → State
@@ -140,7 +148,8 @@ abbrev pub IsStillCall : List Frame → List Frame → Type 0
 IsStillCall [] [] = ⊤
 IsStillCall [] (d ∷ later) = ⊥
 IsStillCall (c ∷ calls) [] = ⊥
-IsStillCall (c ∷ calls) (d ∷ later) = (d.routine ≡ c.routine) × (d.parent ≡ c.parent) × (d.back ≡ c.back) × (later ≡ calls)
+IsStillCall (c ∷ calls) (d ∷ later) =
+    (d.routine ≡ c.routine) × (d.parent ≡ c.parent) × (d.back ≡ c.back) × (later ≡ calls)
 
 -- The same, and nothing was made in it and no argument was taken out since.
 abbrev pub IsSameCall : List Frame → List Frame → Type 0
@@ -158,7 +167,8 @@ pub record StillRuns (before after : Frames) : Type 0 where
   pub unit : after.unit ≡ before.unit
   pub calls : IsStillCall before.calls after.calls
 
--- The same, and its call has the arguments that it had, has made what it had made, and has these slots of its own as they
+-- The same, and its call has the arguments that it had, has made what it had made, and has these slots of its own as
+-- they
 -- were. Once a routine has taken its arguments and made its variables, this holds of all its code.
 pub record SameRoutine (untouched : Slots) (before after : Frames) : Type 0 where
   pub turn : after.turn ≡ before.turn
@@ -174,7 +184,8 @@ pub record IsNotLeft (before now : Frames) : Type 0 where
   pub is : now.calls ≡ over ++ own
   pub runs : StillRuns before (record now { calls = own })
 
--- The calls under way are the same on both sides, with the slots of the innermost one, memory has grown and these slots are
+-- The calls under way are the same on both sides, with the slots of the innermost one, memory has grown and these
+-- slots are
 -- untouched, and the same routine runs.
 pub record HasGrown (untouched : Slots) (injection : Injection) (s : meaning.State) (memory : Memory)
     (longer : Injection) (t : meaning.State) (after : Memory) : Type 0 where
@@ -192,13 +203,15 @@ pub record Lasts (untouched : Slots) (Here : Facts) : Type 0 where
 abbrev pub Since : Slots → Injection → meaning.State → Memory → Facts
 Since untouched injection s memory longer t after = HasGrown untouched injection s memory longer t after
 
--- From a point at which the facts of the activation hold, the machine follows the computation, without leaving the routine, to
+-- From a point at which the facts of the activation hold, the machine follows the computation, without leaving the
+-- routine, to
 -- a place of the code at which they hold again, and this does.
 pub record Fragment {A : Type 0} (declared : Declarations) (G : Image) (Here : Facts) (n : ℕ) (from : Point)
     (c : Computation A) (to : ℕ) (Post : A → After) (d : ℕ) (e : A → ℕ) : Type 0 where
   pub by : (s : meaning.State) → Matches declared G from.injection s from.memory
       → Here from.injection s from.memory
-      → Follows (λ k. IsNotLeft from.memory.frames k.frames) G n (state_at from s.trace) s c (λ a. Lands declared G Here to (Post a)) d e
+      → Follows (λ k. IsNotLeft from.memory.frames k.frames) G n (state_at from s.trace) s c
+      (λ a. Lands declared G Here to (Post a)) d e
 
 -- ---- what holds after the code of a form
 
@@ -225,9 +238,11 @@ pub record TextOnTop (below : List Operand) (r : Result) (injection : Injection)
   pub is_text : r ≡ Bytes bytes
   pub is : operands ≡ Text bytes ∷ below
 
--- An operand is the value of a result of an array or record type, which has no initial states: its type is the bare form of that
+-- An operand is the value of a result of an array or record type, which has no initial states: its type is the bare
+-- form of that
 -- one, and its words hold the value.
-pub record IsStructure (type : TypeValue) (r : Result) (injection : Injection) (memory : Memory) (operand : Operand) : Type 0 where
+pub record IsStructure (type : TypeValue) (r : Result) (injection : Injection) (memory : Memory) (operand : Operand) :
+    Type 0 where
   pub value : ValueOf
   pub is_structure : r ≡ Structure type value
   pub type_number : ℕ
@@ -268,14 +283,16 @@ pub record PlaceOnTop (type : TypeValue) (below : List Operand) (variable : Comp
   pub spot : IsSpot injection memory.types variable place
   pub described : IsLike memory.types place.type_number type
 
--- inside of a routine: memory has grown and these slots are untouched, the routine is the same, and the operands are such
+-- inside of a routine: memory has grown and these slots are untouched, the routine is the same, and the operands are
+-- such
 pub record Inside (untouched : Slots) (injection : Injection) (memory : Memory) (Then : Operands)
     (longer : Injection) (after : Memory) (operands : List Operand) : Type 0 where
   pub grown : Grown untouched injection memory longer after
   pub routine : SameRoutine untouched memory.frames after.frames
   pub operands_are : Then longer after operands
 
--- A type value is given that is this one but for initial states, all of which are values of their types, and the number of a type
+-- A type value is given that is this one but for initial states, all of which are values of their types, and the
+-- number of a type
 -- that describes it is on top.
 pub record TypeOnTop (t : TypeValue) (below : List Operand) (given : TypeValue) (injection : Injection)
     (memory : Memory) (operands : List Operand) : Type 0 where

@@ -1,5 +1,7 @@
 -- When a state of the machine matches a state of the meaning.
-use Rattle.std.specs.Prelude.{◌≡◌, ℕ, ℤ, zero, suc, ◌+◌, ◌*◌, ◌≤◌, ◌<◌, ◌==◌, cond, is_some, ltb, Bool, true, false, IsTrue, List, [], ◌∷◌, length, slice_get, Option, Some, None, option_map, ⊤, if◌then◌else◌}
+use Rattle.std.specs.Prelude.{◌≡◌, ℕ, ℤ, zero, suc, ◌+◌, ◌*◌, ◌≤◌, ◌<◌, ◌==◌, cond, is_some, ltb, Bool, true, false}
+use Rattle.std.specs.Prelude.{IsTrue, List, [], ◌∷◌, length, slice_get, Option, Some, None, option_map, ⊤}
+use Rattle.std.specs.Prelude.{if◌then◌else◌}
 use Rattle.std.specs.List.{list_any}
 use Rattle.ep_outside.specs.Known.{IsPrefix}
 use Rattle.ep_values.specs.Bounds.{count_of}
@@ -57,7 +59,8 @@ pub record Mapped : Type 0 where
   pub segment : ℕ
   pub type_value : TypeValue
 
--- The injection of allocations into segments: the segment of each allocation, in the order of making, with the type. The
+-- The injection of allocations into segments: the segment of each allocation, in the order of making, with the type.
+-- The
 -- allocation of number 1, which is `input`, is its first item. Segments that are in no item are hidden ones.
 abbrev pub Injection : Type 0
 Injection = List Mapped
@@ -84,20 +87,25 @@ abbrev mutual
   IsBare types n (type.Ordinal low high) = slice_get types n ≡ Some (ordinal_entry low high)
   IsBare types n type.Text = slice_get types n ≡ Some text_entry
   IsBare types n (type.Array low high of) =
-      (c : ℕ) × (slice_get types n ≡ Some (array_entry low high c (size_of (type.Array low high of)))) × IsBare types c of
+      (c : ℕ) × (slice_get types n ≡ Some (array_entry low high c (size_of (type.Array low high of))))
+      × IsBare types c of
   IsBare types n (type.Record ts) =
-      (ps : List RecordPart) × (slice_get types n ≡ Some (record_entry ps (size_of (type.Record ts)))) × AreBare types 0 ps ts
+      (ps : List RecordPart) × (slice_get types n ≡ Some (record_entry ps (size_of (type.Record ts))))
+      × AreBare types 0 ps ts
   IsBare types n (type.Set low high) = slice_get types n ≡ Some (set_entry low high)
   IsBare types n (type.Initial of start) = IsBare types n of
 
-  -- components behind so many words have types that are the bare forms of these, one for one, and stand one behind the other
+  -- components behind so many words have types that are the bare forms of these, one for one, and stand one behind the
+  -- other
   pub AreBare : TypeTable → ℕ → List RecordPart → ComponentTypes → Type 0
   AreBare types before [] type.no_component = ⊤
   AreBare types before [] (type.next_component t ts) = ⊥
   AreBare types before (p ∷ ps) type.no_component = ⊥
-  AreBare types before (p ∷ ps) (type.next_component t ts) = (p.offset ≡ before) × IsBare types p.type_number t × AreBare types (before + size_of t) ps ts
+  AreBare types before (p ∷ ps) (type.next_component t ts) =
+      (p.offset ≡ before) × IsBare types p.type_number t × AreBare types (before + size_of t) ps ts
 
--- A type of the table that is of such a kind describes the type value: it has its size, begins with its initial state, and tells
+-- A type of the table that is of such a kind describes the type value: it has its size, begins with its initial state,
+-- and tells
 -- its bare form, which is another type exactly where an initial state is given to it or in it.
 pub record IsEntry (types : TypeTable) (n : ℕ) (t : TypeValue) (IsKind : Kind → Type 0) : Type 0 where
   pub kind : Kind
@@ -112,7 +120,8 @@ abbrev mutual
   pub IsKindOf : TypeTable → TypeValue → Kind → Type 0
   IsKindOf types (type.Ordinal low high) k = k ≡ kind.Ord low high
   IsKindOf types type.Text k = k ≡ kind.Text
-  IsKindOf types (type.Array low high of) k = (c : ℕ) × (k ≡ kind.Array low high c) × IsEntry types c of (IsKindOf types of)
+  IsKindOf types (type.Array low high of) k =
+      (c : ℕ) × (k ≡ kind.Array low high c) × IsEntry types c of (IsKindOf types of)
   IsKindOf types (type.Record ts) k = (ps : List RecordPart) × (k ≡ kind.Record ps) × AreEntries types 0 ps ts
   IsKindOf types (type.Set low high) k = k ≡ kind.Set low high
   IsKindOf types (type.Initial of start) k = IsKindOf types of k
@@ -123,7 +132,8 @@ abbrev mutual
   AreEntries types before [] (type.next_component t ts) = ⊥
   AreEntries types before (p ∷ ps) type.no_component = ⊥
   AreEntries types before (p ∷ ps) (type.next_component t ts) =
-      (p.offset ≡ before) × IsEntry types p.type_number t (IsKindOf types t) × AreEntries types (before + size_of t) ps ts
+      (p.offset ≡ before) × IsEntry types p.type_number t (IsKindOf types t)
+      × AreEntries types (before + size_of t) ps ts
 
 -- the type of this number describes the type value, with its initial states
 abbrev pub Describes : TypeTable → ℕ → TypeValue → Type 0
@@ -152,7 +162,8 @@ part_among before (type.next_component t ts) (suc k) = part_among (before + size
 abbrev pub part_of : TypeValue → ℕ → Option Part
 part_of (type.Ordinal low high) k = None
 part_of type.Text k = None
-part_of (type.Array low high of) k = cond (ltb k (count_of low high)) (Some (record { offset = k * size_of of; type_value = of })) None
+part_of (type.Array low high of) k =
+    cond (ltb k (count_of low high)) (Some (record { offset = k * size_of of; type_value = of })) None
 part_of (type.Record ts) k = part_among 0 ts k
 part_of (type.Set low high) k = None
 part_of (type.Initial of start) k = part_of of k
@@ -197,7 +208,8 @@ pub record MembersAt (low high : ℤ) (ms : List ℕ) (words : Words) (offset : 
   pub within : IsTrue (are_between low high ms)
   pub told : (k : ℕ) → k < set_size → words (offset + k) ≡ slice_get (words_of_set ms) k
 
--- the words from an offset on are a value of the set type with these bounds: those of a set, or each the undefined word
+-- the words from an offset on are a value of the set type with these bounds: those of a set, or each the undefined
+-- word
 abbrev pub SetAt : ℤ → ℤ → Value → Words → ℕ → Type 0
 SetAt low high Undefined words offset = (k : ℕ) → k < set_size → words (offset + k) ≡ Some undefined
 SetAt low high (meaning.Word w) words offset = ⊥
@@ -222,7 +234,8 @@ abbrev mutual
   HaveAt injection (type.next_component t ts) values words offset =
       HasAt injection t (values 0) words offset × HaveAt injection ts (λ k. values (suc k)) words (offset + size_of t)
 
--- A segment has as many words as the type of an allocation that lives, they hold its value, and the segment's type describes
+-- A segment has as many words as the type of an allocation that lives, they hold its value, and the segment's type
+-- describes
 -- the allocation's.
 pub record Represents (injection : Injection) (segments : Segments) (types : TypeTable) (segment : ℕ)
     (allocation : Allocation) : Type 0 where
@@ -235,21 +248,25 @@ pub record Represents (injection : Injection) (segments : Segments) (types : Typ
 
 abbrev pub IsRepresentedWhere : Bool → Injection → Segments → TypeTable → ℕ → Allocation → Type 0
 IsRepresentedWhere true injection segments types segment allocation = slice_get segments segment ≡ Some None
-IsRepresentedWhere false injection segments types segment allocation = Represents injection segments types segment allocation
+IsRepresentedWhere false injection segments types segment allocation =
+    Represents injection segments types segment allocation
 
 -- the segment of an allocation that has ended has ended, and that of one that lives represents it
 abbrev pub IsRepresented : Injection → Segments → TypeTable → ℕ → Allocation → Type 0
-IsRepresented injection segments types segment allocation = IsRepresentedWhere allocation.ended injection segments types segment allocation
+IsRepresented injection segments types segment allocation =
+    IsRepresentedWhere allocation.ended injection segments types segment allocation
 
 -- A place is that of a variable: it is in the segment of the variable's allocation, where the path leads in that
--- allocation's type, and its type describes that of the variable, whatever initial states the two have. What the segment has
+-- allocation's type, and its type describes that of the variable, whatever initial states the two have. What the
+-- segment has
 -- does not matter, nor whether it has ended.
 pub record IsSpot (injection : Injection) (types : TypeTable) (variable : Component) (place : Place) : Type 0 where
   pub is_in : IsIn injection variable.allocation place.segment
   pub root : TypeValue
   pub is_of : IsOf injection variable.allocation root
   pub type_value : TypeValue
-  pub leads : part_along (Some (all_of root)) variable.path ≡ Some (record { offset = place.offset; type_value = type_value })
+  pub leads : part_along (Some (all_of root)) variable.path
+      ≡ Some (record { offset = place.offset; type_value = type_value })
   pub described : IsLike types place.type_number type_value
 
 -- a slot holds the place of a variable once it is made, and none before
@@ -288,7 +305,8 @@ HasOwnType declared v t = HasTypeUnder declared.routine_types v t
 abbrev pub hidden_from : Injection → ℕ → Segments → ℕ
 hidden_from injection k [] = 0
 hidden_from injection k (None ∷ segments) = hidden_from injection (suc k) segments
-hidden_from injection k (Some x ∷ segments) = (if list_any (is_at k) injection then 0 else length x.words + 1) + hidden_from injection (suc k) segments
+hidden_from injection k (Some x ∷ segments) =
+    (if list_any (is_at k) injection then 0 else length x.words + 1) + hidden_from injection (suc k) segments
 
 -- the words of all hidden segments, with one more for each
 abbrev pub hidden_words : Injection → Segments → ℕ
@@ -296,7 +314,8 @@ hidden_words injection segments = hidden_from injection 0 segments
 
 -- ---- matching, in groups: each is over what it reads, so that it goes on holding where nothing of that changes
 
--- each allocation that was made is in a segment of its own, and has the type that is told with it, but for initial states
+-- each allocation that was made is in a segment of its own, and has the type that is told with it, but for initial
+-- states
 pub record MatchesInjection (injection : Injection) (allocations : List Allocation)
     (segments : Segments) : Type 0 where
   pub made : length injection ≡ length allocations
@@ -309,23 +328,28 @@ pub record MatchesInjection (injection : Injection) (allocations : List Allocati
 pub record MatchesStore (injection : Injection) (allocations : List Allocation) (segments : Segments)
     (types : TypeTable) : Type 0 where
   pub represented : (n segment : ℕ) (allocation : Allocation) → IsIn injection n segment
-      → meaning.allocation_at allocations n ≡ Some allocation → IsRepresented injection segments types segment allocation
+      → meaning.allocation_at allocations n ≡ Some allocation
+      → IsRepresented injection segments types segment allocation
 
 -- components stand one behind the other, behind so many words, and with them there are so many
 abbrev pub HaveSize : TypeTable → ℕ → List RecordPart → ℕ → Type 0
 HaveSize types before [] size = size ≡ before
-HaveSize types before (p ∷ ps) size = (p.offset ≡ before) × (e : TypeEntry) × (slice_get types p.type_number ≡ Some e) × HaveSize types (before + e.size) ps size
+HaveSize types before (p ∷ ps) size =
+    (p.offset ≡ before) × (e : TypeEntry) × (slice_get types p.type_number ≡ Some e)
+    × HaveSize types (before + e.size) ps size
 
 -- the size that a type of this kind has
 abbrev pub HasSize : TypeTable → Kind → ℕ → Type 0
 HasSize types (kind.Ord low high) size = size ≡ 1
 HasSize types kind.Pointer size = size ≡ 1
 HasSize types kind.Text size = size ≡ 1
-HasSize types (kind.Array low high c) size = (e : TypeEntry) × (slice_get types c ≡ Some e) × (size ≡ count_of low high * e.size)
+HasSize types (kind.Array low high c) size =
+    (e : TypeEntry) × (slice_get types c ≡ Some e) × (size ≡ count_of low high * e.size)
 HasSize types (kind.Record ps) size = HaveSize types 0 ps size
 HasSize types (kind.Set low high) size = size ≡ set_size
 
--- The types: the table begins with the first ones, each entry has the size that its kind gives, none stands twice, and one
+-- The types: the table begins with the first ones, each entry has the size that its kind gives, none stands twice, and
+-- one
 -- describes each type value that was elaborated. Which others there are is left open.
 pub record MatchesTypes (elaborated : List TypeValue) (types : TypeTable) : Type 0 where
   pub first : IsPrefix first_types types
@@ -350,7 +374,8 @@ pub record MatchesFrame (declared : Declarations) (injection : Injection) (varia
 -- the variable has a type of which this holds, without its initial states
 pub record IsOfType (allocations : List Allocation) (variable : Component) (Holds : TypeValue → Type 0) : Type 0 where
   pub type_value : TypeValue
-  pub is : option_map bare_of (meaning.type_along (meaning.type_in (meaning.allocation_at allocations variable.allocation)) variable.path)
+  pub is : option_map bare_of
+      (meaning.type_along (meaning.type_in (meaning.allocation_at allocations variable.allocation)) variable.path)
       ≡ Some type_value
   pub holds : Holds type_value
 
@@ -370,7 +395,8 @@ pub record MatchesOutside (injection : Injection) (allocations : List Allocation
   pub lives : meaning.ended_in (meaning.allocation_at allocations 2) ≡ false
 
 -- The counts: no more words live than were counted, where a type value counts 4 for each of its words; hidden segments
--- take no more than was set aside; and no more types were added than two for each that was elaborated, of which one is its bare
+-- take no more than was set aside; and no more types were added than two for each that was elaborated, of which one is
+-- its bare
 -- form.
 pub record MatchesCounts (injection : Injection) (resources : Resources) (segments : Segments)
     (types : TypeTable) (live : ℕ) : Type 0 where

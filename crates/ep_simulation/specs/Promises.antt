@@ -1,6 +1,7 @@
 -- What a routine promises to the code that calls it, whoever made either. It is said over the `Call` instruction, from
 -- before it to after the instruction that leaves the routine, whose tick may have an effect as any other.
-use Rattle.std.specs.Prelude.{◌≡◌, ℕ, ℤ, pos, ◌+◌, ◌*◌, ◌≤◌, ◌<◌, ◌⊎◌, IsTrue, List, [], ◌∷◌, ◌++◌, Option, Some, None, length, slice_get, ⊤}
+use Rattle.std.specs.Prelude.{◌≡◌, ℕ, ℤ, pos, ◌+◌, ◌*◌, ◌≤◌, ◌<◌, ◌⊎◌, IsTrue, List, [], ◌∷◌, ◌++◌, Option, Some, None}
+use Rattle.std.specs.Prelude.{length, slice_get, ⊤}
 use Rattle.ep_typed.specs.Denoters.{bare_type_of}
 use Rattle.ep_typed.specs.Viewed.{denoter_of}
 use Rattle.ep_typed.specs.declared.interface.Formal.{Formal}
@@ -8,7 +9,8 @@ use Rattle.ep_typed.specs.declared.interface.FormalMode.{FormalMode}
 use Rattle.ep_typed.specs.declared.interface.FormalMode.TheVariants as mode
 use Rattle.ep_typed.specs.declared.unit.UnitType.{UnitType}
 use Rattle.ep_values.specs.TypeValues.{TypeValue}
-use Rattle.ep_simulation.specs.Follows.{end_of, IsStructure, Operands, TypeOnTop, point, state_at, Fragment, Since, Lands, Inside, GivesUp}
+use Rattle.ep_simulation.specs.Follows.{end_of, IsStructure, Operands, TypeOnTop, point, state_at, Fragment, Since}
+use Rattle.ep_simulation.specs.Follows.{Lands, Inside, GivesUp}
 use Rattle.ep_simulation.specs.Activations.{IsCallable}
 use Rattle.ep_simulation.specs.Matching.{Memory, Injection, Matches, IsLike, IsSpot, kept_slots}
 use Rattle.ep_object.specs.Operands.{Operand, Place, Set, Text, Word}
@@ -60,7 +62,8 @@ ArePassed types (f ∷ fs) (p ∷ ps) = IsPassed types f.mode f p × ArePassed t
 
 -- an operand is the value of a result of the kind
 abbrev pub IsValueOf : Injection → Memory → Kind → Result → Operand → Type 0
-IsValueOf injection memory (kind.Ordinal host) r o = (z : ℤ) × (r ≡ Number z) × IsTrue (is_of_host host z) × (o ≡ Word z)
+IsValueOf injection memory (kind.Ordinal host) r o =
+    (z : ℤ) × (r ≡ Number z) × IsTrue (is_of_host host z) × (o ≡ Word z)
 IsValueOf injection memory kind.Bytes r o = (bytes : List ℕ) × (r ≡ Bytes bytes) × (o ≡ Text bytes)
 IsValueOf injection memory (kind.Structured t) r o = IsStructure t r injection memory o
 IsValueOf injection memory (kind.Set host) r o = (ms : List ℕ) × (r ≡ Members ms) × IsSet ms × (o ≡ Set ms)
@@ -96,12 +99,14 @@ abbrev pub credit_of : List Result → ℕ
 credit_of [] = 0
 credit_of (r ∷ rs) = 2 * weight_of r + credit_of rs
 
--- what a call of one routine does, by the unit and the line of what makes the call, by how many levels up it is declared,
+-- what a call of one routine does, by the unit and the line of what makes the call, by how many levels up it is
+-- declared,
 -- and by the arguments
 abbrev pub Called : Type 0
 Called = List ℕ → ℕ → ℕ → List Argument → Computation (List Result)
 
--- At this place of the code stands a `Call` of the routine of this number. Its parent is the frame of its unit for 0, and
+-- At this place of the code stands a `Call` of the routine of this number. Its parent is the frame of its unit for 0,
+-- and
 -- else the one so many levels less one up.
 pub record CallsAt (G : Image) (place routine levels line : ℕ) : Type 0 where
   pub instruction : Instr
@@ -111,9 +116,11 @@ pub record CallsAt (G : Image) (place routine levels line : ℕ) : Type 0 where
   pub parent : instruction.b ≡ levels
   pub at_line : instruction.line ≡ line
 
--- The routine of this number, of a unit with these types and with these routines around it, keeps its promise for what calls
+-- The routine of this number, of a unit with these types and with these routines around it, keeps its promise for what
+-- calls
 -- of it do, with up to n steps. Wherever the machine matches and stands at a `Call` of it with such arguments on the
--- operands below, in an activation around which those are as the call says, it follows the call to the next instruction,
+-- operands below, in an activation around which those are as the call says, it follows the call to the next
+-- instruction,
 -- where the results are on the operands below. The allocations that the routine made have ended then on both sides, if
 -- they do at all, and what the caller knows of its own activation holds as before. No credit is there before.
 pub record Promises (declared : Declarations) (G : Image) (routine n : ℕ) (types : List UnitType) (around : List Level)
@@ -136,7 +143,8 @@ AreResults types (Some r) [] = ⊥
 AreResults types (Some r) (k ∷ []) = IsOfKind k types (denoter_of r.denoter)
 AreResults types (Some r) (k ∷ l ∷ ks) = ⊥
 
--- A routine of a unit has a number in the image, by which a call that names it is placed, and keeps its promise for what
+-- A routine of a unit has a number in the image, by which a call that names it is placed, and keeps its promise for
+-- what
 -- these calls do.
 pub record RoutineKeeps (declared : Declarations) (G : Image) (ps : List Placement) (call : Handler) (n : ℕ)
     (unit : List ℕ) (number : ℕ) (r : RoutineEntry) : Type 0 where
@@ -145,10 +153,14 @@ pub record RoutineKeeps (declared : Declarations) (G : Image) (ps : List Placeme
   pub passed : ArePassed (declared.types unit) r.formals formals
   pub results : List Kind
   pub given : AreResults (declared.types unit) r.result results
-  pub placed : (i : Instr) → placed_call ps (Some (record { unit = unit; number = number })) i ≡ record i { a = pos routine }
-  pub promise : Promises declared G routine n (declared.types unit) (declared.around unit number) formals results (λ from line levels arguments. call.routine from line (record { unit = unit; number = number; levels = levels }) arguments)
+  pub placed : (i : Instr)
+      → placed_call ps (Some (record { unit = unit; number = number })) i ≡ record i { a = pos routine }
+  pub promise : Promises declared G routine n (declared.types unit) (declared.around unit number) formals results
+      (λ from line levels arguments. call.routine from line (record { unit = unit; number = number; levels = levels })
+      arguments)
 
--- the number, among the routines of a unit that has so many of its own, of the one that leaves two operands in the other order:
+-- the number, among the routines of a unit that has so many of its own, of the one that leaves two operands in the
+-- other order:
 -- it stands behind them, its start and its stop
 abbrev pub swap_routine : ℕ → ℕ
 swap_routine routines = routines + 2
@@ -173,21 +185,31 @@ type_routine routines index = routines + 6 + index
 abbrev pub type_credit : ℕ
 type_credit = 8
 
--- The routine that elaborates a type of a unit has a number in the image, by which a call that names it is placed. From each
--- `Call` of it in a routine of the unit the machine follows the elaboration to the next instruction, where the number of a type
--- that describes the type value is on the operands below, and what the caller knows of its own activation holds as before. No
+-- The routine that elaborates a type of a unit has a number in the image, by which a call that names it is placed.
+-- From each
+-- `Call` of it in a routine of the unit the machine follows the elaboration to the next instruction, where the number
+-- of a type
+-- that describes the type value is on the operands below, and what the caller knows of its own activation holds as
+-- before. No
 -- credit is there before.
 pub record TypeKeeps (declared : Declarations) (G : Image) (ps : List Placement) (call : Handler) (n : ℕ)
     (unit : List ℕ) (index : ℕ) (t : TypeValue) : Type 0 where
   pub routine : ℕ
-  pub placed : (i : Instr) → placed_call ps (Some (record { unit = unit; number = type_routine (length (declared.routines unit)) index })) i ≡ record i { a = pos routine }
+  pub placed : (i : Instr)
+      → placed_call ps (Some
+      (record { unit = unit; number = type_routine (length (declared.routines unit)) index })) i ≡ record i {
+        a =
+            pos routine;
+      }
   pub promise : (place line : ℕ) → CallsAt G place routine 0 line
-      → (injection : Injection) (begun : meaning.State) (memory : Memory) (below : List Operand) → unit_in G memory.frames ≡ unit
+      → (injection : Injection) (begun : meaning.State) (memory : Memory) (below : List Operand)
+      → unit_in G memory.frames ≡ unit
       → Fragment declared G (Since (kept_slots declared G) injection begun memory) n
       (point injection memory place below) (call.named_type unit line index) (place + 1)
       (λ a. Inside (kept_slots declared G) injection memory (TypeOnTop t below a)) 0 (λ a. type_credit)
 
--- The routine of this number in the image takes two operands, has no slots, and begins at a place where the upper one is taken
+-- The routine of this number in the image takes two operands, has no slots, and begins at a place where the upper one
+-- is taken
 -- out first, then the lower one, and then it returns: it leaves the two in the other order.
 pub record IsSwap (G : Image) (routine : ℕ) : Type 0 where
   pub its : ImageRoutine
@@ -203,21 +225,27 @@ pub record IsSwap (G : Image) (routine : ℕ) : Type 0 where
 pub record SwapStands (G : Image) (ps : List Placement) (unit : List ℕ) (routines : ℕ) : Type 0 where
   pub routine : ℕ
   pub swaps : IsSwap G routine
-  pub placed : (i : Instr) → placed_call ps (Some (record { unit = unit; number = swap_routine routines })) i ≡ record i { a = pos routine }
+  pub placed : (i : Instr)
+      → placed_call ps (Some (record { unit = unit; number = swap_routine routines })) i ≡ record i { a = pos routine }
 
--- In the routine that gives the value of a component of an array to others, with the index on top of one that gets it, which stays
--- there: the index is doubled, and the place of the array gets below it by a call of the routine with this number, which leaves two
+-- In the routine that gives the value of a component of an array to others, with the index on top of one that gets it,
+-- which stays
+-- there: the index is doubled, and the place of the array gets below it by a call of the routine with this number,
+-- which leaves two
 -- operands in the other order; then the value is loaded and stored.
 abbrev pub copying_code : (swap line : ℕ) → List Instr
 copying_code swap line =
-    instr op.DUP (pos 0) 0 line ∷ instr op.SLOT (pos 0) 0 line ∷ instr op.CALL (pos swap) 0 line ∷ instr op.INDEX (pos 0) 0 line
+    instr op.DUP (pos 0) 0 line ∷ instr op.SLOT (pos 0) 0 line ∷ instr op.CALL (pos swap) 0 line
+    ∷ instr op.INDEX (pos 0) 0 line
     ∷ instr op.SLOT (pos 0) 0 line ∷ instr op.PEEK (pos 1) 0 line ∷ instr op.INDEX (pos 0) 0 line
     ∷ instr op.LOAD (pos 0) 0 line ∷ instr op.STORE (pos 0) 0 line ∷ []
 
--- behind that: the next index, where this one is below the last one, and else the end of the routine, which has this entry
+-- behind that: the next index, where this one is below the last one, and else the end of the routine, which has this
+-- entry
 abbrev pub next_code : (entry line : ℕ) → List Instr
 next_code entry line =
-    instr op.DUP (pos 0) 0 line ∷ instr op.PEEK (pos 3) 0 line ∷ instr op.CMP less 0 line ∷ instr op.JUMP_FALSE (pos (entry + 19)) 0 line
+    instr op.DUP (pos 0) 0 line ∷ instr op.PEEK (pos 3) 0 line ∷ instr op.CMP less 0 line
+    ∷ instr op.JUMP_FALSE (pos (entry + 19)) 0 line
     ∷ instr op.PUSH (pos 1) 0 line ∷ instr op.ADD (pos 0) 0 line ∷ instr op.JUMP (pos (entry + 3)) 0 line
     ∷ instr op.DROP (pos 0) 0 line ∷ instr op.RETURN (pos 0) 0 line ∷ []
 
@@ -225,11 +253,13 @@ next_code entry line =
 abbrev pub turning_code : (entry swap line : ℕ) → List Instr
 turning_code entry swap line = copying_code swap line ++ next_code entry line
 
--- The code of that routine. It takes the place of the array, which goes into its slot, the index of the component that has the value,
+-- The code of that routine. It takes the place of the array, which goes into its slot, the index of the component that
+-- has the value,
 -- and the indexes of the first and of the last one that get it.
 abbrev pub filling_code : (entry swap line : ℕ) → List Instr
 filling_code entry swap line =
-    instr op.ARG (pos 0) 0 line ∷ instr op.BIND (pos 0) 0 line ∷ instr op.PEEK (pos 2) 0 line ∷ turning_code entry swap line
+    instr op.ARG (pos 0) 0 line ∷ instr op.BIND (pos 0) 0 line ∷ instr op.PEEK (pos 2) 0 line
+    ∷ turning_code entry swap line
 
 -- these instructions stand in the image from this place on
 abbrev pub StandFrom : Image → ℕ → List Instr → Type 0
@@ -252,9 +282,11 @@ pub record IsFill (G : Image) (routine : ℕ) : Type 0 where
 pub record FillStands (G : Image) (ps : List Placement) (unit : List ℕ) (routines : ℕ) : Type 0 where
   pub routine : ℕ
   pub fills : IsFill G routine
-  pub placed : (i : Instr) → placed_call ps (Some (record { unit = unit; number = fill_routine routines })) i ≡ record i { a = pos routine }
+  pub placed : (i : Instr)
+      → placed_call ps (Some (record { unit = unit; number = fill_routine routines })) i ≡ record i { a = pos routine }
 
--- The routine of this number in the image takes so many operands, has one slot, and has this code, each instruction of which has the
+-- The routine of this number in the image takes so many operands, has one slot, and has this code, each instruction of
+-- which has the
 -- same line.
 pub record IsShuffle (G : Image) (routine operands : ℕ) (code : ℕ → List Instr) : Type 0 where
   pub its : ImageRoutine
@@ -265,27 +297,35 @@ pub record IsShuffle (G : Image) (routine operands : ℕ) (code : ℕ → List I
   pub line : ℕ
   pub stands : StandFrom G its.entry (code line)
 
--- The code of the routine that takes the place of an array and the first and the last index of a range. It leaves the indexes, and the
+-- The code of the routine that takes the place of an array and the first and the last index of a range. It leaves the
+-- indexes, and the
 -- place above them; and above that the last index with the place, and the first one with it, for `Index` to test.
 abbrev pub ranging_code : (line : ℕ) → List Instr
 ranging_code line =
-    instr op.ARG (pos 0) 0 line ∷ instr op.BIND (pos 0) 0 line ∷ instr op.PEEK (pos 1) 0 line ∷ instr op.PEEK (pos 2) 0 line
+    instr op.ARG (pos 0) 0 line ∷ instr op.BIND (pos 0) 0 line ∷ instr op.PEEK (pos 1) 0 line
+    ∷ instr op.PEEK (pos 2) 0 line
     ∷ instr op.SLOT (pos 0) 0 line ∷ instr op.SLOT (pos 0) 0 line ∷ instr op.PEEK (pos 2) 0 line
     ∷ instr op.SLOT (pos 0) 0 line ∷ instr op.PEEK (pos 1) 0 line ∷ instr op.RETURN (pos 0) 0 line ∷ []
 
--- In the routine that takes the first and the last index of a range, the place of an array, and a value twice: it leaves the place and
--- the value, and above them what the routine that gives the value of a component to others takes, which are here the component with
+-- In the routine that takes the first and the last index of a range, the place of an array, and a value twice: it
+-- leaves the place and
+-- the value, and above them what the routine that gives the value of a component to others takes, which are here the
+-- component with
 -- the first index and those of the range.
 abbrev pub row_code : (line : ℕ) → List Instr
 row_code line =
-    instr op.ARG (pos 2) 0 line ∷ instr op.BIND (pos 0) 0 line ∷ instr op.SLOT (pos 0) 0 line ∷ instr op.ARG (pos 3) 0 line
-    ∷ instr op.SLOT (pos 0) 0 line ∷ instr op.PEEK (pos 0) 0 line ∷ instr op.PEEK (pos 0) 0 line ∷ instr op.PEEK (pos 1) 0 line ∷ []
+    instr op.ARG (pos 2) 0 line ∷ instr op.BIND (pos 0) 0 line ∷ instr op.SLOT (pos 0) 0 line
+    ∷ instr op.ARG (pos 3) 0 line
+    ∷ instr op.SLOT (pos 0) 0 line ∷ instr op.PEEK (pos 0) 0 line ∷ instr op.PEEK (pos 0) 0 line
+    ∷ instr op.PEEK (pos 1) 0 line ∷ []
 
--- behind that: the value again, the first component by the place and its index, and whether the first index is at most the last one
+-- behind that: the value again, the first component by the place and its index, and whether the first index is at most
+-- the last one
 abbrev pub first_code : (line : ℕ) → List Instr
 first_code line =
     instr op.ARG (pos 4) 0 line ∷ instr op.SLOT (pos 0) 0 line ∷ instr op.PEEK (pos 0) 0 line
-    ∷ instr op.PEEK (pos 0) 0 line ∷ instr op.PEEK (pos 1) 0 line ∷ instr op.CMP at_most 0 line ∷ instr op.RETURN (pos 0) 0 line ∷ []
+    ∷ instr op.PEEK (pos 0) 0 line ∷ instr op.PEEK (pos 1) 0 line ∷ instr op.CMP at_most 0 line
+    ∷ instr op.RETURN (pos 0) 0 line ∷ []
 
 -- The code of that routine.
 abbrev pub spreading_code : (line : ℕ) → List Instr
@@ -295,13 +335,20 @@ spreading_code line = row_code line ++ first_code line
 pub record RangeStands (G : Image) (ps : List Placement) (unit : List ℕ) (routines : ℕ) : Type 0 where
   pub routine : ℕ
   pub ranges : IsShuffle G routine 3 ranging_code
-  pub placed : (i : Instr) → placed_call ps (Some (record { unit = unit; number = range_routine routines })) i ≡ record i { a = pos routine }
+  pub placed : (i : Instr)
+      → placed_call ps (Some (record { unit = unit; number = range_routine routines })) i ≡ record i {
+        a = pos routine;
+      }
 
 -- and the second one
 pub record SpreadStands (G : Image) (ps : List Placement) (unit : List ℕ) (routines : ℕ) : Type 0 where
   pub routine : ℕ
   pub spreads : IsShuffle G routine 5 spreading_code
-  pub placed : (i : Instr) → placed_call ps (Some (record { unit = unit; number = spread_routine routines })) i ≡ record i { a = pos routine }
+  pub placed : (i : Instr)
+      → placed_call ps (Some (record { unit = unit; number = spread_routine routines })) i ≡ record i {
+        a = pos
+            routine;
+      }
 
 -- A unit with so many routines has all of those that give values to components of arrays.
 pub record ArrayRoutinesStand (G : Image) (ps : List Placement) (unit : List ℕ) (routines : ℕ) : Type 0 where
@@ -309,19 +356,24 @@ pub record ArrayRoutinesStand (G : Image) (ps : List Placement) (unit : List ℕ
   pub range : RangeStands G ps unit routines
   pub spread : SpreadStands G ps unit routines
 
--- Every routine that is declared does so, and so does that of every type that has a type value. Each unit with types has the
+-- Every routine that is declared does so, and so does that of every type that has a type value. Each unit with types
+-- has the
 -- routine that leaves two operands in the other order, and those that give values to components of arrays.
-pub record CallsAreKept (declared : Declarations) (G : Image) (ps : List Placement) (call : Handler) (n : ℕ) : Type 0 where
-  pub routines : (unit : List ℕ) (number : ℕ) (r : RoutineEntry)
-      → slice_get (declared.routines unit) number ≡ Some r → RoutineKeeps declared G ps call n unit number r
-  pub types : (unit : List ℕ) (index : ℕ) (t : TypeValue)
-      → IsTyped (declared.types unit) (Named index []) t → TypeKeeps declared G ps call n unit index t
-  pub swaps : (unit : List ℕ) → 0 < length (declared.types unit) → SwapStands G ps unit (length (declared.routines unit))
-  pub of_arrays : (unit : List ℕ) → 0 < length (declared.types unit) → ArrayRoutinesStand G ps unit (length (declared.routines unit))
+pub record CallsAreKept (declared : Declarations) (G : Image) (ps : List Placement) (call : Handler) (n : ℕ) : Type 0
+  where
+    pub routines : (unit : List ℕ) (number : ℕ) (r : RoutineEntry)
+        → slice_get (declared.routines unit) number ≡ Some r → RoutineKeeps declared G ps call n unit number r
+    pub types : (unit : List ℕ) (index : ℕ) (t : TypeValue)
+        → IsTyped (declared.types unit) (Named index []) t → TypeKeeps declared G ps call n unit index t
+    pub swaps : (unit : List ℕ) → 0 < length (declared.types unit)
+        → SwapStands G ps unit (length (declared.routines unit))
+    pub of_arrays : (unit : List ℕ) → 0 < length (declared.types unit)
+        → ArrayRoutinesStand G ps unit (length (declared.routines unit))
 
 -- ---- what this says of runs from a call
 
--- A call has given its results after so many steps: the machine comes to the instruction after it and matches, its ticks
+-- A call has given its results after so many steps: the machine comes to the instruction after it and matches, its
+-- ticks
 -- keep pace with the steps, and until then the calling routine is not left.
 pub record ComesBackAfter (declared : Declarations) (G : Image) (injection : Injection) (begun : meaning.State)
     (memory : Memory) (Then : Operands) (to : ℕ) (k : State) (s : meaning.State) (steps : ℕ) : Type 0 where
@@ -342,16 +394,19 @@ CallComesTo declared G injection begun memory Then to k steps (Ends left end s) 
     → left + spent ≡ steps → EndsAfter G k (end_of end) s.trace spent
 CallComesTo declared G injection begun memory Then to k steps (Cut s) = StaysAfter G k s.trace steps
 
--- Where a routine keeps its promise, every run from a call of it answers what the call does with each number of steps up
+-- Where a routine keeps its promise, every run from a call of it answers what the call does with each number of steps
+-- up
 -- to n, or ends for want of room within 64 ticks for each of them.
 abbrev pub CallsAnswer : Type 0
 CallsAnswer =
     (declared : Declarations) (G : Image) (routine n : ℕ) (types : List UnitType) (around : List Level)
-    → (formals : List Passing) (results : List Kind) (called : Called) → Promises declared G routine n types around formals results called
+    → (formals : List Passing) (results : List Kind) (called : Called)
+    → Promises declared G routine n types around formals results called
     → (place levels line : ℕ) → CallsAt G place routine levels line
     → (injection : Injection) (memory : Memory) (below operands : List Operand)
     → (arguments : List Argument) → AreArguments injection memory formals arguments below operands
-    → (s : meaning.State) → Matches declared G injection s memory → IsCallable types levels around injection s.calls memory
+    → (s : meaning.State) → Matches declared G injection s memory
+    → IsCallable types levels around injection s.calls memory
     → (steps : ℕ) → steps ≤ n
     → CallComesTo declared G injection s memory (ResultsOnTop results below) (place + 1)
     (state_at (point injection memory place operands) s.trace) steps

@@ -20,21 +20,29 @@ pub record VariableStands (G : Image) (ps : List Placement) (unit : List ℕ) (k
   pub there : slice_get G.units number ≡ Some image_unit
   pub named : image_unit.name ≡ unit
   pub within : k < image_unit.slots
-  pub placed : (i : Instr) → placed_unit ps (Some (record { unit = unit; number = k })) i ≡ record i { a = pos number; b = k }
+  pub placed : (i : Instr)
+      → placed_unit ps (Some (record { unit = unit; number = k })) i ≡ record i { a = pos number; b = k }
 
 -- the denoters of all variables that are declared are valid
 abbrev pub HaveValidTypes : Declarations → Type 0
-HaveValidTypes declared = (unit : List ℕ) (k : ℕ) (v : UnitVariable) → declared.variables unit k ≡ Some v → IsDenoter (declared.types unit) (denoter_of v.denoter)
+HaveValidTypes declared =
+    (unit : List ℕ) (k : ℕ) (v : UnitVariable) → declared.variables unit k ≡ Some v
+    → IsDenoter (declared.types unit) (denoter_of v.denoter)
 
 -- and so are those of the variables of the routine in whose block names are declared so, and of the routines around it
 abbrev pub HaveValidOwnTypes : Declarations → Type 0
-HaveValidOwnTypes declared = (up k : ℕ) (v : UnitVariable) → slice_get (variables_up declared up) k ≡ Some v → IsDenoter declared.routine_types (denoter_of v.denoter)
+HaveValidOwnTypes declared =
+    (up k : ℕ) (v : UnitVariable) → slice_get (variables_up declared up) k ≡ Some v
+    → IsDenoter declared.routine_types (denoter_of v.denoter)
 
--- The texts of an object and all variables that are declared stand in the image, the types of the variables are valid, and
+-- The texts of an object and all variables that are declared stand in the image, the types of the variables are valid,
+-- and
 -- the routine in whose block names are declared so has the types of its unit.
-pub record Scene (declared : Declarations) (G : Image) (ps : List Placement) (p : Placement) (texts : List (List ℕ)) : Type 0 where
+pub record Scene (declared : Declarations) (G : Image) (ps : List Placement) (p : Placement) (texts : List (List ℕ)) :
+    Type 0 where
   pub texts_stand : (k : ℕ) (bytes : List ℕ) → slice_get texts k ≡ Some bytes → TextStands G p k bytes
-  pub variables_stand : (unit : List ℕ) (k : ℕ) (v : UnitVariable) → declared.variables unit k ≡ Some v → VariableStands G ps unit k
+  pub variables_stand : (unit : List ℕ) (k : ℕ) (v : UnitVariable) → declared.variables unit k ≡ Some v
+      → VariableStands G ps unit k
   pub types_valid : HaveValidTypes declared
   pub own_types_valid : HaveValidOwnTypes declared
   pub own_types_are : declared.types declared.routine_unit ≡ declared.routine_types

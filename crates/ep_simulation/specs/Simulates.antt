@@ -1,4 +1,5 @@
--- What it means that a routine of an image simulates a computation, and what runs from the entry of the routine then do, in ticks and steps.
+-- What it means that a routine of an image simulates a computation, and what runs from the entry of the routine then
+-- do, in ticks and steps.
 use Rattle.std.specs.Prelude.{◌≡◌, ℕ, suc, ◌+◌, ◌*◌, ◌≤◌, ◌<◌, ◌⊎◌, List, [], Some, slice_get}
 use Rattle.ep_outside.specs.Known.{IsPrefix}
 use Rattle.ep_values.specs.Events.{Trace}
@@ -7,7 +8,8 @@ use Rattle.ep_meaning.specs.Steps.{Outcome, Gives, Ends, Cut, Computation, spend
 use Rattle.ep_meaning.specs.Steps as meaning
 use Rattle.ep_meaning.specs.Valid.{Declarations, Kind}
 use Rattle.ep_object.specs.Effects.{Returns, light}
-use Rattle.ep_simulation.specs.Follows.{end_of, Follows, GivesUp, Since, Lands, Operands, Bare, OnTop, IsNotLeft, Inside}
+use Rattle.ep_simulation.specs.Follows.{end_of, Follows, GivesUp, Since, Lands, Operands, Bare, OnTop, IsNotLeft}
+use Rattle.ep_simulation.specs.Follows.{Inside}
 use Rattle.ep_object.specs.Laws.{EndsAt}
 use Rattle.ep_simulation.specs.Matching.{Memory, at, Injection, Matches, kept_slots}
 use Rattle.ep_object.specs.Operands.{Operand}
@@ -19,11 +21,13 @@ use Rattle.ep_object.specs.declared.code.Image.{Image}
 use Rattle.ep_object.specs.declared.code.ImageRoutine.{ImageRoutine}
 use Rattle.ep_object.specs.declared.code.Instr.{Instr}
 
--- The credit with which the code of a routine begins, and which is there again where the routine is left: so the step of its call and the tick of the instruction that leaves it pay for each other.
+-- The credit with which the code of a routine begins, and which is there again where the routine is left: so the step
+-- of its call and the tick of the instruction that leaves it pay for each other.
 abbrev pub routine_credit : ℕ
 routine_credit = 41
 
--- The machine stands at the entry of the routine of this number, in the frame of the unit at this place of the image, with these operands below, and matches the state of the meaning.
+-- The machine stands at the entry of the routine of this number, in the frame of the unit at this place of the image,
+-- with these operands below, and matches the state of the meaning.
 pub record Enters (declared : Declarations) (G : Image) (unit routine : ℕ) (injection : Injection)
     (memory : Memory) (below : List Operand) (s : meaning.State) (k : State) : Type 0 where
   pub image_routine : ImageRoutine
@@ -34,16 +38,22 @@ pub record Enters (declared : Declarations) (G : Image) (unit routine : ℕ) (in
   pub without_calls : memory.frames.calls ≡ []
   pub matches : Matches declared G injection s memory
 
--- The machine stands at an instruction that leaves the routine, in the same unit's frame and with these operands, and matches again by a longer injection; hidden segments and hidden slots are what they were, and the calls under way are those from which it began.
+-- The machine stands at an instruction that leaves the routine, in the same unit's frame and with these operands, and
+-- matches again by a longer injection; hidden segments and hidden slots are what they were, and the calls under way
+-- are those from which it began.
 pub record Leaves (declared : Declarations) (G : Image) (injection : Injection) (begun : meaning.State)
     (memory : Memory) (Then : Operands) (s : meaning.State) (k : State) : Type 0 where
   pub place : ℕ
   pub instruction : Instr
   pub stands : slice_get G.instructions place ≡ Some instruction
   pub returns : obey G instruction k ≡ light Returns
-  pub lands : Lands declared G (Since (kept_slots declared G) injection begun memory) place (Inside (kept_slots declared G) injection memory Then) s k
+  pub lands : Lands declared G (Since (kept_slots declared G) injection begun memory) place
+      (Inside (kept_slots declared G) injection memory Then) s k
 
--- The routine of this number, of the unit at this place of the image, simulates the computation with up to n steps: the computation spends the step of a call and then goes on as a body, and wherever the machine enters the routine it follows the body within the routine, and where that gives a value it leaves the routine with these results on the operands below.
+-- The routine of this number, of the unit at this place of the image, simulates the computation with up to n steps:
+-- the computation spends the step of a call and then goes on as a body, and wherever the machine enters the routine it
+-- follows the body within the routine, and where that gives a value it leaves the routine with these results on the
+-- operands below.
 pub record Simulates {A : Type 0} (declared : Declarations) (G : Image) (unit routine n : ℕ) (c : Computation A)
     (Results : List Operand → A → Operands) : Type 0 where
   pub image_routine : ImageRoutine
@@ -54,7 +64,8 @@ pub record Simulates {A : Type 0} (declared : Declarations) (G : Image) (unit ro
   pub follows : (m : ℕ) → m < n
       → (injection : Injection) (memory : Memory) (below : List Operand) (s : meaning.State) (k : State)
       → Enters declared G unit routine injection memory below s k
-      → Follows (λ l. IsNotLeft memory.frames l.frames) G m k s body (λ a. Leaves declared G injection s memory (Results below a)) routine_credit (λ a. routine_credit)
+      → Follows (λ l. IsNotLeft memory.frames l.frames) G m k s body
+      (λ a. Leaves declared G injection s memory (Results below a)) routine_credit (λ a. routine_credit)
 
 -- ---- what this says of runs from the entry
 
@@ -71,7 +82,8 @@ pub record StaysIn (G : Image) (k : State) (ticks : ℕ) (trace : Trace) : Type 
   pub stays : IsNotLeft k.frames to.frames
   pub begins : IsPrefix to.trace trace
 
--- A value is given after so many steps: the machine comes to the instruction that leaves the routine, its ticks with the one of that instruction keep pace with the steps, and until then it stays in the routine.
+-- A value is given after so many steps: the machine comes to the instruction that leaves the routine, its ticks with
+-- the one of that instruction keep pace with the steps, and until then it stays in the routine.
 pub record LeavesAfter (declared : Declarations) (G : Image) (injection : Injection) (begun : meaning.State)
     (memory : Memory) (Then : Operands) (k : State) (s : meaning.State) (steps : ℕ) : Type 0 where
   pub ticks : ℕ
@@ -81,14 +93,16 @@ pub record LeavesAfter (declared : Declarations) (G : Image) (injection : Inject
   pub pace : KeepPace steps (suc ticks)
   pub until : (t : ℕ) → t ≤ ticks → StaysIn G k t s.trace
 
--- The run is ended after so many steps: the machine ends so after the same events, at a tick that keeps pace with the steps, and until then it stays in the routine.
+-- The run is ended after so many steps: the machine ends so after the same events, at a tick that keeps pace with the
+-- steps, and until then it stays in the routine.
 pub record EndsAfter (G : Image) (k : State) (end : End) (trace : Trace) (steps : ℕ) : Type 0 where
   pub ticks : ℕ
   pub ends : EndsAt G (Running 0 k) 0 ticks end trace
   pub pace : KeepPace steps ticks
   pub until : (t : ℕ) → t < ticks → StaysIn G k t trace
 
--- It is not done after so many steps: for a tick in each 64 of them the machine stays in the routine and its events are a front of these, and from 64 ticks for each step on they begin with all of these.
+-- It is not done after so many steps: for a tick in each 64 of them the machine stays in the routine and its events
+-- are a front of these, and from 64 ticks for each step on they begin with all of these.
 pub record StaysAfter (G : Image) (k : State) (trace : Trace) (steps : ℕ) : Type 0 where
   pub until : (ticks : ℕ) → 64 * ticks ≤ steps → StaysIn G k ticks trace
   pub all : (ticks : ℕ) → 64 * steps ≤ ticks → IsPrefix trace (trace_of (run G ticks 0 k))
@@ -102,13 +116,17 @@ Answers declared G injection begun memory Then k steps (Ends left end s) = (spen
     → EndsAfter G k (end_of end) s.trace spent
 Answers declared G injection begun memory Then k steps (Cut s) = StaysAfter G k s.trace steps
 
--- The same, but where the computation has more words, types or calls in each other than every run has room for within so
--- many steps, the machine may end for want of storage or of depth within 64 ticks for each of them, after a front of the events.
+-- The same, but where the computation has more words, types or calls in each other than every run has room for within
+-- so
+-- many steps, the machine may end for want of storage or of depth within 64 ticks for each of them, after a front of
+-- the events.
 abbrev pub AnswersInRoom : {A : Type 0} → Declarations → Image → Injection → meaning.State → Memory
     → (A → Operands) → State → ℕ → Outcome A → Type 0
-AnswersInRoom declared G injection begun memory Then k steps o = Answers declared G injection begun memory Then k steps o ⊎ GivesUp G k steps 0 (state_of o)
+AnswersInRoom declared G injection begun memory Then k steps o =
+    Answers declared G injection begun memory Then k steps o ⊎ GivesUp G k steps 0 (state_of o)
 
--- Where a routine simulates a computation without a value with up to n steps, every run from its entry answers it with each number of steps up to n.
+-- Where a routine simulates a computation without a value with up to n steps, every run from its entry answers it with
+-- each number of steps up to n.
 abbrev pub ProceduresAnswer : Type 0
 ProceduresAnswer =
     (declared : Declarations) (G : Image) (unit routine n : ℕ) (c : Computation (Unit {0}))

@@ -1,11 +1,14 @@
 -- The words with which variables of a type value begin (ISO 10206, 6.6).
-use Rattle.std.specs.Prelude.{◌≡◌, ℕ, ℤ, zero, suc, IsTrue, List, [], ◌∷◌, ◌++◌, Option, Some, None, cond, replicate, ⊤}
+use Rattle.std.specs.Prelude.{◌≡◌, ℕ, ℤ, zero, suc, IsTrue, List, [], ◌∷◌, ◌++◌, Option, Some, None, cond, replicate}
+use Rattle.std.specs.Prelude.{⊤}
 use Rattle.ep_object.specs.Sets.{IsSet, are_between, set_size, words_of_set}
 use Rattle.ep_object.specs.State.{undefined}
 use Rattle.ep_object.specs.Types.{repeated}
 use Rattle.ep_values.specs.Bounds.{count_of}
 use Rattle.ep_values.specs.TypeValues.{is_within}
-use Rattle.ep_values.specs.TypeValues.{ComponentTypes, Start, Starts, TypeValue, is_started, no_component, next_component, no_start, next_start, parts_start, simple_start, set_start, undefined_start}
+use Rattle.ep_values.specs.TypeValues.{ComponentTypes, Start, Starts, TypeValue, is_started, no_component}
+use Rattle.ep_values.specs.TypeValues.{next_component, no_start, next_start, parts_start, simple_start, set_start}
+use Rattle.ep_values.specs.TypeValues.{undefined_start}
 use Rattle.ep_values.specs.TypeValues as type
 
 abbrev mutual

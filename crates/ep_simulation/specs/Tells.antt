@@ -30,7 +30,8 @@ pub record StillGoes {A : Type 0} (o : Outcome A) (trace : Trace) : Type 0 where
   pub is : o ≡ Cut state
   pub begins : IsPrefix state.trace trace
 
--- The computation has more words, types or calls in each other than every run has room for within steps that are not many more than 64 for
+-- The computation has more words, types or calls in each other than every run has room for within steps that are not
+-- many more than 64 for
 -- each tick, and the machine has ended for want of storage or of depth. Its events are a front of those of that many
 -- steps, and begin with all that the computation does within fewer.
 pub record RanOut {A : Type 0} (come : ℕ → Outcome A) (ticks : ℕ) (end : End) (trace : Trace) : Type 0 where

@@ -1,7 +1,9 @@
 //! Where a text could be read in two ways, the tree shows which was taken.
 
 use crate::texts::parsed;
-use ep_tree::{Component, ComponentValue, Core, Expression, Factor, Part, Selector, Statement, Structure};
+use ep_tree::{
+    Component, ComponentValue, Core, Expression, Factor, Part, Selector, Statement, Structure,
+};
 use std::alloc::{AllocError, Global};
 use std::test::Fail;
 

@@ -1,7 +1,10 @@
 //! The objects in memory: what they hold, and where they fail.
 
 use ep_base::Bytes;
-use ep_outside::{Files, LoadAnswer, MemFiles, MemSink, MemSource, ReadAnswer, Sink, Source, SureFiles, SureSink, SureSource, WriteAnswer};
+use ep_outside::{
+    Files, LoadAnswer, MemFiles, MemSink, MemSource, ReadAnswer, Sink, Source, SureFiles, SureSink,
+    SureSource, WriteAnswer,
+};
 use std::alloc::{AllocError, Global};
 use std::test::Fail;
 

@@ -82,7 +82,8 @@ impl<'a, S: rt::Files> RealFiles<'a, S> {
 
     /// Counts a fault of a load, as `answer` does.
     fn load_fault(&mut self) -> LoadAnswer
-        ensures nothing { (files : Option Directory) (name into : List ℕ) (limit : ℕ) → into ≡ [] → Loads result files name limit into }
+        ensures nothing { (files : Option Directory) (name into : List ℕ) (limit : ℕ) → into ≡ []
+            → Loads result files name limit into }
         ensures faults { faults_of self.old.faults + load_faults result ≤ faults_of self.new.faults }
     {
         if self.faults.rise() {

@@ -1,10 +1,15 @@
--- The auxiliary variables of statements. A block with a `for` with bounds has two (ISO 10206, 6.9.3.9.2), of which an assignment
--- to a tag (6.5.3.3) needs the first one, and one with a `for` over members has a set (6.9.3.9.3). All such statements of the
--- block share them, and they are made behind the variables that it declares. Each `with` has one (ISO 10206, 6.9.3.10), behind all of
+-- The auxiliary variables of statements. A block with a `for` with bounds has two (ISO 10206, 6.9.3.9.2), of which an
+-- assignment
+-- to a tag (6.5.3.3) needs the first one, and one with a `for` over members has a set (6.9.3.9.3). All such statements
+-- of the
+-- block share them, and they are made behind the variables that it declares. Each `with` has one (ISO 10206,
+-- 6.9.3.10), behind all of
 -- those, in the order of the text; it is never made, but is the variable that is accessed, once that is found.
 use Rattle.std.specs.Prelude.{codes, ℕ, pos, false, List, [], ◌∷◌, ◌++◌, Option, Some, None}
 use Rattle.std.specs.Option.{option_or}
-use Rattle.ep_typed.specs.Trees.{Stmt, Stmts, Empty, Compound, Assign, AssignTag, If, While, Repeat, For, ForIn, With, Procedure, Halt, Write, none, next, Case, Arms, no_arm, next_arm, Other, no_other, otherwise_do}
+use Rattle.ep_typed.specs.Trees.{Stmt, Stmts, Empty, Compound, Assign, AssignTag, If, While, Repeat, For, ForIn, With}
+use Rattle.ep_typed.specs.Trees.{Procedure, Halt, Write, none, next, Case, Arms, no_arm, next_arm, Other, no_other}
+use Rattle.ep_typed.specs.Trees.{otherwise_do}
 use Rattle.ep_values.specs.Sets.{last_member}
 use Rattle.ep_typed.specs.declared.denoter.Bound.TheVariants as bound
 use Rattle.ep_typed.specs.declared.denoter.Denoter.TheVariants as denoter
@@ -43,9 +48,18 @@ abbrev mutual
 
 -- an auxiliary variable, which is an integer, has the name of no other variable, and counts as declared on the line
 abbrev pub auxiliary_variable : ℕ → UnitVariable
-auxiliary_variable line = record { name = codes "for"; line = line; declaration = 0; denoter = denoter.Required simple.Integer; tuple = []; parameter = false }
+auxiliary_variable line =
+    record {
+      name = codes "for";
+      line = line;
+      declaration = 0;
+      denoter = denoter.Required simple.Integer;
+      tuple = [];
+      parameter = false;
+    }
 
--- those of a block whose first `for` with bounds or assignment to a tag is on this line, or which has none: the one of the initial value, and that of the final one
+-- those of a block whose first `for` with bounds or assignment to a tag is on this line, or which has none: the one of
+-- the initial value, and that of the final one
 abbrev pub auxiliary_variables : Option ℕ → List UnitVariable
 auxiliary_variables None = []
 auxiliary_variables (Some line) = auxiliary_variable line ∷ auxiliary_variable line ∷ []
@@ -87,7 +101,10 @@ member_variable line =
       name = codes "in";
       line = line;
       declaration = 0;
-      denoter = denoter.Set (denoter.Subrange (denoter.Required simple.Integer) (bound.Constant (pos 0)) (bound.Constant (pos last_member)));
+      denoter =
+          denoter.Set
+          (denoter.Subrange (denoter.Required simple.Integer) (bound.Constant (pos 0))
+          (bound.Constant (pos last_member)));
       tuple = [];
       parameter = false;
     }
@@ -97,13 +114,22 @@ abbrev pub member_variables : Option ℕ → List UnitVariable
 member_variables None = []
 member_variables (Some line) = member_variable line ∷ []
 
--- those of a block that are made: those of `for` with bounds and of assignments to tags, and the one of `for` over members
+-- those of a block that are made: those of `for` with bounds and of assignments to tags, and the one of `for` over
+-- members
 abbrev pub block_auxiliaries : Stmt → List UnitVariable
 block_auxiliaries s = auxiliary_variables (first_for s) ++ member_variables (first_for_in s)
 
 -- The variable of a `with` on a line, for a variable of the record type of this number, has the name of no other one.
 abbrev pub with_variable : ℕ → ℕ → UnitVariable
-with_variable line of = record { name = codes "with"; line = line; declaration = 0; denoter = denoter.Named of []; tuple = []; parameter = false }
+with_variable line of =
+    record {
+      name = codes "with";
+      line = line;
+      declaration = 0;
+      denoter = denoter.Named of [];
+      tuple = [];
+      parameter = false;
+    }
 
 abbrev mutual
   -- those of the `with` statements in a statement, in the order of the text

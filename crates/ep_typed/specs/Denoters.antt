@@ -1,9 +1,11 @@
 -- Which type value and which host a denoter has, under the list of types in which it names.
-use Rattle.std.specs.Prelude.{◌≡◌, ℕ, ℤ, pos, neg_ℤ, zero, suc, List, [], ◌∷◌, length, slice_get, Option, Some, None, option_map}
+use Rattle.std.specs.Prelude.{◌≡◌, ℕ, ℤ, pos, neg_ℤ, zero, suc, List, [], ◌∷◌, length, slice_get, Option, Some, None}
+use Rattle.std.specs.Prelude.{option_map}
 use Rattle.ep_typed.specs.Hosts as host
 use Rattle.ep_typed.specs.Hosts.{Host}
 use Rattle.ep_values.specs.Operations.{maxint, last_char}
-use Rattle.ep_typed.specs.Trees.{Bound, Expr, Fixed, Denoter, Required, Named, Subrange, Enumeration, Array, Record, Denoters, no_denoter, next_denoter, Set, Initial}
+use Rattle.ep_typed.specs.Trees.{Bound, Expr, Fixed, Denoter, Required, Named, Subrange, Enumeration, Array, Record}
+use Rattle.ep_typed.specs.Trees.{Denoters, no_denoter, next_denoter, Set, Initial}
 use Rattle.ep_typed.specs.Viewed.{denoter_of}
 use Rattle.ep_typed.specs.declared.denoter.RequiredType.{RequiredType}
 use Rattle.ep_typed.specs.declared.denoter.RequiredType.TheVariants as simple
@@ -21,27 +23,37 @@ required_type simple.Boolean = Ordinal (pos 0) (pos 1)
 abbrev pub definition_of : UnitType → Denoter
 definition_of t = denoter_of t.entry.denoter
 
--- The denoter has the type value, which has no initial states: a required type its own, a name that of what it is defined as, a
--- subrange its bounds, an enumeration of one name or more the ordinal numbers of its constants, an array that of its index type
--- and its components, a record those of its components, a set the bounds of its base type, and a type with an initial state that
+-- The denoter has the type value, which has no initial states: a required type its own, a name that of what it is
+-- defined as, a
+-- subrange its bounds, an enumeration of one name or more the ordinal numbers of its constants, an array that of its
+-- index type
+-- and its components, a record those of its components, a set the bounds of its base type, and a type with an initial
+-- state that
 -- type. What a variable begins with is found when its type is elaborated.
 mutual
   pub data IsInstance (types : List UnitType) : Denoter → TypeValue → Type 0 where
     required : (r : RequiredType) → IsInstance types (Required r) (required_type r)
-    named : (index : ℕ) (t : UnitType) {v : TypeValue} → slice_get types index ≡ Some t → IsInstance types (definition_of t) v → IsInstance types (Named index []) v
-    subrange : (host : Denoter) (low high : ℤ) → IsInstance types (Subrange host (Fixed low) (Fixed high)) (Ordinal low high)
-    enumeration : (first : List ℕ) (others : List (List ℕ)) → IsInstance types (Enumeration (first ∷ others)) (Ordinal (pos 0) (pos (length others)))
-    array : (index component : Denoter) (i : TypeValue) (low high : ℤ) (of : TypeValue) → IsInstance types index i → bare_of i ≡ Ordinal low high
+    named : (index : ℕ) (t : UnitType) {v : TypeValue} → slice_get types index ≡ Some t
+        → IsInstance types (definition_of t) v → IsInstance types (Named index []) v
+    subrange : (host : Denoter) (low high : ℤ)
+        → IsInstance types (Subrange host (Fixed low) (Fixed high)) (Ordinal low high)
+    enumeration : (first : List ℕ) (others : List (List ℕ))
+        → IsInstance types (Enumeration (first ∷ others)) (Ordinal (pos 0) (pos (length others)))
+    array : (index component : Denoter) (i : TypeValue) (low high : ℤ) (of : TypeValue) → IsInstance types index i
+        → bare_of i ≡ Ordinal low high
         → IsInstance types component of → IsInstance types (Array index component) (type.Array low high of)
-    components : (ds : Denoters) (ts : ComponentTypes) → AreInstances types ds ts → IsInstance types (Record ds) (type.Record ts)
+    components : (ds : Denoters) (ts : ComponentTypes) → AreInstances types ds ts
+        → IsInstance types (Record ds) (type.Record ts)
     set : (base : Denoter) (b : TypeValue) (low high : ℤ) → IsInstance types base b → bare_of b ≡ Ordinal low high
         → IsInstance types (Set base) (type.Set low high)
-    initial : (of : Denoter) (value : Expr) (t : TypeValue) → IsInstance types of t → IsInstance types (Initial of value) t
+    initial : (of : Denoter) (value : Expr) (t : TypeValue) → IsInstance types of t
+        → IsInstance types (Initial of value) t
 
   -- one for one
   pub data AreInstances (types : List UnitType) : Denoters → ComponentTypes → Type 0 where
     none : AreInstances types no_denoter no_component
-    one_more : (d : Denoter) (ds : Denoters) (t : TypeValue) (ts : ComponentTypes) → IsInstance types d t → AreInstances types ds ts
+    one_more : (d : Denoter) (ds : Denoters) (t : TypeValue) (ts : ComponentTypes) → IsInstance types d t
+        → AreInstances types ds ts
         → AreInstances types (next_denoter d ds) (next_component t ts)
 
 -- the type value of a subrange whose bounds are constants
@@ -57,7 +69,8 @@ abbrev pub enumeration_host : List (List ℕ) → Option Host
 enumeration_host [] = None
 enumeration_host (first ∷ others) = Some (host.Enumeration (length others))
 
--- the type value of an array, whose index type is ordinal; an initial state that the index type is elaborated with does not matter
+-- the type value of an array, whose index type is ordinal; an initial state that the index type is elaborated with
+-- does not matter
 abbrev pub array_over : Option TypeValue → Option TypeValue → Option TypeValue
 array_over (Some (Ordinal low high)) (Some of) = Some (type.Array low high of)
 array_over _ _ = None
@@ -191,7 +204,8 @@ module _ (types : List UnitType) where
   host_within zero d = None
   host_within (suc n) d = host_step (host_within n) d
 
-  -- the type value of a denoter, without initial states, where it has one; names that lead back to themselves have none
+  -- the type value of a denoter, without initial states, where it has one; names that lead back to themselves have
+  -- none
   abbrev pub type_of : Denoter → Option TypeValue
   type_of = type_within (suc (length types))
 
@@ -199,6 +213,7 @@ module _ (types : List UnitType) where
   abbrev pub host_of : Denoter → Option Host
   host_of = host_within (suc (length types))
 
-  -- the bare form of a denoter's type value, where it has one: the type that its variables are of, whatever they begin with
+  -- the bare form of a denoter's type value, where it has one: the type that its variables are of, whatever they begin
+  -- with
   abbrev pub bare_type_of : Denoter → Option TypeValue
   bare_type_of d = option_map bare_of (type_of d)

@@ -1,10 +1,21 @@
--- How many typed nodes a unit has: its expressions, places, statements, ranges of `case` statements, of variants, of structured values, of places in variants and of assignments to tags, steps to components of structured values, imports, routines, formals, variables, denoters, bounds and values. An expression that is a constant or a text counts one, and its value one more; that of a set one more for each member. So do the values of constants.
+-- How many typed nodes a unit has: its expressions, places, statements, ranges of `case` statements, of variants, of
+-- structured values, of places in variants and of assignments to tags, steps to components of structured values,
+-- imports, routines, formals, variables, denoters, bounds and values. An expression that is a constant or a text
+-- counts one, and its value one more; that of a set one more for each member. So do the values of constants.
 use Rattle.std.specs.Prelude.{ℕ, suc, ◌+◌, ◌*◌, List, [], ◌∷◌, length, map, sum, Option, Some, None}
-use Rattle.ep_typed.specs.Trees.{Place, Variable, Own, Standard, Indexed, Field, Variant, Expr, Constant, Text, Read, One, Two, Short, Step, Function, IndexedValue, FieldValue, VariantValue, SetOf, OnSets, Card, Designator, Single, Range, Designators, no_member, next_member, Actual, Evaluated, Accessed, Actuals, no_actual, next_actual, Item, Plain, Wide, Stmt, Stmts, Empty, Compound, Assign, AssignTag, If, While, Repeat, For, ForIn, With, Procedure, Case, Halt, Write, none, next, Arm, Arms, no_arm, next_arm, Other, no_other, otherwise_do, entire, SetConstant, Structured, Element, AtIndex, AtField, SameField, AtRanges, AtIndexes, Elements, no_element, next_element, elements}
+use Rattle.ep_typed.specs.Trees.{Place, Variable, Own, Standard, Indexed, Field, Variant, Expr, Constant, Text, Read}
+use Rattle.ep_typed.specs.Trees.{One, Two, Short, Step, Function, IndexedValue, FieldValue, VariantValue, SetOf}
+use Rattle.ep_typed.specs.Trees.{OnSets, Card, Designator, Single, Range, Designators, no_member, next_member, Actual}
+use Rattle.ep_typed.specs.Trees.{Evaluated, Accessed, Actuals, no_actual, next_actual, Item, Plain, Wide, Stmt, Stmts}
+use Rattle.ep_typed.specs.Trees.{Empty, Compound, Assign, AssignTag, If, While, Repeat, For, ForIn, With, Procedure}
+use Rattle.ep_typed.specs.Trees.{Case, Halt, Write, none, next, Arm, Arms, no_arm, next_arm, Other, no_other}
+use Rattle.ep_typed.specs.Trees.{otherwise_do, entire, SetConstant, Structured, Element, AtIndex, AtField, SameField}
+use Rattle.ep_typed.specs.Trees.{AtRanges, AtIndexes, Elements, no_element, next_element, elements}
 use Rattle.ep_typed.specs.Viewed.{element_of, expr_of, stmt_of}
 use Rattle.ep_typed.specs.declared.denoter.Denoter.{Denoter}
 use Rattle.ep_typed.specs.declared.denoter.Denoter.TheOpen as denoter
-use Rattle.ep_typed.specs.declared.denoter.Denoter.TheOpen.{Denoter-F, Selector-F, FieldPart-F, RecordField-F, Variant-F, VariantPart-F}
+use Rattle.ep_typed.specs.declared.denoter.Denoter.TheOpen.{Denoter-F, Selector-F, FieldPart-F, RecordField-F}
+use Rattle.ep_typed.specs.declared.denoter.Denoter.TheOpen.{Variant-F, VariantPart-F}
 use Rattle.ep_typed.specs.declared.denoter.Denoter.TheFolds.{fold-Denoter}
 use Rattle.ep_typed.specs.declared.denoter.FieldPart.{FieldPart, fold-FieldPart}
 use Rattle.ep_typed.specs.declared.denoter.RecordField.{RecordField, fold-RecordField}
@@ -75,7 +86,8 @@ abbrev mutual
   designator_nodes (Single x) = expr_nodes x
   designator_nodes (Range x y) = expr_nodes x + expr_nodes y
 
-  -- the index and the value, the steps and the value, or the ranges of indexes, their ends and the value; what a component has that is read is an expression
+  -- the index and the value, the steps and the value, or the ranges of indexes, their ends and the value; what a
+  -- component has that is read is an expression
   pub element_nodes : Element → ℕ
   element_nodes (AtIndex x y) = expr_nodes x + expr_nodes y
   element_nodes (AtField steps x) = length steps + expr_nodes x
@@ -98,7 +110,8 @@ abbrev pub count_where : Option ℕ → ℕ
 count_where None = 0
 count_where (Some n) = n
 
--- A value counts one, and that of a set one more for each member. That of an array or a record counts what its components are given
+-- A value counts one, and that of a set one more for each member. That of an array or a record counts what its
+-- components are given
 -- besides.
 abbrev pub value_nodes : Value → ℕ
 value_nodes (value.Word z) = 1
@@ -106,7 +119,8 @@ value_nodes (value.Text bytes) = 1
 value_nodes (value.Set ms) = 1 + length ms
 value_nodes (value.Structured of es) = 1 + elements_nodes (elements (map element_of es))
 
--- A denoter, those in it, their bounds, initial states, and the labels of variants, each of which is a range with two bounds.
+-- A denoter, those in it, their bounds, initial states, and the labels of variants, each of which is a range with two
+-- bounds.
 abbrev pub denoter_count : Denoter-F ℕ ℕ ℕ ℕ ℕ ℕ → ℕ
 denoter_count (denoter.Required required) = 1
 denoter_count (denoter.Named index tuple) = 1 + length tuple
@@ -138,22 +152,28 @@ abbrev pub variant_count : Variant-F ℕ ℕ ℕ ℕ ℕ ℕ → ℕ
 variant_count v = 3 * length v.ranges + v.part
 
 abbrev pub denoter_nodes : Denoter → ℕ
-denoter_nodes = fold-Denoter ℕ ℕ ℕ ℕ ℕ ℕ denoter_count selector_count part_count field_count variant_count variant_part_count
+denoter_nodes =
+    fold-Denoter ℕ ℕ ℕ ℕ ℕ ℕ denoter_count selector_count part_count field_count variant_count variant_part_count
 
 abbrev pub field_nodes : RecordField → ℕ
-field_nodes = fold-RecordField ℕ ℕ ℕ ℕ ℕ ℕ denoter_count selector_count part_count field_count variant_count variant_part_count
+field_nodes =
+    fold-RecordField ℕ ℕ ℕ ℕ ℕ ℕ denoter_count selector_count part_count field_count variant_count variant_part_count
 
 abbrev pub part_nodes : FieldPart → ℕ
-part_nodes = fold-FieldPart ℕ ℕ ℕ ℕ ℕ ℕ denoter_count selector_count part_count field_count variant_count variant_part_count
+part_nodes =
+    fold-FieldPart ℕ ℕ ℕ ℕ ℕ ℕ denoter_count selector_count part_count field_count variant_count variant_part_count
 
 abbrev pub variant_part_nodes : VariantPart → ℕ
-variant_part_nodes = fold-VariantPart ℕ ℕ ℕ ℕ ℕ ℕ denoter_count selector_count part_count field_count variant_count variant_part_count
+variant_part_nodes =
+    fold-VariantPart ℕ ℕ ℕ ℕ ℕ ℕ denoter_count selector_count part_count field_count variant_count variant_part_count
 
 abbrev pub selector_nodes : Selector → ℕ
-selector_nodes = fold-Selector ℕ ℕ ℕ ℕ ℕ ℕ denoter_count selector_count part_count field_count variant_count variant_part_count
+selector_nodes =
+    fold-Selector ℕ ℕ ℕ ℕ ℕ ℕ denoter_count selector_count part_count field_count variant_count variant_part_count
 
 abbrev pub variant_nodes : WrittenVariant → ℕ
-variant_nodes = fold-Variant ℕ ℕ ℕ ℕ ℕ ℕ denoter_count selector_count part_count field_count variant_count variant_part_count
+variant_nodes =
+    fold-Variant ℕ ℕ ℕ ℕ ℕ ℕ denoter_count selector_count part_count field_count variant_count variant_part_count
 
 -- ---- statements
 
@@ -238,12 +258,16 @@ heading_nodes formals result = 1 + sum (map formal_nodes formals) + result_nodes
 
 -- a routine with its variables and its block
 abbrev pub routine_nodes : UnitRoutine → ℕ
-routine_nodes r = heading_nodes r.formals r.result + sum (map variable_nodes r.variables) + stmt_nodes (stmt_of r.block)
+routine_nodes r =
+    heading_nodes r.formals r.result + sum (map variable_nodes r.variables) + stmt_nodes (stmt_of r.block)
 
 -- the imports of a unit, each of which is one node, its types, its constants and its variables
 abbrev pub declared_nodes : TypedUnit → ℕ
-declared_nodes u = length u.imports + sum (map type_nodes u.types) + sum (map constant_nodes u.constants) + sum (map variable_nodes u.variables)
+declared_nodes u =
+    length u.imports + sum (map type_nodes u.types) + sum (map constant_nodes u.constants)
+    + sum (map variable_nodes u.variables)
 
 -- all that a unit has; none has an interface so far
 abbrev pub unit_nodes : TypedUnit → ℕ
-unit_nodes u = declared_nodes u + sum (map routine_nodes u.routines) + stmt_nodes (stmt_of u.start) + stmt_nodes (stmt_of u.stop)
+unit_nodes u =
+    declared_nodes u + sum (map routine_nodes u.routines) + stmt_nodes (stmt_of u.start) + stmt_nodes (stmt_of u.stop)

@@ -1,4 +1,5 @@
--- The variables of routines, by number: the formal parameters, the result of a function, those that it declares, and the auxiliary ones of `for` and of `with`; and those of units.
+-- The variables of routines, by number: the formal parameters, the result of a function, those that it declares, and
+-- the auxiliary ones of `for` and of `with`; and those of units.
 use Rattle.std.specs.Prelude.{ℕ, ◌+◌, false, List, [], ◌∷◌, ◌++◌, length, map, Option, Some, None}
 use Rattle.ep_typed.specs.Auxiliaries.{block_auxiliaries, with_variables}
 use Rattle.ep_typed.specs.Viewed.{stmt_of}
@@ -15,7 +16,8 @@ heading_of r = record { name = r.name; formals = r.formals; result = r.result }
 
 -- a formal parameter as a variable of its routine, which is declared on this line
 abbrev pub formal_variable : ℕ → Formal → UnitVariable
-formal_variable line f = record { name = f.name; line = line; declaration = 0; denoter = f.denoter; tuple = []; parameter = false }
+formal_variable line f =
+    record { name = f.name; line = line; declaration = 0; denoter = f.denoter; tuple = []; parameter = false }
 
 -- the name of the variable that has the result of a function: its own, or that of the function (ISO 10206, 6.7.2)
 abbrev pub result_name : List ℕ → Option (List ℕ) → List ℕ
@@ -26,9 +28,18 @@ result_name name (Some own) = own
 abbrev pub result_variable : List ℕ → ℕ → Option RoutineResult → List UnitVariable
 result_variable name line None = []
 result_variable name line (Some r) =
-    record { name = result_name name r.name; line = line; declaration = 0; denoter = r.denoter; tuple = []; parameter = false } ∷ []
+    record {
+      name = result_name name r.name;
+      line = line;
+      declaration = 0;
+      denoter = r.denoter;
+      tuple = [];
+      parameter = false;
+    }
+    ∷ []
 
--- the variables that a routine makes: the one that has its result, those that it declares, and the auxiliary ones of `for` in its block
+-- the variables that a routine makes: the one that has its result, those that it declares, and the auxiliary ones of
+-- `for` in its block
 abbrev pub made_variables : UnitRoutine → List UnitVariable
 made_variables r = result_variable r.name r.line r.result ++ (r.variables ++ block_auxiliaries (stmt_of r.block))
 

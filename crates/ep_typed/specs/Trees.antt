@@ -14,7 +14,8 @@ use Rattle.ep_typed.specs.declared.tree.StandardFile.{StandardFile}
 pub data Bound : Type 0 where
   Fixed : (value : ℤ) → Bound
 
--- A routine that is called: its unit, its number in that unit, and 0 for a routine of the unit, or one more than how many
+-- A routine that is called: its unit, its number in that unit, and 0 for a routine of the unit, or one more than how
+-- many
 -- levels up from the one that runs stands that in which it is declared.
 pub record Callee : Type 0 where
   pub unit : List ℕ
@@ -63,11 +64,13 @@ mutual
     OnSets : (operation : SetOperation) (left right : Expr) → Expr
     -- how many members a set has
     Card : (operand : Expr) → Expr
-    -- a structured value (ISO 10206, 6.8.7.1): the type at this place of the unit's list of types, and what its components are
+    -- a structured value (ISO 10206, 6.8.7.1): the type at this place of the unit's list of types, and what its
+    -- components are
     -- given
     Structured : (of : ℕ) (elements : Elements) → Expr
 
-  -- What a component of a structured value is given: the one of an array at an index, or the one of a record to which steps
+  -- What a component of a structured value is given: the one of an array at an index, or the one of a record to which
+  -- steps
   -- lead, each the number of a component.
   pub data Element : Type 0 where
     AtIndex : (index value : Expr) → Element
@@ -147,7 +150,8 @@ pub data Item : Type 0 where
   Plain : (print : Print) (value : Expr) → Item
   Wide : (print : Print) (value width : Expr) → Item
 
--- an entire variable (ISO 10206, 6.5.2): the one of this number of the unit of this name, or of the routine so many levels
+-- an entire variable (ISO 10206, 6.5.2): the one of this number of the unit of this name, or of the routine so many
+-- levels
 -- up from the one that runs
 pub data Entire : Type 0 where
   OfUnit : (unit : List ℕ) (number : ℕ) → Entire
@@ -158,8 +162,10 @@ abbrev pub entire : Entire → Place
 entire (OfUnit unit number) = Variable unit number
 entire (OfRoutine levels number) = Own levels number
 
--- What a `for` statement counts with (ISO 10206, 6.9.3.9.2): the control variable, the auxiliary variables that have the
--- initial and the final value, whether the values fall, and the least and the greatest value of the control variable's host.
+-- What a `for` statement counts with (ISO 10206, 6.9.3.9.2): the control variable, the auxiliary variables that have
+-- the
+-- initial and the final value, whether the values fall, and the least and the greatest value of the control variable's
+-- host.
 pub record Control : Type 0 where
   pub variable : Entire
   pub initial : Entire
@@ -168,14 +174,16 @@ pub record Control : Type 0 where
   pub low : ℤ
   pub high : ℤ
 
--- What an assignment to a tag works with: the auxiliary variable that has the value, and the least and the greatest value of
+-- What an assignment to a tag works with: the auxiliary variable that has the value, and the least and the greatest
+-- value of
 -- the tag's type.
 pub record Tagging : Type 0 where
   pub value : Entire
   pub low : ℤ
   pub high : ℤ
 
--- What a `for` statement over the members of a set goes by (ISO 10206, 6.9.3.9.3): the control variable, and the auxiliary
+-- What a `for` statement over the members of a set goes by (ISO 10206, 6.9.3.9.3): the control variable, and the
+-- auxiliary
 -- variable that has the members that are still to come.
 pub record MemberControl : Type 0 where
   pub variable : Entire

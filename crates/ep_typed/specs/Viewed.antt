@@ -6,7 +6,8 @@ use Rattle.ep_typed.specs.declared.denoter.Bound.{Bound}
 use Rattle.ep_typed.specs.declared.denoter.Bound.TheVariants.{Constant}
 use Rattle.ep_typed.specs.declared.denoter.Denoter.{Denoter}
 use Rattle.ep_typed.specs.declared.denoter.Denoter.TheOpen as denoter
-use Rattle.ep_typed.specs.declared.denoter.Denoter.TheOpen.{Denoter-F, Selector-F, FieldPart-F, RecordField-F, Variant-F, VariantPart-F}
+use Rattle.ep_typed.specs.declared.denoter.Denoter.TheOpen.{Denoter-F, Selector-F, FieldPart-F, RecordField-F}
+use Rattle.ep_typed.specs.declared.denoter.Denoter.TheOpen.{Variant-F, VariantPart-F}
 use Rattle.ep_typed.specs.declared.denoter.Denoter.TheFolds.{fold-Denoter}
 use Rattle.ep_typed.specs.declared.denoter.FieldPart.{FieldPart, fold-FieldPart}
 use Rattle.ep_typed.specs.declared.denoter.RecordField.{RecordField, fold-RecordField}
@@ -19,8 +20,10 @@ use Rattle.ep_typed.specs.declared.tree.Callee.{Callee}
 use Rattle.ep_typed.specs.declared.tree.TypedPlace.{TypedPlace}
 use Rattle.ep_typed.specs.declared.tree.TypedExpr.{TypedExpr}
 use Rattle.ep_typed.specs.declared.tree.Actual.TheOpen as expr
-use Rattle.ep_typed.specs.declared.tree.Actual.TheOpen.{Actual-F, Element-F, MemberDesignator-F, TypedExpr-F, TypedPlace-F}
-use Rattle.ep_typed.specs.declared.tree.Actual.TheFolds.{fold-Actual, fold-Element, fold-MemberDesignator, fold-TypedExpr, fold-TypedPlace}
+use Rattle.ep_typed.specs.declared.tree.Actual.TheOpen.{Actual-F, Element-F, MemberDesignator-F, TypedExpr-F}
+use Rattle.ep_typed.specs.declared.tree.Actual.TheOpen.{TypedPlace-F}
+use Rattle.ep_typed.specs.declared.tree.Actual.TheFolds.{fold-Actual, fold-Element, fold-MemberDesignator}
+use Rattle.ep_typed.specs.declared.tree.Actual.TheFolds.{fold-TypedExpr, fold-TypedPlace}
 use Rattle.ep_typed.specs.declared.tree.Element.{Element}
 use Rattle.ep_typed.specs.declared.tree.MemberDesignator.{MemberDesignator}
 use Rattle.ep_typed.specs.declared.tree.WriteItem.{WriteItem}
@@ -80,24 +83,35 @@ abbrev pub actual_step : Actual-F tree.Actual tree.Element tree.Designator tree.
 actual_step (expr.Value value) = tree.Evaluated value
 actual_step (expr.«Actual::Variable» place) = tree.Accessed place
 
-abbrev pub designator_step : MemberDesignator-F tree.Actual tree.Element tree.Designator tree.Expr tree.Place → tree.Designator
+abbrev pub designator_step : MemberDesignator-F tree.Actual tree.Element tree.Designator tree.Expr tree.Place
+    → tree.Designator
 designator_step (expr.Single value) = tree.Single value
 designator_step (expr.Range first last) = tree.Range first last
 
 abbrev pub place_of : TypedPlace → tree.Place
-place_of = fold-TypedPlace tree.Actual tree.Element tree.Designator tree.Expr tree.Place actual_step element_step designator_step expr_step place_step
+place_of =
+    fold-TypedPlace tree.Actual tree.Element tree.Designator tree.Expr tree.Place actual_step element_step
+    designator_step expr_step place_step
 
 abbrev pub expr_of : TypedExpr → tree.Expr
-expr_of = fold-TypedExpr tree.Actual tree.Element tree.Designator tree.Expr tree.Place actual_step element_step designator_step expr_step place_step
+expr_of =
+    fold-TypedExpr tree.Actual tree.Element tree.Designator tree.Expr tree.Place actual_step element_step
+    designator_step expr_step place_step
 
 abbrev pub actual_of : Actual → tree.Actual
-actual_of = fold-Actual tree.Actual tree.Element tree.Designator tree.Expr tree.Place actual_step element_step designator_step expr_step place_step
+actual_of =
+    fold-Actual tree.Actual tree.Element tree.Designator tree.Expr tree.Place actual_step element_step designator_step
+    expr_step place_step
 
 abbrev pub designator_of : MemberDesignator → tree.Designator
-designator_of = fold-MemberDesignator tree.Actual tree.Element tree.Designator tree.Expr tree.Place actual_step element_step designator_step expr_step place_step
+designator_of =
+    fold-MemberDesignator tree.Actual tree.Element tree.Designator tree.Expr tree.Place actual_step element_step
+    designator_step expr_step place_step
 
 abbrev pub element_of : Element → tree.Element
-element_of = fold-Element tree.Actual tree.Element tree.Designator tree.Expr tree.Place actual_step element_step designator_step expr_step place_step
+element_of =
+    fold-Element tree.Actual tree.Element tree.Designator tree.Expr tree.Place actual_step element_step
+    designator_step expr_step place_step
 
 -- a constant as an expression
 abbrev pub constant_expr : Value → tree.Expr
@@ -116,7 +130,9 @@ abbrev pub completing : Option (List tree.Denoter) → List tree.Denoter
 completing None = []
 completing (Some components) = tree.Record (tree.denoters components) ∷ []
 
-abbrev pub denoter_step : Denoter-F tree.Denoter tree.Denoter (List tree.Denoter) tree.Denoter tree.Denoter (List tree.Denoter) → tree.Denoter
+abbrev pub denoter_step : Denoter-F tree.Denoter tree.Denoter (List tree.Denoter) tree.Denoter tree.Denoter (List
+    tree.Denoter)
+    → tree.Denoter
 denoter_step (denoter.Required required) = tree.Required required
 denoter_step (denoter.Named index tuple) = tree.Named index (map bound_of tuple)
 denoter_step (denoter.Subrange host low high) = tree.Subrange host (bound_of low) (bound_of high)
@@ -127,44 +143,66 @@ denoter_step (denoter.Set base) = tree.Set base
 denoter_step (denoter.Initial of value) = tree.Initial of (constant_expr value)
 
 -- a field by its type
-abbrev pub field_step : RecordField-F tree.Denoter tree.Denoter (List tree.Denoter) tree.Denoter tree.Denoter (List tree.Denoter) → tree.Denoter
+abbrev pub field_step : RecordField-F tree.Denoter tree.Denoter (List tree.Denoter) tree.Denoter tree.Denoter (List
+    tree.Denoter)
+    → tree.Denoter
 field_step f = f.denoter
 
 -- the fields of a record or a variant, and then what its variant part adds
-abbrev pub part_step : FieldPart-F tree.Denoter tree.Denoter (List tree.Denoter) tree.Denoter tree.Denoter (List tree.Denoter) → List tree.Denoter
+abbrev pub part_step : FieldPart-F tree.Denoter tree.Denoter (List tree.Denoter) tree.Denoter tree.Denoter (List
+    tree.Denoter)
+    → List tree.Denoter
 part_step p = p.fields ++ behind p.variant_part
 
 -- a variant part by the record of what selects a variant, and then the variants, the completing one last
-abbrev pub variant_part_step : VariantPart-F tree.Denoter tree.Denoter (List tree.Denoter) tree.Denoter tree.Denoter (List tree.Denoter) → List tree.Denoter
+abbrev pub variant_part_step : VariantPart-F tree.Denoter tree.Denoter (List
+    tree.Denoter) tree.Denoter tree.Denoter (List tree.Denoter)
+    → List tree.Denoter
 variant_part_step p = p.selector ∷ (p.variants ++ completing p.completing)
 
 -- a tag by the record of it alone
-abbrev pub selector_step : Selector-F tree.Denoter tree.Denoter (List tree.Denoter) tree.Denoter tree.Denoter (List tree.Denoter) → tree.Denoter
+abbrev pub selector_step : Selector-F tree.Denoter tree.Denoter (List tree.Denoter) tree.Denoter tree.Denoter (List
+    tree.Denoter)
+    → tree.Denoter
 selector_step (denoter.Tag name of) = tree.Record (tree.denoters (of ∷ []))
 
 -- a variant by the record of its fields
-abbrev pub variant_step : Variant-F tree.Denoter tree.Denoter (List tree.Denoter) tree.Denoter tree.Denoter (List tree.Denoter) → tree.Denoter
+abbrev pub variant_step : Variant-F tree.Denoter tree.Denoter (List tree.Denoter) tree.Denoter tree.Denoter (List
+    tree.Denoter)
+    → tree.Denoter
 variant_step v = tree.Record (tree.denoters v.part)
 
 abbrev pub denoter_of : Denoter → tree.Denoter
-denoter_of = fold-Denoter tree.Denoter tree.Denoter (List tree.Denoter) tree.Denoter tree.Denoter (List tree.Denoter) denoter_step selector_step part_step field_step variant_step variant_part_step
+denoter_of =
+    fold-Denoter tree.Denoter tree.Denoter (List tree.Denoter) tree.Denoter tree.Denoter (List tree.Denoter)
+    denoter_step selector_step part_step field_step variant_step variant_part_step
 
 -- the components that a field part gives to its record or variant
 abbrev pub components_of : FieldPart → List tree.Denoter
-components_of = fold-FieldPart tree.Denoter tree.Denoter (List tree.Denoter) tree.Denoter tree.Denoter (List tree.Denoter) denoter_step selector_step part_step field_step variant_step variant_part_step
+components_of =
+    fold-FieldPart tree.Denoter tree.Denoter (List tree.Denoter) tree.Denoter tree.Denoter (List tree.Denoter)
+    denoter_step selector_step part_step field_step variant_step variant_part_step
 
 abbrev pub field_of : RecordField → tree.Denoter
-field_of = fold-RecordField tree.Denoter tree.Denoter (List tree.Denoter) tree.Denoter tree.Denoter (List tree.Denoter) denoter_step selector_step part_step field_step variant_step variant_part_step
+field_of =
+    fold-RecordField tree.Denoter tree.Denoter (List tree.Denoter) tree.Denoter tree.Denoter (List tree.Denoter)
+    denoter_step selector_step part_step field_step variant_step variant_part_step
 
 abbrev pub selector_of : Selector → tree.Denoter
-selector_of = fold-Selector tree.Denoter tree.Denoter (List tree.Denoter) tree.Denoter tree.Denoter (List tree.Denoter) denoter_step selector_step part_step field_step variant_step variant_part_step
+selector_of =
+    fold-Selector tree.Denoter tree.Denoter (List tree.Denoter) tree.Denoter tree.Denoter (List tree.Denoter)
+    denoter_step selector_step part_step field_step variant_step variant_part_step
 
 abbrev pub variant_of : Variant → tree.Denoter
-variant_of = fold-Variant tree.Denoter tree.Denoter (List tree.Denoter) tree.Denoter tree.Denoter (List tree.Denoter) denoter_step selector_step part_step field_step variant_step variant_part_step
+variant_of =
+    fold-Variant tree.Denoter tree.Denoter (List tree.Denoter) tree.Denoter tree.Denoter (List tree.Denoter)
+    denoter_step selector_step part_step field_step variant_step variant_part_step
 
 -- and those that a variant part adds
 abbrev pub variants_of : VariantPart → List tree.Denoter
-variants_of = fold-VariantPart tree.Denoter tree.Denoter (List tree.Denoter) tree.Denoter tree.Denoter (List tree.Denoter) denoter_step selector_step part_step field_step variant_step variant_part_step
+variants_of =
+    fold-VariantPart tree.Denoter tree.Denoter (List tree.Denoter) tree.Denoter tree.Denoter (List tree.Denoter)
+    denoter_step selector_step part_step field_step variant_step variant_part_step
 
 abbrev pub wide : Print → TypedExpr → Option TypedExpr → tree.Item
 wide print value None = tree.Plain print (expr_of value)
@@ -179,7 +217,14 @@ entire_of (entire.Own levels number) = tree.OfRoutine levels number
 
 abbrev pub control_of : ForControl → tree.Control
 control_of c =
-    record { variable = entire_of c.variable; initial = entire_of c.initial; last = entire_of c.last; falls = c.falls; low = c.low; high = c.high }
+    record {
+      variable = entire_of c.variable;
+      initial = entire_of c.initial;
+      last = entire_of c.last;
+      falls = c.falls;
+      low = c.low;
+      high = c.high;
+    }
 
 abbrev pub member_control_of : MemberControl → tree.MemberControl
 member_control_of c = record { variable = entire_of c.variable; rest = entire_of c.rest }
@@ -191,14 +236,17 @@ abbrev pub stmt_step : TypedStmt-F tree.Stmt tree.Arm → tree.Stmt
 stmt_step stmt.Empty = tree.Empty
 stmt_step (stmt.Compound statements) = tree.Compound (tree.stmts statements)
 stmt_step (stmt.Assign line place value) = tree.Assign line (place_of place) (expr_of value)
-stmt_step (stmt.AssignTag line control whole selection value) = tree.AssignTag line (tagging_of control) (place_of whole) selection (expr_of value)
+stmt_step (stmt.AssignTag line control whole selection value) =
+    tree.AssignTag line (tagging_of control) (place_of whole) selection (expr_of value)
 stmt_step (stmt.If line condition then_part else_part) = tree.If line (expr_of condition) then_part else_part
 stmt_step (stmt.While line condition body) = tree.While line (expr_of condition) body
 stmt_step (stmt.Repeat line body condition) = tree.Repeat line (tree.stmts body) (expr_of condition)
-stmt_step (stmt.For line control initial last body) = tree.For line (control_of control) (expr_of initial) (expr_of last) body
+stmt_step (stmt.For line control initial last body) =
+    tree.For line (control_of control) (expr_of initial) (expr_of last) body
 stmt_step (stmt.ForIn line control set body) = tree.ForIn line (member_control_of control) (expr_of set) body
 stmt_step (stmt.With line variable of place body) = tree.With line (entire_of variable) of (place_of place) body
-stmt_step (stmt.Procedure line callee given) = tree.Procedure line (callee_of callee) (tree.actuals (map actual_of given))
+stmt_step (stmt.Procedure line callee given) =
+    tree.Procedure line (callee_of callee) (tree.actuals (map actual_of given))
 stmt_step (stmt.Case line selector arms other) = tree.Case line (expr_of selector) (tree.arms arms) (tree.other other)
 stmt_step (stmt.Halt line) = tree.Halt line
 stmt_step (stmt.Write line items ends_line) = tree.Write line (map item_of items) ends_line

@@ -1,8 +1,8 @@
 //! Typed trees: expressions, places and statements whose names, types and kinds are settled.
 
-use ep_values::{Binary, Print, SetOperation, ShortOperation, Unary};
 use crate::shared::Shared;
 use ep_base::{Boxed, Bytes, Line, List, Name};
+use ep_values::{Binary, Print, SetOperation, ShortOperation, Unary};
 
 /// A standard file (ISO 10206, 6.10 and 6.12).
 #[derive(Clone, Copy, Drop)]

@@ -1,6 +1,7 @@
 -- What a run does to the outside: a trace of events, and how far a call that may fail came with it.
 use Rattle.std.specs.Prelude.{◌≡◌, ℕ, List, [], ◌∷◌, ◌++◌, Option, ◌⊎◌}
-use Rattle.ep_outside.specs.Known.{Keeps, Appends, AppendsFront, Directory, created, appended, ChangesBy, KeepsFiles, AppendsFrontTo}
+use Rattle.ep_outside.specs.Known.{Keeps, Appends, AppendsFront, Directory, created, appended, ChangesBy, KeepsFiles}
+use Rattle.ep_outside.specs.Known.{AppendsFrontTo}
 
 -- a piece is written to the output, a file is made empty, or bytes are added at the end of a file
 pub data Event : Type 0 where
@@ -44,8 +45,10 @@ pub record Does (trace : Trace) (old new : Outside) : Type 0 where
 -- the event is in hand: a front of it may be done, and nothing else
 abbrev pub InHand : Event → Outside → Outside → Type 0
 InHand (Write piece) old new = AppendsFront old.output new.output piece × KeepsFiles old.files new.files
-InHand (Create name) old new = Keeps old.output new.output × (KeepsFiles old.files new.files ⊎ ChangesBy (created name) old.files new.files)
-InHand (Append name piece) old new = Keeps old.output new.output × (KeepsFiles old.files new.files ⊎ AppendsFrontTo name piece old.files new.files)
+InHand (Create name) old new =
+    Keeps old.output new.output × (KeepsFiles old.files new.files ⊎ ChangesBy (created name) old.files new.files)
+InHand (Append name piece) old new =
+    Keeps old.output new.output × (KeepsFiles old.files new.files ⊎ AppendsFrontTo name piece old.files new.files)
 
 -- the first event of the trace may be in hand
 abbrev pub MayBegin : Trace → Outside → Outside → Type 0

@@ -1,5 +1,6 @@
 -- What the operators and required functions give (ISO 10206, 6.8.3 and 6.7.6).
-use Rattle.std.specs.Prelude.{ℕ, ℤ, pos, ◌+ℤ◌, ◌-ℤ◌, ◌*ℤ◌, neg_ℤ, ◌%◌, Bool, true, false, ◌&&◌, ◌||◌, not, if◌then◌else◌, int_lt, int_le, int_div, unsigned_abs}
+use Rattle.std.specs.Prelude.{ℕ, ℤ, pos, ◌+ℤ◌, ◌-ℤ◌, ◌*ℤ◌, neg_ℤ, ◌%◌, Bool, true, false, ◌&&◌, ◌||◌, not}
+use Rattle.std.specs.Prelude.{if◌then◌else◌, int_lt, int_le, int_div, unsigned_abs}
 use Rattle.std.specs.Int.{int_rem_euclid}
 use Rattle.ep_values.specs.declared.operations.Unary.{Unary}
 use Rattle.ep_values.specs.declared.operations.Unary.TheVariants as unary

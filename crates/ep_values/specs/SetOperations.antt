@@ -2,7 +2,8 @@
 use Rattle.std.specs.Prelude.{not}
 use Rattle.ep_values.specs.Operations.{ordinal_of}
 use Rattle.ep_values.specs.Printing.{Result, Number, Members, number_of, members_of}
-use Rattle.ep_values.specs.Sets.{union, difference, intersection, symmetric_difference, is_same_set, is_subset, is_member}
+use Rattle.ep_values.specs.Sets.{union, difference, intersection, symmetric_difference, is_same_set, is_subset}
+use Rattle.ep_values.specs.Sets.{is_member}
 use Rattle.ep_values.specs.declared.operations.SetOperation.{SetOperation}
 use Rattle.ep_values.specs.declared.operations.SetOperation.TheVariants as set
 

@@ -1,10 +1,12 @@
 -- Type values: types with all bounds as numbers.
-use Rattle.std.specs.Prelude.{ℕ, ℤ, zero, suc, ◌+◌, ◌*◌, Bool, true, false, ◌&&◌, ◌||◌, List, Option, Some, None, cond, int_le, ltb, nat_eq}
+use Rattle.std.specs.Prelude.{ℕ, ℤ, zero, suc, ◌+◌, ◌*◌, Bool, true, false, ◌&&◌, ◌||◌, List, Option, Some, None, cond}
+use Rattle.std.specs.Prelude.{int_le, ltb, nat_eq}
 use Rattle.std.specs.Str.{bytes_eq}
 use Rattle.ep_values.specs.Bounds.{count_of}
 
 mutual
-  -- An initial state (ISO 10206, 6.6): undefined, of so many words, the ordinal number of a simple value, the members of a set in
+  -- An initial state (ISO 10206, 6.6): undefined, of so many words, the ordinal number of a simple value, the members
+  -- of a set in
   -- rising order, or those of components.
   pub data Start : Type 0 where
     undefined_start : (size : ℕ) → Start
@@ -83,7 +85,8 @@ abbrev mutual
 -- ---- types without initial states
 
 abbrev mutual
-  -- The bare form of a type: the same type without initial states. Two types whose bare forms are the same are the same
+  -- The bare form of a type: the same type without initial states. Two types whose bare forms are the same are the
+  -- same
   -- types, since initial states play no part in that (own).
   pub bare_of : TypeValue → TypeValue
   bare_of (Ordinal low high) = Ordinal low high
@@ -207,7 +210,8 @@ parts_of (Record ts) = components_of ts
 parts_of (Set low high) = 0
 parts_of (Initial of start) = parts_of of
 
--- How many words the initial state of a type value takes that it keeps: none where it begins undefined, and else as many as a
+-- How many words the initial state of a type value takes that it keeps: none where it begins undefined, and else as
+-- many as a
 -- variable of it.
 abbrev pub start_size : TypeValue → ℕ
 start_size t = cond (is_started t) (size_of t) 0

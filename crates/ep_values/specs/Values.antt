@@ -1,6 +1,10 @@
--- The values of variables (ISO 10206, 6.2.3.2 and 6.6): what a new variable of a type has, and the components of a value.
-use Rattle.std.specs.Prelude.{ℕ, ℤ, zero, suc, ◌+◌, ◌-◌, ◌&&◌, ◌||◌, List, [], ◌∷◌, ◌++◌, Option, Some, None, if◌then◌else◌}
-use Rattle.ep_values.specs.TypeValues.{TypeValue, Ordinal, Text, Array, ComponentTypes, Start, Starts, no_component, next_component, undefined_start, simple_start, set_start, parts_start, no_start, next_start}
+-- The values of variables (ISO 10206, 6.2.3.2 and 6.6): what a new variable of a type has, and the components of a
+-- value.
+use Rattle.std.specs.Prelude.{ℕ, ℤ, zero, suc, ◌+◌, ◌-◌, ◌&&◌, ◌||◌, List, [], ◌∷◌, ◌++◌, Option, Some, None}
+use Rattle.std.specs.Prelude.{if◌then◌else◌}
+use Rattle.ep_values.specs.TypeValues.{TypeValue, Ordinal, Text, Array, ComponentTypes, Start, Starts, no_component}
+use Rattle.ep_values.specs.TypeValues.{next_component, undefined_start, simple_start, set_start, parts_start, no_start}
+use Rattle.ep_values.specs.TypeValues.{next_start}
 use Rattle.ep_values.specs.TypeValues as type
 
 -- A value, which is undefined as a whole, the ordinal number of a simple value, the values of components by their
@@ -26,7 +30,8 @@ abbrev mutual
   started_each (next_start s ss) (suc k) = started_each ss k
 
 abbrev mutual
-  -- The value that a new variable of a type has (ISO 10206, 6.6): the initial state of the type, where that has one, and else
+  -- The value that a new variable of a type has (ISO 10206, 6.6): the initial state of the type, where that has one,
+  -- and else
   -- those of its components; what is given no initial state begins undefined.
   pub start_of : TypeValue → Value
   start_of (Ordinal low high) = Undefined

@@ -8,7 +8,10 @@ ghost use Rattle.ep_built.specs.Built.{label_unbuilt, simple_unbuilt, term_unbui
 
 use crate::built::{at_node, forms};
 use ep_base::Line;
-use ep_tree::{Access, Addend, Argument, ComponentValue, Element, Expression, Factor, Label, Multiplier, Selector, Simple, Term, Values};
+use ep_tree::{
+    Access, Addend, Argument, ComponentValue, Element, Expression, Factor, Label, Multiplier,
+    Selector, Simple, Term, Values,
+};
 
 #[cycle(lines)]
 pub(super) fn expression(e: &Expression) -> Option<Line>

@@ -22,7 +22,12 @@ ghost use Rattle.ep_tree.specs.declared.routine.Routine.{out-Routine};
 
 use crate::built::names;
 use ep_base::{Line, Name};
-use ep_tree::{Access, AddingOperator, Component, ComponentValue, Core, Expression, Factor, FormalSection, FormalType, Import, MultiplyingOperator, Plain, Program, QualifiedName, RelationalOperator, Routine, RoutineHeading, RoutineStart, Selector, Statement, TypeDefinition, VariantPart, VariantSelector};
+use ep_tree::{
+    Access, AddingOperator, Component, ComponentValue, Core, Expression, Factor, FormalSection,
+    FormalType, Import, MultiplyingOperator, Plain, Program, QualifiedName, RelationalOperator,
+    Routine, RoutineHeading, RoutineStart, Selector, Statement, TypeDefinition, VariantPart,
+    VariantSelector,
+};
 
 /// A component is a program.
 pub(super) fn component_is_built(c: &Component) -> bool

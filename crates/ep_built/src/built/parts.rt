@@ -9,7 +9,10 @@ use crate::built::statements::compound;
 use crate::built::types::type_denoter;
 use crate::built::{at_node, forms};
 use ep_base::Line;
-use ep_tree::{ConstantDefinition, FormalSection, Part, Routine, RoutineBody, RoutineHeading, RoutineStart, TypeDefinition, VariableDeclaration};
+use ep_tree::{
+    ConstantDefinition, FormalSection, Part, Routine, RoutineBody, RoutineHeading, RoutineStart,
+    TypeDefinition, VariableDeclaration,
+};
 
 #[cycle(lines)]
 pub(super) fn parts(all: &[Part]) -> Option<Line>

@@ -1,8 +1,11 @@
 //! Typed trees, built by steps.
 
 use ep_base::{Boxed, Bytes, Line, List, Name, NameRefusal};
+use ep_typed::{
+    Callee, CaseRange, Element, Elements, MemberDesignator, Shared, TypedExpr, TypedPlace,
+    TypedStmt, WriteItem,
+};
 use ep_values::{Binary, Print, Unary};
-use ep_typed::{Callee, CaseRange, Element, Elements, MemberDesignator, Shared, TypedExpr, TypedPlace, TypedStmt, WriteItem};
 use std::alloc::{AllocError, Global};
 
 /// A step that builds a tree of what the steps before it left, the last first.
