@@ -1,15 +1,18 @@
-//! The objects of typed programs and how many nodes these have, with instructions by hand.
+//! The objects of typed programs and how many nodes these have, with instructions by hand. Behind an instruction stands
+//! its line where it has one, and before the first one of a routine `Routine` with the routine's number, how many
+//! arguments it takes and how many slots it has.
 
-use crate::typed_trees::builder::{Builder, Step, Unbuilt};
-use crate::typed_trees::{Row, are, unit_of};
+use crate::instructions::tell;
+use crate::typed_trees::builder::{Builder, Unbuilt};
+use crate::typed_trees::unit_of;
 use ep_base::{Boxed, Line, List, Name};
 use ep_gen_unit::{laws_of_programs, program_code};
-use ep_object::{Object, op};
+use ep_object::Object;
 use ep_typed::{
     Bound, Denoter, RequiredType, TypeEntry, Unit, UnitType, UnitTypes, UnitVariable,
     UnitVariables, Value, laws_of_denoters, unit_nodes,
 };
-use std::alloc::Global;
+use std::alloc::{AllocError, Global};
 use std::test::Fail;
 
 /// The denoter `0..9`.
@@ -63,107 +66,73 @@ fn two_digits(alloc: Global) -> Result<UnitVariables, Unbuilt> {
 
 /// A program with these types and variables, whose block is `y := 7` on line 4.
 fn program(alloc: Global) -> Result<Unit, Unbuilt> {
-    let steps = [Step::Constant(7), Step::Assign(4, 1)];
     let types = digit(alloc)?;
     let variables = two_digits(alloc)?;
-    let statements = Builder::after(alloc, &steps)?.into_statements();
+    let statements = Builder::after(alloc, "7 assign:1")?.into_statements();
     unit_of(alloc, types, variables, statements)
 }
 
-/// The code of that program, with that of the routines that structured values call and of its type behind it.
-const PROGRAM: &[Row] = &[
-    (op::CALL, 4, 0, 1),
-    (op::MAKE, 0, 0, 1),
-    (op::PUSH, 0, 0, 2),
-    (op::PUSH, 9, 0, 2),
-    (op::T_ORD, 0, 0, 2),
-    (op::MAKE, 1, 0, 2),
-    (op::UNIT, 5, 0, 4),
-    (op::PUSH, 7, 0, 4),
-    (op::STORE, 0, 0, 4),
-    (op::RETURN, 0, 0, 0),
-    (op::RETURN, 0, 0, 0),
-    (op::ARG, 1, 0, 0),
-    (op::ARG, 0, 0, 0),
-    (op::RETURN, 0, 0, 0),
-    (op::ARG, 0, 0, 0),
-    (op::BIND, 0, 0, 0),
-    (op::PEEK, 2, 0, 0),
-    (op::DUP, 0, 0, 0),
-    (op::SLOT, 0, 0, 0),
-    (op::CALL, 0, 0, 0),
-    (op::INDEX, 0, 0, 0),
-    (op::SLOT, 0, 0, 0),
-    (op::PEEK, 1, 0, 0),
-    (op::INDEX, 0, 0, 0),
-    (op::LOAD, 0, 0, 0),
-    (op::STORE, 0, 0, 0),
-    (op::DUP, 0, 0, 0),
-    (op::PEEK, 3, 0, 0),
-    (op::CMP, 2, 0, 0),
-    (op::JUMP_FALSE, 33, 0, 0),
-    (op::PUSH, 1, 0, 0),
-    (op::ADD, 0, 0, 0),
-    (op::JUMP, 17, 0, 0),
-    (op::DROP, 0, 0, 0),
-    (op::RETURN, 0, 0, 0),
-    (op::ARG, 0, 0, 0),
-    (op::BIND, 0, 0, 0),
-    (op::PEEK, 1, 0, 0),
-    (op::PEEK, 2, 0, 0),
-    (op::SLOT, 0, 0, 0),
-    (op::SLOT, 0, 0, 0),
-    (op::PEEK, 2, 0, 0),
-    (op::SLOT, 0, 0, 0),
-    (op::PEEK, 1, 0, 0),
-    (op::RETURN, 0, 0, 0),
-    (op::ARG, 2, 0, 0),
-    (op::BIND, 0, 0, 0),
-    (op::SLOT, 0, 0, 0),
-    (op::ARG, 3, 0, 0),
-    (op::SLOT, 0, 0, 0),
-    (op::PEEK, 0, 0, 0),
-    (op::PEEK, 0, 0, 0),
-    (op::PEEK, 1, 0, 0),
-    (op::ARG, 4, 0, 0),
-    (op::SLOT, 0, 0, 0),
-    (op::PEEK, 0, 0, 0),
-    (op::PEEK, 0, 0, 0),
-    (op::PEEK, 1, 0, 0),
-    (op::CMP, 4, 0, 0),
-    (op::RETURN, 0, 0, 0),
-    (op::PUSH, 0, 0, 1),
-    (op::PUSH, 9, 0, 1),
-    (op::T_ORD, 0, 0, 1),
-    (op::RETURN, 0, 0, 1),
-];
+/// The object of that program, with the routines that structured values call: the one that leaves two operands in the
+/// other order, and those that give values to components of arrays. Behind these stands the routine of its type.
+const PROGRAM: &str = "\
+Routine 0 0 0; Call 4 @1; Make 0 @1; Push 0 @2; Push 9 @2; TOrd @2; Make 1 @2; \
+Unit 5 @4; Push 7 @4; Store @4; Return; \
+Routine 1 0 0; Return; \
+Routine 2 2 0; Arg 1; Arg 0; Return; \
+Routine 3 4 1; Arg 0; Bind 0; Peek 2; Dup; Slot 0; Call 0; Index; Slot 0; Peek 1; Index; Load; Store; \
+Dup; Peek 3; Cmp 2; JumpFalse 33; Push 1; Add; Jump 17; Drop; Return; \
+Routine 4 3 1; Arg 0; Bind 0; Peek 1; Peek 2; Slot 0; Slot 0; Peek 2; Slot 0; Peek 1; Return; \
+Routine 5 5 1; Arg 2; Bind 0; Slot 0; Arg 3; Slot 0; Peek 0; Peek 0; Peek 1; \
+Arg 4; Slot 0; Peek 0; Peek 0; Peek 1; Cmp 4; Return; \
+Routine 6 0 0; Push 0 @1; Push 9 @1; TOrd @1; Return @1; \
+routines 7, start 0, stop 1, slots 2, references 6";
 
-/// Whether an object has this code, its start at 0, its stop at 10, the routine that leaves two operands in
-/// the other order at 11, those that give values to components of arrays at 14, 35 and 45, and the routine of its type at 60.
-fn is_program(object: &Object) -> bool {
-    let [start, stop, swap, fill, range, spread, digit] = object.routines.items() else {
-        return false;
-    };
-    let first = start.entry == 0 && stop.entry == 10 && swap.entry == 11;
-    let arrays = fill.entry == 14 && range.entry == 35 && spread.entry == 45;
-    let entries = first && arrays && digit.entry == 60;
-    let moves = swap.arguments == 2 && fill.arguments == 4 && fill.slots == 1;
-    let shuffles = range.arguments == 3 && spread.arguments == 5 && spread.slots == 1;
-    let numbers = object.start == 0 && object.stop == 1 && object.unit_slots == 2;
-    let references = object.references.items().len() == 6;
-    entries
-        && moves
-        && shuffles
-        && numbers
-        && references
-        && are(object.instructions.items(), PROGRAM)
+/// Tells the routines that begin at this place, each by its number, its arguments and its slots.
+fn tell_routines(out: &mut String, object: &Object, place: u32) -> Result<(), AllocError> {
+    for (number, routine) in object.routines.items().iter().enumerate() {
+        if routine.entry == place {
+            write!(
+                out,
+                "Routine {number} {} {}; ",
+                routine.arguments, routine.slots
+            )?;
+        }
+    }
+    Ok(())
+}
+
+/// Tells how many routines an object has, which of them start and stop the unit, its slots and its references.
+fn tell_numbers(out: &mut String, object: &Object) -> Result<(), AllocError> {
+    let routines = object.routines.items().len();
+    let references = object.references.items().len();
+    write!(
+        out,
+        "routines {routines}, start {}, stop {}, ",
+        object.start, object.stop
+    )?;
+    write!(out, "slots {}, references {references}", object.unit_slots)
+}
+
+/// Tells an object, each instruction with its line where it has one.
+fn told(alloc: Global, object: &Object) -> Result<String, AllocError> {
+    let mut out = String::new(alloc);
+    let mut place: u32 = 0;
+    for instr in object.instructions.items() {
+        tell_routines(&mut out, object, place)?;
+        tell(&mut out, *instr, 0)?;
+        out.push_str("; ")?;
+        place = place.wrapping_add(1);
+    }
+    tell_numbers(&mut out, object)?;
+    Ok(out)
 }
 
 #[test]
 fn a_program_has_its_object(rt: HostRuntime) -> Result<(), Fail> {
     let unit = program(rt.alloc())?;
     let object = program_code(rt.alloc(), &unit)?;
-    assert!(rt; is_program(&object));
+    let told = told(rt.alloc(), &object)?;
+    assert_eq!(rt; told.as_str(), PROGRAM);
     laws_of_programs();
     laws_of_denoters();
     Ok(())
@@ -195,87 +164,30 @@ fn two_started(alloc: Global) -> Result<UnitVariables, Unbuilt> {
 fn started_program(alloc: Global) -> Result<Unit, Unbuilt> {
     let types = List::new(alloc);
     let variables = two_started(alloc)?;
-    let statements = Builder::after(alloc, &[])?.into_statements();
+    let statements = Builder::after(alloc, "")?.into_statements();
     unit_of(alloc, types, variables, statements)
 }
 
-/// The code of that program.
-const STARTED: &[Row] = &[
-    (op::PUSH, 0, 0, 1),
-    (op::PUSH, 9, 0, 1),
-    (op::T_ORD, 0, 0, 1),
-    (op::PUSH, 3, 0, 1),
-    (op::T_INIT, 0, 0, 1),
-    (op::MAKE, 0, 0, 1),
-    (op::PUSH, 0, 0, 2),
-    (op::PUSH, 9, 0, 2),
-    (op::T_ORD, 0, 0, 2),
-    (op::T_SET, 0, 0, 2),
-    (op::SET_NONE, 0, 0, 2),
-    (op::PUSH, 1, 0, 2),
-    (op::SET_ADD, 0, 0, 2),
-    (op::PUSH, 4, 0, 2),
-    (op::SET_ADD, 0, 0, 2),
-    (op::T_INIT, 0, 0, 2),
-    (op::MAKE, 1, 0, 2),
-    (op::RETURN, 0, 0, 0),
-    (op::RETURN, 0, 0, 0),
-    (op::ARG, 1, 0, 0),
-    (op::ARG, 0, 0, 0),
-    (op::RETURN, 0, 0, 0),
-    (op::ARG, 0, 0, 0),
-    (op::BIND, 0, 0, 0),
-    (op::PEEK, 2, 0, 0),
-    (op::DUP, 0, 0, 0),
-    (op::SLOT, 0, 0, 0),
-    (op::CALL, 0, 0, 0),
-    (op::INDEX, 0, 0, 0),
-    (op::SLOT, 0, 0, 0),
-    (op::PEEK, 1, 0, 0),
-    (op::INDEX, 0, 0, 0),
-    (op::LOAD, 0, 0, 0),
-    (op::STORE, 0, 0, 0),
-    (op::DUP, 0, 0, 0),
-    (op::PEEK, 3, 0, 0),
-    (op::CMP, 2, 0, 0),
-    (op::JUMP_FALSE, 41, 0, 0),
-    (op::PUSH, 1, 0, 0),
-    (op::ADD, 0, 0, 0),
-    (op::JUMP, 25, 0, 0),
-    (op::DROP, 0, 0, 0),
-    (op::RETURN, 0, 0, 0),
-    (op::ARG, 0, 0, 0),
-    (op::BIND, 0, 0, 0),
-    (op::PEEK, 1, 0, 0),
-    (op::PEEK, 2, 0, 0),
-    (op::SLOT, 0, 0, 0),
-    (op::SLOT, 0, 0, 0),
-    (op::PEEK, 2, 0, 0),
-    (op::SLOT, 0, 0, 0),
-    (op::PEEK, 1, 0, 0),
-    (op::RETURN, 0, 0, 0),
-    (op::ARG, 2, 0, 0),
-    (op::BIND, 0, 0, 0),
-    (op::SLOT, 0, 0, 0),
-    (op::ARG, 3, 0, 0),
-    (op::SLOT, 0, 0, 0),
-    (op::PEEK, 0, 0, 0),
-    (op::PEEK, 0, 0, 0),
-    (op::PEEK, 1, 0, 0),
-    (op::ARG, 4, 0, 0),
-    (op::SLOT, 0, 0, 0),
-    (op::PEEK, 0, 0, 0),
-    (op::PEEK, 0, 0, 0),
-    (op::PEEK, 1, 0, 0),
-    (op::CMP, 4, 0, 0),
-    (op::RETURN, 0, 0, 0),
-];
+/// The object of that program.
+const STARTED: &str = "\
+Routine 0 0 0; Push 0 @1; Push 9 @1; TOrd @1; Push 3 @1; TInit @1; Make 0 @1; \
+Push 0 @2; Push 9 @2; TOrd @2; TSet @2; SetNone @2; Push 1 @2; SetAdd @2; Push 4 @2; SetAdd @2; TInit @2; Make 1 @2; \
+Return; \
+Routine 1 0 0; Return; \
+Routine 2 2 0; Arg 1; Arg 0; Return; \
+Routine 3 4 1; Arg 0; Bind 0; Peek 2; Dup; Slot 0; Call 0; Index; Slot 0; Peek 1; Index; Load; Store; \
+Dup; Peek 3; Cmp 2; JumpFalse 41; Push 1; Add; Jump 25; Drop; Return; \
+Routine 4 3 1; Arg 0; Bind 0; Peek 1; Peek 2; Slot 0; Slot 0; Peek 2; Slot 0; Peek 1; Return; \
+Routine 5 5 1; Arg 2; Bind 0; Slot 0; Arg 3; Slot 0; Peek 0; Peek 0; Peek 1; \
+Arg 4; Slot 0; Peek 0; Peek 0; Peek 1; Cmp 4; Return; \
+routines 6, start 0, stop 1, slots 2, references 4";
 
 #[test]
 fn initial_states_have_their_code(rt: HostRuntime) -> Result<(), Fail> {
     let unit = started_program(rt.alloc())?;
     let object = program_code(rt.alloc(), &unit)?;
-    assert!(rt; are(object.instructions.items(), STARTED));
+    let told = told(rt.alloc(), &object)?;
+    assert_eq!(rt; told.as_str(), STARTED);
     Ok(())
 }
 

@@ -1,564 +1,68 @@
-//! The code of typed trees, with instructions by hand.
+//! The code of typed trees, with instructions by hand. Each line of a table is a title, the words that build the trees
+//! (typed_trees/builder.rt says which there are), their code, and how many texts and references it has where there are
+//! not 0 and 4. Behind an instruction stands its line where that is not the usual one of the table.
 
 pub(crate) mod builder;
 
-use builder::{Builder, Step, Unbuilt};
+use crate::instructions::told;
+use builder::{Builder, Unbuilt};
 use ep_base::{Line, List, Name};
 use ep_gen_code::Code;
 use ep_gen_expr::{expression_code, laws_of_code};
 use ep_gen_unit::{laws_of_statements, statement_code};
-use ep_object::{Instr, op};
 use ep_typed::{TypedStmt, Unit, UnitTypes, UnitVariables};
-use ep_values::{Binary, Print, Unary, run_error};
-use std::alloc::Global;
+use std::alloc::{AllocError, Global};
 use std::test::Fail;
 
-/// An instruction: its code, its two fields and its line.
-pub(crate) type Row = (u8, i64, u32, Line);
+/// Expressions, on line 3. `R`, `Q` and `D` are the types of the numbers 0, 1 and 2.
+const EXPRESSIONS: &str = "\
+(-7) mod 2 | 7 neg 2 mod | Push 7; Neg; Push 2; Mod
+chr(65) | 65 chr | Push 65; Push 0; Push 255; Check 14
+pred of a char, two back | 67 2 pred | Push 67; Push 2; Neg; Push 0; Push 255; Step
+one variable < another one | variable:6 variable:0 < | Unit 4; Load; Unit 5; Load; Cmp 2 | references 6
+a field of a component of the array that a function gives | function:7 5 index field:1 | \
+Call 4; Jump 2; Push 5; Index; Field 1 | references 5
+D[1: 5; 2: 6] | 1 5 at 2 6 at structured:2 | \
+Call 6; New; Dup; Deref; Dup; Push 1; Index; Push 5; Store; Dup; Push 2; Index; Push 6; Store; Load; Call 0; Dispose
+D[1, 3..5: 7] | 7 at-ranges:1,3..5 structured:2 | \
+Call 6; New; Dup; Deref; Dup; Push 1; Index; Push 7; Store; \
+Dup; Push 1; Push 1; Push 1; Call 1; Dup; Push 1; Push 3; Push 5; Call 1; Load; Call 0; Dispose
+D[i, j..k: 7], with 2, 3 and 4 for the indexes | 2 3 4 7 at-indexes structured:2 | \
+Call 6; New; Dup; Deref; Push 2; Dup; Call 2; Index; Drop; Index; Drop; \
+Push 3; Push 4; Call 2; Index; Drop; Index; Drop; \
+Push 7; Dup; Call 3; JumpFalse 27; Index; Call 0; Store; Call 1; Jump 34; Drop; Drop; Drop; Drop; Drop; Drop; Drop; \
+Dup; Call 3; JumpFalse 42; Index; Call 0; Store; Call 1; Jump 49; Drop; Drop; Drop; Drop; Drop; Drop; Drop; \
+Drop; Load; Call 0; Dispose
+R[a: 7], where a is the second field | 7 at-field:1 structured:0 | \
+Call 4; New; Dup; Deref; Dup; Field 1; Push 7; Store; Load; Call 0; Dispose
+Q[a, b: 7; case k: 1 of [d: 8]], where a is the second field, b the first one, k at steps 2 and 0, and d the first \
+field of a variant that is component 4 | 7 at-field:1 same-field:1:0 1 at-field:2.0 8 at-field:4.0 structured:1 | \
+Call 5; New; Dup; Deref; Dup; Field 1; Push 7; Store; Dup; Dup; Field 0; Call 0; Field 1; Load; Store; \
+Dup; Field 2; Field 0; Push 1; Store; Dup; Field 4; Field 0; Push 8; Store; Load; Call 0; Dispose
+two steps on both sides | same-field:2.0:4.1 structured:1 | \
+Call 5; New; Dup; Deref; Dup; Dup; Field 4; Field 1; Call 0; Field 2; Field 0; Load; Store; Load; Call 0; Dispose
+the same text twice | 'ab' 'ab' | Text 0; Text 0 | texts 1";
 
-/// Trees, the code of one after another, and how many texts and references it has.
-type Trees = (&'static [Step], &'static [Row], usize, usize);
+/// Statements, on line 4 where they name none.
+const STATEMENTS: &str = "\
+x := 7 | 7 assign:6 | Unit 4; Push 7; Store | references 5
+if true then halt else halt | halt@5 halt@6 1 if | Push 1; JumpFalse 4; Halt @5; Jump 5; Halt @6
+if true then halt | halt@5 empty 1 if | Push 1; JumpFalse 4; Halt @5; Jump 4
+begin halt; while false do halt end | halt halt@6 0 while@5 compound | \
+Halt; Push 0 @5; JumpFalse 5 @5; Halt @6; Jump 1 @5
+the same procedure twice | procedure:7 procedure:7@5 | Call 4; Jump 2; Call 4 @5; Jump 4 @5 | references 5
+writeln | writeln | Unit -1 1; Push 10; Chars; Put";
 
-/// Expressions, at line 3.
-const EXPRESSIONS: &[Trees] = &[
-    // -7 mod 2
-    (
-        &[
-            Step::Constant(7),
-            Step::One(Unary::Negate),
-            Step::Constant(2),
-            Step::Two(Binary::Modulo),
-        ],
-        &[
-            (op::PUSH, 7, 0, 3),
-            (op::NEG, 0, 0, 3),
-            (op::PUSH, 2, 0, 3),
-            (op::MOD, 0, 0, 3),
-        ],
-        0,
-        4,
-    ),
-    // chr(65)
-    (
-        &[Step::Constant(65), Step::One(Unary::Character)],
-        &[
-            (op::PUSH, 65, 0, 3),
-            (op::PUSH, 0, 0, 3),
-            (op::PUSH, 255, 0, 3),
-            (op::CHECK, run_error::SUCCESSOR as i64, 0, 3),
-        ],
-        0,
-        4,
-    ),
-    // pred of a char, two back
-    (
-        &[Step::Constant(67), Step::Constant(2), Step::CharStep(true)],
-        &[
-            (op::PUSH, 67, 0, 3),
-            (op::PUSH, 2, 0, 3),
-            (op::NEG, 0, 0, 3),
-            (op::PUSH, 0, 0, 3),
-            (op::PUSH, 255, 0, 3),
-            (op::STEP, 0, 0, 3),
-        ],
-        0,
-        4,
-    ),
-    // one variable < another one
-    (
-        &[
-            Step::Variable(6),
-            Step::Variable(0),
-            Step::Two(Binary::Less),
-        ],
-        &[
-            (op::UNIT, 4, 0, 3),
-            (op::LOAD, 0, 0, 3),
-            (op::UNIT, 5, 0, 3),
-            (op::LOAD, 0, 0, 3),
-            (op::CMP, 2, 0, 3),
-        ],
-        0,
-        6,
-    ),
-    // a field of a component of the array that a function gives
-    (
-        &[
-            Step::Function(7),
-            Step::Constant(5),
-            Step::Indexed,
-            Step::Field(1),
-        ],
-        &[
-            (op::CALL, 4, 0, 3),
-            (op::JUMP, 2, 0, 3),
-            (op::PUSH, 5, 0, 3),
-            (op::INDEX, 0, 0, 3),
-            (op::FIELD, 1, 0, 3),
-        ],
-        0,
-        5,
-    ),
-    // D[1: 5; 2: 6], where D is the type of number 2
-    (
-        &[
-            Step::Constant(1),
-            Step::Constant(5),
-            Step::AtIndex,
-            Step::Constant(2),
-            Step::Constant(6),
-            Step::AtIndex,
-            Step::Structured(2),
-        ],
-        &[
-            (op::CALL, 6, 0, 3),
-            (op::NEW, 0, 0, 3),
-            (op::DUP, 0, 0, 3),
-            (op::DEREF, 0, 0, 3),
-            (op::DUP, 0, 0, 3),
-            (op::PUSH, 1, 0, 3),
-            (op::INDEX, 0, 0, 3),
-            (op::PUSH, 5, 0, 3),
-            (op::STORE, 0, 0, 3),
-            (op::DUP, 0, 0, 3),
-            (op::PUSH, 2, 0, 3),
-            (op::INDEX, 0, 0, 3),
-            (op::PUSH, 6, 0, 3),
-            (op::STORE, 0, 0, 3),
-            (op::LOAD, 0, 0, 3),
-            (op::CALL, 0, 0, 3),
-            (op::DISPOSE, 0, 0, 3),
-        ],
-        0,
-        4,
-    ),
-    // D[1, 3..5: 7], where D is the type of number 2
-    (
-        &[
-            Step::Constant(7),
-            Step::AtRanges(&[(1, 1), (3, 5)]),
-            Step::Structured(2),
-        ],
-        &[
-            (op::CALL, 6, 0, 3),
-            (op::NEW, 0, 0, 3),
-            (op::DUP, 0, 0, 3),
-            (op::DEREF, 0, 0, 3),
-            (op::DUP, 0, 0, 3),
-            (op::PUSH, 1, 0, 3),
-            (op::INDEX, 0, 0, 3),
-            (op::PUSH, 7, 0, 3),
-            (op::STORE, 0, 0, 3),
-            (op::DUP, 0, 0, 3),
-            (op::PUSH, 1, 0, 3),
-            (op::PUSH, 1, 0, 3),
-            (op::PUSH, 1, 0, 3),
-            (op::CALL, 1, 0, 3),
-            (op::DUP, 0, 0, 3),
-            (op::PUSH, 1, 0, 3),
-            (op::PUSH, 3, 0, 3),
-            (op::PUSH, 5, 0, 3),
-            (op::CALL, 1, 0, 3),
-            (op::LOAD, 0, 0, 3),
-            (op::CALL, 0, 0, 3),
-            (op::DISPOSE, 0, 0, 3),
-        ],
-        0,
-        4,
-    ),
-    // D[i, j..k: 7], where D is the type of number 2, with 2, 3 and 4 for the indexes
-    (
-        &[
-            Step::Constant(2),
-            Step::Constant(3),
-            Step::Constant(4),
-            Step::Constant(7),
-            Step::AtIndexes,
-            Step::Structured(2),
-        ],
-        &[
-            (op::CALL, 6, 0, 3),
-            (op::NEW, 0, 0, 3),
-            (op::DUP, 0, 0, 3),
-            (op::DEREF, 0, 0, 3),
-            (op::PUSH, 2, 0, 3),
-            (op::DUP, 0, 0, 3),
-            (op::CALL, 2, 0, 3),
-            (op::INDEX, 0, 0, 3),
-            (op::DROP, 0, 0, 3),
-            (op::INDEX, 0, 0, 3),
-            (op::DROP, 0, 0, 3),
-            (op::PUSH, 3, 0, 3),
-            (op::PUSH, 4, 0, 3),
-            (op::CALL, 2, 0, 3),
-            (op::INDEX, 0, 0, 3),
-            (op::DROP, 0, 0, 3),
-            (op::INDEX, 0, 0, 3),
-            (op::DROP, 0, 0, 3),
-            (op::PUSH, 7, 0, 3),
-            (op::DUP, 0, 0, 3),
-            (op::CALL, 3, 0, 3),
-            (op::JUMP_FALSE, 27, 0, 3),
-            (op::INDEX, 0, 0, 3),
-            (op::CALL, 0, 0, 3),
-            (op::STORE, 0, 0, 3),
-            (op::CALL, 1, 0, 3),
-            (op::JUMP, 34, 0, 3),
-            (op::DROP, 0, 0, 3),
-            (op::DROP, 0, 0, 3),
-            (op::DROP, 0, 0, 3),
-            (op::DROP, 0, 0, 3),
-            (op::DROP, 0, 0, 3),
-            (op::DROP, 0, 0, 3),
-            (op::DROP, 0, 0, 3),
-            (op::DUP, 0, 0, 3),
-            (op::CALL, 3, 0, 3),
-            (op::JUMP_FALSE, 42, 0, 3),
-            (op::INDEX, 0, 0, 3),
-            (op::CALL, 0, 0, 3),
-            (op::STORE, 0, 0, 3),
-            (op::CALL, 1, 0, 3),
-            (op::JUMP, 49, 0, 3),
-            (op::DROP, 0, 0, 3),
-            (op::DROP, 0, 0, 3),
-            (op::DROP, 0, 0, 3),
-            (op::DROP, 0, 0, 3),
-            (op::DROP, 0, 0, 3),
-            (op::DROP, 0, 0, 3),
-            (op::DROP, 0, 0, 3),
-            (op::DROP, 0, 0, 3),
-            (op::LOAD, 0, 0, 3),
-            (op::CALL, 0, 0, 3),
-            (op::DISPOSE, 0, 0, 3),
-        ],
-        0,
-        4,
-    ),
-    // R[a: 7], where R is the type of number 0 and a its second field
-    (
-        &[Step::Constant(7), Step::AtField(&[1]), Step::Structured(0)],
-        &[
-            (op::CALL, 4, 0, 3),
-            (op::NEW, 0, 0, 3),
-            (op::DUP, 0, 0, 3),
-            (op::DEREF, 0, 0, 3),
-            (op::DUP, 0, 0, 3),
-            (op::FIELD, 1, 0, 3),
-            (op::PUSH, 7, 0, 3),
-            (op::STORE, 0, 0, 3),
-            (op::LOAD, 0, 0, 3),
-            (op::CALL, 0, 0, 3),
-            (op::DISPOSE, 0, 0, 3),
-        ],
-        0,
-        4,
-    ),
-    // Q[a, b: 7; case k: 1 of [d: 8]], where Q is the type of number 1, a its second field and b its first, and k is at
-    // steps 2 and 0, and d the first field of a variant that is component 4
-    (
-        &[
-            Step::Constant(7),
-            Step::AtField(&[1]),
-            Step::SameField(&[1], &[0]),
-            Step::Constant(1),
-            Step::AtField(&[2, 0]),
-            Step::Constant(8),
-            Step::AtField(&[4, 0]),
-            Step::Structured(1),
-        ],
-        &[
-            (op::CALL, 5, 0, 3),
-            (op::NEW, 0, 0, 3),
-            (op::DUP, 0, 0, 3),
-            (op::DEREF, 0, 0, 3),
-            (op::DUP, 0, 0, 3),
-            (op::FIELD, 1, 0, 3),
-            (op::PUSH, 7, 0, 3),
-            (op::STORE, 0, 0, 3),
-            (op::DUP, 0, 0, 3),
-            (op::DUP, 0, 0, 3),
-            (op::FIELD, 0, 0, 3),
-            (op::CALL, 0, 0, 3),
-            (op::FIELD, 1, 0, 3),
-            (op::LOAD, 0, 0, 3),
-            (op::STORE, 0, 0, 3),
-            (op::DUP, 0, 0, 3),
-            (op::FIELD, 2, 0, 3),
-            (op::FIELD, 0, 0, 3),
-            (op::PUSH, 1, 0, 3),
-            (op::STORE, 0, 0, 3),
-            (op::DUP, 0, 0, 3),
-            (op::FIELD, 4, 0, 3),
-            (op::FIELD, 0, 0, 3),
-            (op::PUSH, 8, 0, 3),
-            (op::STORE, 0, 0, 3),
-            (op::LOAD, 0, 0, 3),
-            (op::CALL, 0, 0, 3),
-            (op::DISPOSE, 0, 0, 3),
-        ],
-        0,
-        4,
-    ),
-    // with two steps on both sides
-    (
-        &[Step::SameField(&[2, 0], &[4, 1]), Step::Structured(1)],
-        &[
-            (op::CALL, 5, 0, 3),
-            (op::NEW, 0, 0, 3),
-            (op::DUP, 0, 0, 3),
-            (op::DEREF, 0, 0, 3),
-            (op::DUP, 0, 0, 3),
-            (op::DUP, 0, 0, 3),
-            (op::FIELD, 4, 0, 3),
-            (op::FIELD, 1, 0, 3),
-            (op::CALL, 0, 0, 3),
-            (op::FIELD, 2, 0, 3),
-            (op::FIELD, 0, 0, 3),
-            (op::LOAD, 0, 0, 3),
-            (op::STORE, 0, 0, 3),
-            (op::LOAD, 0, 0, 3),
-            (op::CALL, 0, 0, 3),
-            (op::DISPOSE, 0, 0, 3),
-        ],
-        0,
-        4,
-    ),
-    // the same text twice
-    (
-        &[Step::Text(b"ab"), Step::Text(b"ab")],
-        &[(op::TEXT, 0, 0, 3), (op::TEXT, 0, 0, 3)],
-        1,
-        4,
-    ),
-];
-
-/// Statements.
-const STATEMENTS: &[Trees] = &[
-    // x := 7
-    (
-        &[Step::Constant(7), Step::Assign(4, 6)],
-        &[
-            (op::UNIT, 4, 0, 4),
-            (op::PUSH, 7, 0, 4),
-            (op::STORE, 0, 0, 4),
-        ],
-        0,
-        5,
-    ),
-    // if true then halt else halt, on lines 4, 5 and 6
-    (
-        &[Step::Halt(5), Step::Halt(6), Step::Constant(1), Step::If(4)],
-        &[
-            (op::PUSH, 1, 0, 4),
-            (op::JUMP_FALSE, 4, 0, 4),
-            (op::HALT, 0, 0, 5),
-            (op::JUMP, 5, 0, 4),
-            (op::HALT, 0, 0, 6),
-        ],
-        0,
-        4,
-    ),
-    // if true then halt
-    (
-        &[Step::Halt(5), Step::Empty, Step::Constant(1), Step::If(4)],
-        &[
-            (op::PUSH, 1, 0, 4),
-            (op::JUMP_FALSE, 4, 0, 4),
-            (op::HALT, 0, 0, 5),
-            (op::JUMP, 4, 0, 4),
-        ],
-        0,
-        4,
-    ),
-    // begin halt; while false do halt end
-    (
-        &[
-            Step::Halt(4),
-            Step::Halt(6),
-            Step::Constant(0),
-            Step::While(5),
-            Step::Compound,
-        ],
-        &[
-            (op::HALT, 0, 0, 4),
-            (op::PUSH, 0, 0, 5),
-            (op::JUMP_FALSE, 5, 0, 5),
-            (op::HALT, 0, 0, 6),
-            (op::JUMP, 1, 0, 5),
-        ],
-        0,
-        4,
-    ),
-    // the same procedure twice
-    (
-        &[Step::Procedure(4, 7), Step::Procedure(5, 7)],
-        &[
-            (op::CALL, 4, 0, 4),
-            (op::JUMP, 2, 0, 4),
-            (op::CALL, 4, 0, 5),
-            (op::JUMP, 4, 0, 5),
-        ],
-        0,
-        5,
-    ),
-    // writeln
-    (
-        &[Step::Write(4, true)],
-        &[
-            (op::UNIT, -1, 1, 4),
-            (op::PUSH, 10, 0, 4),
-            (op::CHARS, 0, 0, 4),
-            (op::PUT, 0, 0, 4),
-        ],
-        0,
-        4,
-    ),
-];
-
-/// `write` of one value.
-const WRITES: &[Trees] = &[
-    (
-        &[
-            Step::Constant(65),
-            Step::Plain(Print::Integer),
-            Step::Write(4, false),
-        ],
-        &[
-            (op::UNIT, -1, 1, 4),
-            (op::PUSH, 65, 0, 4),
-            (op::FORM, 0, 0, 4),
-            (op::PUT, 0, 0, 4),
-        ],
-        0,
-        4,
-    ),
-    (
-        &[
-            Step::Constant(65),
-            Step::Plain(Print::Char),
-            Step::Write(4, false),
-        ],
-        &[
-            (op::UNIT, -1, 1, 4),
-            (op::PUSH, 65, 0, 4),
-            (op::CHARS, 0, 0, 4),
-            (op::PUT, 0, 0, 4),
-        ],
-        0,
-        4,
-    ),
-    (
-        &[
-            Step::Constant(65),
-            Step::Plain(Print::Boolean),
-            Step::Write(4, false),
-        ],
-        &[
-            (op::UNIT, -1, 1, 4),
-            (op::PUSH, 65, 0, 4),
-            (op::FORM, 1, 0, 4),
-            (op::PUT, 0, 0, 4),
-        ],
-        0,
-        4,
-    ),
-    (
-        &[
-            Step::Text(b"ab"),
-            Step::Plain(Print::Text),
-            Step::Write(4, false),
-        ],
-        &[
-            (op::UNIT, -1, 1, 4),
-            (op::TEXT, 0, 0, 4),
-            (op::PUT, 0, 0, 4),
-        ],
-        1,
-        4,
-    ),
-    (
-        &[
-            Step::Constant(65),
-            Step::Constant(8),
-            Step::Wide(Print::Integer),
-            Step::Write(4, false),
-        ],
-        &[
-            (op::UNIT, -1, 1, 4),
-            (op::PUSH, 65, 0, 4),
-            (op::PUSH, 8, 0, 4),
-            (op::FORM, 0, 1, 4),
-            (op::PUT, 0, 0, 4),
-        ],
-        0,
-        4,
-    ),
-    (
-        &[
-            Step::Constant(65),
-            Step::Constant(8),
-            Step::Wide(Print::Char),
-            Step::Write(4, false),
-        ],
-        &[
-            (op::UNIT, -1, 1, 4),
-            (op::PUSH, 65, 0, 4),
-            (op::CHARS, 0, 0, 4),
-            (op::PUSH, 8, 0, 4),
-            (op::FORM, 2, 1, 4),
-            (op::PUT, 0, 0, 4),
-        ],
-        0,
-        4,
-    ),
-    (
-        &[
-            Step::Constant(65),
-            Step::Constant(8),
-            Step::Wide(Print::Boolean),
-            Step::Write(4, false),
-        ],
-        &[
-            (op::UNIT, -1, 1, 4),
-            (op::PUSH, 65, 0, 4),
-            (op::PUSH, 8, 0, 4),
-            (op::FORM, 1, 1, 4),
-            (op::PUT, 0, 0, 4),
-        ],
-        0,
-        4,
-    ),
-    (
-        &[
-            Step::Constant(65),
-            Step::Constant(8),
-            Step::Wide(Print::Text),
-            Step::Write(4, false),
-        ],
-        &[
-            (op::UNIT, -1, 1, 4),
-            (op::PUSH, 65, 0, 4),
-            (op::PUSH, 8, 0, 4),
-            (op::FORM, 2, 1, 4),
-            (op::PUT, 0, 0, 4),
-        ],
-        0,
-        4,
-    ),
-];
-
-/// Whether the instructions are these.
-pub(crate) fn are(instructions: &[Instr], want: &[Row]) -> bool {
-    if instructions.len() != want.len() {
-        return false;
-    }
-    for (instr, row) in instructions.iter().zip(want) {
-        if (instr.op, instr.a, instr.b, instr.line) != *row {
-            return false;
-        }
-    }
-    true
-}
+/// `write` of one value, on line 4.
+const WRITES: &str = "\
+an integer | 65 integer write | Unit -1 1; Push 65; Form 0; Put
+a char | 65 char write | Unit -1 1; Push 65; Chars; Put
+a Boolean | 65 boolean write | Unit -1 1; Push 65; Form 1; Put
+a text | 'ab' text write | Unit -1 1; Text 0; Put | texts 1
+an integer and its width | 65 8 integer:wide write | Unit -1 1; Push 65; Push 8; Form 0 1; Put
+a char and its width | 65 8 char:wide write | Unit -1 1; Push 65; Chars; Push 8; Form 2 1; Put
+a Boolean and its width | 65 8 boolean:wide write | Unit -1 1; Push 65; Push 8; Form 1 1; Put
+a text and its width | 65 8 text:wide write | Unit -1 1; Push 65; Push 8; Form 2 1; Put";
 
 /// A program `main` with these types and variables, which does these statements.
 pub(crate) fn unit_of(
@@ -590,7 +94,7 @@ fn no_code(alloc: Global) -> Result<Code, Unbuilt> {
     Ok(code)
 }
 
-/// Appends the code of the expressions that steps left, and then of the statements.
+/// Appends the code of the expressions that words left, and then of the statements.
 fn append(alloc: Global, built: &Builder, code: &mut Code) -> Result<(), Unbuilt> {
     for e in built.expressions.items() {
         expression_code(alloc, e.get(), code)?;
@@ -601,30 +105,55 @@ fn append(alloc: Global, built: &Builder, code: &mut Code) -> Result<(), Unbuilt
     Ok(())
 }
 
-/// Whether the trees that steps build have their code and the tables that it names.
-fn have_code(alloc: Global, trees: Trees) -> Result<bool, Unbuilt> {
-    let (steps, want, texts, references) = trees;
+/// The code of the trees that these words build.
+fn code_of(alloc: Global, words: &str) -> Result<Code, Unbuilt> {
+    let built = Builder::after(alloc, words)?;
     let mut code = no_code(alloc)?;
-    let built = Builder::after(alloc, steps)?;
     append(alloc, &built, &mut code)?;
-    let tables = code.texts.items().len() == texts && code.references.items().len() == references;
-    Ok(tables && are(code.instructions.items(), want))
+    Ok(code)
 }
 
-/// The first row of a table whose trees have other code.
-fn first_wrong(alloc: Global, table: &[Trees]) -> Result<Option<usize>, Unbuilt> {
-    for (number, trees) in table.iter().enumerate() {
-        if !have_code(alloc, *trees)? {
-            return Ok(Some(number));
+/// Tells code, and the tables that it names where these are not the usual ones.
+fn tell_code(alloc: Global, code: &Code, usual: Line) -> Result<String, AllocError> {
+    let mut out = told(alloc, code.instructions.items(), usual)?;
+    let texts = code.texts.items().len();
+    let references = code.references.items().len();
+    if texts != 0 {
+        write!(&mut out, " | texts {texts}")?;
+    }
+    if references != 4 {
+        write!(&mut out, " | references {references}")?;
+    }
+    Ok(out)
+}
+
+/// What the trees come to that these words build.
+fn outcome(alloc: Global, words: &str, usual: Line) -> Result<String, AllocError> {
+    match &code_of(alloc, words) {
+        Ok(code) => tell_code(alloc, code, usual),
+        Err(why) => format!(in alloc; "{why:?}"),
+    }
+}
+
+/// The rows of a table that come to something else, with what they come to.
+fn differing(alloc: Global, table: &str, usual: Line) -> Result<String, AllocError> {
+    let mut all = String::new(alloc);
+    for row in table.lines() {
+        let (title, rest) = row.split_once(" | ").unwrap_or((row, ""));
+        let (words, wanted) = rest.split_once(" | ").unwrap_or((rest, "nothing"));
+        let outcome = outcome(alloc, words, usual)?;
+        if outcome.as_str() != wanted {
+            write!(&mut all, "{title} comes to {outcome}; ")?;
         }
     }
-    Ok(None)
+    Ok(all)
 }
 
 #[test]
 fn trees_have_their_code(rt: HostRuntime) -> Result<(), Fail> {
-    for table in [EXPRESSIONS, STATEMENTS, WRITES] {
-        assert_eq!(rt; first_wrong(rt.alloc(), table)?, None);
+    for (table, usual) in [(EXPRESSIONS, 3), (STATEMENTS, 4), (WRITES, 4)] {
+        let differing = differing(rt.alloc(), table, usual)?;
+        assert_eq!(rt; differing.as_str(), "");
     }
     laws_of_code();
     laws_of_statements();

@@ -1,8 +1,13 @@
-//! Prints the trees of the text in standard input, each node with its line: golden.pas of this crate has every
-//! production of the grammar, and what is printed of it was written by hand from the grammar.
+//! Prints the trees of the text in standard input, each node with its line. The file stdin of this crate has every
+//! production of the grammar, and the file stdout, which is what must be printed of it, was written by hand from the
+//! grammar: so each production is seen to put its parts where they belong.
 //!
-//! A declaration, a statement and a component have lines of their own, which begin with the line of the node. Of the
-//! nodes inside, one is marked by `@` and its line where that is another one than the last that was told.
+//! It stands on ep_token and ep_parse, which read the text, and on the trees of ep_tree. It promises nothing but that
+//! it is safe and ends.
+//!
+//! Open dump.rt first, which says how nodes are printed; then the file of the part of the grammar. A declaration, a
+//! statement and a component have lines of their own, which begin with the line of the node. Of the nodes inside, one
+//! is marked by `@` and its line where that is another one than the last that was told.
 #![tactic(auto)]
 
 mod components;

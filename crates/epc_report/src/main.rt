@@ -1,5 +1,8 @@
-//! The program `epc` with its report on standard output, so that the gate compares a report and an exit status that is
-//! not 0.
+//! The program `epc` with its report on standard output in place of standard error, so that the gate, which compares
+//! standard output and the exit status, sees a report and a status that is not 0.
+//!
+//! It stands on ep_system, as crates/epc does, and differs from that program in the word that names the stream. Open
+//! crates/epc/src/main.rt first. The files args, stdout and status have the run of a text that is refused.
 #![tactic(auto)]
 
 use ep_system::carry_out;

@@ -1,4 +1,32 @@
-//! Typed trees, built by steps.
+//! Typed trees, built by words, each of which takes what the words before it left, the last first:
+//!
+//! | Word | Leaves |
+//! |---|---|
+//! | `7` `'ab'` | a constant, a text |
+//! | `variable:6` | the value of the variable of this number of `main` |
+//! | `neg` `chr` | an operation with one operand |
+//! | `mod` `<` | an operation with two operands |
+//! | `pred` `succ` | `pred` or `succ` of a char and a count |
+//! | `function:7` | what the function of this number of `main` gives, which has no parameters |
+//! | `index` | the component of an array that a function gives, at an index |
+//! | `field:1` | the component of this number of a record that a function gives |
+//! | `at` | what the component of a structured value at an index is given |
+//! | `at-field:2.0` | what its component at these steps is given |
+//! | `same-field:2.0:4.1` | that the component at the second steps is given what that at the first ones has |
+//! | `at-ranges:1,3..5` | what all its components with the indexes of these ranges are given |
+//! | `at-indexes` | what its component at an index and those in a range are given, by the three indexes and a value |
+//! | `structured:2` | a structured value of the type of this number, of all that its components are given |
+//! | `integer` `char` `boolean` `text` | a value that is written so, and with `:wide` a value and its width |
+//! | `empty` | the empty statement |
+//! | `assign:6` | an assignment of a value to the variable of this number of `main` |
+//! | `if` | `if` with a condition and two statements |
+//! | `while` | `while` with a condition and a statement |
+//! | `procedure:7` | a call of the procedure of this number of `main`, which has no parameters |
+//! | `halt` | `halt` |
+//! | `write` `writeln` | `write` or `writeln` of all values that are written |
+//! | `compound` | all statements in order, as one |
+//!
+//! A statement is on line 4, and `halt@5` is on line 5.
 
 use ep_base::{Boxed, Bytes, Line, List, Name, NameRefusal};
 use ep_typed::{
@@ -8,66 +36,16 @@ use ep_typed::{
 use ep_values::{Binary, Print, Unary};
 use std::alloc::{AllocError, Global};
 
-/// A step that builds a tree of what the steps before it left, the last first.
-#[derive(Clone, Copy)]
-pub(crate) enum Step {
-    /// A constant.
-    Constant(i64),
-    /// A text.
-    Text(&'static [u8]),
-    /// The value of a variable of `main`.
-    Variable(u32),
-    /// An operation with one operand.
-    One(Unary),
-    /// An operation with two operands.
-    Two(Binary),
-    /// `succ` of a char and a count, or with the flag `pred`.
-    CharStep(bool),
-    /// What the function of this number of `main` gives, which has no parameters.
-    Function(u32),
-    /// The component of an array that a function gives, at an index.
-    Indexed,
-    /// The component of this number of a record that a function gives.
-    Field(u32),
-    /// What the component of a structured value at an index is given.
-    AtIndex,
-    /// What the component of a structured value is given to which these steps lead.
-    AtField(&'static [u32]),
-    /// That the component to which the second steps lead is given what that has to which the first lead.
-    SameField(&'static [u32], &'static [u32]),
-    /// What all components of a structured value with the indexes of these ranges are given.
-    AtRanges(&'static [(i64, i64)]),
-    /// What the component of a structured value at an index and those in a range are given, by the three indexes and a value.
-    AtIndexes,
-    /// A structured value of the type of this number, of all that its components are given.
-    Structured(u32),
-    /// A value that is written.
-    Plain(Print),
-    /// A value that is written, and its width.
-    Wide(Print),
-    /// The empty statement.
-    Empty,
-    /// An assignment of a value to a variable of `main`.
-    Assign(Line, u32),
-    /// `if` with a condition and two statements.
-    If(Line),
-    /// `while` with a condition and a statement.
-    While(Line),
-    /// A call of the procedure of this number of `main`, which has no parameters.
-    Procedure(Line, u32),
-    /// `halt`
-    Halt(Line),
-    /// `write` of all values that are written, or with the flag `writeln`.
-    Write(Line, bool),
-    /// All statements in order, as one.
-    Compound,
-}
+/// The line of a statement that names none.
+const USUAL_LINE: &str = "4";
 
 /// Why a tree is not built.
-#[derive(Clone, Copy, Debug, Drop, PartialEq, Eq)]
+#[derive(Debug, Drop)]
 pub(crate) enum Unbuilt {
-    /// The steps before one left too little.
+    /// The words before one left too little.
     Lacking,
+    /// A word is none of these.
+    Unknown,
     /// Memory is wanting.
     NoMemory,
 }
@@ -84,7 +62,23 @@ impl From<NameRefusal> for Unbuilt {
     }
 }
 
-/// What the steps so far left.
+/// A number, which is 0 where none is given.
+fn number(text: &str) -> u32 {
+    text.parse::<u32>().unwrap_or(0)
+}
+
+/// How a value is written.
+fn print_named(name: &str) -> Option<Print> {
+    match name {
+        "integer" => Some(Print::Integer),
+        "char" => Some(Print::Char),
+        "boolean" => Some(Print::Boolean),
+        "text" => Some(Print::Text),
+        _ => None,
+    }
+}
+
+/// What the words so far left.
 #[derive(Drop)]
 pub(crate) struct Builder {
     alloc: Global,
@@ -95,8 +89,8 @@ pub(crate) struct Builder {
 }
 
 impl Builder {
-    /// What all these steps leave.
-    pub(crate) fn after(alloc: Global, steps: &[Step]) -> Result<Builder, Unbuilt> {
+    /// What all these words leave.
+    pub(crate) fn after(alloc: Global, words: &str) -> Result<Builder, Unbuilt> {
         let mut builder = Builder {
             alloc,
             expressions: List::new(alloc),
@@ -104,8 +98,8 @@ impl Builder {
             elements: List::new(alloc),
             statements: List::new(alloc),
         };
-        for step in steps {
-            builder.take(*step)?;
+        for word in words.split_whitespace() {
+            builder.take(word)?;
         }
         Ok(builder)
     }
@@ -115,35 +109,67 @@ impl Builder {
         self.statements
     }
 
-    /// Takes one step.
-    fn take(&mut self, step: Step) -> Result<(), Unbuilt> {
-        match step {
-            Step::Constant(value) => self.push(TypedExpr::Constant(value)),
-            Step::Text(bytes) => self.text(bytes),
-            Step::Variable(number) => self.variable(number),
-            Step::One(operation) => self.one(operation),
-            Step::Two(operation) => self.two(operation),
-            Step::CharStep(down) => self.char_step(down),
-            Step::Function(number) => self.function(number),
-            Step::Indexed => self.indexed(),
-            Step::Field(number) => self.field(number),
-            Step::AtIndex => self.at_index(),
-            Step::AtField(steps) => self.at_field(steps),
-            Step::SameField(from, to) => self.same_field(from, to),
-            Step::AtRanges(ranges) => self.at_ranges(ranges),
-            Step::AtIndexes => self.at_indexes(),
-            Step::Structured(number) => self.structured(number),
-            Step::Plain(print) => self.plain(print),
-            Step::Wide(print) => self.wide(print),
-            Step::Empty => self.put(TypedStmt::Empty),
-            Step::Assign(line, number) => self.assign(line, number),
-            Step::If(line) => self.choice(line),
-            Step::While(line) => self.repetition(line),
-            Step::Procedure(line, number) => self.call(line, number),
-            Step::Halt(line) => self.put(TypedStmt::Halt(line)),
-            Step::Write(line, ends_line) => self.write(line, ends_line),
-            Step::Compound => self.compound(),
+    /// Takes one word: a constant, a text, or a name with what is given of it behind a colon and its line.
+    fn take(&mut self, word: &str) -> Result<(), Unbuilt> {
+        if let Ok(value) = word.parse::<i64>() {
+            return self.push(TypedExpr::Constant(value));
         }
+        if let Some(text) = word.strip_prefix('\'') {
+            return self.text(text.strip_suffix('\'').unwrap_or(text).as_bytes());
+        }
+        let (word, line) = word.split_once('@').unwrap_or((word, USUAL_LINE));
+        let (name, given) = word.split_once(':').unwrap_or((word, ""));
+        self.take_expression(name, given, number(line))
+    }
+
+    /// Takes a word, which may be one of expressions.
+    fn take_expression(&mut self, name: &str, given: &str, line: Line) -> Result<(), Unbuilt> {
+        match name {
+            "variable" => self.variable(number(given)),
+            "neg" => self.one(Unary::Negate),
+            "chr" => self.one(Unary::Character),
+            "mod" => self.two(Binary::Modulo),
+            "<" => self.two(Binary::Less),
+            "pred" => self.char_step(true),
+            "succ" => self.char_step(false),
+            "function" => self.function(number(given)),
+            "index" => self.indexed(),
+            "field" => self.field(number(given)),
+            "at" => self.at_index(),
+            "at-field" => self.at_field(given),
+            "same-field" => self.same_field(given),
+            "at-ranges" => self.at_ranges(given),
+            "at-indexes" => self.at_indexes(),
+            "structured" => self.structured(number(given)),
+            _ => self.take_statement(name, given, line),
+        }
+    }
+
+    /// Takes a word that is none of expressions.
+    fn take_statement(&mut self, name: &str, given: &str, line: Line) -> Result<(), Unbuilt> {
+        match name {
+            "empty" => self.put(TypedStmt::Empty),
+            "assign" => self.assign(line, number(given)),
+            "if" => self.choice(line),
+            "while" => self.repetition(line),
+            "procedure" => self.call(line, number(given)),
+            "halt" => self.put(TypedStmt::Halt(line)),
+            "write" => self.write(line, false),
+            "writeln" => self.write(line, true),
+            "compound" => self.compound(),
+            _ => self.take_print(name, given == "wide"),
+        }
+    }
+
+    /// Takes how a value is written, with its width or without.
+    fn take_print(&mut self, name: &str, is_wide: bool) -> Result<(), Unbuilt> {
+        let Some(print) = print_named(name) else {
+            return Err(Unbuilt::Unknown);
+        };
+        if is_wide {
+            return self.wide(print);
+        }
+        self.plain(print)
     }
 
     /// The routine of this number of `main`.
@@ -243,24 +269,35 @@ impl Builder {
         Ok(self.elements.push(Element::AtIndex(index, value))?)
     }
 
-    fn at_field(&mut self, steps: &[u32]) -> Result<(), Unbuilt> {
-        let steps = List::from_slice(self.alloc, steps)?;
+    /// The steps to a component.
+    fn steps(&self, given: &str) -> Result<List<u32>, Unbuilt> {
+        let mut steps = List::new(self.alloc);
+        for step in given.split('.') {
+            steps.push(number(step))?;
+        }
+        Ok(steps)
+    }
+
+    fn at_field(&mut self, given: &str) -> Result<(), Unbuilt> {
+        let steps = self.steps(given)?;
         let value = self.expression()?;
         Ok(self.elements.push(Element::AtField(steps, value))?)
     }
 
-    fn same_field(&mut self, from: &[u32], to: &[u32]) -> Result<(), Unbuilt> {
-        let from = List::from_slice(self.alloc, from)?;
-        let to = List::from_slice(self.alloc, to)?;
+    fn same_field(&mut self, given: &str) -> Result<(), Unbuilt> {
+        let (from, to) = given.split_once(':').unwrap_or((given, ""));
+        let from = self.steps(from)?;
+        let to = self.steps(to)?;
         Ok(self.elements.push(Element::SameField(from, to))?)
     }
 
-    fn at_ranges(&mut self, all: &[(i64, i64)]) -> Result<(), Unbuilt> {
+    fn at_ranges(&mut self, given: &str) -> Result<(), Unbuilt> {
         let mut ranges = List::new(self.alloc);
-        for (low, high) in all {
+        for range in given.split(',') {
+            let (low, high) = range.split_once("..").unwrap_or((range, range));
             ranges.push(CaseRange {
-                low: *low,
-                high: *high,
+                low: i64::from(number(low)),
+                high: i64::from(number(high)),
             })?;
         }
         let value = self.expression()?;
