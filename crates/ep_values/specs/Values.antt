@@ -1,7 +1,6 @@
 -- The values of variables (ISO 10206, 6.2.3.2 and 6.6): what a new variable of a type has, and the components of a
 -- value.
-use Rattle.std.specs.Prelude.{ℕ, ℤ, zero, suc, ◌+◌, ◌-◌, ◌&&◌, ◌||◌, List, [], ◌∷◌, ◌++◌, Option, Some, None}
-use Rattle.std.specs.Prelude.{if◌then◌else◌}
+use Rattle.std.specs.Prelude.{ℕ, ℤ, zero, suc, List, [], ◌∷◌, Option, Some, None}
 use Rattle.ep_values.specs.TypeValues.{TypeValue, Ordinal, Text, Array, ComponentTypes, Start, Starts, no_component}
 use Rattle.ep_values.specs.TypeValues.{next_component, undefined_start, simple_start, set_start, parts_start, no_start}
 use Rattle.ep_values.specs.TypeValues.{next_start}

@@ -85,7 +85,7 @@ fn sizes(components: &[TypeValue]) -> u64
 }
 
 /// How many numbers are within the bounds.
-#[tactic(auto, using(crate::proofs::Sizes::count_within, crate::proofs::Sizes::count_without))]
+#[tactic(auto, using(crate::proofs::public::Bounds::count_within, crate::proofs::public::Bounds::count_without))]
 fn count(low: i64, high: i64) -> u64
     ensures { result ≡ min (count_of low high) u64.MAX }
 {
