@@ -42,7 +42,10 @@ has (d ∷ ds) c = if same c d then true else has ds c
 
 -- the class of an identifier
 unfoldable pub class_of_name : List ℕ → Class
-class_of_name n = if bytes_eq n (codes "interface") then Interface else (if bytes_eq n (codes "implementation") then Implementation else (if bytes_eq n (codes "forward") then Forward else Name))
+class_of_name n =
+    if bytes_eq n (codes "interface") then Interface else (
+    if bytes_eq n (codes "implementation") then Implementation else (
+    if bytes_eq n (codes "forward") then Forward else Name))
 
 abbrev pub class_of_kind : TokenKind → Class
 class_of_kind (kind.Word w) = Word w
@@ -87,10 +90,14 @@ classes (exactly c) = c ∷ []
 classes names = Name ∷ Interface ∷ Implementation ∷ Forward ∷ []
 classes numbers = Number ∷ []
 classes texts = Text ∷ []
-classes relational_operators = Symbol sym.EQUAL ∷ Symbol sym.NOT_EQUAL ∷ Symbol sym.LESS ∷ Symbol sym.GREATER ∷ Symbol sym.AT_MOST ∷ Symbol sym.AT_LEAST ∷ Word word.IN ∷ []
+classes relational_operators =
+    Symbol sym.EQUAL ∷ Symbol sym.NOT_EQUAL ∷ Symbol sym.LESS ∷ Symbol sym.GREATER ∷ Symbol sym.AT_MOST ∷
+    Symbol sym.AT_LEAST ∷ Word word.IN ∷ []
 classes signs = Symbol sym.PLUS ∷ Symbol sym.MINUS ∷ []
-classes adding_operators = Symbol sym.PLUS ∷ Symbol sym.MINUS ∷ Symbol sym.SYMMETRIC_DIFFERENCE ∷ Word word.OR ∷ Word word.OR_ELSE ∷ []
-classes multiplying_operators = Symbol sym.STAR ∷ Word word.DIV ∷ Word word.MOD ∷ Word word.AND ∷ Word word.AND_THEN ∷ []
+classes adding_operators =
+    Symbol sym.PLUS ∷ Symbol sym.MINUS ∷ Symbol sym.SYMMETRIC_DIFFERENCE ∷ Word word.OR ∷ Word word.OR_ELSE ∷ []
+classes multiplying_operators =
+    Symbol sym.STAR ∷ Word word.DIV ∷ Word word.MOD ∷ Word word.AND ∷ Word word.AND_THEN ∷ []
 classes directions = Word word.TO ∷ Word word.DOWNTO ∷ []
 
 abbrev pub when : {A : Type 0} → Bool → A → Option A → Option A
@@ -110,16 +117,33 @@ carried_text (kind.Str b) = Some b
 carried_text _ = None
 
 abbrev pub relational_at : Class → Option RelationalOperator
-relational_at c = when (same c (Symbol sym.EQUAL)) relational.Equal (when (same c (Symbol sym.NOT_EQUAL)) relational.NotEqual (when (same c (Symbol sym.LESS)) relational.Less (when (same c (Symbol sym.GREATER)) relational.Greater (when (same c (Symbol sym.AT_MOST)) relational.AtMost (when (same c (Symbol sym.AT_LEAST)) relational.AtLeast (when (same c (Word word.IN)) relational.In None))))))
+relational_at c =
+    when (same c (Symbol sym.EQUAL)) relational.Equal (
+    when (same c (Symbol sym.NOT_EQUAL)) relational.NotEqual (
+    when (same c (Symbol sym.LESS)) relational.Less (
+    when (same c (Symbol sym.GREATER)) relational.Greater (
+    when (same c (Symbol sym.AT_MOST)) relational.AtMost (
+    when (same c (Symbol sym.AT_LEAST)) relational.AtLeast (
+    when (same c (Word word.IN)) relational.In None))))))
 
 abbrev pub sign_at : Class → Option Sign
 sign_at c = when (same c (Symbol sym.PLUS)) sign.Plus (when (same c (Symbol sym.MINUS)) sign.Minus None)
 
 abbrev pub adding_at : Class → Option AddingOperator
-adding_at c = when (same c (Symbol sym.PLUS)) adding.Plus (when (same c (Symbol sym.MINUS)) adding.Minus (when (same c (Symbol sym.SYMMETRIC_DIFFERENCE)) adding.SymmetricDifference (when (same c (Word word.OR)) adding.Or (when (same c (Word word.OR_ELSE)) adding.OrElse None))))
+adding_at c =
+    when (same c (Symbol sym.PLUS)) adding.Plus (
+    when (same c (Symbol sym.MINUS)) adding.Minus (
+    when (same c (Symbol sym.SYMMETRIC_DIFFERENCE)) adding.SymmetricDifference (
+    when (same c (Word word.OR)) adding.Or (
+    when (same c (Word word.OR_ELSE)) adding.OrElse None))))
 
 abbrev pub multiplying_at : Class → Option MultiplyingOperator
-multiplying_at c = when (same c (Symbol sym.STAR)) multiplying.Times (when (same c (Word word.DIV)) multiplying.Div (when (same c (Word word.MOD)) multiplying.Mod (when (same c (Word word.AND)) multiplying.And (when (same c (Word word.AND_THEN)) multiplying.AndThen None))))
+multiplying_at c =
+    when (same c (Symbol sym.STAR)) multiplying.Times (
+    when (same c (Word word.DIV)) multiplying.Div (
+    when (same c (Word word.MOD)) multiplying.Mod (
+    when (same c (Word word.AND)) multiplying.And (
+    when (same c (Word word.AND_THEN)) multiplying.AndThen None))))
 
 abbrev pub direction_at : Class → Option Direction
 direction_at c = when (same c (Word word.TO)) direction.To (when (same c (Word word.DOWNTO)) direction.Downto None)

@@ -24,15 +24,19 @@ use Rattle.ep_tree.specs.declared.routine.RoutineStart.TheVariants as start_is
 use Rattle.ep_tree.specs.declared.routine.RoutineBody.TheVariants as body_is
 use Rattle.ep_grammar.specs.Classes.{Class, Word, Symbol, Forward}
 use Rattle.ep_grammar.specs.Classes.{Sort as sort}
-use Rattle.ep_grammar.specs.Descriptions.{routines, Syntax, give, token, line, inside, either, deeper, ◌&◌, ◌<*◌, symbol, keyword, optional, flag, optional_list, many, some, separated}
-use Rattle.ep_tree.specs.Nodes.{constants_node, constant_definition_node, types_node, type_definition_node, discriminant_section_node, variables_node, variable_declaration_node, formal_section_node, routine_node}
+use Rattle.ep_grammar.specs.Descriptions.{routines, Syntax, give, token, line, inside, either, deeper, ◌&◌, ◌<*◌}
+use Rattle.ep_grammar.specs.Descriptions.{symbol, keyword, optional, flag, optional_list, many, some, separated}
+use Rattle.ep_tree.specs.Nodes.{constants_node, constant_definition_node, types_node, type_definition_node}
+use Rattle.ep_tree.specs.Nodes.{discriminant_section_node, variables_node, variable_declaration_node}
+use Rattle.ep_tree.specs.Nodes.{formal_section_node, routine_node}
 use Rattle.ep_grammar.specs.Expressions.{name, on, on_word, of_name, qualified_name, component_value}
 use Rattle.ep_grammar.specs.Types.{names, type_denoter}
 use Rattle.ep_grammar.specs.Statements.{compound}
 
 -- `id "=" cvalue ";"`
 unfoldable pub constant_definition : Syntax ConstantDefinition
-constant_definition = give constant_definition_node & line & name <* symbol sym.EQUAL & component_value <* symbol sym.SEMICOLON
+constant_definition =
+    give constant_definition_node & line & name <* symbol sym.EQUAL & component_value <* symbol sym.SEMICOLON
 
 unfoldable pub constant_definitions : Syntax (List ConstantDefinition)
 constant_definitions = some of_name constant_definition
@@ -49,11 +53,16 @@ unfoldable pub discriminant_sections : Syntax (List DiscriminantSection)
 discriminant_sections = separated sym.SEMICOLON discriminant_section
 
 unfoldable pub discriminants : Syntax (List DiscriminantSection)
-discriminants = optional_list (on sym.LEFT_PARENTHESIS) (give (λ ds. ds) <* symbol sym.LEFT_PARENTHESIS & discriminant_sections <* symbol sym.RIGHT_PARENTHESIS)
+discriminants =
+    optional_list (on sym.LEFT_PARENTHESIS) (
+    give (λ ds. ds) <* symbol sym.LEFT_PARENTHESIS & discriminant_sections <* symbol sym.RIGHT_PARENTHESIS)
 
 -- `tdef = id [ "(" dsec { ";" dsec } ")" ] "=" type`, and `;`
 unfoldable pub type_definition : Syntax TypeDefinition
-type_definition = deeper of_name (give type_definition_node & line & name & discriminants <* symbol sym.EQUAL & type_denoter <* symbol sym.SEMICOLON)
+type_definition =
+    deeper of_name (
+    give type_definition_node & line & name & discriminants <* symbol sym.EQUAL & type_denoter
+    <* symbol sym.SEMICOLON)
 
 unfoldable pub type_definitions : Syntax (List TypeDefinition)
 type_definitions = some of_name type_definition
@@ -64,7 +73,9 @@ types = deeper (on_word word.TYPE) (give types_node & line <* keyword word.TYPE 
 
 -- `ids ":" type ";"`
 unfoldable pub variable_declaration : Syntax VariableDeclaration
-variable_declaration = deeper of_name (give variable_declaration_node & line & names <* symbol sym.COLON & type_denoter <* symbol sym.SEMICOLON)
+variable_declaration =
+    deeper of_name (
+    give variable_declaration_node & line & names <* symbol sym.COLON & type_denoter <* symbol sym.SEMICOLON)
 
 unfoldable pub variable_declarations : Syntax (List VariableDeclaration)
 variable_declarations = some of_name variable_declaration
@@ -83,14 +94,17 @@ formal_type = either (on_word word.TYPE) formal_type_of (give formal_is.Named & 
 
 -- `psec = [ "protected" ] [ "var" ] ids ":" ( name | "type" "of" name )`
 unfoldable pub formal_section : Syntax FormalSection
-formal_section = give formal_section_node & line & flag word.PROTECTED & flag word.VAR & names <* symbol sym.COLON & formal_type
+formal_section =
+    give formal_section_node & line & flag word.PROTECTED & flag word.VAR & names <* symbol sym.COLON & formal_type
 
 unfoldable pub formal_sections : Syntax (List FormalSection)
 formal_sections = separated sym.SEMICOLON formal_section
 
 -- `[ "(" psec { ";" psec } ")" ]`
 unfoldable pub formals : Syntax (List FormalSection)
-formals = optional_list (on sym.LEFT_PARENTHESIS) (give (λ ps. ps) <* symbol sym.LEFT_PARENTHESIS & formal_sections <* symbol sym.RIGHT_PARENTHESIS)
+formals =
+    optional_list (on sym.LEFT_PARENTHESIS) (
+    give (λ ps. ps) <* symbol sym.LEFT_PARENTHESIS & formal_sections <* symbol sym.RIGHT_PARENTHESIS)
 
 -- `"procedure" id [ formals ]`
 unfoldable pub procedure : Syntax RoutineHeading
@@ -102,7 +116,9 @@ result_name = optional (on sym.EQUAL) (give (λ n. n) <* symbol sym.EQUAL & name
 
 -- `"function" id [ formals ] [ "=" id ] ":" name`
 unfoldable pub function : Syntax RoutineHeading
-function = give heading_is.Function & line <* keyword word.FUNCTION & name & formals & result_name <* symbol sym.COLON & qualified_name
+function =
+    give heading_is.Function & line <* keyword word.FUNCTION & name & formals & result_name <* symbol sym.COLON
+    & qualified_name
 
 -- `rhead`
 unfoldable pub routine_heading : Syntax RoutineHeading
@@ -122,7 +138,8 @@ unfoldable pub function_rest : Syntax FunctionRest
 function_rest = give (λ ps r q. (ps, (r, q))) & formals & result_name <* symbol sym.COLON & qualified_name
 
 unfoldable pub function_start : Syntax RoutineStart
-function_start = give function_start_node & line <* keyword word.FUNCTION & name & optional of_function_rest function_rest
+function_start =
+    give function_start_node & line <* keyword word.FUNCTION & name & optional of_function_rest function_rest
 
 -- `rhead | "function" id`
 unfoldable pub routine_start : Syntax RoutineStart
@@ -132,13 +149,17 @@ abbrev pub of_parts : List Class
 of_parts = Word word.CONST ∷ Word word.TYPE ∷ Word word.VAR ∷ Word word.PROCEDURE ∷ Word word.FUNCTION ∷ []
 
 abbrev pub of_block : List Class
-of_block = Word word.CONST ∷ Word word.TYPE ∷ Word word.VAR ∷ Word word.PROCEDURE ∷ Word word.FUNCTION ∷ Word word.BEGIN ∷ []
+of_block =
+    Word word.CONST ∷ Word word.TYPE ∷ Word word.VAR ∷ Word word.PROCEDURE ∷ Word word.FUNCTION ∷ Word word.BEGIN ∷ []
 
 unfoldable pub routine_part : Syntax Part
 routine_part = deeper (Word word.PROCEDURE ∷ Word word.FUNCTION ∷ []) (give part_is.Routine & inside routines)
 
 unfoldable pub part : Syntax Part
-part = either (on_word word.CONST) (give part_is.Constants & constants) (either (on_word word.TYPE) (give part_is.Types & types) (either (on_word word.VAR) (give part_is.Variables & variables) routine_part))
+part =
+    either (on_word word.CONST) (give part_is.Constants & constants) (
+    either (on_word word.TYPE) (give part_is.Types & types) (
+    either (on_word word.VAR) (give part_is.Variables & variables) routine_part))
 
 -- `parts = { consts | types | vars | rdecl }`
 unfoldable pub parts : Syntax (List Part)

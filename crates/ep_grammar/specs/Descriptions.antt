@@ -62,8 +62,11 @@ pub data Syntax : Type 0 → Type 1 where
   row : {A B : Type 0} → Syntax (List A) → List Class → Syntax (Step A B) → B → Syntax (List A × B)
   -- what needs a level inside it
   deeper : {X : Type 0} → List Class → Syntax X → Syntax X
-  -- the first, and then the second where the first has the one shape, or the third where it has the other; it has one of them always
-  shaped : {A C D X : Type 0} → Syntax A → (f : A → Option C) → List Class → Syntax (C → X) → (g : A → Option D) → Syntax (D → X) → AlwaysOne f g → Syntax X
+  -- the first, and then the second where the first has the one shape, or the third where it has the other; it has one
+  -- of them always
+  shaped :
+      {A C D X : Type 0} → Syntax A → (f : A → Option C) → List Class → Syntax (C → X) → (g : A → Option D) →
+      Syntax (D → X) → AlwaysOne f g → Syntax X
 
 infixl 10 ◌&◌
 abbrev pub ◌&◌ : {A X : Type 0} → Syntax (A → X) → Syntax A → Syntax X
@@ -117,8 +120,10 @@ separated n s = apply (give first_of_pair) (row (apply (give single) s) (Symbol 
 
 -- a step that is an item after a semicolon, or a semicolon at the end
 abbrev pub item_or_end : {A : Type 0} → List Class → Syntax A → Syntax (Step A (Unit {0}))
-item_or_end cs s = apply (apply (give (λ u x. x)) (symbol sym.SEMICOLON)) (either cs (apply (give More) s) (give (Last (tt {0}))))
+item_or_end cs s =
+    apply (apply (give (λ u x. x)) (symbol sym.SEMICOLON)) (either cs (apply (give More) s) (give (Last (tt {0}))))
 
 -- one or more, with semicolons between them and perhaps at the end
 abbrev pub closed : {A : Type 0} → List Class → Syntax A → Syntax (List A)
-closed cs s = apply (give first_of_pair) (row (apply (give single) s) (Symbol sym.SEMICOLON ∷ []) (item_or_end cs s) (tt {0}))
+closed cs s =
+    apply (give first_of_pair) (row (apply (give single) s) (Symbol sym.SEMICOLON ∷ []) (item_or_end cs s) (tt {0}))

@@ -21,11 +21,16 @@ use Rattle.ep_tree.specs.declared.expression.ComponentValue.TheVariants as value
 use Rattle.ep_tree.specs.declared.expression.Values.{Values}
 use Rattle.ep_tree.specs.declared.expression.Element.{Element}
 use Rattle.ep_tree.specs.declared.expression.Element.TheVariants as element_is
-use Rattle.ep_grammar.specs.Classes.{Class, Word, Symbol, Name, Number, Text, Interface, Implementation, Forward, classes}
+use Rattle.ep_grammar.specs.Classes.{Class, Word, Symbol, Name, Number, Text, Interface, Implementation, Forward}
+use Rattle.ep_grammar.specs.Classes.{classes}
 use Rattle.ep_grammar.specs.Classes.{Sort as sort}
-use Rattle.ep_grammar.specs.Descriptions.{expressions, factors, component_values, elements, bracketed_values, Syntax, give, token, line, inside, either, switch, row, deeper, always_first, shaped, ◌&◌, ◌<*◌, symbol, keyword, optional, many, separated, item_or_end, first_of_pair}
+use Rattle.ep_grammar.specs.Descriptions.{expressions, factors, component_values, elements, bracketed_values, Syntax}
+use Rattle.ep_grammar.specs.Descriptions.{give, token, line, inside, either, switch, row, deeper, always_first, shaped}
+use Rattle.ep_grammar.specs.Descriptions.{◌&◌, ◌<*◌, symbol, keyword, optional, many, separated, item_or_end}
+use Rattle.ep_grammar.specs.Descriptions.{first_of_pair}
 use Rattle.ep_tree.specs.Shapes.{all_single, as_identifier}
-use Rattle.ep_tree.specs.Nodes.{qualified_node, expression_node, comparison_node, simple_node, addend_node, term_node, multiplier_node, access_node, argument_node, label_node, values_node}
+use Rattle.ep_tree.specs.Nodes.{qualified_node, expression_node, comparison_node, simple_node, addend_node, term_node}
+use Rattle.ep_tree.specs.Nodes.{multiplier_node, access_node, argument_node, label_node, values_node}
 
 abbrev pub name : Syntax (List ℕ)
 name = token sort.names
@@ -42,7 +47,9 @@ abbrev pub of_name : List Class
 of_name = Name ∷ Interface ∷ Implementation ∷ Forward ∷ []
 
 abbrev pub of_factor : List Class
-of_factor = Name ∷ Interface ∷ Implementation ∷ Forward ∷ Number ∷ Text ∷ Word word.NIL ∷ Word word.NOT ∷ Symbol sym.LEFT_PARENTHESIS ∷ Symbol sym.LEFT_BRACKET ∷ []
+of_factor =
+    Name ∷ Interface ∷ Implementation ∷ Forward ∷ Number ∷ Text ∷ Word word.NIL ∷ Word word.NOT ∷
+    Symbol sym.LEFT_PARENTHESIS ∷ Symbol sym.LEFT_BRACKET ∷ []
 
 abbrev pub of_expression : List Class
 of_expression = Symbol sym.PLUS ∷ Symbol sym.MINUS ∷ of_factor
@@ -60,7 +67,8 @@ of_selector = Symbol sym.PERIOD ∷ Symbol sym.LEFT_BRACKET ∷ Symbol sym.CARET
 
 -- `name = id [ "." id ]`
 unfoldable pub qualified_name : Syntax QualifiedName
-qualified_name = give qualified_node & line & name & optional (on sym.PERIOD) (give (λ n. n) <* symbol sym.PERIOD & name)
+qualified_name =
+    give qualified_node & line & name & optional (on sym.PERIOD) (give (λ n. n) <* symbol sym.PERIOD & name)
 
 -- `label = expr [ ".." expr ]`
 unfoldable pub label_of : Syntax Expression → Syntax Label
@@ -74,7 +82,9 @@ inner_labels = separated sym.COMMA (label_of (inside expressions))
 
 -- `arg = expr [ ":" expr ]`
 unfoldable pub argument : Syntax Argument
-argument = give argument_node & line & inside expressions & optional (on sym.COLON) (give (λ x. x) <* symbol sym.COLON & inside expressions)
+argument =
+    give argument_node & line & inside expressions
+    & optional (on sym.COLON) (give (λ x. x) <* symbol sym.COLON & inside expressions)
 
 unfoldable pub field_selector : Syntax Selector
 field_selector = give selector_is.Field & line <* symbol sym.PERIOD & name
@@ -83,7 +93,9 @@ unfoldable pub inner_expressions : Syntax (List Expression)
 inner_expressions = separated sym.COMMA (inside expressions)
 
 unfoldable pub index_selector : Syntax Selector
-index_selector = deeper (on sym.LEFT_BRACKET) (give selector_is.Index & line <* symbol sym.LEFT_BRACKET & inner_expressions <* symbol sym.RIGHT_BRACKET)
+index_selector =
+    deeper (on sym.LEFT_BRACKET) (
+    give selector_is.Index & line <* symbol sym.LEFT_BRACKET & inner_expressions <* symbol sym.RIGHT_BRACKET)
 
 unfoldable pub pointer_selector : Syntax Selector
 pointer_selector = give selector_is.Dereference & line <* symbol sym.CARET
@@ -92,10 +104,15 @@ unfoldable pub arguments : Syntax (List Argument)
 arguments = separated sym.COMMA argument
 
 unfoldable pub argument_selector : Syntax Selector
-argument_selector = deeper (on sym.LEFT_PARENTHESIS) (give selector_is.Arguments & line <* symbol sym.LEFT_PARENTHESIS & arguments <* symbol sym.RIGHT_PARENTHESIS)
+argument_selector =
+    deeper (on sym.LEFT_PARENTHESIS) (
+    give selector_is.Arguments & line <* symbol sym.LEFT_PARENTHESIS & arguments <* symbol sym.RIGHT_PARENTHESIS)
 
 unfoldable pub selector : Syntax Selector
-selector = either (on sym.PERIOD) field_selector (either (on sym.LEFT_BRACKET) index_selector (either (on sym.CARET) pointer_selector argument_selector))
+selector =
+    either (on sym.PERIOD) field_selector (
+    either (on sym.LEFT_BRACKET) index_selector (
+    either (on sym.CARET) pointer_selector argument_selector))
 
 unfoldable pub selectors : Syntax (List Selector)
 selectors = many of_selector selector
@@ -120,7 +137,9 @@ abbrev pub values_from : Rest → ℕ → Element → Values
 values_from rest at first = values_node at (first ∷ rest.0) rest.1
 
 unfoldable pub values_rest_of : Syntax Element → Syntax ComponentValue → Syntax Rest
-values_rest_of e v = give (λ more otherwise. (more, otherwise)) & more_elements_of e & optional (on_word word.OTHERWISE) (otherwise_of v)
+values_rest_of e v =
+    give (λ more otherwise. (more, otherwise)) & more_elements_of e
+    & optional (on_word word.OTHERWISE) (otherwise_of v)
 
 unfoldable pub inner_values_rest : Syntax Rest
 inner_values_rest = values_rest_of (inside elements) (inside component_values)
@@ -148,7 +167,8 @@ accessed more at n second = factor_is.Access (access_node at n (field_of second 
 
 -- an access of this name that begins with an index
 abbrev pub indexed : List Selector → List Expression → ℕ → Called
-indexed more es at_bracket at n second = factor_is.Access (access_node at n (field_of second ++ (selector_is.Index at_bracket es ∷ more)))
+indexed more es at_bracket at n second =
+    factor_is.Access (access_node at n (field_of second ++ (selector_is.Index at_bracket es ∷ more)))
 
 -- a structured value of the type of this name
 abbrev pub structured : Values → ℕ → Called
@@ -170,13 +190,17 @@ abbrev pub single_labels : ℕ × List Label → Option (List Expression)
 single_labels p = all_single p.1
 
 unfoldable pub bracket_labels : Syntax (ℕ → Called)
-bracket_labels = shaped labels_start Some (on sym.COLON) structured_tail single_labels index_tail (always_first (λ p. tt {0}))
+bracket_labels =
+    shaped labels_start Some (on sym.COLON) structured_tail single_labels index_tail (always_first (λ p. tt {0}))
 
 unfoldable pub bracket_values : Syntax (ℕ → Called)
 bracket_values = give structured & inside bracketed_values <* symbol sym.RIGHT_BRACKET
 
 unfoldable pub bracket : Syntax Called
-bracket = deeper (on sym.LEFT_BRACKET) (give (λ at_bracket r. r at_bracket) & line <* symbol sym.LEFT_BRACKET & switch (Word word.OTHERWISE ∷ Word word.CASE ∷ []) bracket_values bracket_labels)
+bracket =
+    deeper (on sym.LEFT_BRACKET) (
+    give (λ at_bracket r. r at_bracket) & line <* symbol sym.LEFT_BRACKET
+    & switch (Word word.OTHERWISE ∷ Word word.CASE ∷ []) bracket_values bracket_labels)
 
 unfoldable pub called_rest : Syntax Called
 called_rest = switch (on sym.LEFT_BRACKET) bracket (give accessed & selectors)
@@ -186,7 +210,9 @@ called_field = give (λ p m r at n. r at n (Some (p, m))) & line <* symbol sym.P
 
 -- `access | name "[" values "]"`
 unfoldable pub called : Syntax Factor
-called = give (λ at n r. r at n) & line & name & switch (on sym.PERIOD) called_field (give (λ r at n. r at n None) & called_rest)
+called =
+    give (λ at n r. r at n) & line & name
+    & switch (on sym.PERIOD) called_field (give (λ r at n. r at n None) & called_rest)
 
 unfoldable pub number_factor : Syntax Factor
 number_factor = give factor_is.Number & line & token sort.numbers
@@ -198,7 +224,10 @@ unfoldable pub nil_factor : Syntax Factor
 nil_factor = give factor_is.Nil & line <* keyword word.NIL
 
 unfoldable pub parenthesized : Syntax Factor
-parenthesized = deeper (on sym.LEFT_PARENTHESIS) (give factor_is.Parenthesized & line <* symbol sym.LEFT_PARENTHESIS & inside expressions <* symbol sym.RIGHT_PARENTHESIS)
+parenthesized =
+    deeper (on sym.LEFT_PARENTHESIS) (
+    give factor_is.Parenthesized & line <* symbol sym.LEFT_PARENTHESIS & inside expressions
+    <* symbol sym.RIGHT_PARENTHESIS)
 
 unfoldable pub negated : Syntax Factor
 negated = deeper (on_word word.NOT) (give factor_is.Not & line <* keyword word.NOT & inside factors)
@@ -207,11 +236,20 @@ unfoldable pub members : Syntax (List Label)
 members = deeper of_expression (give (λ ls. ls) & inner_labels <* symbol sym.RIGHT_BRACKET)
 
 unfoldable pub set_constructor : Syntax Factor
-set_constructor = give factor_is.Set & line <* symbol sym.LEFT_BRACKET & either (on sym.RIGHT_BRACKET) (give [] <* symbol sym.RIGHT_BRACKET) members
+set_constructor =
+    give factor_is.Set & line <* symbol sym.LEFT_BRACKET
+    & either (on sym.RIGHT_BRACKET) (give [] <* symbol sym.RIGHT_BRACKET) members
 
--- `factor = access | number | string | "nil" | "(" expr ")" | "not" factor | "[" [ label { "," label } ] "]" | name "[" values "]"`
+-- `factor = access | number | string | "nil" | "(" expr ")" | "not" factor | "[" [ label { "," label } ] "]" | name
+-- "[" values "]"`
 unfoldable pub factor : Syntax Factor
-factor = either of_name called (either (Number ∷ []) number_factor (either (Text ∷ []) text_factor (either (on_word word.NIL) nil_factor (either (on_word word.NOT) negated (either (on sym.LEFT_PARENTHESIS) parenthesized set_constructor)))))
+factor =
+    either of_name called (
+    either (Number ∷ []) number_factor (
+    either (Text ∷ []) text_factor (
+    either (on_word word.NIL) nil_factor (
+    either (on_word word.NOT) negated (
+    either (on sym.LEFT_PARENTHESIS) parenthesized set_constructor)))))
 
 -- ---- terms and expressions
 
@@ -265,13 +303,16 @@ unfoldable pub set_tail : Syntax (ℕ → List Label → ℕ → ComponentValue)
 set_tail = give (λ r at ls. set_from r ls) <* symbol sym.RIGHT_BRACKET & expression_rest
 
 unfoldable pub values_tail : Syntax (ℕ → List Label → ℕ → ComponentValue)
-values_tail = give (λ v r at ls at_bracket. value_is.Bracketed at_bracket (values_from r at (element_is.Labelled at ls v))) <* symbol sym.COLON & inside component_values & inner_values_end
+values_tail =
+    give (λ v r at ls at_bracket. value_is.Bracketed at_bracket (values_from r at (element_is.Labelled at ls v)))
+    <* symbol sym.COLON & inside component_values & inner_values_end
 
 unfoldable pub value_labels : Syntax (ℕ → ComponentValue)
 value_labels = give (λ at ls t. t at ls) & line & inner_labels & either (on sym.RIGHT_BRACKET) set_tail values_tail
 
 unfoldable pub value_values : Syntax (ℕ → ComponentValue)
-value_values = give (λ v at_bracket. value_is.Bracketed at_bracket v) & inside bracketed_values <* symbol sym.RIGHT_BRACKET
+value_values =
+    give (λ v at_bracket. value_is.Bracketed at_bracket v) & inside bracketed_values <* symbol sym.RIGHT_BRACKET
 
 unfoldable pub empty_set_tail : Syntax (ℕ → ComponentValue)
 empty_set_tail = give (λ r. set_from r []) <* symbol sym.RIGHT_BRACKET & expression_rest
@@ -280,7 +321,9 @@ unfoldable pub value_content : Syntax (ℕ → ComponentValue)
 value_content = deeper of_values (switch (Word word.OTHERWISE ∷ Word word.CASE ∷ []) value_values value_labels)
 
 unfoldable pub bracketed_value : Syntax ComponentValue
-bracketed_value = give (λ at_bracket r. r at_bracket) & line <* symbol sym.LEFT_BRACKET & either (on sym.RIGHT_BRACKET) empty_set_tail value_content
+bracketed_value =
+    give (λ at_bracket r. r at_bracket) & line <* symbol sym.LEFT_BRACKET
+    & either (on sym.RIGHT_BRACKET) empty_set_tail value_content
 
 -- `cvalue = expr | "[" values "]"`
 unfoldable pub component_value : Syntax ComponentValue
@@ -296,7 +339,9 @@ filled_values = deeper of_values (give Some & inside bracketed_values <* symbol 
 
 -- `"of" "[" [ values ] "]"`
 unfoldable pub case_values : Syntax (Option Values)
-case_values = give (λ x. x) <* keyword word.OF <* symbol sym.LEFT_BRACKET & either (on sym.RIGHT_BRACKET) (give None <* symbol sym.RIGHT_BRACKET) filled_values
+case_values =
+    give (λ x. x) <* keyword word.OF <* symbol sym.LEFT_BRACKET
+    & either (on sym.RIGHT_BRACKET) (give None <* symbol sym.RIGHT_BRACKET) filled_values
 
 unfoldable pub case_plain : Syntax (Expression → ℕ → Element)
 case_plain = give (λ vs e at. element_is.Variant at None e vs) & case_values

@@ -1,10 +1,12 @@
 -- What a parser of a description answers.
-use Rattle.std.specs.Prelude.{◌≡◌, ◌≢◌, ℕ, zero, suc, Bool, true, false, if◌then◌else◌, List, [], ◌∷◌, ◌++◌, length, Option, Some, None, Result, Ok, Err}
+use Rattle.std.specs.Prelude.{◌≡◌, ◌≢◌, ℕ, zero, suc, Bool, true, false, if◌then◌else◌, List, [], ◌∷◌, ◌++◌, length}
+use Rattle.std.specs.Prelude.{Option, Some, None, Result, Ok, Err}
 use Rattle.ep_token.specs.declared.token.Token.{Token}
 use Rattle.ep_grammar.specs.declared.stop.Stop.{Stop}
 use Rattle.ep_grammar.specs.declared.stop.Stop.TheVariants as stop
 use Rattle.ep_grammar.specs.Classes.{Class, Sort, carried, has, class_of, line_of, after_first, meaning}
-use Rattle.ep_grammar.specs.Descriptions.{Nonterminal, Node, Step, More, Last, Syntax, give, token, line, inside, apply, either, switch, row, deeper, shaped}
+use Rattle.ep_grammar.specs.Descriptions.{Nonterminal, Node, Step, More, Last, Syntax, give, token, line, inside}
+use Rattle.ep_grammar.specs.Descriptions.{apply, either, switch, row, deeper, shaped}
 
 -- what was read and the tokens that are left, or the cause and the tokens from the refused one on
 abbrev pub Outcome : Type 0 → Type 0
@@ -37,7 +39,8 @@ go_on more found (Last q) = λ i. Ok ((found, q), i)
 -- the count of the tokens is enough.
 unfoldable pub steps : {A B : Type 0} → List Class → Parser (Step A B) → B → ℕ → List A → Parser (List A × B)
 steps cs step r zero found = λ i. Ok ((found, r), i)
-steps cs step r (suc n) found = λ i. if has cs (class_of i) then and_then (step i) (go_on (steps cs step r n) found) else Ok ((found, r), i)
+steps cs step r (suc n) found =
+    λ i. if has cs (class_of i) then and_then (step i) (go_on (steps cs step r n) found) else Ok ((found, r), i)
 
 abbrev pub Inside : Type 0
 Inside = (n : Nonterminal) → Parser (Node n)
@@ -74,7 +77,11 @@ read e (either cs s t) = λ i. if has cs (class_of i) then read e s i else read 
 read e (switch cs s t) = λ i. if has cs (class_of i) then read e s i else read e t i
 read e (row s cs t r) = λ i. and_then (read e s i) (λ found j. steps cs (read e t) r (length j) found j)
 read e (deeper cs s) = within e cs (read e s)
-read e (shaped s f cs t g u o) = λ i. and_then (read e s i) (λ y j. if has cs (class_of j) then by_shape (f y) (read e t) (by_shape (g y) (read e u) refused) j else by_shape (g y) (read e u) refused j)
+read e (shaped s f cs t g u o) =
+    λ i. and_then (read e s i) (λ y j.
+    if has cs (class_of j)
+    then by_shape (f y) (read e t) (by_shape (g y) (read e u) refused) j
+    else by_shape (g y) (read e u) refused j)
 
 -- what a function that parses ensures: the outcome, unless memory is wanting
 abbrev pub Reads : {A : Type 0} → Outcome A → Result A Stop → List Token → Type 0
@@ -95,6 +102,8 @@ abbrev pub turns : {A B : Type 0} → List Class → Parser (Step A B) → B →
 turns cs step r n found = λ i. and_then (steps cs step r n found i) (λ p k. Ok (p.0, k))
 
 -- the same for a list with what follows it, of which a node is made
-abbrev pub ReadsInto : {A B X : Type 0} → (List A → B → X) → List A → Outcome (List A × B) → Result X Stop → List Token → Type 0
-ReadsInto node before outcome (Ok x) new = (more : List _ × _) × (outcome ≡ Ok (more, new)) × (x ≡ node (before ++ more.0) more.1)
+abbrev pub ReadsInto :
+    {A B X : Type 0} → (List A → B → X) → List A → Outcome (List A × B) → Result X Stop → List Token → Type 0
+ReadsInto node before outcome (Ok x) new =
+    (more : List _ × _) × (outcome ≡ Ok (more, new)) × (x ≡ node (before ++ more.0) more.1)
 ReadsInto node before outcome (Err e) new = e ≢ stop.NoMemory → outcome ≡ Err (e, new)

@@ -6,18 +6,21 @@ use Rattle.ep_grammar.specs.declared.stop.Stop.{Stop}
 use Rattle.ep_grammar.specs.declared.stop.Stop.TheVariants as stop
 use Rattle.ep_grammar.specs.Rules.{Grammar, Begins, read_components}
 
--- The text is that of no list of components in which at most k levels nest, and its tokens up to and with this one begin no such text; the place past the last token is its end.
+-- The text is that of no list of components in which at most k levels nest, and its tokens up to and with this one
+-- begin no such text; the place past the last token is its end.
 pub record RefusedAt (k : ℕ) (ts : List Token) (place : ℕ) : Type 0 where
   pub inside : place ≤ length ts
   pub not_derived : (cs : List Component) → Grammar k ts cs → ⊥
   pub no_text : place < length ts → Begins k (take (place + 1) ts) → ⊥
 
--- However deep a text may nest, the token cannot stand there. The place is the least: the tokens before it begin a text in which at most k levels nest, where k is not 0 (with no level there is no text).
+-- However deep a text may nest, the token cannot stand there. The place is the least: the tokens before it begin a
+-- text in which at most k levels nest, where k is not 0 (with no level there is no text).
 pub record SyntaxRefusedAt (k : ℕ) (ts : List Token) (place : ℕ) : Type 0 where
   pub refused : (m : ℕ) → RefusedAt m ts place
   pub begun_before : 0 < k → Begins k (take place ts)
 
--- There is a token, which cannot stand there in a text in which at most k levels nest, and can in one that nests deeper. The place is the least, as above.
+-- There is a token, which cannot stand there in a text in which at most k levels nest, and can in one that nests
+-- deeper. The place is the least, as above.
 pub record NestingRefusedAt (k : ℕ) (ts : List Token) (place : ℕ) : Type 0 where
   pub refused : RefusedAt k ts place
   pub begun_before : 0 < k → Begins k (take place ts)
@@ -56,8 +59,12 @@ MoreLevels = (k m : ℕ) (ts : List Token) (cs : List Component) → k ≤ m →
 
 -- where a parser stops, the text is refused for that cause at the first token that is left
 abbrev pub StopIsRefused : Type 0
-StopIsRefused = (k : ℕ) (ts : List Token) (cause : Stop) (left : List Token) → read_components k ts ≡ Err (cause, left) → RefusedFor cause k ts (place_of ts left)
+StopIsRefused =
+    (k : ℕ) (ts : List Token) (cause : Stop) (left : List Token) →
+    read_components k ts ≡ Err (cause, left) → RefusedFor cause k ts (place_of ts left)
 
 -- where a parser leaves tokens, the first of them cannot stand there
 abbrev pub LeftIsRefused : Type 0
-LeftIsRefused = (k : ℕ) (ts : List Token) (cs : List Component) (left : List Token) → read_components k ts ≡ Ok (cs, left) → 0 < length left → SyntaxRefusedAt k ts (place_of ts left)
+LeftIsRefused =
+    (k : ℕ) (ts : List Token) (cs : List Component) (left : List Token) →
+    read_components k ts ≡ Ok (cs, left) → 0 < length left → SyntaxRefusedAt k ts (place_of ts left)

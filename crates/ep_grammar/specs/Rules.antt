@@ -1,7 +1,8 @@
 -- What may stand one level deeper: the productions, by the number of levels that are left.
 use Rattle.std.specs.Prelude.{◌≡◌, ℕ, zero, suc, Bool, List, [], ◌++◌, Option, Some, None, Result, Ok, Err}
 use Rattle.ep_grammar.specs.declared.stop.Stop.{Stop}
-use Rattle.ep_grammar.specs.Descriptions.{Nonterminal, Node, expressions, factors, component_values, elements, bracketed_values, plains, field_lists, statements, routines, Syntax}
+use Rattle.ep_grammar.specs.Descriptions.{Nonterminal, Node, expressions, factors, component_values, elements}
+use Rattle.ep_grammar.specs.Descriptions.{bracketed_values, plains, field_lists, statements, routines, Syntax}
 use Rattle.ep_token.specs.declared.token.Token.{Token}
 use Rattle.ep_tree.specs.declared.component.Component.{Component}
 use Rattle.ep_grammar.specs.Derived.{derives}

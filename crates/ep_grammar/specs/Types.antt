@@ -18,10 +18,14 @@ use Rattle.ep_tree.specs.declared.types.Core.TheVariants as core_is
 use Rattle.ep_tree.specs.declared.types.Structure.TheVariants as structure_is
 use Rattle.ep_tree.specs.declared.types.VariantSelector.TheVariants as selector_is
 use Rattle.ep_grammar.specs.Classes.{Class, Word}
-use Rattle.ep_grammar.specs.Descriptions.{plains, field_lists, Syntax, give, line, inside, either, switch, row, deeper, always_first, always_second, shaped, ◌&◌, ◌<*◌, symbol, keyword, optional, flag, separated, closed, More, Last, single, Step}
-use Rattle.ep_tree.specs.Nodes.{type_denoter_node, plain_node, fields_node, field_section_node, variant_part_node, variant_node}
+use Rattle.ep_grammar.specs.Descriptions.{plains, field_lists, Syntax, give, line, inside, either, switch, row, deeper}
+use Rattle.ep_grammar.specs.Descriptions.{always_first, always_second, shaped, ◌&◌, ◌<*◌, symbol, keyword, optional}
+use Rattle.ep_grammar.specs.Descriptions.{flag, separated, closed, More, Last, single, Step}
+use Rattle.ep_tree.specs.Nodes.{type_denoter_node, plain_node, fields_node, field_section_node, variant_part_node}
+use Rattle.ep_tree.specs.Nodes.{variant_node}
 use Rattle.ep_tree.specs.Shapes.{as_named}
-use Rattle.ep_grammar.specs.Expressions.{name, on, on_word, of_name, of_expression, qualified_name, expression, component_value, labels}
+use Rattle.ep_grammar.specs.Expressions.{name, on, on_word, of_name, of_expression, qualified_name, expression}
+use Rattle.ep_grammar.specs.Expressions.{component_value, labels}
 
 -- `ids = id { "," id }`
 unfoldable pub names : Syntax (List (List ℕ))
@@ -60,13 +64,17 @@ abbrev pub named_core : QualifiedName × List Expression → ℕ → Core
 named_core p at = core_is.Named at p.0 p.1
 
 unfoldable pub named_or_range : Syntax Core
-named_or_range = give (λ at r. r at) & line & shaped expression Some (on sym.RANGE) range_end as_named (give named_core) (always_first (λ e. tt {0}))
+named_or_range =
+    give (λ at r. r at) & line
+    & shaped expression Some (on sym.RANGE) range_end as_named (give named_core) (always_first (λ e. tt {0}))
 
 unfoldable pub inner_plains : Syntax (List Plain)
 inner_plains = separated sym.COMMA (inside plains)
 
 unfoldable pub array : Syntax Structure
-array = give structure_is.Array & line <* keyword word.ARRAY <* symbol sym.LEFT_BRACKET & inner_plains <* symbol sym.RIGHT_BRACKET <* keyword word.OF & inside plains
+array =
+    give structure_is.Array & line <* keyword word.ARRAY <* symbol sym.LEFT_BRACKET & inner_plains
+    <* symbol sym.RIGHT_BRACKET <* keyword word.OF & inside plains
 
 unfoldable pub record_structure : Syntax Structure
 record_structure = give structure_is.Record & line <* keyword word.RECORD & inside field_lists <* keyword word.END
@@ -84,9 +92,15 @@ of_structure = Word word.PACKED ∷ Word word.ARRAY ∷ Word word.RECORD ∷ Wor
 unfoldable pub structured : Syntax Core
 structured = deeper of_structure (give core_is.Structured & line & flag word.PACKED & structure)
 
--- `core = name [ "(" expr { "," expr } ")" ] | expr ".." expr | "(" ids ")" | "^" name | [ "packed" ] struct | "restricted" name | "type" "of" name`
+-- `core = name [ "(" expr { "," expr } ")" ] | expr ".." expr | "(" ids ")" | "^" name | [ "packed" ] struct |
+-- "restricted" name | "type" "of" name`
 unfoldable pub core : Syntax Core
-core = switch (on sym.LEFT_PARENTHESIS) enumeration (either (on sym.CARET) pointer (either of_structure structured (either (on_word word.RESTRICTED) restricted (either (on_word word.TYPE) type_of named_or_range))))
+core =
+    switch (on sym.LEFT_PARENTHESIS) enumeration (
+    either (on sym.CARET) pointer (
+    either of_structure structured (
+    either (on_word word.RESTRICTED) restricted (
+    either (on_word word.TYPE) type_of named_or_range))))
 
 -- `plain = [ "bindable" ] core`
 unfoldable pub plain : Syntax Plain
@@ -104,7 +118,8 @@ selector_node at n (Some q) = selector_is.Tag at n q
 
 -- `id ":" name | id`
 unfoldable pub variant_selector : Syntax VariantSelector
-variant_selector = give selector_node & line & name & optional (on sym.COLON) (give (λ q. q) <* symbol sym.COLON & qualified_name)
+variant_selector =
+    give selector_node & line & name & optional (on sym.COLON) (give (λ q. q) <* symbol sym.COLON & qualified_name)
 
 unfoldable pub inner_fields : Syntax Fields
 inner_fields = give (λ f. f) <* symbol sym.LEFT_PARENTHESIS & inside field_lists <* symbol sym.RIGHT_PARENTHESIS
@@ -117,11 +132,17 @@ unfoldable pub variants : Syntax (List Variant)
 variants = closed of_expression variant
 
 unfoldable pub other_fields : Syntax Fields
-other_fields = deeper (on_word word.OTHERWISE) (give (λ f u. f) <* keyword word.OTHERWISE & inner_fields & optional (on sym.SEMICOLON) (symbol sym.SEMICOLON))
+other_fields =
+    deeper (on_word word.OTHERWISE) (
+    give (λ f u. f) <* keyword word.OTHERWISE & inner_fields & optional (on sym.SEMICOLON) (symbol sym.SEMICOLON))
 
--- `vpart [ ";" ]`, where `vpart = "case" ( id ":" name | id ) "of" variant { ";" variant } [ [ ";" ] "otherwise" "(" fields ")" ]`
+-- `vpart [ ";" ]`, where `vpart = "case" ( id ":" name | id ) "of" variant { ";" variant } [ [ ";" ] "otherwise" "("
+-- fields ")" ]`
 unfoldable pub variant_part : Syntax VariantPart
-variant_part = deeper (on_word word.CASE) (give variant_part_node & line <* keyword word.CASE & variant_selector <* keyword word.OF & variants & optional (on_word word.OTHERWISE) other_fields)
+variant_part =
+    deeper (on_word word.CASE) (
+    give variant_part_node & line <* keyword word.CASE & variant_selector <* keyword word.OF & variants
+    & optional (on_word word.OTHERWISE) other_fields)
 
 -- a section after a semicolon, or a semicolon at the end
 abbrev pub section_step : Syntax (Step FieldSection Bool)
@@ -141,11 +162,17 @@ unfoldable pub sections_end : Syntax (List FieldSection → ℕ → Fields)
 sections_end = give (λ v fs at. fields_node at fs (Some v)) & variant_part
 
 unfoldable pub section_fields : Syntax Fields
-section_fields = give (λ at r. r at) & line & shaped sections ended (on_word word.CASE) sections_end listed (give (λ fs at. fields_node at fs None)) (always_second (λ p. tt {0}))
+section_fields =
+    give (λ at r. r at) & line
+    & shaped sections ended (on_word word.CASE) sections_end
+    listed (give (λ fs at. fields_node at fs None)) (always_second (λ p. tt {0}))
 
 unfoldable pub variant_fields : Syntax Fields
 variant_fields = give (λ at v. fields_node at [] (Some v)) & line & variant_part
 
 -- `fields = [ ( fsec { ";" fsec } [ ";" vpart ] | vpart ) [ ";" ] ]`
 unfoldable pub fields : Syntax Fields
-fields = either of_name section_fields (either (on_word word.CASE) variant_fields (give (λ at. fields_node at [] None) & line))
+fields =
+    either of_name section_fields (
+    either (on_word word.CASE) variant_fields (
+    give (λ at. fields_node at [] None) & line))

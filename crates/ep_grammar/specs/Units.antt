@@ -17,8 +17,10 @@ use Rattle.ep_tree.specs.declared.component.HeadingPart.TheVariants as part_is
 use Rattle.ep_tree.specs.declared.component.ExportItem.TheVariants as item_is
 use Rattle.ep_grammar.specs.Classes.{Class, Word}
 use Rattle.ep_grammar.specs.Classes.{Sort as sort}
-use Rattle.ep_grammar.specs.Descriptions.{statements, Syntax, give, token, line, inside, either, deeper, ◌&◌, ◌<*◌, symbol, keyword, optional, flag, optional_list, many, some, separated}
-use Rattle.ep_tree.specs.Nodes.{program_node, module_node, implementation_node, heading_node, block_node, export_node, import_node, import_item_node}
+use Rattle.ep_grammar.specs.Descriptions.{statements, Syntax, give, token, line, inside, either, deeper, ◌&◌, ◌<*◌}
+use Rattle.ep_grammar.specs.Descriptions.{symbol, keyword, optional, flag, optional_list, many, some, separated}
+use Rattle.ep_tree.specs.Nodes.{program_node, module_node, implementation_node, heading_node, block_node, export_node}
+use Rattle.ep_tree.specs.Nodes.{import_node, import_item_node}
 use Rattle.ep_grammar.specs.Expressions.{name, on, on_word, of_name}
 use Rattle.ep_grammar.specs.Types.{names_in_parentheses}
 use Rattle.ep_grammar.specs.Statements.{compound}
@@ -46,11 +48,15 @@ import_list = give (λ xs. xs) <* symbol sym.LEFT_PARENTHESIS & import_items <* 
 
 -- `[ [ "only" ] "(" iitem { "," iitem } ")" ]`, with whether `only` is there
 unfoldable pub import_part : Syntax (Bool × List ImportItem)
-import_part = either (on_word word.ONLY) (give (λ xs. (true, xs)) <* keyword word.ONLY & import_list) (either (on sym.LEFT_PARENTHESIS) (give (λ xs. (false, xs)) & import_list) (give (false, [])))
+import_part =
+    either (on_word word.ONLY) (give (λ xs. (true, xs)) <* keyword word.ONLY & import_list) (
+    either (on sym.LEFT_PARENTHESIS) (give (λ xs. (false, xs)) & import_list) (give (false, [])))
 
 -- `import = id [ "qualified" ] [ [ "only" ] "(" iitem { "," iitem } ")" ]`, and `;`
 unfoldable pub import_specification : Syntax Import
-import_specification = give (λ at n q p. import_node at n q p.0 p.1) & line & name & flag word.QUALIFIED & import_part <* symbol sym.SEMICOLON
+import_specification =
+    give (λ at n q p. import_node at n q p.0 p.1) & line & name & flag word.QUALIFIED & import_part
+    <* symbol sym.SEMICOLON
 
 unfoldable pub import_specifications : Syntax (List Import)
 import_specifications = some of_name import_specification
@@ -80,7 +86,9 @@ export_items = separated sym.COMMA export_item
 
 -- `export = id "=" "(" eitem { "," eitem } ")"`, and `;`
 unfoldable pub export_part : Syntax Export
-export_part = give export_node & line & name <* symbol sym.EQUAL <* symbol sym.LEFT_PARENTHESIS & export_items <* symbol sym.RIGHT_PARENTHESIS <* symbol sym.SEMICOLON
+export_part =
+    give export_node & line & name <* symbol sym.EQUAL <* symbol sym.LEFT_PARENTHESIS & export_items
+    <* symbol sym.RIGHT_PARENTHESIS <* symbol sym.SEMICOLON
 
 unfoldable pub export_parts : Syntax (List Export)
 export_parts = some of_name export_part
@@ -95,7 +103,10 @@ unfoldable pub heading_routine : Syntax HeadingPart
 heading_routine = give part_is.Routine & routine_heading <* symbol sym.SEMICOLON
 
 unfoldable pub heading_part : Syntax HeadingPart
-heading_part = either (on_word word.CONST) (give part_is.Constants & constants) (either (on_word word.TYPE) (give part_is.Types & types) (either (on_word word.VAR) (give part_is.Variables & variables) heading_routine))
+heading_part =
+    either (on_word word.CONST) (give part_is.Constants & constants) (
+    either (on_word word.TYPE) (give part_is.Types & types) (
+    either (on_word word.VAR) (give part_is.Variables & variables) heading_routine))
 
 unfoldable pub heading_parts : Syntax (List HeadingPart)
 heading_parts = many of_parts heading_part
@@ -108,7 +119,9 @@ heading_from r at n = heading_node at n r.0 r.1 r.2 r.3
 
 -- `[ "(" ids ")" ] ";" hparts`, where `hparts = exports imports { consts | types | vars | rhead ";" } "end"`
 unfoldable pub heading_rest : Syntax HeadingRest
-heading_rest = give (λ ps es is xs. (ps, es, is, xs)) & parameters <* symbol sym.SEMICOLON & exports & imports & heading_parts <* keyword word.END
+heading_rest =
+    give (λ ps es is xs. (ps, es, is, xs)) & parameters <* symbol sym.SEMICOLON & exports & imports & heading_parts
+    <* keyword word.END
 
 -- `"do" stmt ";"`
 unfoldable pub action : Syntax Statement
@@ -127,7 +140,8 @@ unfoldable pub end_action : Syntax Actions
 end_action = give (λ s. (None, Some s)) <* keyword word.END & action
 
 unfoldable pub some_actions : Syntax Actions
-some_actions = deeper (on_word word.TO) (give (λ p. p) <* keyword word.TO & either (on_word word.BEGIN) begin_action end_action)
+some_actions =
+    deeper (on_word word.TO) (give (λ p. p) <* keyword word.TO & either (on_word word.BEGIN) begin_action end_action)
 
 -- `[ "to" "begin" "do" stmt ";" ] [ "to" "end" "do" stmt ";" ]`
 unfoldable pub actions : Syntax Actions
@@ -141,23 +155,33 @@ block = give (λ at is ps p. block_node at is ps p.0 p.1) & line & imports & par
 
 -- `program = "program" id [ "(" ids ")" ] ";" imports parts compound`
 unfoldable pub program : Syntax Program
-program = give program_node & line <* keyword word.PROGRAM & name & parameters <* symbol sym.SEMICOLON & imports & parts & compound
+program =
+    give program_node & line <* keyword word.PROGRAM & name & parameters <* symbol sym.SEMICOLON & imports & parts
+    & compound
 
 abbrev pub ModuleRest : Type 0
 ModuleRest = ℕ → List ℕ → Component
 
 unfoldable pub interface_rest : Syntax ModuleRest
-interface_rest = give (λ r at n. component_is.Heading (heading_from r at n)) <* token (sort.exactly Class.Interface) & heading_rest
+interface_rest =
+    give (λ r at n. component_is.Heading (heading_from r at n)) <* token (sort.exactly Class.Interface) & heading_rest
 
 unfoldable pub implementation_rest : Syntax ModuleRest
-implementation_rest = give (λ b at n. component_is.Block (implementation_node at n b)) <* token (sort.exactly Class.Implementation) <* symbol sym.SEMICOLON & block
+implementation_rest =
+    give (λ b at n. component_is.Block (implementation_node at n b)) <* token (sort.exactly Class.Implementation)
+    <* symbol sym.SEMICOLON & block
 
 unfoldable pub module_rest : Syntax ModuleRest
-module_rest = give (λ r b at n. component_is.Module (module_node at (heading_from r at n) b)) & heading_rest <* symbol sym.SEMICOLON & block
+module_rest =
+    give (λ r b at n. component_is.Module (module_node at (heading_from r at n) b)) & heading_rest
+    <* symbol sym.SEMICOLON & block
 
 -- `module = head ";" modblock | ihead | "module" id "implementation" ";" modblock`
 unfoldable pub module_component : Syntax Component
-module_component = give (λ at n r. r at n) & line <* keyword word.MODULE & name & either (Class.Interface ∷ []) interface_rest (either (Class.Implementation ∷ []) implementation_rest module_rest)
+module_component =
+    give (λ at n r. r at n) & line <* keyword word.MODULE & name
+    & either (Class.Interface ∷ []) interface_rest (
+    either (Class.Implementation ∷ []) implementation_rest module_rest)
 
 unfoldable pub program_component : Syntax Component
 program_component = give component_is.Program & program

@@ -1,6 +1,7 @@
 //! The laws of the grammar.
 
-ghost use Rattle.ep_grammar.specs.Refusals.{ReadIsDerived, DerivedIsRead, OneTree, MoreLevels, StopIsRefused, LeftIsRefused};
+ghost use Rattle.ep_grammar.specs.Refusals.{ReadIsDerived, DerivedIsRead, OneTree, MoreLevels, StopIsRefused};
+ghost use Rattle.ep_grammar.specs.Refusals.{LeftIsRefused};
 
 /// Does nothing: its contract states what holds of every text. A text is that of a list of components in which at
 /// most k levels nest exactly where a parser with k levels reads it to the end, and it is that of at most one.

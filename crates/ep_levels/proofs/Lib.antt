@@ -1,13 +1,13 @@
-pub mod Depth
-pub mod Measures
-pub mod ExpressionNodes
-pub mod TypeNodes
-pub mod StatementNodes
-pub mod Shapes
-pub mod Expressions
-pub mod Values
-pub mod Types
-pub mod Statements
-pub mod Declarations
-pub mod Units
-pub mod Knot
+mod Depth
+mod Measures
+mod ExpressionNodes
+mod TypeNodes
+mod StatementNodes
+mod Shapes
+mod Expressions
+mod Values
+mod Types
+mod Statements
+mod Declarations
+mod Units
+mod Knot

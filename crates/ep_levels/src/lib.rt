@@ -5,8 +5,9 @@
 //! list. The crate stands on ep_grammar, whose derivations it counts, on ep_tree, whose `nesting` they are held
 //! against, and on ep_token and ep_base for the texts. No parser stands on it, so that its proofs cost none of them.
 //!
-//! Open specs/Levels.antt first. proofs/Depth.antt counts the levels that a derivation takes, the files named for a part
-//! of the grammar show for each production that these are as many as its node nests, and proofs/Knot.antt concludes.
+//! Open specs/Levels.antt first. proofs/Depth.antt counts the levels that a derivation takes, the files named for a
+//! part of the grammar show for each production that these are as many as its node nests, and proofs/Knot.antt
+//! concludes.
 #![tactic(auto)]
 
 ghost use Rattle.std.specs.Prelude.{◌≡◌, ◌<◌, ◌↔◌, ℕ, List, IsTrue};
