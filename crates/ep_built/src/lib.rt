@@ -6,7 +6,8 @@
 //!
 //! The crate stands on ep_tree, whose trees it goes over, and on ep_base for their names. It stands beside
 //! the parser and not below it, so that no parser is checked again where a form gets built. Open
-//! specs/Built.antt first: its head lists what is not built, and the table of the built forms follows.
+//! specs/Forms.antt first: it is the table of the built forms, row by row that of src/built/forms.rt; the
+//! head of specs/Built.antt lists in words what is not built.
 #![tactic(auto)]
 
 mod built;

@@ -1,4 +1,4 @@
-//! The table of the built forms, in the order of the table of specs/Built.antt. A form that is to be built is a row
+//! The table of the built forms, in the order of the table of specs/Forms.antt. A form that is to be built is a row
 //! of both.
 
 ghost use Rattle.std.specs.Prelude.{◌≡◌, map};

@@ -1,4 +1,4 @@
-//! The names whose uses are built or are not, in the order of the lists of specs/Built.antt.
+//! The names whose uses are built or are not, in the order of the lists of specs/Forms.antt.
 
 ghost use Rattle.std.specs.Prelude.{◌≡◌, map};
 ghost use Rattle.ep_built.specs.Built.{is_among, is_later, writes, program_parameters};
@@ -48,7 +48,7 @@ fn is_among(names: &[&[u8]], name: &Name) -> bool
 }
 
 /// Whether a name is not built, whatever the text declares by it.
-#[tactic(auto, unfolding(crate::specs::Built::later_functions, crate::specs::Built::later_procedures, crate::specs::Built::later_types))]
+#[tactic(auto, unfolding(crate::specs::Forms::later_functions, crate::specs::Forms::later_procedures, crate::specs::Forms::later_types))]
 pub(super) fn is_later(name: &Name) -> bool
     ensures { result ≡ is_later name.now }
 {
@@ -58,14 +58,14 @@ pub(super) fn is_later(name: &Name) -> bool
 }
 
 /// Whether a call writes its arguments.
-#[tactic(auto, unfolding(crate::specs::Built::writing_procedures))]
+#[tactic(auto, unfolding(crate::specs::Forms::writing_procedures))]
 pub(super) fn writes(name: &Name) -> bool
     ensures { result ≡ writes name.now }
 {
     is_among(&WRITING_PROCEDURES, name)
 }
 
-#[tactic(auto, unfolding(crate::specs::Built::program_parameters))]
+#[tactic(auto, unfolding(crate::specs::Forms::program_parameters))]
 pub(super) fn is_program_parameter(name: &Name) -> bool
     ensures { result ≡ is_among program_parameters name.now }
 {
