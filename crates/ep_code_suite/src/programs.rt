@@ -127,11 +127,16 @@ fn told(alloc: Global, object: &Object) -> Result<String, AllocError> {
     Ok(out)
 }
 
+/// Tells the object of a program.
+fn outcome(alloc: Global, unit: &Unit) -> Result<String, Unbuilt> {
+    let object = program_code(alloc, unit)?;
+    Ok(told(alloc, &object)?)
+}
+
 #[test]
 fn a_program_has_its_object(rt: HostRuntime) -> Result<(), Fail> {
     let unit = program(rt.alloc())?;
-    let object = program_code(rt.alloc(), &unit)?;
-    let told = told(rt.alloc(), &object)?;
+    let told = outcome(rt.alloc(), &unit)?;
     assert_eq!(rt; told.as_str(), PROGRAM);
     laws_of_programs();
     laws_of_denoters();
@@ -185,8 +190,7 @@ routines 6, start 0, stop 1, slots 2, references 4";
 #[test]
 fn initial_states_have_their_code(rt: HostRuntime) -> Result<(), Fail> {
     let unit = started_program(rt.alloc())?;
-    let object = program_code(rt.alloc(), &unit)?;
-    let told = told(rt.alloc(), &object)?;
+    let told = outcome(rt.alloc(), &unit)?;
     assert_eq!(rt; told.as_str(), STARTED);
     Ok(())
 }

@@ -59,10 +59,10 @@ an integer | 65 integer write | Unit -1 1; Push 65; Form 0; Put
 a char | 65 char write | Unit -1 1; Push 65; Chars; Put
 a Boolean | 65 boolean write | Unit -1 1; Push 65; Form 1; Put
 a text | 'ab' text write | Unit -1 1; Text 0; Put | texts 1
-an integer and its width | 65 8 integer:wide write | Unit -1 1; Push 65; Push 8; Form 0 1; Put
-a char and its width | 65 8 char:wide write | Unit -1 1; Push 65; Chars; Push 8; Form 2 1; Put
-a Boolean and its width | 65 8 boolean:wide write | Unit -1 1; Push 65; Push 8; Form 1 1; Put
-a text and its width | 65 8 text:wide write | Unit -1 1; Push 65; Push 8; Form 2 1; Put";
+an integer and its width | 65 8 wide-integer write | Unit -1 1; Push 65; Push 8; Form 0 1; Put
+a char and its width | 65 8 wide-char write | Unit -1 1; Push 65; Chars; Push 8; Form 2 1; Put
+a Boolean and its width | 65 8 wide-boolean write | Unit -1 1; Push 65; Push 8; Form 1 1; Put
+a text and its width | 65 8 wide-text write | Unit -1 1; Push 65; Push 8; Form 2 1; Put";
 
 /// A program `main` with these types and variables, which does these statements.
 pub(crate) fn unit_of(

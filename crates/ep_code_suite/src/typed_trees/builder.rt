@@ -16,7 +16,7 @@
 //! | `at-ranges:1,3..5` | what all its components with the indexes of these ranges are given |
 //! | `at-indexes` | what its component at an index and those in a range are given, by the three indexes and a value |
 //! | `structured:2` | a structured value of the type of this number, of all that its components are given |
-//! | `integer` `char` `boolean` `text` | a value that is written so, and with `:wide` a value and its width |
+//! | `integer` `char` `boolean` `text` | a value that is written so, and with `wide-` in front a value and its width |
 //! | `empty` | the empty statement |
 //! | `assign:6` | an assignment of a value to the variable of this number of `main` |
 //! | `if` | `if` with a condition and two statements |
@@ -67,14 +67,12 @@ fn number(text: &str) -> u32 {
     text.parse::<u32>().unwrap_or(0)
 }
 
-/// How a value is written.
-fn print_named(name: &str) -> Option<Print> {
-    match name {
-        "integer" => Some(Print::Integer),
-        "char" => Some(Print::Char),
-        "boolean" => Some(Print::Boolean),
-        "text" => Some(Print::Text),
-        _ => None,
+/// The range that a text is, also of one number.
+fn range(text: &str) -> CaseRange {
+    let (low, high) = text.split_once("..").unwrap_or((text, text));
+    CaseRange {
+        low: i64::from(number(low)),
+        high: i64::from(number(high)),
     }
 }
 
@@ -157,19 +155,23 @@ impl Builder {
             "write" => self.write(line, false),
             "writeln" => self.write(line, true),
             "compound" => self.compound(),
-            _ => self.take_print(name, given == "wide"),
+            _ => self.take_print(name),
         }
     }
 
     /// Takes how a value is written, with its width or without.
-    fn take_print(&mut self, name: &str, is_wide: bool) -> Result<(), Unbuilt> {
-        let Some(print) = print_named(name) else {
-            return Err(Unbuilt::Unknown);
-        };
-        if is_wide {
-            return self.wide(print);
+    fn take_print(&mut self, name: &str) -> Result<(), Unbuilt> {
+        match name {
+            "integer" => self.plain(Print::Integer),
+            "char" => self.plain(Print::Char),
+            "boolean" => self.plain(Print::Boolean),
+            "text" => self.plain(Print::Text),
+            "wide-integer" => self.wide(Print::Integer),
+            "wide-char" => self.wide(Print::Char),
+            "wide-boolean" => self.wide(Print::Boolean),
+            "wide-text" => self.wide(Print::Text),
+            _ => Err(Unbuilt::Unknown),
         }
-        self.plain(print)
     }
 
     /// The routine of this number of `main`.
@@ -291,26 +293,41 @@ impl Builder {
         Ok(self.elements.push(Element::SameField(from, to))?)
     }
 
-    fn at_ranges(&mut self, given: &str) -> Result<(), Unbuilt> {
+    /// The ranges of indexes.
+    fn ranges(&self, given: &str) -> Result<List<CaseRange>, Unbuilt> {
         let mut ranges = List::new(self.alloc);
-        for range in given.split(',') {
-            let (low, high) = range.split_once("..").unwrap_or((range, range));
-            ranges.push(CaseRange {
-                low: i64::from(number(low)),
-                high: i64::from(number(high)),
-            })?;
+        for text in given.split(',') {
+            ranges.push(range(text))?;
         }
+        Ok(ranges)
+    }
+
+    fn at_ranges(&mut self, given: &str) -> Result<(), Unbuilt> {
+        let ranges = self.ranges(given)?;
         let value = self.expression()?;
         Ok(self.elements.push(Element::AtRanges(ranges, value))?)
     }
 
-    fn at_indexes(&mut self) -> Result<(), Unbuilt> {
-        let value = self.expression()?;
+    /// The range from one index to another.
+    fn index_range(&mut self) -> Result<MemberDesignator, Unbuilt> {
         let last = self.expression()?;
         let first = self.expression()?;
+        Ok(MemberDesignator::Range(first, last))
+    }
+
+    /// An index and a range of them.
+    fn indexes(&mut self) -> Result<List<MemberDesignator>, Unbuilt> {
+        let range = self.index_range()?;
+        let index = self.expression()?;
         let mut indexes = List::new(self.alloc);
-        indexes.push(MemberDesignator::Single(self.expression()?))?;
-        indexes.push(MemberDesignator::Range(first, last))?;
+        indexes.push(MemberDesignator::Single(index))?;
+        indexes.push(range)?;
+        Ok(indexes)
+    }
+
+    fn at_indexes(&mut self) -> Result<(), Unbuilt> {
+        let value = self.expression()?;
+        let indexes = self.indexes()?;
         Ok(self.elements.push(Element::AtIndexes(indexes, value))?)
     }
 
