@@ -1,10 +1,11 @@
 -- Which auxiliary variables the statements of a block need, by the text (ISO 10206, 6.9.3.9.2 and 6.9.3.9.3).
 use Rattle.std.specs.Prelude.{Bool, true, false, ◌||◌}
-use Rattle.ep_tree.specs.declared.statement.Statement.TheOpen.{Statement-F, Arm-F, Compound-F, Otherwise-F}
-use Rattle.ep_tree.specs.declared.statement.Statement.{Statement, fold-Statement}
-use Rattle.ep_tree.specs.declared.statement.Arm.{Arm, fold-Arm}
-use Rattle.ep_tree.specs.declared.statement.Compound.{Compound, fold-Compound}
-use Rattle.ep_tree.specs.declared.statement.Otherwise.{Otherwise, fold-Otherwise}
+use Rattle.ep_tree.specs.Folds as fold
+use Rattle.ep_tree.specs.declared.statement.Statement.TheOpen.{Statement-F}
+use Rattle.ep_tree.specs.declared.statement.Statement.{Statement}
+use Rattle.ep_tree.specs.declared.statement.Arm.{Arm}
+use Rattle.ep_tree.specs.declared.statement.Compound.{Compound}
+use Rattle.ep_tree.specs.declared.statement.Otherwise.{Otherwise}
 use Rattle.ep_check_stmt.specs.Threats.{any_true, true_if}
 use Rattle.ep_check_stmt.specs.declared.auxiliaries.ForForm.{ForForm}
 use Rattle.ep_check_stmt.specs.declared.auxiliaries.ForForm.TheVariants as form
@@ -22,7 +23,7 @@ is_over_members form.Members = true
 -- a `for` of the form
 module _ (asked : ForForm) where
   -- whether there is one in a statement, however deep
-  abbrev pub in_statement : Statement-F Bool Bool Bool Bool → Bool
+  abbrev pub in_statement : fold.StatementOf (fold.statements_as Bool) → Bool
   in_statement (Statement-F.Empty line) = false
   in_statement (Statement-F.Assignment line access value) = false
   in_statement (Statement-F.Call line access) = false
@@ -35,27 +36,37 @@ module _ (asked : ForForm) where
   in_statement (Statement-F.ForIn line variable members body) = is_over_members asked || body
   in_statement (Statement-F.With line accesses body) = body
 
-  abbrev pub in_arm : Arm-F Bool Bool Bool Bool → Bool
+  abbrev pub in_arm : fold.ArmOf (fold.statements_as Bool) → Bool
   in_arm a = a.body
 
-  abbrev pub in_compound : Compound-F Bool Bool Bool Bool → Bool
+  abbrev pub in_compound : fold.CompoundOf (fold.statements_as Bool) → Bool
   in_compound c = any_true c.statements
 
-  abbrev pub in_otherwise : Otherwise-F Bool Bool Bool Bool → Bool
+  abbrev pub in_otherwise : fold.OtherwiseOf (fold.statements_as Bool) → Bool
   in_otherwise o = any_true o.statements
 
+  -- these rules together
+  abbrev pub in_statements : fold.StatementRules (fold.statements_as Bool)
+  in_statements =
+      record {
+        statement = in_statement;
+        arm = in_arm;
+        compound = in_compound;
+        otherwise = in_otherwise;
+      }
+
   abbrev pub statement_has : Statement → Bool
-  statement_has = fold-Statement Bool Bool Bool Bool in_statement in_arm in_compound in_otherwise
+  statement_has = fold.of_statement in_statements
 
   abbrev pub arm_has : Arm → Bool
-  arm_has = fold-Arm Bool Bool Bool Bool in_statement in_arm in_compound in_otherwise
+  arm_has = fold.of_arm in_statements
 
   abbrev pub otherwise_has : Otherwise → Bool
-  otherwise_has = fold-Otherwise Bool Bool Bool Bool in_statement in_arm in_compound in_otherwise
+  otherwise_has = fold.of_otherwise in_statements
 
   -- whether there is one in a statement part
   abbrev pub compound_has : Compound → Bool
-  compound_has = fold-Compound Bool Bool Bool Bool in_statement in_arm in_compound in_otherwise
+  compound_has = fold.of_compound in_statements
 
 -- whether a statement part has a `for` with bounds
 abbrev pub has_for : Compound → Bool

@@ -15,13 +15,13 @@ use Rattle.ep_tree.specs.declared.operator.Direction.TheVariants as direction
 use Rattle.ep_tree.specs.declared.expression.Argument.{Argument, out-Argument}
 use Rattle.ep_tree.specs.declared.expression.Selector.{Selector, out-Selector}
 use Rattle.ep_tree.specs.Shapes.{arguments_in, as_identifier}
-use Rattle.ep_tree.specs.declared.statement.Statement.TheOpen.{Statement-F, Arm-F, Compound-F, Otherwise-F}
-use Rattle.ep_tree.specs.declared.statement.Statement.{Statement, fold-Statement}
-use Rattle.ep_tree.specs.declared.statement.Arm.{fold-Arm}
+use Rattle.ep_tree.specs.Folds as fold
+use Rattle.ep_tree.specs.declared.statement.Statement.TheOpen.{Statement-F}
+use Rattle.ep_tree.specs.declared.statement.Statement.{Statement}
 use Rattle.ep_tree.specs.declared.statement.Arm as syntax
-use Rattle.ep_tree.specs.declared.statement.Otherwise.{Otherwise, fold-Otherwise}
+use Rattle.ep_tree.specs.declared.statement.Otherwise.{Otherwise}
 use Rattle.ep_tree.specs.declared.expression.Label.{Label}
-use Rattle.ep_tree.specs.declared.statement.Compound.{Compound, fold-Compound}
+use Rattle.ep_tree.specs.declared.statement.Compound.{Compound}
 use Rattle.ep_typed.specs.Auxiliaries.{with_variables, with_variables_in}
 use Rattle.ep_typed.specs.Hosts.{greatest, least}
 use Rattle.ep_typed.specs.Trees as tree
@@ -830,7 +830,12 @@ with_judged c controls line (Accepts o) body =
 
 -- ---- all statements
 
-abbrev pub at_statement : Statement-F (Under Stmt) ArmJudged (Under Stmts) (Under Stmts) → Under Stmt
+-- what the rules come to for each kind of node
+abbrev pub statement_results : fold.StatementResults
+statement_results =
+    record { statement = Under Stmt; arm = ArmJudged; compound = Under Stmts; otherwise = Under Stmts }
+
+abbrev pub at_statement : fold.StatementOf statement_results → Under Stmt
 at_statement (Statement-F.Empty line) c controls = Passes tree.Empty
 at_statement (Statement-F.Assignment line access v) c controls =
     stmt_item c controls line (both (assigned c.locals line) (target_judged c access) (value_judged c access v))
@@ -855,29 +860,36 @@ at_statement (Statement-F.ForIn line variable set body) c controls =
 at_statement (Statement-F.With line accesses body) c controls =
     with_judged c controls line (records_opened c accesses (none_opened c)) body
 
-abbrev pub at_compound : Compound-F (Under Stmt) ArmJudged (Under Stmts) (Under Stmts) → Under Stmts
+abbrev pub at_compound : fold.CompoundOf statement_results → Under Stmts
 at_compound k = in_order k.statements
 
-abbrev pub at_arm : Arm-F (Under Stmt) ArmJudged (Under Stmts) (Under Stmts) → ArmJudged
+abbrev pub at_arm : fold.ArmOf statement_results → ArmJudged
 at_arm a = (a.labels, a.body)
 
-abbrev pub at_otherwise : Otherwise-F (Under Stmt) ArmJudged (Under Stmts) (Under Stmts) → Under Stmts
+abbrev pub at_otherwise : fold.OtherwiseOf statement_results → Under Stmts
 at_otherwise o = in_order o.statements
 
+-- these rules together
+abbrev pub at_statements : fold.StatementRules statement_results
+at_statements =
+    record {
+      statement = at_statement;
+      arm = at_arm;
+      compound = at_compound;
+      otherwise = at_otherwise;
+    }
+
 abbrev pub statement_judged : Statement → Under Stmt
-statement_judged =
-    fold-Statement (Under Stmt) ArmJudged (Under Stmts) (Under Stmts) at_statement at_arm at_compound at_otherwise
+statement_judged = fold.of_statement at_statements
 
 abbrev pub arm_judged : syntax.Arm → ArmJudged
-arm_judged = fold-Arm (Under Stmt) ArmJudged (Under Stmts) (Under Stmts) at_statement at_arm at_compound at_otherwise
+arm_judged = fold.of_arm at_statements
 
 abbrev pub otherwise_judged : Otherwise → Under Stmts
-otherwise_judged =
-    fold-Otherwise (Under Stmt) ArmJudged (Under Stmts) (Under Stmts) at_statement at_arm at_compound at_otherwise
+otherwise_judged = fold.of_otherwise at_statements
 
 abbrev pub compound_under : Compound → Under Stmts
-compound_under =
-    fold-Compound (Under Stmt) ArmJudged (Under Stmts) (Under Stmts) at_statement at_arm at_compound at_otherwise
+compound_under = fold.of_compound at_statements
 
 -- the statements of a block, which stand in no `for`
 abbrev pub compound_judged : Context → Compound → Judgement Stmts

@@ -12,11 +12,12 @@ use Rattle.ep_tree.specs.Shapes.{when_some}
 use Rattle.ep_tree.specs.declared.expression.Access.{Access, out-Access}
 use Rattle.ep_tree.specs.declared.expression.ComponentValue.TheOpen.{Selector-F}
 use Rattle.ep_tree.specs.declared.expression.Selector.{Selector, out-Selector}
-use Rattle.ep_tree.specs.declared.statement.Statement.TheOpen.{Statement-F, Arm-F, Compound-F, Otherwise-F}
-use Rattle.ep_tree.specs.declared.statement.Statement.{Statement, fold-Statement}
-use Rattle.ep_tree.specs.declared.statement.Arm.{Arm, fold-Arm}
-use Rattle.ep_tree.specs.declared.statement.Compound.{Compound, fold-Compound}
-use Rattle.ep_tree.specs.declared.statement.Otherwise.{Otherwise, fold-Otherwise}
+use Rattle.ep_tree.specs.Folds as fold
+use Rattle.ep_tree.specs.declared.statement.Statement.TheOpen.{Statement-F}
+use Rattle.ep_tree.specs.declared.statement.Statement.{Statement}
+use Rattle.ep_tree.specs.declared.statement.Arm.{Arm}
+use Rattle.ep_tree.specs.declared.statement.Compound.{Compound}
+use Rattle.ep_tree.specs.declared.statement.Otherwise.{Otherwise}
 use Rattle.ep_typed.specs.Trees.{OfRoutine}
 use Rattle.ep_scope.specs.Fields.{field_number}
 use Rattle.ep_scope.specs.Scopes.{Region, Meant, Declares, Standard, Requires, FieldOf, Nothing, meant, meant_in}
@@ -154,7 +155,7 @@ assigns_if None scopes = false
 assigns_if (Some s) scopes = s scopes
 
 -- whether a statement assigns to a tag, or one inside of it
-abbrev pub in_statement : Statement-F Assigning Assigning Assigning Assigning → Assigning
+abbrev pub in_statement : fold.StatementOf (fold.statements_as Assigning) → Assigning
 in_statement (Statement-F.Empty line) scopes = false
 in_statement (Statement-F.Assignment line access value) scopes = is_tag scopes access
 in_statement (Statement-F.Call line access) scopes = false
@@ -167,27 +168,37 @@ in_statement (Statement-F.For line variable start direction end body) scopes = b
 in_statement (Statement-F.ForIn line variable members body) scopes = body scopes
 in_statement (Statement-F.With line accesses body) scopes = body (records_within scopes accesses scopes)
 
-abbrev pub in_arm : Arm-F Assigning Assigning Assigning Assigning → Assigning
+abbrev pub in_arm : fold.ArmOf (fold.statements_as Assigning) → Assigning
 in_arm a = a.body
 
-abbrev pub in_compound : Compound-F Assigning Assigning Assigning Assigning → Assigning
+abbrev pub in_compound : fold.CompoundOf (fold.statements_as Assigning) → Assigning
 in_compound c = any_assigns c.statements
 
-abbrev pub in_otherwise : Otherwise-F Assigning Assigning Assigning Assigning → Assigning
+abbrev pub in_otherwise : fold.OtherwiseOf (fold.statements_as Assigning) → Assigning
 in_otherwise o = any_assigns o.statements
 
+-- these rules together
+abbrev pub in_statements : fold.StatementRules (fold.statements_as Assigning)
+in_statements =
+    record {
+      statement = in_statement;
+      arm = in_arm;
+      compound = in_compound;
+      otherwise = in_otherwise;
+    }
+
 abbrev pub statement_assigns : Statement → Assigning
-statement_assigns = fold-Statement Assigning Assigning Assigning Assigning in_statement in_arm in_compound in_otherwise
+statement_assigns = fold.of_statement in_statements
 
 abbrev pub arm_assigns : Arm → Assigning
-arm_assigns = fold-Arm Assigning Assigning Assigning Assigning in_statement in_arm in_compound in_otherwise
+arm_assigns = fold.of_arm in_statements
 
 abbrev pub otherwise_assigns : Otherwise → Assigning
-otherwise_assigns = fold-Otherwise Assigning Assigning Assigning Assigning in_statement in_arm in_compound in_otherwise
+otherwise_assigns = fold.of_otherwise in_statements
 
 -- whether a statement part has an assignment to a tag, in view of scopes
 abbrev pub compound_assigns : Compound → Assigning
-compound_assigns = fold-Compound Assigning Assigning Assigning Assigning in_statement in_arm in_compound in_otherwise
+compound_assigns = fold.of_compound in_statements
 
 abbrev pub assigns_tag : List Region → Compound → Bool
 assigns_tag scopes c = compound_assigns c scopes

@@ -6,10 +6,11 @@ use Rattle.std.specs.List.{list_any}
 use Rattle.std.specs.Str.{bytes_eq}
 use Rattle.ep_tree.specs.declared.expression.Access.{Access, out-Access}
 use Rattle.ep_tree.specs.declared.expression.Selector.{Selector}
-use Rattle.ep_tree.specs.declared.statement.Statement.TheOpen.{Statement-F, Arm-F, Compound-F, Otherwise-F}
-use Rattle.ep_tree.specs.declared.statement.Statement.{Statement, fold-Statement}
-use Rattle.ep_tree.specs.declared.statement.Arm.{Arm, fold-Arm}
-use Rattle.ep_tree.specs.declared.statement.Compound.{Compound, fold-Compound}
+use Rattle.ep_tree.specs.Folds as fold
+use Rattle.ep_tree.specs.declared.statement.Statement.TheOpen.{Statement-F}
+use Rattle.ep_tree.specs.declared.statement.Statement.{Statement}
+use Rattle.ep_tree.specs.declared.statement.Arm.{Arm}
+use Rattle.ep_tree.specs.declared.statement.Compound.{Compound}
 use Rattle.ep_typed.specs.Trees.{Structured, Element, AtIndex, AtField, SameField, AtRanges, AtIndexes, Elements}
 use Rattle.ep_typed.specs.Trees.{no_element, next_element, Entire, OfUnit, OfRoutine, entire, Place, Variable, Own}
 use Rattle.ep_typed.specs.Trees.{Standard, Indexed, Field, Variant, Expr, Constant, Text, Read, One, Two, Short, Step}
@@ -198,7 +199,7 @@ module _ (name : List ℕ) where
   is_bare a = stands_alone (out-Access a).name (out-Access a).selectors
 
   -- an assignment to the name, or a statement with one inside of it, whatever its form
-  abbrev pub in_statement : Statement-F Bool Bool Bool Bool → Bool
+  abbrev pub in_statement : fold.StatementOf (fold.statements_as Bool) → Bool
   in_statement (Statement-F.Empty line) = false
   in_statement (Statement-F.Assignment line access value) = is_bare access
   in_statement (Statement-F.Call line access) = false
@@ -212,26 +213,36 @@ module _ (name : List ℕ) where
   in_statement (Statement-F.With line accesses body) = body
 
   -- the statement of an arm
-  abbrev pub in_arm : Arm-F Bool Bool Bool Bool → Bool
+  abbrev pub in_arm : fold.ArmOf (fold.statements_as Bool) → Bool
   in_arm a = a.body
 
   -- the statements between `begin` and `end`
-  abbrev pub in_compound : Compound-F Bool Bool Bool Bool → Bool
+  abbrev pub in_compound : fold.CompoundOf (fold.statements_as Bool) → Bool
   in_compound c = any_true c.statements
 
   -- the statements behind `otherwise`
-  abbrev pub in_otherwise : Otherwise-F Bool Bool Bool Bool → Bool
+  abbrev pub in_otherwise : fold.OtherwiseOf (fold.statements_as Bool) → Bool
   in_otherwise o = any_true o.statements
+
+  -- these rules together
+  abbrev pub in_statements : fold.StatementRules (fold.statements_as Bool)
+  in_statements =
+      record {
+        statement = in_statement;
+        arm = in_arm;
+        compound = in_compound;
+        otherwise = in_otherwise;
+      }
 
   -- whether a statement, or one inside of it, assigns to the name
   abbrev pub statement_assigns : Statement → Bool
-  statement_assigns = fold-Statement Bool Bool Bool Bool in_statement in_arm in_compound in_otherwise
+  statement_assigns = fold.of_statement in_statements
 
   -- whether an arm does
   abbrev pub arm_assigns : Arm → Bool
-  arm_assigns = fold-Arm Bool Bool Bool Bool in_statement in_arm in_compound in_otherwise
+  arm_assigns = fold.of_arm in_statements
 
   -- whether a statement part has an assignment to the name, also where a field of an open record hides what the name
   -- means around (ISO 10206, 6.7.2)
   abbrev pub assigns : Compound → Bool
-  assigns = fold-Compound Bool Bool Bool Bool in_statement in_arm in_compound in_otherwise
+  assigns = fold.of_compound in_statements

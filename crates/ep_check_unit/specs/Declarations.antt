@@ -11,16 +11,16 @@ use Rattle.std.specs.Option.{option_or}
 use Rattle.std.specs.Str.{bytes_eq}
 use Rattle.ep_tree.specs.declared.expression.ComponentValue.{ComponentValue}
 use Rattle.ep_tree.specs.declared.expression.Label.{Label}
-use Rattle.ep_tree.specs.declared.types.Core.TheOpen.{Core-F, FieldSection-F, Fields-F, Plain-F, Structure-F}
-use Rattle.ep_tree.specs.declared.types.Core.TheOpen.{TypeDenoter-F, Variant-F, VariantPart-F}
-use Rattle.ep_tree.specs.declared.types.Core.{Core, fold-Core}
-use Rattle.ep_tree.specs.declared.types.FieldSection.{FieldSection, fold-FieldSection}
-use Rattle.ep_tree.specs.declared.types.Fields.{Fields, fold-Fields}
-use Rattle.ep_tree.specs.declared.types.Plain.{Plain, fold-Plain}
-use Rattle.ep_tree.specs.declared.types.Structure.{Structure, fold-Structure}
-use Rattle.ep_tree.specs.declared.types.TypeDenoter.{TypeDenoter, fold-TypeDenoter}
-use Rattle.ep_tree.specs.declared.types.Variant.{Variant as VariantTree, fold-Variant}
-use Rattle.ep_tree.specs.declared.types.VariantPart.{VariantPart as VariantPartTree, fold-VariantPart}
+use Rattle.ep_tree.specs.Folds as fold
+use Rattle.ep_tree.specs.declared.types.Core.TheOpen.{Core-F, Structure-F}
+use Rattle.ep_tree.specs.declared.types.Core.{Core}
+use Rattle.ep_tree.specs.declared.types.FieldSection.{FieldSection}
+use Rattle.ep_tree.specs.declared.types.Fields.{Fields}
+use Rattle.ep_tree.specs.declared.types.Plain.{Plain}
+use Rattle.ep_tree.specs.declared.types.Structure.{Structure}
+use Rattle.ep_tree.specs.declared.types.TypeDenoter.{TypeDenoter}
+use Rattle.ep_tree.specs.declared.types.Variant.{Variant as VariantTree}
+use Rattle.ep_tree.specs.declared.types.VariantPart.{VariantPart as VariantPartTree}
 use Rattle.ep_tree.specs.declared.types.VariantSelector.{VariantSelector}
 use Rattle.ep_tree.specs.declared.types.VariantSelector.TheVariants as selector
 use Rattle.ep_tree.specs.declared.declaration.ConstantDefinition.{ConstantDefinition}
@@ -773,32 +773,42 @@ structured p = record { is_name = false; written = p.written }
 abbrev pub unbuilt_part : Part
 unbuilt_part = record { is_name = false; written = λ line b. unbuilt }
 
-abbrev pub at_variant : Variant-F Part Part Section ListJudged Part Part VariantJudged PartJudged → VariantJudged
+-- what the rules come to for each kind of node
+abbrev pub type_results : fold.TypeResults
+type_results =
+    record (fold.types_as Part) {
+      field_section = Section;
+      fields = ListJudged;
+      variant = VariantJudged;
+      variant_part = PartJudged;
+    }
+
+abbrev pub at_variant : fold.VariantOf type_results → VariantJudged
 at_variant v = record { labels = v.labels; fields = v.fields }
 
-abbrev pub at_variant_part : VariantPart-F Part Part Section ListJudged Part Part VariantJudged PartJudged → PartJudged
+abbrev pub at_variant_part : fold.VariantPartOf type_results → PartJudged
 at_variant_part p = variant_part_written p.selector p.variants p.otherwise
 
-abbrev pub at_fields : Fields-F Part Part Section ListJudged Part Part VariantJudged PartJudged → ListJudged
+abbrev pub at_fields : fold.FieldsOf type_results → ListJudged
 at_fields f = list_written f.sections f.variants
 
-abbrev pub at_field_section : FieldSection-F Part Part Section ListJudged Part Part VariantJudged PartJudged → Section
+abbrev pub at_field_section : fold.FieldSectionOf type_results → Section
 at_field_section s = record { names = s.names; of = s.of }
 
-abbrev pub at_plain : Plain-F Part Part Section ListJudged Part Part VariantJudged PartJudged → Part
+abbrev pub at_plain : fold.PlainOf type_results → Part
 at_plain p = p.core
 
-abbrev pub at_type_denoter : TypeDenoter-F Part Part Section ListJudged Part Part VariantJudged PartJudged → Part
+abbrev pub at_type_denoter : fold.TypeDenoterOf type_results → Part
 at_type_denoter t = begun t.plain t.initial
 
 -- a structure, which is an array, a record or a set
-abbrev pub at_structure : Structure-F Part Part Section ListJudged Part Part VariantJudged PartJudged → Part
+abbrev pub at_structure : fold.StructureOf type_results → Part
 at_structure (Structure-F.Array at indexes component) = structured (array_part component indexes)
 at_structure (Structure-F.Record at fields) = record { is_name = false; written = record_written fields }
 at_structure (Structure-F.Set at base) = record { is_name = false; written = set_written base }
 
 -- a denoter
-abbrev pub at_core : Core-F Part Part Section ListJudged Part Part VariantJudged PartJudged → Part
+abbrev pub at_core : fold.CoreOf type_results → Part
 at_core (Core-F.Named at name tuple) =
     record { is_name = true; written = λ line b. type_named name.first name.second b }
 at_core (Core-F.Range at low high) =
@@ -810,48 +820,46 @@ at_core (Core-F.Enumeration at names) = record { is_name = false; written = λ l
 at_core (Core-F.Structured at packed structure) = structure
 at_core _ = unbuilt_part
 
+-- these rules together
+abbrev pub at_types : fold.TypeRules type_results
+at_types =
+    record {
+      core = at_core;
+      structure = at_structure;
+      field_section = at_field_section;
+      fields = at_fields;
+      plain = at_plain;
+      type_denoter = at_type_denoter;
+      variant = at_variant;
+      variant_part = at_variant_part;
+    }
+
 abbrev pub core_part : Core → Part
-core_part =
-    fold-Core Part Part Section ListJudged Part Part VariantJudged PartJudged at_core at_structure at_field_section
-    at_fields at_plain at_type_denoter at_variant at_variant_part
+core_part = fold.of_core at_types
 
 -- that of a structure, of fields and of a section of them, of a variant part and of a variant, and that of a plain
 -- denoter
 abbrev pub structure_part : Structure → Part
-structure_part =
-    fold-Structure Part Part Section ListJudged Part Part VariantJudged PartJudged at_core at_structure
-    at_field_section at_fields at_plain at_type_denoter at_variant at_variant_part
+structure_part = fold.of_structure at_types
 
 abbrev pub fields_judged : Fields → ListJudged
-fields_judged =
-    fold-Fields Part Part Section ListJudged Part Part VariantJudged PartJudged at_core at_structure at_field_section
-    at_fields at_plain at_type_denoter at_variant at_variant_part
+fields_judged = fold.of_fields at_types
 
 abbrev pub section_part : FieldSection → Section
-section_part =
-    fold-FieldSection Part Part Section ListJudged Part Part VariantJudged PartJudged at_core at_structure
-    at_field_section at_fields at_plain at_type_denoter at_variant at_variant_part
+section_part = fold.of_field_section at_types
 
 abbrev pub variants_judged : VariantPartTree → PartJudged
-variants_judged =
-    fold-VariantPart Part Part Section ListJudged Part Part VariantJudged PartJudged at_core at_structure
-    at_field_section at_fields at_plain at_type_denoter at_variant at_variant_part
+variants_judged = fold.of_variant_part at_types
 
 abbrev pub variant_judged : VariantTree → VariantJudged
-variant_judged =
-    fold-Variant Part Part Section ListJudged Part Part VariantJudged PartJudged at_core at_structure at_field_section
-    at_fields at_plain at_type_denoter at_variant at_variant_part
+variant_judged = fold.of_variant at_types
 
 abbrev pub plain_part : Plain → Part
-plain_part =
-    fold-Plain Part Part Section ListJudged Part Part VariantJudged PartJudged at_core at_structure at_field_section
-    at_fields at_plain at_type_denoter at_variant at_variant_part
+plain_part = fold.of_plain at_types
 
 -- that of a denoter with or without an initial state
 abbrev pub denoter_part : TypeDenoter → Part
-denoter_part =
-    fold-TypeDenoter Part Part Section ListJudged Part Part VariantJudged PartJudged at_core at_structure
-    at_field_section at_fields at_plain at_type_denoter at_variant at_variant_part
+denoter_part = fold.of_type_denoter at_types
 
 abbrev pub core_written : ℕ → Core → Block → Judged Written
 core_written line c b = (core_part c).written line b
