@@ -5,9 +5,10 @@
 //! parts are those of ep_rules; the laws are ep_expr_laws, above, so that a lemma there proves no walk anew. Open
 //! specs/Expressions.antt first: one clause for each production.
 //! To change a production: specs/Expressions.antt, src/expressions.rt, proofs/public/Folds.antt for the equation of
-//! its node. Structured values: specs/StructuredValues.antt, src/structured.rt, arranged.rt for arrays, filled.rt for
-//! records, chosen.rt for variants. Constant expressions: specs/Constants.antt, StructuredConstants.antt,
-//! src/constants.rt, src/structured_constants.rt. What the public calls answer: specs/Public.antt.
+//! its node; what each rule keeps holds of whole trees by Keeping.antt and Accepted.antt. Structured
+//! values: specs/StructuredValues.antt, src/structured.rt, arranged.rt for arrays, filled.rt for records, chosen.rt
+//! for variants. Constant expressions: specs/Constants.antt, StructuredConstants.antt, src/constants.rt,
+//! src/structured_constants.rt.
 #![tactic(auto)]
 
 mod arranged;
