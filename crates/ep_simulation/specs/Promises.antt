@@ -213,8 +213,8 @@ abbrev pub StandFrom : Image → ℕ → List Instr → Type 0
 StandFrom G place [] = ⊤
 StandFrom G place (i ∷ is) = (slice_get G.instructions place ≡ Some i) × StandFrom G (place + 1) is
 
--- The routine of this number in the image takes so many operands, has so many slots, and has this code, which its entry
--- and a line give: the line of each of its instructions.
+-- The routine of this number in the image takes so many operands, has so many slots, and has this code, which its
+-- entry and a line give: the line of each of its instructions.
 pub record IsShuffle (G : Image) (routine operands slots : ℕ) (code : (entry line : ℕ) → List Instr) : Type 0 where
   pub its : ImageRoutine
   pub there : routine_of G routine ≡ Some its
