@@ -187,7 +187,7 @@ module _ (declared : Declarations) (G : Image) (untouched : Slots) (Here : Facts
         by = λ s matches here.
             let deep = lasts.by injection injection s (with_depth s) memory memory (record { grown = grown_refl injection memory; routine = same_routine-refl memory.frames; own = λ j. refl; calls = refl }) here in
             let r = arrays.range in
-            follows_counted with_depth (range_follows G r.routine r.ranges place line calls q from upto below memory s.trace s refl steady (omega (arith, matches.depth)) (λ l stays. stays) (next.by (with_depth s) (matches_depth matches) deep));
+            follows_counted with_depth (range_follows G r.routine r.is place line calls q from upto below memory s.trace s refl steady (omega (arith, matches.depth)) (λ l stays. stays) (next.by (with_depth s) (matches_depth matches) deep));
       }
 
   module _ (at : ℕ) (stands : CodeStands G ps p references at (tested_code line)) where
@@ -279,7 +279,7 @@ module _ (declared : Declarations) (G : Image) (untouched : Slots) (Here : Facts
         by = λ s matches here.
             let deep = lasts.by injection injection s (with_depth s) memory memory (record { grown = grown_refl injection memory; routine = same_routine-refl memory.frames; own = λ j. refl; calls = refl }) here in
             let r = arrays.spread in
-            follows_counted with_depth (spread_follows G r.routine r.spreads place line calls from upto q o below memory s.trace s refl steady (omega (arith, matches.depth)) (λ l stays. stays) (next.by (with_depth s) (matches_depth matches) deep));
+            follows_counted with_depth (spread_follows G r.routine r.is place line calls from upto q o below memory s.trace s refl steady (omega (arith, matches.depth)) (λ l stays. stays) (next.by (with_depth s) (matches_depth matches) deep));
       }
 
   module _ (at : ℕ) (inside : at + 15 < p.instructions.own) (stands : CodeStands G ps p references at (spread_code line at)) (from upto : ℤ) (f l : ℕ) (at_first : component_at low high from ≡ Some f) (at_last : component_at low high upto ≡ Some l) where
@@ -352,7 +352,7 @@ module _ (declared : Declarations) (G : Image) (untouched : Slots) (Here : Facts
       filled_follows injection memory value spot described suited s matches here living has d enough =
           follows_bind {P = λ u. FilledAt declared G a f (value_of r) injection s memory (to_find + 1 + 1 + 1 + 1) kept} {e = λ u. 20 + (d - 1)} (λ u. steady_give tt)
           (follows_credit {d = 1 + (d - 1)} {e = λ u. 20 + (d - 1)} (omega (arith, enough)) (λ u. omega (arith, enough))
-          (fills_follow declared G fill.routine fill.fills (to_find + 1 + 1 + 1) line fill_called low high of k of_kind a q from from upto f at_first r suited (gives_back k of of_kind injection memory r o value) injection memory o value spot described kept s matches living has n (d - 1) between.0 between.1 between.2 between.3 between.4
+          (fills_follow declared G fill.routine fill.is (to_find + 1 + 1 + 1) line fill_called low high of k of_kind a q from from upto f at_first r suited (gives_back k of of_kind injection memory r o value) injection memory o value spot described kept s matches living has n (d - 1) between.0 between.1 between.2 between.3 between.4
           (integer_between low high from small large first_within.0 first_within.1) (integer_between low high upto small large last_within.0 last_within.1)))
           (λ u t l filled_at.
           let filled = filled_at.filled in

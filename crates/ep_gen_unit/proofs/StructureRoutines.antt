@@ -11,7 +11,7 @@ use Rattle.ep_gen_unit.proofs.Referred.{own_count, swap_referred}
 use Rattle.ep_gen_unit.proofs.TypeRoutines.{behind_list, call_placed}
 use Rattle.ep_gen_unit.proofs.Units.{moved_own, of_object, routine_there}
 use Rattle.ep_object.specs.Placing.{CodeStands, Placement, Stands, moved, placed, placed_routine}
-use Rattle.ep_simulation.specs.Promises.{ArrayRoutinesStand, IsFill, IsShuffle, IsSwap, StandFrom, SwapStands, fill_routine, filling_code, range_routine, ranging_code, spread_routine, spreading_code, swap_routine}
+use Rattle.ep_simulation.specs.Promises.{ArrayRoutinesStand, IsFill, IsRange, IsShuffle, IsSpread, IsSwap, StandFrom, SwapStands, fill_routine, filling_code, range_routine, ranging_code, spread_routine, spreading_code, swap_routine}
 use Rattle.ep_object.specs.Routines.{routine_of}
 use Rattle.ep_object.specs.declared.code.CodeRoutine.{CodeRoutine}
 use Rattle.ep_object.specs.declared.code.Image.{Image}
@@ -72,17 +72,17 @@ module _ (u : TypedUnit) (o : Object) (is : IsProgramCode u o) (G : Image) (ps :
 
   swaps : IsSwap G (moved p.routines swap_number)
   swaps =
-      let code = swapping.code_stands in
-      let at : p.instructions.before + (is.swapping).entry ≡ moved p.instructions (is.swapping).entry = sym swapping.entry in
       record {
-        its = placed_routine p is.swapping;
-        there = swapping.there;
-        numbered = swapping.numbered;
-        takes = ap (λ (c : CodeRoutine). c.arguments) (is.swaps).plain;
-        line = code_line.NO_LINE;
-        first = subst (λ k. slice_get G.instructions k ≡ Some (instr op.ARG (pos 1) 0 code_line.NO_LINE)) at code.0;
-        second = subst (λ k. slice_get G.instructions k ≡ Some (instr op.ARG (pos 0) 0 code_line.NO_LINE)) {x = p.instructions.before + ((is.swapping).entry + 1)} {y = moved p.instructions (is.swapping).entry + 1} (omega (arith, at)) code.1.0;
-        returns = subst (λ k. slice_get G.instructions k ≡ Some (instr op.RETURN (pos 0) 0 code_line.NO_LINE)) {x = p.instructions.before + ((is.swapping).entry + 1 + 1)} {y = moved p.instructions (is.swapping).entry + 1 + 1} (omega (arith, at)) code.1.1.0;
+        slots = 0;
+        shuffles = record {
+          its = placed_routine p is.swapping;
+          there = swapping.there;
+          numbered = swapping.numbered;
+          takes = ap (λ (c : CodeRoutine). c.arguments) (is.swaps).plain;
+          has_slots = ap (λ (c : CodeRoutine). c.slots) (is.swaps).plain;
+          line = code_line.NO_LINE;
+          stands = subst (λ m. StandFrom G m swap_code) (sym swapping.entry) (stand_from G ps p o.references (is.swapping).entry swap_code swapping.code_stands);
+        };
       }
 
   -- ---- the one that gives the value of a component of an array to others
@@ -112,22 +112,24 @@ module _ (u : TypedUnit) (o : Object) (is : IsProgramCode u o) (G : Image) (ps :
   fills : IsFill G (moved p.routines fill_number)
   fills =
       record {
-        its = placed_routine p is.filling;
-        there = filling.there;
-        numbered = filling.numbered;
-        takes = ap (λ (c : CodeRoutine). c.arguments) (is.fills).plain;
-        has_slot = ap (λ (c : CodeRoutine). c.slots) (is.fills).plain;
         swap = moved p.routines swap_number;
         swaps = swaps;
-        line = code_line.NO_LINE;
-        stands = subst (StandFrom G (moved p.instructions fill_entry)) placed_code (subst (λ m. StandFrom G m (map (placed ps p o.references) (fill_code fill_entry))) (sym filling.entry) (stand_from G ps p o.references fill_entry (fill_code fill_entry) filling.code_stands));
+        shuffles = record {
+          its = placed_routine p is.filling;
+          there = filling.there;
+          numbered = filling.numbered;
+          takes = ap (λ (c : CodeRoutine). c.arguments) (is.fills).plain;
+          has_slots = ap (λ (c : CodeRoutine). c.slots) (is.fills).plain;
+          line = code_line.NO_LINE;
+          stands = subst (StandFrom G (moved p.instructions fill_entry)) placed_code (subst (λ m. StandFrom G m (map (placed ps p o.references) (fill_code fill_entry))) (sym filling.entry) (stand_from G ps p o.references fill_entry (fill_code fill_entry) filling.code_stands));
+        };
       }
 
   -- ---- the other ones that give values to components of arrays
 
   -- one with this code, in which no instruction depends on where it stands
   shuffle_placed : (k operands : ℕ) (x : CodeRoutine) (its : ℕ → List Instr) → slice_get (is.swapping ∷ is.filling ∷ is.ranging ∷ is.spreading ∷ is.elaborating) k ≡ Some x → IsShuffleCode o.instructions operands (its code_line.NO_LINE) x → 0 < length (its code_line.NO_LINE)
-      → map (placed ps p o.references) (its code_line.NO_LINE) ≡ its code_line.NO_LINE → IsShuffle G (moved p.routines (swap_number + k)) operands its
+      → map (placed ps p o.references) (its code_line.NO_LINE) ≡ its code_line.NO_LINE → IsShuffle G (moved p.routines (swap_number + k)) operands 1 (λ entry. its)
   shuffle_placed k operands x its there code some same =
       let at = placed_at (swap_number + k) x (its code_line.NO_LINE) (behind_stop k x there) code.stands some in
       record {
@@ -135,7 +137,7 @@ module _ (u : TypedUnit) (o : Object) (is : IsProgramCode u o) (G : Image) (ps :
         there = at.there;
         numbered = at.numbered;
         takes = ap (λ (c : CodeRoutine). c.arguments) code.plain;
-        has_slot = ap (λ (c : CodeRoutine). c.slots) code.plain;
+        has_slots = ap (λ (c : CodeRoutine). c.slots) code.plain;
         line = code_line.NO_LINE;
         stands = subst (StandFrom G (moved p.instructions x.entry)) same (subst (λ m. StandFrom G m (map (placed ps p o.references) (its code_line.NO_LINE))) (sym at.entry) (stand_from G ps p o.references x.entry (its code_line.NO_LINE) at.code_stands));
       }
@@ -146,11 +148,11 @@ module _ (u : TypedUnit) (o : Object) (is : IsProgramCode u o) (G : Image) (ps :
   abbrev spread_number : ℕ
   spread_number = spread_routine (length u.routines)
 
-  ranges : IsShuffle G (moved p.routines range_number) 3 ranging_code
-  ranges = subst (λ n. IsShuffle G (moved p.routines n) 3 ranging_code) {x = swap_number + 2} {y = range_number} (omega arith) (shuffle_placed 2 3 is.ranging ranging_code refl is.ranges (omega arith) refl)
+  ranges : IsRange G (moved p.routines range_number)
+  ranges = subst (λ n. IsRange G (moved p.routines n)) {x = swap_number + 2} {y = range_number} (omega arith) (shuffle_placed 2 3 is.ranging ranging_code refl is.ranges (omega arith) refl)
 
-  spreads : IsShuffle G (moved p.routines spread_number) 5 spreading_code
-  spreads = subst (λ n. IsShuffle G (moved p.routines n) 5 spreading_code) {x = swap_number + 3} {y = spread_number} (omega arith) (shuffle_placed 3 5 is.spreading spreading_code refl is.spreads (omega arith) refl)
+  spreads : IsSpread G (moved p.routines spread_number)
+  spreads = subst (λ n. IsSpread G (moved p.routines n)) {x = swap_number + 3} {y = spread_number} (omega arith) (shuffle_placed 3 5 is.spreading spreading_code refl is.spreads (omega arith) refl)
 
   -- ---- each unit that alone declares types has all of them
 
@@ -163,14 +165,14 @@ module _ (u : TypedUnit) (o : Object) (is : IsProgramCode u o) (G : Image) (ps :
         go false e less = absurd (omega (arith, less))
 
   pub swap_there : (unit : List ℕ) → 0 < length ((own u).types unit) → SwapStands G ps unit (length ((own u).routines unit))
-  swap_there = of_unit (SwapStands G ps) (record { routine = moved p.routines swap_number; swaps = swaps; placed = call_placed u o is G ps p stands swap_number })
+  swap_there = of_unit (SwapStands G ps) (record { routine = moved p.routines swap_number; is = swaps; placed = call_placed u o is G ps p stands swap_number })
 
   arrays_stand : ArrayRoutinesStand G ps u.name (length u.routines)
   arrays_stand =
       record {
-        fill = record { routine = moved p.routines fill_number; fills = fills; placed = call_placed u o is G ps p stands fill_number };
-        range = record { routine = moved p.routines range_number; ranges = ranges; placed = call_placed u o is G ps p stands range_number };
-        spread = record { routine = moved p.routines spread_number; spreads = spreads; placed = call_placed u o is G ps p stands spread_number };
+        fill = record { routine = moved p.routines fill_number; is = fills; placed = call_placed u o is G ps p stands fill_number };
+        range = record { routine = moved p.routines range_number; is = ranges; placed = call_placed u o is G ps p stands range_number };
+        spread = record { routine = moved p.routines spread_number; is = spreads; placed = call_placed u o is G ps p stands spread_number };
       }
 
   pub arrays_there : (unit : List ℕ) → 0 < length ((own u).types unit) → ArrayRoutinesStand G ps unit (length ((own u).routines unit))

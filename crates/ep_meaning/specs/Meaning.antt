@@ -19,7 +19,7 @@ use Rattle.ep_typed.specs.Trees.{OfRoutine, entire, SetConstant, Structured, Ele
 use Rattle.ep_typed.specs.Trees.{AtRanges, AtIndexes, Elements, no_element, next_element}
 use Rattle.ep_typed.specs.Routines.{made_variables, made_by_unit}
 use Rattle.ep_typed.specs.Viewed.{denoter_of, stmt_of}
-use Rattle.ep_meaning.specs.Steps.{Call, Normal, Halted, Error, Outcome, Computation, give, cut, stop, bind, spend}
+use Rattle.ep_meaning.specs.Steps.{Call, Normal, Halted, Error, Outcome, Computation, give, cut, stop, ◌>>=◌, spend}
 use Rattle.ep_meaning.specs.Steps.{change, fetch, fetch_or, with_events, assigned, type_at, whole, Component}
 use Rattle.ep_meaning.specs.Steps.{component, component_number, is_number, tag_of, with_type, allocate, allocate_own}
 use Rattle.ep_meaning.specs.Steps.{own_variable, newest_assigned, with_bound, with_own_bound, standard_file}
@@ -74,8 +74,8 @@ module _ (call : Handler) (g : ℕ) (unit : List ℕ) where
   abbrev pub indexed : ℕ → Component → ℤ → Computation Component
   indexed line c z =
       using (Error run_error.DISPOSED unit line) c.allocation
-      (bind (fetch (Error run_error.INDEX unit line) (λ s. component_number (type_at c s) z))
-      (λ k. spend 1 (give (component c k))))
+      (fetch (Error run_error.INDEX unit line) (λ s. component_number (type_at c s) z)
+      >>= λ k. spend 1 (give (component c k)))
 
   -- the component of a record with this number, likewise
   abbrev pub selected : ℕ → Component → ℕ → Computation Component
@@ -111,31 +111,31 @@ module _ (call : Handler) (g : ℕ) (unit : List ℕ) where
   abbrev pub active : ℕ → Component → Selection → ℕ → Computation Component
   active line c s k =
       using (Error run_error.DISPOSED unit line) c.allocation
-      (bind (fetch (Error run_error.INACTIVE_VARIANT unit line) (result_of (tag_of c s))) (λ r.
-      selects s (number_of r) (chosen line c s k) (stop (Error run_error.INACTIVE_VARIANT unit line))))
+      (fetch (Error run_error.INACTIVE_VARIANT unit line) (result_of (tag_of c s))
+      >>= λ r. selects s (number_of r) (chosen line c s k) (stop (Error run_error.INACTIVE_VARIANT unit line)))
 
   -- the value of a variable: an error where its allocation has ended, and else where the value is undefined
   abbrev pub read : ℕ → Component → Computation Result
   read line c =
       using (Error run_error.DISPOSED unit line) c.allocation
-      (bind (fetch (Error run_error.UNDEFINED_VALUE unit line) (result_of c))
-      (λ r. spend (suc (weight_of r)) (give r)))
+      (fetch (Error run_error.UNDEFINED_VALUE unit line) (result_of c)
+      >>= λ r. spend (suc (weight_of r)) (give r))
 
   -- the component with this number of a result: an error where it is undefined
   abbrev pub part : ℕ → Result → ℕ → Computation Result
   part line r k =
-      bind (fetch (Error run_error.UNDEFINED_VALUE unit line) (λ s. part_of r k))
-      (λ p. spend (suc (weight_of p)) (give p))
+      fetch (Error run_error.UNDEFINED_VALUE unit line) (λ s. part_of r k)
+      >>= λ p. spend (suc (weight_of p)) (give p)
 
   -- the one at an index: an error where that is outside of the bounds
   abbrev pub part_indexed : ℕ → Result → ℤ → Computation Result
-  part_indexed line r z = bind (fetch (Error run_error.INDEX unit line) (λ s. part_at r z)) (λ k. part line r k)
+  part_indexed line r z = fetch (Error run_error.INDEX unit line) (λ s. part_at r z) >>= λ k. part line r k
 
   -- the value of a tag, by its record, whose one component it is: an error of variants where it is undefined
   abbrev pub tag_read : ℕ → Result → Computation Result
   tag_read line t =
-      bind (fetch (Error run_error.INACTIVE_VARIANT unit line) (λ s. part_of t 0))
-      (λ z. spend (suc (weight_of z)) (give z))
+      fetch (Error run_error.INACTIVE_VARIANT unit line) (λ s. part_of t 0)
+      >>= λ z. spend (suc (weight_of z)) (give z)
 
   -- the variant of a result with this number, where it is the one that is selected, and else an error
   abbrev pub chosen_part : ℕ → Result → Selection → ℕ → ℕ → Computation Result
@@ -147,8 +147,9 @@ module _ (call : Handler) (g : ℕ) (unit : List ℕ) where
   -- variant or none.
   abbrev pub active_part : ℕ → Result → Selection → ℕ → Computation Result
   active_part line r s k =
-      spend (suc (weight_of r)) (bind (part line r s.tag) (λ t. bind (tag_read line t) (λ z.
-      selects s (number_of z) (chosen_part line r s k) (stop (Error run_error.INACTIVE_VARIANT unit line)))))
+      spend (suc (weight_of r))
+      (part line r s.tag >>= λ t. tag_read line t
+      >>= λ z. selects s (number_of z) (chosen_part line r s k) (stop (Error run_error.INACTIVE_VARIANT unit line)))
 
   -- what a call of a function gives, which has one result; what is none has no meaning
   abbrev pub one_result : List Result → Computation Result
@@ -166,8 +167,8 @@ module _ (call : Handler) (g : ℕ) (unit : List ℕ) where
   abbrev pub located : ℕ → Component → ℤ → Computation Component
   located line c z =
       using (Error run_error.DISPOSED unit line) c.allocation
-      (bind (fetch (Error run_error.INDEX unit line) (λ s. component_number (type_at c s) z))
-      (λ k. give (component c k)))
+      (fetch (Error run_error.INDEX unit line) (λ s. component_number (type_at c s) z)
+      >>= λ k. give (component c k))
 
   -- the one at the first index in some ranges
   abbrev pub first_located : ℕ → Component → List CaseRange → Computation Component
@@ -177,7 +178,7 @@ module _ (call : Handler) (g : ℕ) (unit : List ℕ) where
   -- the one to which steps lead, each of which spends a step as the place of a field does
   abbrev pub reached : ℕ → Component → List ℕ → Computation Component
   reached line c [] = give c
-  reached line c (k ∷ ks) = bind (selected line c k) (λ d. reached line d ks)
+  reached line c (k ∷ ks) = selected line c k >>= λ d. reached line d ks
 
   -- It is given a value, as an assignment gives one, which spends a step and what the value weighs.
   abbrev pub given_living : ℕ → Component → Result → Computation (Unit {0})
@@ -194,9 +195,8 @@ module _ (call : Handler) (g : ℕ) (unit : List ℕ) where
   -- machine, whose depth counts.
   abbrev pub ranging : ℕ → Component → ℤ → ℤ → Computation CaseRange
   ranging line c low high =
-      bind (change with_depth)
-      (λ _. bind (located line c low)
-      (λ _. bind (located line c high) (λ _. spend 1 (give (record { low = low; high = high })))))
+      change with_depth >>= λ _. located line c low >>= λ _. located line c high
+      >>= λ _. spend 1 (give (record { low = low; high = high }))
 
   -- The components with the indexes of a range are given a value: the first one, and then all of them have what it
   -- has. There are
@@ -204,13 +204,13 @@ module _ (call : Handler) (g : ℕ) (unit : List ℕ) where
   abbrev pub given_from : ℕ → Component → CaseRange → Result → Computation (Unit {0})
   given_from line c range r =
       if int_le range.low range.high
-      then bind (located line c range.low) (λ d. bind (change with_depth)
-      (λ _. bind (given line d r) (λ _. fills_all c r (range ∷ []))))
+      then (located line c range.low >>= λ d. change with_depth >>= λ _. given line d r
+      >>= λ _. fills_all c r (range ∷ []))
       else give tt
 
   -- That spends a step and what the value weighs besides, and a call is under way on the machine.
   abbrev pub given_each : ℕ → Component → CaseRange → Result → Computation (Unit {0})
-  given_each line c range r = spend (suc (weight_of r)) (bind (change with_depth) (λ _. given_from line c range r))
+  given_each line c range r = spend (suc (weight_of r)) (change with_depth >>= λ _. given_from line c range r)
 
   -- what it is when all is given, which ends it
   abbrev pub taken : ℕ → ℕ → Computation Result
@@ -220,70 +220,65 @@ module _ (call : Handler) (g : ℕ) (unit : List ℕ) where
     -- a place is a variable; an undefined value where that is not made yet
     pub place : ℕ → Place → Computation Component
     place line (Variable u k) =
-        bind (fetch (Error run_error.UNDEFINED_VALUE unit line) (λ s. s.variables u k)) (λ c. spend 1 (give c))
+        fetch (Error run_error.UNDEFINED_VALUE unit line) (λ s. s.variables u k) >>= λ c. spend 1 (give c)
     place line (Own levels k) =
-        bind (fetch (Error run_error.UNDEFINED_VALUE unit line) (own_variable levels k)) (λ c. spend 1 (give c))
+        fetch (Error run_error.UNDEFINED_VALUE unit line) (own_variable levels k) >>= λ c. spend 1 (give c)
     place line (Standard file) = spend 1 (give (whole (standard_file file)))
-    place line (Indexed p x) = bind (place line p) (λ c. bind (eval line x) (λ r. indexed line c (number_of r)))
-    place line (Field p number) = bind (place line p) (λ c. selected line c number)
-    place line (Variant p selection number) = bind (place line p) (λ c. active line c selection number)
+    place line (Indexed p x) = place line p >>= λ c. eval line x >>= λ r. indexed line c (number_of r)
+    place line (Field p number) = place line p >>= λ c. selected line c number
+    place line (Variant p selection number) = place line p >>= λ c. active line c selection number
 
     -- an expression spends a step and its weight when it is done
     pub eval : ℕ → Expr → Computation Result
     eval line (Constant z) = spend 1 (give (result.Number z))
     eval line (Text bytes) = spend (suc (length bytes)) (give (Bytes bytes))
-    eval line (Read p) = bind (place line p) (read line)
+    eval line (Read p) = place line p >>= read line
     eval line (One operation x) =
-        bind (eval line x)
-        (λ a. bind (answered line (unary_answer operation (number_of a))) (λ z. spend 1 (give (result.Number z))))
+        eval line x >>= λ a. answered line (unary_answer operation (number_of a))
+        >>= λ z. spend 1 (give (result.Number z))
     eval line (Two operation x y) =
-        bind (eval line x)
-        (λ a. bind (eval line y)
-        (λ b. bind (answered line (binary_answer operation (number_of a) (number_of b))) (λ z. spend 1
-        (give (result.Number z)))))
+        eval line x >>= λ a. eval line y
+        >>= λ b. answered line (binary_answer operation (number_of a) (number_of b))
+        >>= λ z. spend 1 (give (result.Number z))
     eval line (Short operation x y) =
-        bind (eval line x)
-        (λ a. if decides operation (number_of a) then spend 1 (give a)
-        else bind (eval line y) (λ b. spend 1 (give b)))
+        eval line x
+        >>= λ a. if decides operation (number_of a) then spend 1 (give a)
+        else eval line y >>= λ b. spend 1 (give b)
     eval line (Step down low high x y) =
-        bind (eval line x)
-        (λ a. bind (eval line y)
-        (λ b. bind (answered line (step_answer down low high (number_of a) (number_of b))) (λ z. spend 1
-        (give (result.Number z)))))
+        eval line x >>= λ a. eval line y
+        >>= λ b. answered line (step_answer down low high (number_of a) (number_of b))
+        >>= λ z. spend 1 (give (result.Number z))
     eval line (Function callee given) =
-        bind (arguments line given) (λ xs. bind (call.routine unit line callee xs) one_result)
-    eval line (IndexedValue x y) =
-        bind (eval line x) (λ a. bind (eval line y) (λ b. part_indexed line a (number_of b)))
-    eval line (FieldValue x number) = bind (eval line x) (λ a. part line a number)
-    eval line (VariantValue x selection number) = bind (eval line x) (λ a. active_part line a selection number)
+        arguments line given >>= λ xs. call.routine unit line callee xs >>= one_result
+    eval line (IndexedValue x y) = eval line x >>= λ a. eval line y >>= λ b. part_indexed line a (number_of b)
+    eval line (FieldValue x number) = eval line x >>= λ a. part line a number
+    eval line (VariantValue x selection number) = eval line x >>= λ a. active_part line a selection number
     -- a constant that is a set spends as many steps besides as it has words
     eval line (SetConstant ms) = spend (suc set_size) (give (result.Members ms))
     -- a set constructor spends its step when it is begun
-    eval line (SetOf ds) = spend 1 (bind (collected line [] ds) (λ ms. give (result.Members ms)))
+    eval line (SetOf ds) = spend 1 (collected line [] ds >>= λ ms. give (result.Members ms))
     eval line (OnSets operation x y) =
-        bind (eval line x) (λ a. bind (eval line y) (λ b. spend 1 (give (set_answer operation a b))))
-    eval line (Card x) = bind (eval line x) (λ a. spend 1 (give (result.Number (pos (length (members_of a))))))
+        eval line x >>= λ a. eval line y >>= λ b. spend 1 (give (set_answer operation a b))
+    eval line (Card x) = eval line x >>= λ a. spend 1 (give (result.Number (pos (length (members_of a)))))
     -- a structured value: its type is elaborated, a variable of it is made without a name, is given its components,
     -- and is taken
     eval line (Structured of es) =
-        bind (call.named_type unit line of)
-        (λ t. bind (begins_nameless t) (λ n. bind (gives_all line (whole n) es) (λ _. taken line n)))
+        call.named_type unit line of >>= λ t. begins_nameless t >>= λ n. gives_all line (whole n) es
+        >>= λ _. taken line n
 
     -- a component of a structured value under way: which one it is, and then its value
     pub gives : ℕ → Component → Element → Computation (Unit {0})
     gives line c (AtIndex x y) =
-        bind (eval line x) (λ z. bind (located line c (number_of z)) (λ d. bind (eval line y) (given line d)))
-    gives line c (AtField steps x) = bind (reached line c steps) (λ d. bind (eval line x) (given line d))
+        eval line x >>= λ z. located line c (number_of z) >>= λ d. eval line y >>= given line d
+    gives line c (AtField steps x) = reached line c steps >>= λ d. eval line x >>= given line d
     -- between the two components a call is under way on the machine, whose depth counts
     gives line c (SameField from to) =
-        bind (reached line c to)
-        (λ d. bind (change with_depth)
-        (λ _. bind (reached line c from) (λ source. bind (read line source) (given line d))))
+        reached line c to >>= λ d. change with_depth >>= λ _. reached line c from >>= λ source. read line source
+        >>= given line d
     -- the first of the components is given the value, and then all of them have it
     gives line c (AtRanges ranges x) =
-        bind (first_located line c ranges)
-        (λ d. bind (eval line x) (λ r. bind (given line d r) (λ _. fills_all c r ranges)))
-    gives line c (AtIndexes ds x) = bind (given_at line c ds (eval line x)) (λ r. give tt)
+        first_located line c ranges >>= λ d. eval line x >>= λ r. given line d r >>= λ _. fills_all c r ranges
+    gives line c (AtIndexes ds x) = given_at line c ds (eval line x) >>= λ r. give tt
 
     -- The indexes of an element come first, in order, and then its value, which the components at them are given. The
     -- last ones
@@ -291,42 +286,39 @@ module _ (call : Handler) (g : ℕ) (unit : List ℕ) where
     pub given_at : ℕ → Component → Designators → Computation Result → Computation Result
     given_at line c no_member value = value
     given_at line c (next_member d ds) value =
-        bind (indexes line c d)
-        (λ range. bind (given_at line c ds value) (λ r. bind (given_each line c range r) (λ _. give r)))
+        indexes line c d >>= λ range. given_at line c ds value >>= λ r. given_each line c range r >>= λ _. give r
 
     -- an index alone is a range of its own
     pub indexes : ℕ → Component → Designator → Computation CaseRange
-    indexes line c (Single x) = bind (eval line x) (λ z. ranging line c (number_of z) (number_of z))
+    indexes line c (Single x) = eval line x >>= λ z. ranging line c (number_of z) (number_of z)
     indexes line c (Range x y) =
-        bind (eval line x) (λ a. bind (eval line y) (λ b. ranging line c (number_of a) (number_of b)))
+        eval line x >>= λ a. eval line y >>= λ b. ranging line c (number_of a) (number_of b)
 
     -- in order
     pub gives_all : ℕ → Component → Elements → Computation (Unit {0})
     gives_all line c no_element = give tt
-    gives_all line c (next_element e more) = bind (gives line c e) (λ _. gives_all line c more)
+    gives_all line c (next_element e more) = gives line c e >>= λ _. gives_all line c more
 
     -- an argument: a value, or a variable (ISO 10206, 6.7.3)
     pub argument : ℕ → Actual → Computation Argument
-    argument line (Evaluated x) = bind (eval line x) (λ r. give (Value r))
-    argument line (Accessed p) = bind (place line p) (λ c. give (argument_is.Variable c))
+    argument line (Evaluated x) = eval line x >>= λ r. give (Value r)
+    argument line (Accessed p) = place line p >>= λ c. give (argument_is.Variable c)
 
     -- arguments, from left to right
     pub arguments : ℕ → Actuals → Computation (List Argument)
     arguments line no_actual = give []
-    arguments line (next_actual a more) =
-        bind (argument line a) (λ x. bind (arguments line more) (λ xs. give (x ∷ xs)))
+    arguments line (next_actual a more) = argument line a >>= λ x. arguments line more >>= λ xs. give (x ∷ xs)
 
     -- the set with what a member designator gives besides: an error where that may be no member
     pub extended : ℕ → List ℕ → Designator → Computation (List ℕ)
-    extended line ms (Single x) = bind (eval line x) (λ a. members_found line (with_number (number_of a) ms))
+    extended line ms (Single x) = eval line x >>= λ a. members_found line (with_number (number_of a) ms)
     extended line ms (Range x y) =
-        bind (eval line x)
-        (λ a. bind (eval line y) (λ b. members_found line (with_numbers (number_of a) (number_of b) ms)))
+        eval line x >>= λ a. eval line y >>= λ b. members_found line (with_numbers (number_of a) (number_of b) ms)
 
     -- from left to right
     pub collected : ℕ → List ℕ → Designators → Computation (List ℕ)
     collected line ms no_member = give ms
-    collected line ms (next_member d more) = bind (extended line ms d) (λ ns. collected line ns more)
+    collected line ms (next_member d more) = extended line ms d >>= λ ns. collected line ns more
 
   -- one piece spends a step and its length, and is then written
   abbrev pub write_piece : List ℕ → Computation (Unit {0})
@@ -338,15 +330,15 @@ module _ (call : Handler) (g : ℕ) (unit : List ℕ) where
   write_wide line print r (negsuc n) = stop (Error run_error.NEGATIVE_WIDTH unit line)
 
   abbrev pub write_item : ℕ → Item → Computation (Unit {0})
-  write_item line (Plain print x) = bind (eval line x) (λ r. write_piece (plain_text print r))
+  write_item line (Plain print x) = eval line x >>= λ r. write_piece (plain_text print r)
   write_item line (Wide print x w) =
-      bind (eval line x) (λ r. bind (eval line w) (λ width. write_wide line print r (number_of width)))
+      eval line x >>= λ r. eval line w >>= λ width. write_wide line print r (number_of width)
 
   -- the items, then the line end where there is one, and then the statement's step
   abbrev pub write_items : ℕ → List Item → Bool → Computation (Unit {0})
   write_items line [] false = spend 1 (give tt)
-  write_items line [] true = bind (write_piece (line_end ∷ [])) (λ _. spend 1 (give tt))
-  write_items line (i ∷ is) ends_line = bind (write_item line i) (λ _. write_items line is ends_line)
+  write_items line [] true = write_piece (line_end ∷ []) >>= λ _. spend 1 (give tt)
+  write_items line (i ∷ is) ends_line = write_item line i >>= λ _. write_items line is ends_line
 
   -- an error where the value is outside the type of the variable, or of another type
   abbrev pub assign_living : ℕ → Component → Result → Computation (Unit {0})
@@ -360,28 +352,28 @@ module _ (call : Handler) (g : ℕ) (unit : List ℕ) where
 
   -- an assignment: the place, and then the value
   abbrev pub assigns : ℕ → Place → Expr → Computation (Unit {0})
-  assigns line p x = bind (place line p) (λ c. bind (eval line x) (λ r. assign line c r))
+  assigns line p x = place line p >>= λ c. eval line x >>= λ r. assign line c r
 
   -- a variable becomes undefined: an error where it has ended
   abbrev pub undefines : ℕ → Place → Computation (Unit {0})
   undefines line p =
-      bind (place line p)
-      (λ c. using (Error run_error.DISPOSED unit line) c.allocation (spend 1 (change (assigned c Undefined))))
+      place line p
+      >>= λ c. using (Error run_error.DISPOSED unit line) c.allocation (spend 1 (change (assigned c Undefined)))
 
   -- at most so many turns; a turn spends a step, and so does the statement in the end
   abbrev pub turns : ℕ → Computation Result → Computation (Unit {0}) → Computation (Unit {0})
   turns zero test body = cut
   turns (suc g) test body =
-      bind test
-      (λ r. if is_true (number_of r) then bind body (λ _. spend 1 (turns g test body)) else spend 1 (give tt))
+      test
+      >>= λ r. if is_true (number_of r) then (body >>= λ _. spend 1 (turns g test body)) else spend 1 (give tt)
 
   -- The body and then the test at least once, and at most so many times. A turn spends a step when its test is done,
   -- and so does the statement in the end.
   abbrev pub turns_until : ℕ → Computation (Unit {0}) → Computation Result → Computation (Unit {0})
   turns_until zero body test = cut
   turns_until (suc g) body test =
-      bind body
-      (λ _. bind test (λ r. spend 1 (if is_true (number_of r) then spend 1 (give tt) else turns_until g body test)))
+      body >>= λ _. test
+      >>= λ r. spend 1 (if is_true (number_of r) then spend 1 (give tt) else turns_until g body test)
 
   -- The turns of a `for` whose final value is this, from the value that the control variable has, and at most so many:
   -- the
@@ -389,9 +381,9 @@ module _ (call : Handler) (g : ℕ) (unit : List ℕ) where
   abbrev pub turns_to : ℕ → ℕ → Control → ℤ → Computation (Unit {0}) → Computation (Unit {0})
   turns_to zero line c last body = cut
   turns_to (suc g) line c last body =
-      bind body (λ _. bind (eval line (Read (entire c.variable))) (λ r.
-      spend 1 (if is_same last (number_of r) then give tt
-      else bind (assigns line (entire c.variable) (next_value c)) (λ _. turns_to g line c last body))))
+      body >>= λ _. eval line (Read (entire c.variable))
+      >>= λ r. spend 1 (if is_same last (number_of r) then give tt
+      else assigns line (entire c.variable) (next_value c) >>= λ _. turns_to g line c last body)
 
   -- A `for` that has a turn, with its body: both bounds are values of the control variable's type, which has the
   -- initial
@@ -399,25 +391,23 @@ module _ (call : Handler) (g : ℕ) (unit : List ℕ) where
   -- same variables.
   abbrev pub counts : ℕ → Control → Computation (Unit {0}) → Computation (Unit {0})
   counts line c body =
-      bind (eval line (Read (entire c.last)))
-      (λ b. bind (assigns line (entire c.variable) (Read (entire c.last)))
-      (λ _. bind (assigns line (entire c.variable) (Read (entire c.initial))) (λ _.
-      turns_to g line c (number_of b) body)))
+      eval line (Read (entire c.last)) >>= λ b. assigns line (entire c.variable) (Read (entire c.last))
+      >>= λ _. assigns line (entire c.variable) (Read (entire c.initial))
+      >>= λ _. turns_to g line c (number_of b) body
 
   -- The control variable gets the least of the members that are still to come.
   abbrev pub takes_least : ℕ → MemberControl → Computation (Unit {0})
   takes_least line c =
-      bind (place line (entire c.variable))
-      (λ v. bind (eval line (Read (entire c.rest))) (λ r. assign line v (result.Number (least_member (members_of r)))))
+      place line (entire c.variable) >>= λ v. eval line (Read (entire c.rest))
+      >>= λ r. assign line v (result.Number (least_member (members_of r)))
 
   -- A turn of a `for` over members, with its body. The others are to come after it: they are found before the body,
   -- since a
   -- `for` in the body has the same auxiliary variable.
   abbrev pub member_turn : ℕ → MemberControl → Computation (Unit {0}) → Computation (Unit {0})
   member_turn line c body =
-      bind (takes_least line c)
-      (λ _. bind (place line (entire c.rest))
-      (λ v. bind (eval line (others c)) (λ r. bind body (λ _. assign line v r))))
+      takes_least line c >>= λ _. place line (entire c.rest) >>= λ v. eval line (others c) >>= λ r. body
+      >>= λ _. assign line v r
 
   -- The variable of a `with` is this one from here on (ISO 10206, 6.9.3.10), which spends a step. It is one of the
   -- unit or
@@ -433,23 +423,22 @@ module _ (call : Handler) (g : ℕ) (unit : List ℕ) where
   abbrev pub clears : ℕ → Component → ℕ → Computation (Unit {0})
   clears line r k =
       using (Error run_error.DISPOSED unit line) r.allocation
-      (spend 1
-      (bind (fetch (Error run_error.UNDEFINED_VALUE unit line) (type_at (component r k))) (λ t. spend
-      (size_of t) (change (assigned (component r k) Undefined)))))
+      (spend 1 (fetch (Error run_error.UNDEFINED_VALUE unit line) (type_at (component r k))
+      >>= λ t. spend (size_of t) (change (assigned (component r k) Undefined))))
 
   -- so do as many from this number on
   abbrev pub clears_all : ℕ → Component → ℕ → ℕ → Computation (Unit {0})
   clears_all line r k zero = give tt
-  clears_all line r k (suc n) = bind (clears line r k) (λ _. clears_all line r (suc k) n)
+  clears_all line r k (suc n) = clears line r k >>= λ _. clears_all line r (suc k) n
 
   -- The tag of a record that gets the value which is in the auxiliary variable: an error where the record has ended,
   -- and else
   -- where the value is outside of the tag's type.
   abbrev pub tag_tested : ℕ → Tagging → Component → Selection → Computation Component
   tag_tested line c r s =
-      bind (selected line r s.tag) (λ t. bind (selected line t 0) (λ v. bind (eval line (Read (entire c.value))) (λ z.
-      if is_within (type.Ordinal c.low c.high) (number_of z) then give v
-      else stop (Error run_error.OUTSIDE_TYPE unit line))))
+      selected line r s.tag >>= λ t. selected line t 0 >>= λ v. eval line (Read (entire c.value))
+      >>= λ z. if is_within (type.Ordinal c.low c.high) (number_of z) then give v
+      else stop (Error run_error.OUTSIDE_TYPE unit line)
 
   -- the number of the variant that a tag selects with what it has, where it is defined and selects one
   abbrev pub selected_by : Selection → Option Result → Computation (Option ℕ)
@@ -458,29 +447,26 @@ module _ (call : Handler) (g : ℕ) (unit : List ℕ) where
 
   -- so it does with the value that it has
   abbrev pub selected_now : ℕ → Component → Selection → Computation (Option ℕ)
-  selected_now line v s = using (Error run_error.DISPOSED unit line) v.allocation (bind (looks v) (selected_by s))
+  selected_now line v s = using (Error run_error.DISPOSED unit line) v.allocation (looks v >>= selected_by s)
 
   -- where the value in the auxiliary variable selects another variant than this one, all variants become undefined
   abbrev pub changes_variant : ℕ → Tagging → Component → Selection → Option ℕ → Computation (Unit {0})
   changes_variant line c r s before =
-      bind (eval line (Read (entire c.value))) (λ z. bind (selected_by s (Some z)) (λ now.
-      if is_another before now then clears_all line r (variant_number s 0) (variants_count s) else give tt))
+      eval line (Read (entire c.value)) >>= λ z. selected_by s (Some z)
+      >>= λ now. if is_another before now then clears_all line r (variant_number s 0) (variants_count s) else give tt
 
   -- the tag of a record gets the value that is in the auxiliary variable
   abbrev pub sets_tag : ℕ → Tagging → Component → Selection → Computation (Unit {0})
   sets_tag line c r s =
-      bind (selected line r s.tag)
-      (λ t. bind (selected line t 0) (λ v. bind (eval line (Read (entire c.value))) (assign line v)))
+      selected line r s.tag >>= λ t. selected line t 0 >>= λ v. eval line (Read (entire c.value)) >>= assign line v
 
   -- An assignment to a tag (ISO 10206, 6.5.3.3): the record, and then the value, which is kept in the auxiliary
   -- variable. Once it
   -- is tried, the variants become undefined where another one than before is selected; then the tag gets the value.
   abbrev pub assigns_tag : ℕ → Tagging → Place → Selection → Expr → Computation (Unit {0})
   assigns_tag line c p s x =
-      bind (place line p)
-      (λ r. bind (assigns line (entire c.value) x)
-      (λ _. bind (tag_tested line c r s) (λ v. bind (selected_now line v s) (λ before.
-      bind (changes_variant line c r s before) (λ _. sets_tag line c r s)))))
+      place line p >>= λ r. assigns line (entire c.value) x >>= λ _. tag_tested line c r s
+      >>= λ v. selected_now line v s >>= λ before. changes_variant line c r s before >>= λ _. sets_tag line c r s
 
   abbrev mutual
     -- a statement spends a step when it is done; the empty and the compound one spend none
@@ -490,57 +476,55 @@ module _ (call : Handler) (g : ℕ) (unit : List ℕ) where
     exec (Assign line p x) = assigns line p x
     exec (AssignTag line c p s x) = assigns_tag line c p s x
     exec (If line x a b) =
-        bind (eval line x)
-        (λ r. if is_true (number_of r) then bind (exec a) (λ _. spend 1 (give tt))
-        else bind (exec b) (λ _. spend 1 (give tt)))
+        eval line x
+        >>= λ r. if is_true (number_of r) then (exec a >>= λ _. spend 1 (give tt))
+        else (exec b >>= λ _. spend 1 (give tt))
     exec (While line x s) = turns g (eval line x) (exec s)
     exec (Repeat line ss x) = turns_until g (exec_all ss) (eval line x)
     -- both bounds are evaluated once, and the control variable is undefined in the end, as it is where there is no
     -- turn
     exec (For line c x y s) =
-        bind (assigns line (entire c.initial) x) (λ _. bind (assigns line (entire c.last) y) (λ _.
-        bind (bind (eval line (in_order c)) (λ r. if is_true (number_of r) then counts line c (exec s) else give tt))
-        (λ _.
-        bind (undefines line (entire c.variable)) (λ _. spend 1 (give tt)))))
+        assigns line (entire c.initial) x >>= λ _. assigns line (entire c.last) y
+        >>= λ _. (eval line (in_order c) >>= λ r. if is_true (number_of r) then counts line c (exec s) else give tt)
+        >>= λ _. undefines line (entire c.variable) >>= λ _. spend 1 (give tt)
     -- The set is evaluated once, and the members are taken in rising order while there are any. The control variable
     -- is undefined in the end.
     exec (ForIn line c x s) =
-        bind (assigns line (entire c.rest) x)
-        (λ _. bind (turns g (eval line (has_more c)) (member_turn line c (exec s)))
-        (λ _. undefines line (entire c.variable)))
+        assigns line (entire c.rest) x >>= λ _. turns g (eval line (has_more c)) (member_turn line c (exec s))
+        >>= λ _. undefines line (entire c.variable)
     -- the place is found once, and the body is done with what was found
-    exec (With line v of p s) = bind (place line p) (λ c. bind (names v c) (λ _. exec s))
+    exec (With line v of p s) = place line p >>= λ c. names v c >>= λ _. exec s
     exec (Procedure line callee given) =
-        bind (arguments line given) (λ xs. bind (call.routine unit line callee xs) (λ results. spend 1 (give tt)))
-    exec (Case line x arms o) = bind (eval line x) (λ r. exec_arms (number_of r) arms (exec_other line o))
+        arguments line given >>= λ xs. call.routine unit line callee xs >>= λ results. spend 1 (give tt)
+    exec (Case line x arms o) = eval line x >>= λ r. exec_arms (number_of r) arms (exec_other line o)
     exec (Halt line) = stop Halted
     exec (Write line items ends_line) = write_items line items ends_line
 
     pub exec_all : Stmts → Computation (Unit {0})
     exec_all none = give tt
-    exec_all (next s ss) = bind (exec s) (λ _. exec_all ss)
+    exec_all (next s ss) = exec s >>= λ _. exec_all ss
 
     -- a `case`, whose selector has this value: the first arm with a range that has it, or what is done where none has
     -- it
     pub exec_arms : ℤ → Arms → Computation (Unit {0}) → Computation (Unit {0})
     exec_arms z no_arm fails = fails
     exec_arms z (next_arm ranges s arms) fails =
-        tried z ranges (bind (exec s) (λ _. spend 1 (give tt))) (exec_arms z arms fails)
+        tried z ranges (exec s >>= λ _. spend 1 (give tt)) (exec_arms z arms fails)
 
     pub exec_other : ℕ → Other → Computation (Unit {0})
     exec_other line no_other = stop (Error run_error.NO_CASE unit line)
-    exec_other line (otherwise_do ss) = bind (exec_all ss) (λ _. spend 1 (give tt))
+    exec_other line (otherwise_do ss) = exec_all ss >>= λ _. spend 1 (give tt)
 
   -- A type value is counted, and then a step is spent for its node. Constant bounds spend none.
   abbrev pub elaborated : TypeValue → Computation TypeValue
-  elaborated t = bind (change (with_type t)) (λ _. spend 1 (give t))
+  elaborated t = change (with_type t) >>= λ _. spend 1 (give t)
 
   -- A type gets an initial state (ISO 10206, 6.6), which a variable of it could be assigned: an error where it could
   -- not, and
   -- else the type value with it is counted, and a step is spent for its node and its size besides.
   abbrev pub begins : ℕ → TypeValue → Result → TypeValue → Computation TypeValue
   begins line t r with_start =
-      if suits (Some t) r then bind (change (with_type with_start)) (λ _. spend (suc (size_of t)) (give with_start))
+      if suits (Some t) r then (change (with_type with_start) >>= λ _. spend (suc (size_of t)) (give with_start))
       else stop (Error (misfit r) unit line)
 
   -- what is no initial state has no meaning
@@ -563,46 +547,45 @@ module _ (call : Handler) (g : ℕ) (unit : List ℕ) where
       elaborate (Subrange host low high) = elaborated_where (subrange_type low high)
       elaborate (Enumeration names) = elaborated_where (enumeration_type names)
       elaborate (Array index component) =
-          bind (elaborate index)
-          (λ t. bind (elaborate component) (λ u. elaborated_where (array_type (Some t) (Some u))))
-      elaborate (Record ds) = bind (elaborate_each ds) (λ ts. elaborated (type.Record ts))
-      elaborate (Set base) = bind (elaborate base) (λ t. elaborated_where (set_type (Some t)))
+          elaborate index >>= λ t. elaborate component >>= λ u. elaborated_where (array_type (Some t) (Some u))
+      elaborate (Record ds) = elaborate_each ds >>= λ ts. elaborated (type.Record ts)
+      elaborate (Set base) = elaborate base >>= λ t. elaborated_where (set_type (Some t))
       -- the type, then its initial state
       elaborate (Initial of value) =
-          bind (elaborate of) (λ t. bind (eval line value) (λ r. begins_where line t r (start_from r)))
+          elaborate of >>= λ t. eval line value >>= λ r. begins_where line t r (start_from r)
 
       -- the types of components, in order
       pub elaborate_each : Denoters → Computation ComponentTypes
       elaborate_each no_denoter = give type.no_component
       elaborate_each (next_denoter d ds) =
-          bind (elaborate d) (λ t. bind (elaborate_each ds) (λ ts. give (type.next_component t ts)))
+          elaborate d >>= λ t. elaborate_each ds >>= λ ts. give (type.next_component t ts)
 
   -- its type is elaborated, and then the variable is made, which spends its size
   abbrev pub make : ℕ → UnitVariable → Computation (Unit {0})
-  make number v = bind (elaborate v.line (denoter_of v.denoter)) (λ t. allocate unit number t)
+  make number v = elaborate v.line (denoter_of v.denoter) >>= λ t. allocate unit number t
 
   -- the variables from this number on, in order
   abbrev pub make_all : ℕ → List UnitVariable → Computation (Unit {0})
   make_all number [] = give tt
-  make_all number (v ∷ vs) = bind (make number v) (λ _. make_all (suc number) vs)
+  make_all number (v ∷ vs) = make number v >>= λ _. make_all (suc number) vs
 
   -- a variable of a routine is made alike
   abbrev pub make_own : ℕ → UnitVariable → Computation (Unit {0})
-  make_own number v = bind (elaborate v.line (denoter_of v.denoter)) (λ t. allocate_own number t)
+  make_own number v = elaborate v.line (denoter_of v.denoter) >>= λ t. allocate_own number t
 
   abbrev pub make_all_own : ℕ → List UnitVariable → Computation (Unit {0})
   make_all_own number [] = give tt
-  make_all_own number (v ∷ vs) = bind (make_own number v) (λ _. make_all_own (suc number) vs)
+  make_all_own number (v ∷ vs) = make_own number v >>= λ _. make_all_own (suc number) vs
 
 -- The start of a unit spends the step of a call, makes the variables that it makes, and runs its block.
 abbrev pub start_of : Handler → ℕ → TypedUnit → Computation (Unit {0})
 start_of call g u =
-    spend 1 (bind (make_all call g u.name 0 (made_by_unit u)) (λ _. exec call g u.name (stmt_of u.start)))
+    spend 1 (make_all call g u.name 0 (made_by_unit u) >>= λ _. exec call g u.name (stmt_of u.start))
 
 -- the starts of units in order
 abbrev pub starts_of : Handler → ℕ → List TypedUnit → Computation (Unit {0})
 starts_of call g [] = stop Normal
-starts_of call g (u ∷ us) = bind (start_of call g u) (λ _. starts_of call g us)
+starts_of call g (u ∷ us) = start_of call g u >>= λ _. starts_of call g us
 
 -- the routine of this number of the unit of this name
 abbrev pub routine_in : List TypedUnit → List ℕ → ℕ → Option UnitRoutine
@@ -635,11 +618,11 @@ module _ (call : Handler) (g : ℕ) (unit : List ℕ) where
   -- argument of it has no meaning.
   abbrev pub takes_by : FormalMode → ℕ → ℕ → Formal → Argument → Computation (Unit {0})
   takes_by mode.Value line number f (Value r) =
-      bind (elaborate call g unit line (denoter_of f.denoter))
-      (λ t. bind (allocate_own number t) (λ _. initialized unit line t r))
+      elaborate call g unit line (denoter_of f.denoter) >>= λ t. allocate_own number t
+      >>= λ _. initialized unit line t r
   takes_by mode.ProtectedValue line number f (Value r) =
-      bind (elaborate call g unit line (denoter_of f.denoter))
-      (λ t. bind (allocate_own number t) (λ _. initialized unit line t r))
+      elaborate call g unit line (denoter_of f.denoter) >>= λ t. allocate_own number t
+      >>= λ _. initialized unit line t r
   takes_by mode.Variable line number f (argument_is.Variable c) = spend 1 (change (with_own_bound number c))
   takes_by mode.ProtectedVariable line number f (argument_is.Variable c) = spend 1 (change (with_own_bound number c))
   takes_by mode line number f x = cut
@@ -650,7 +633,7 @@ module _ (call : Handler) (g : ℕ) (unit : List ℕ) where
   takes_all line number [] (x ∷ xs) = cut
   takes_all line number (f ∷ fs) [] = cut
   takes_all line number (f ∷ fs) (x ∷ xs) =
-      bind (takes_by f.mode line number f x) (λ _. takes_all line (suc number) fs xs)
+      takes_by f.mode line number f x >>= λ _. takes_all line (suc number) fs xs
 
 -- The value that the variable of this number of the routine has. One that is undefined is an error of its own, since
 -- it is
@@ -659,9 +642,9 @@ module _ (call : Handler) (g : ℕ) (unit : List ℕ) where
 -- an array or a record has its components as they are.
 abbrev pub result_at : List ℕ → ℕ → ℕ → Computation (List Result)
 result_at unit line number =
-    bind (fetch (Error run_error.UNDEFINED_VALUE unit line) (own_variable 0 number)) (λ c.
-    using (Error run_error.DISPOSED unit line) c.allocation
-    (bind (fetch_or (λ s. Error (unresulting (type_at c s)) unit line) (result_of c)) (λ r. give (r ∷ []))))
+    fetch (Error run_error.UNDEFINED_VALUE unit line) (own_variable 0 number)
+    >>= λ c. using (Error run_error.DISPOSED unit line) c.allocation
+    (fetch_or (λ s. Error (unresulting (type_at c s)) unit line) (result_of c) >>= λ r. give (r ∷ []))
 
 -- what a routine gives when it is done: a function the value of the variable of this number, and a procedure nothing
 abbrev pub results_given : List ℕ → ℕ → ℕ → Option RoutineResult → Computation (List Result)
@@ -674,9 +657,9 @@ results_given unit line number (Some r) = result_at unit line number
 -- or in giving the result is on the line of the declaration (own).
 abbrev pub runs_routine : Handler → ℕ → List ℕ → UnitRoutine → List Argument → Computation (List Result)
 runs_routine call g unit r xs =
-    bind (takes_all call g unit r.line 0 r.formals xs)
-    (λ _. bind (make_all_own call g unit (length r.formals) (made_variables r))
-    (λ _. bind (exec call g unit (stmt_of r.block)) (λ _. results_given unit r.line (length r.formals) r.result)))
+    takes_all call g unit r.line 0 r.formals xs
+    >>= λ _. make_all_own call g unit (length r.formals) (made_variables r)
+    >>= λ _. exec call g unit (stmt_of r.block) >>= λ _. results_given unit r.line (length r.formals) r.result
 
 -- the steps that the values spend which are given
 abbrev pub weights_of : List Argument → ℕ

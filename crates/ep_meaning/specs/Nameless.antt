@@ -4,7 +4,7 @@ use Rattle.ep_values.specs.Bounds.{count_of}
 use Rattle.ep_meaning.specs.Calls.{nested}
 use Rattle.ep_values.specs.Printing.{Result}
 use Rattle.ep_meaning.specs.Results.{result_of, value_of, weight_of}
-use Rattle.ep_meaning.specs.Steps.{Component, End, State, Gives, Computation, assigned, bind, change, component}
+use Rattle.ep_meaning.specs.Steps.{Component, End, State, Gives, Computation, assigned, ◌>>=◌, change, component}
 use Rattle.ep_meaning.specs.Steps.{component_number, counted, fetch, give, spend, type_at, using, whole}
 use Rattle.ep_meaning.specs.Steps.{with_all_ended}
 use Rattle.ep_values.specs.Values.{Value, start_of}
@@ -25,7 +25,7 @@ newest_nameless t m s = Gives m (suc (length s.allocations)) (made_nameless t s)
 -- with its
 -- weight and its size, and then it is there.
 abbrev pub begins_nameless : TypeValue → Computation ℕ
-begins_nameless t = bind (change (counted t)) (λ _. spend (suc (size_of t + size_of t)) (newest_nameless t))
+begins_nameless t = change (counted t) >>= λ _. spend (suc (size_of t + size_of t)) (newest_nameless t)
 
 -- whether more calls are under way than every run has room for
 abbrev pub with_depth : State → State
@@ -33,10 +33,10 @@ with_depth s = record s { resources = nested (length s.calls) s.resources }
 
 -- Its value is taken, and it ends, which gives back its words.
 abbrev pub taken_and_ended : ℕ → Result → Computation Result
-taken_and_ended n r = bind (change with_depth) (λ _. bind (change (with_all_ended (n ∷ []))) (λ _. give r))
+taken_and_ended n r = change with_depth >>= λ _. change (with_all_ended (n ∷ [])) >>= λ _. give r
 
 abbrev pub takes_nameless : End → End → ℕ → Computation Result
-takes_nameless ended undefined n = using ended n (bind (fetch undefined (result_of (whole n))) (taken_and_ended n))
+takes_nameless ended undefined n = using ended n (fetch undefined (result_of (whole n)) >>= taken_and_ended n)
 
 -- ---- one value for many components of an array (ISO 10206, 6.8.7.2)
 
@@ -63,10 +63,10 @@ range_assigned c r value s = assigned_from c (component_number (type_at c s) r.l
 -- a step, and for each component one more and what the value weighs, all of them before it is done.
 abbrev pub fills : Component → Result → CaseRange → Computation (Unit {0})
 fills c r range =
-    bind (change with_depth)
-    (λ _. spend (suc (range_count range * suc (weight_of r))) (change (range_assigned c range (value_of r))))
+    change with_depth
+    >>= λ _. spend (suc (range_count range * suc (weight_of r))) (change (range_assigned c range (value_of r)))
 
 -- those with the indexes of ranges, in order
 abbrev pub fills_all : Component → Result → List CaseRange → Computation (Unit {0})
 fills_all c r [] = give tt
-fills_all c r (range ∷ more) = bind (fills c r range) (λ _. fills_all c r more)
+fills_all c r (range ∷ more) = fills c r range >>= λ _. fills_all c r more

@@ -126,6 +126,11 @@ go_on (Cut s) f = Cut s
 abbrev pub bind : {A B : Type 0} → Computation A → (A → Computation B) → Computation B
 bind c f m s = go_on (c m s) f
 
+-- the same, as it is written between the two
+infixl 10 ◌>>=◌
+abbrev pub ◌>>=◌ : {A B : Type 0} → Computation A → (A → Computation B) → Computation B
+c >>= f = bind c f
+
 -- so many steps, and then the rest
 abbrev pub spend : {A : Type 0} → ℕ → Computation A → Computation A
 spend zero c m s = c m s
@@ -346,11 +351,11 @@ with_own_bound number bound s = record s { calls = own_bound_in number bound s.c
 -- A variable is made: its words are counted, and then it is there, which spends its size. So room is lost before the
 -- steps that it is wanted for.
 abbrev pub allocate : List ℕ → ℕ → TypeValue → Computation (Unit {0})
-allocate unit number t = bind (change (counted t)) (λ _. spend (size_of t) (change (made unit number t)))
+allocate unit number t = change (counted t) >>= λ _. spend (size_of t) (change (made unit number t))
 
 -- a variable of the routine that runs is made alike
 abbrev pub allocate_own : ℕ → TypeValue → Computation (Unit {0})
-allocate_own number t = bind (change (counted t)) (λ _. spend (size_of t) (change (made_own number t)))
+allocate_own number t = change (counted t) >>= λ _. spend (size_of t) (change (made_own number t))
 
 -- ---- what ends
 abbrev pub ended_at : ℕ → List Allocation → Option Allocation → List Allocation

@@ -23,7 +23,7 @@ use Rattle.ep_typed.specs.Trees.{Tagging, AssignTag, If, While, Repeat, Control,
 use Rattle.ep_typed.specs.Trees.{Procedure, Halt, Write, none, next, Case, Arms, no_arm, next_arm, Other, no_other}
 use Rattle.ep_typed.specs.Trees.{otherwise_do, Entire, OfUnit, OfRoutine, entire, SetConstant, Element, AtIndex}
 use Rattle.ep_typed.specs.Trees.{AtField, SameField, AtRanges, AtIndexes, Elements, no_element, next_element}
-use Rattle.ep_typed.specs.Routines.{heading_of, formal_variable, variables_of, unit_variables}
+use Rattle.ep_typed.specs.Routines.{heading_of, variables_of, unit_variables}
 use Rattle.ep_typed.specs.Routines.{first_with, made_by_unit}
 use Rattle.ep_typed.specs.Viewed.{constant_expr, denoter_of, stmt_of}
 use Rattle.ep_values.specs.declared.operations.Unary.{Unary}

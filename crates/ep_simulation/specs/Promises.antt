@@ -208,25 +208,43 @@ pub record TypeKeeps (declared : Declarations) (G : Image) (ps : List Placement)
       (point injection memory place below) (call.named_type unit line index) (place + 1)
       (λ a. Inside (kept_slots declared G) injection memory (TypeOnTop t below a)) 0 (λ a. type_credit)
 
--- The routine of this number in the image takes two operands, has no slots, and begins at a place where the upper one
--- is taken
--- out first, then the lower one, and then it returns: it leaves the two in the other order.
-pub record IsSwap (G : Image) (routine : ℕ) : Type 0 where
+-- these instructions stand in the image from this place on
+abbrev pub StandFrom : Image → ℕ → List Instr → Type 0
+StandFrom G place [] = ⊤
+StandFrom G place (i ∷ is) = (slice_get G.instructions place ≡ Some i) × StandFrom G (place + 1) is
+
+-- The routine of this number in the image takes so many operands, has so many slots, and has this code, which its
+-- entry and a line give: the line of each of its instructions.
+pub record IsShuffle (G : Image) (routine operands slots : ℕ) (code : (entry line : ℕ) → List Instr) : Type 0 where
   pub its : ImageRoutine
   pub there : routine_of G routine ≡ Some its
   pub numbered : routine < length G.routines
-  pub takes : its.arguments ≡ 2
+  pub takes : its.arguments ≡ operands
+  pub has_slots : its.slots ≡ slots
   pub line : ℕ
-  pub first : slice_get G.instructions its.entry ≡ Some (instr op.ARG (pos 1) 0 line)
-  pub second : slice_get G.instructions (its.entry + 1) ≡ Some (instr op.ARG (pos 0) 0 line)
-  pub returns : slice_get G.instructions (its.entry + 1 + 1) ≡ Some (instr op.RETURN (pos 0) 0 line)
+  pub stands : StandFrom G its.entry (code its.entry line)
 
--- A unit with so many routines has such a routine in the image, by which a call that names it is placed.
-pub record SwapStands (G : Image) (ps : List Placement) (unit : List ℕ) (routines : ℕ) : Type 0 where
+-- A unit has such a routine in the image, by which a call that names the unit's routine of this number is placed.
+pub record ShuffleStands (ps : List Placement) (unit : List ℕ) (number : ℕ) (Is : ℕ → Type 0) : Type 0 where
   pub routine : ℕ
-  pub swaps : IsSwap G routine
+  pub is : Is routine
   pub placed : (i : Instr)
-      → placed_call ps (Some (record { unit = unit; number = swap_routine routines })) i ≡ record i { a = pos routine }
+      → placed_call ps (Some (record { unit = unit; number = number })) i ≡ record i { a = pos routine }
+
+-- The code of the routine that takes two operands: the upper one is taken out first, then the lower one, and then it
+-- returns. It leaves the two in the other order.
+abbrev pub swapping_code : (line : ℕ) → List Instr
+swapping_code line =
+    instr op.ARG (pos 1) 0 line ∷ instr op.ARG (pos 0) 0 line ∷ instr op.RETURN (pos 0) 0 line ∷ []
+
+-- The routine of this number in the image has that code, and uses none of the slots that it has.
+pub record IsSwap (G : Image) (routine : ℕ) : Type 0 where
+  pub slots : ℕ
+  pub shuffles : IsShuffle G routine 2 slots (λ entry. swapping_code)
+
+-- A unit with so many routines has it.
+abbrev pub SwapStands : Image → List Placement → List ℕ → ℕ → Type 0
+SwapStands G ps unit routines = ShuffleStands ps unit (swap_routine routines) (IsSwap G)
 
 -- In the routine that gives the value of a component of an array to others, with the index on top of one that gets it,
 -- which stays
@@ -261,41 +279,15 @@ filling_code entry swap line =
     instr op.ARG (pos 0) 0 line ∷ instr op.BIND (pos 0) 0 line ∷ instr op.PEEK (pos 2) 0 line
     ∷ turning_code entry swap line
 
--- these instructions stand in the image from this place on
-abbrev pub StandFrom : Image → ℕ → List Instr → Type 0
-StandFrom G place [] = ⊤
-StandFrom G place (i ∷ is) = (slice_get G.instructions place ≡ Some i) × StandFrom G (place + 1) is
-
--- The routine of this number in the image takes four operands, has one slot, and has that code.
+-- The routine of this number in the image has that code, with one that leaves two operands in the other order.
 pub record IsFill (G : Image) (routine : ℕ) : Type 0 where
-  pub its : ImageRoutine
-  pub there : routine_of G routine ≡ Some its
-  pub numbered : routine < length G.routines
-  pub takes : its.arguments ≡ 4
-  pub has_slot : its.slots ≡ 1
   pub swap : ℕ
   pub swaps : IsSwap G swap
-  pub line : ℕ
-  pub stands : StandFrom G its.entry (filling_code its.entry swap line)
+  pub shuffles : IsShuffle G routine 4 1 (λ entry. filling_code entry swap)
 
--- A unit with so many routines has such a routine in the image, by which a call that names it is placed.
-pub record FillStands (G : Image) (ps : List Placement) (unit : List ℕ) (routines : ℕ) : Type 0 where
-  pub routine : ℕ
-  pub fills : IsFill G routine
-  pub placed : (i : Instr)
-      → placed_call ps (Some (record { unit = unit; number = fill_routine routines })) i ≡ record i { a = pos routine }
-
--- The routine of this number in the image takes so many operands, has one slot, and has this code, each instruction of
--- which has the
--- same line.
-pub record IsShuffle (G : Image) (routine operands : ℕ) (code : ℕ → List Instr) : Type 0 where
-  pub its : ImageRoutine
-  pub there : routine_of G routine ≡ Some its
-  pub numbered : routine < length G.routines
-  pub takes : its.arguments ≡ operands
-  pub has_slot : its.slots ≡ 1
-  pub line : ℕ
-  pub stands : StandFrom G its.entry (code line)
+-- A unit with so many routines has it.
+abbrev pub FillStands : Image → List Placement → List ℕ → ℕ → Type 0
+FillStands G ps unit routines = ShuffleStands ps unit (fill_routine routines) (IsFill G)
 
 -- The code of the routine that takes the place of an array and the first and the last index of a range. It leaves the
 -- indexes, and the
@@ -306,6 +298,14 @@ ranging_code line =
     ∷ instr op.PEEK (pos 2) 0 line
     ∷ instr op.SLOT (pos 0) 0 line ∷ instr op.SLOT (pos 0) 0 line ∷ instr op.PEEK (pos 2) 0 line
     ∷ instr op.SLOT (pos 0) 0 line ∷ instr op.PEEK (pos 1) 0 line ∷ instr op.RETURN (pos 0) 0 line ∷ []
+
+-- The routine of this number in the image has that code.
+abbrev pub IsRange : Image → ℕ → Type 0
+IsRange G routine = IsShuffle G routine 3 1 (λ entry. ranging_code)
+
+-- A unit with so many routines has it.
+abbrev pub RangeStands : Image → List Placement → List ℕ → ℕ → Type 0
+RangeStands G ps unit routines = ShuffleStands ps unit (range_routine routines) (IsRange G)
 
 -- In the routine that takes the first and the last index of a range, the place of an array, and a value twice: it
 -- leaves the place and
@@ -331,24 +331,13 @@ first_code line =
 abbrev pub spreading_code : (line : ℕ) → List Instr
 spreading_code line = row_code line ++ first_code line
 
--- A unit with so many routines has the first of these in the image, by which a call that names it is placed.
-pub record RangeStands (G : Image) (ps : List Placement) (unit : List ℕ) (routines : ℕ) : Type 0 where
-  pub routine : ℕ
-  pub ranges : IsShuffle G routine 3 ranging_code
-  pub placed : (i : Instr)
-      → placed_call ps (Some (record { unit = unit; number = range_routine routines })) i ≡ record i {
-        a = pos routine;
-      }
+-- The routine of this number in the image has that code.
+abbrev pub IsSpread : Image → ℕ → Type 0
+IsSpread G routine = IsShuffle G routine 5 1 (λ entry. spreading_code)
 
--- and the second one
-pub record SpreadStands (G : Image) (ps : List Placement) (unit : List ℕ) (routines : ℕ) : Type 0 where
-  pub routine : ℕ
-  pub spreads : IsShuffle G routine 5 spreading_code
-  pub placed : (i : Instr)
-      → placed_call ps (Some (record { unit = unit; number = spread_routine routines })) i ≡ record i {
-        a = pos
-            routine;
-      }
+-- A unit with so many routines has it.
+abbrev pub SpreadStands : Image → List Placement → List ℕ → ℕ → Type 0
+SpreadStands G ps unit routines = ShuffleStands ps unit (spread_routine routines) (IsSpread G)
 
 -- A unit with so many routines has all of those that give values to components of arrays.
 pub record ArrayRoutinesStand (G : Image) (ps : List Placement) (unit : List ℕ) (routines : ℕ) : Type 0 where

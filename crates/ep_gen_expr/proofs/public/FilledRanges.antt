@@ -78,7 +78,7 @@ module _ (declared : Declarations) (G : Image) (untouched : Slots) (Here : Facts
       (follows_waits (not_left-here memory.frames) (push_pushes G (to_double + 1) line (operand.Place q ∷ operand.Place q ∷ rest) from first_push memory s.trace)
       (follows_waits (not_left-here memory.frames) (push_pushes G (to_double + 1 + 1) line (Word from ∷ operand.Place q ∷ operand.Place q ∷ rest) x.low second_push memory s.trace)
       (follows_waits (not_left-here memory.frames) (push_pushes G (to_double + 1 + 1 + 1) line (Word x.low ∷ Word from ∷ operand.Place q ∷ operand.Place q ∷ rest) x.high third_push memory s.trace)
-      (fills_follow declared G fill.routine fill.fills to_call line calls low high of k of_kind a q from x.low x.high f at_from r suited gives injection memory o value spot described (operand.Place q ∷ rest) s matches living has n (d - 5) inside.0 inside.1 inside.2 inside.3 inside.4 first_fits last_fits))))))
+      (fills_follow declared G fill.routine fill.is to_call line calls low high of k of_kind a q from x.low x.high f at_from r suited gives injection memory o value spot described (operand.Place q ∷ rest) s matches living has n (d - 5) inside.0 inside.1 inside.2 inside.3 inside.4 first_fits last_fits))))))
       (λ u t l filled_at.
       let filled = filled_at.filled in
       let since = filled.since in

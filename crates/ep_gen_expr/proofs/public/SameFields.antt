@@ -50,7 +50,7 @@ module _ (declared : Declarations) (G : Image) (untouched : Slots) (Here : Facts
       record {
         by = λ s matches here.
             let deep = lasts.by injection injection s (with_depth s) memory memory (record { grown = grown_refl injection memory; routine = same_routine-refl memory.frames; own = λ j. refl; calls = refl }) here in
-            follows_counted with_depth (swap_follows G swap.routine swap.swaps place line calls x y below memory s.trace s refl steady (omega (arith, matches.depth)) (λ l stays. stays) (then.by (with_depth s) (matches_depth matches) deep));
+            follows_counted with_depth (swap_follows G swap.routine swap.is place line calls x y below memory s.trace s refl steady (omega (arith, matches.depth)) (λ l stays. stays) (then.by (with_depth s) (matches_depth matches) deep));
       }
 
   -- `Load` and `Store`, where the places of the two components are on top

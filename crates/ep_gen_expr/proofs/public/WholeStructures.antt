@@ -121,7 +121,7 @@ module _ (declared : Declarations) (G : Image) (untouched : Slots) (Here : Facts
         (λ _ v3 m3 pushed3 grown3 routine3 is3.
         subst (λ st. Fragment declared G Here n (point v3 m3 middle st) (taken call g unit line m) (middle + 1 + 1 + 1) (λ r. Inside untouched v3 m3 (OnTop (kind.Structured u) below r)) (credit - 2) (λ r. d + 8 + spare + weight_of r)) (sym is3)
         (fragment_credit {d = end_ticks u + (d + 8 + spare)} {e = λ r. d + 8 + spare + weight_of r} (omega (arith, sizes, left)) (λ r. omega arith)
-        (taken_follows declared G untouched Here lasts line call g unit swap.routine swap.swaps middle m u structured tail.0 swaps disposes v3 m3 below q (unit_in-same G routine3 ∙ home) (is_spot-grown grown3 spot) (describes-grown q.type_number u grown3 like) top.numbered top.above n (d + 8 + spare))))))))
+        (taken_follows declared G untouched Here lasts line call g unit swap.routine swap.is middle m u structured tail.0 swaps disposes v3 m3 below q (unit_in-same G routine3 ∙ home) (is_spot-grown grown3 spot) (describes-grown q.type_number u grown3 like) top.numbered top.above n (d + 8 + spare))))))))
 
     -- All of it, with so much credit besides.
     pub structured_spares : (spare : ℕ) → spare ≤ 40 * size_of (bare_of t) → (injection : Injection) (memory : Memory) (below : List Operand) (d : ℕ) → least_credit ≤ d → unit_in G memory.frames ≡ unit

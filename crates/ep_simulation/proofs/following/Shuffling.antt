@@ -1,4 +1,4 @@
--- Calls of routines that leave operands in another order and have a slot for a place.
+-- Calls of routines that leave operands in another order, some with a slot for a place.
 use Rattle.std.proofs.Common.{◌≡◌, ℕ, suc, ◌+◌, ◌≤◌, inr, Bool, true, false, cond, ltb, List, [], ◌∷◌, Option, Some, None, length, map, replicate, ap, subst, ◌∙◌, refl, arith}
 use Rattle.std.proofs.lemmas.Bool.Decides.{nat_tests}
 use Rattle.ep_object.specs.Calls.{call_limit, top_of}
@@ -25,7 +25,7 @@ use Rattle.ep_meaning.specs.Steps.{Computation}
 use Rattle.ep_meaning.specs.Steps as meaning
 use Rattle.ep_values.specs.declared.run_error.TheConstants as run_error
 
-module _ (G : Image) (routine operands : ℕ) (code : ℕ → List Instr) (shuffle : IsShuffle G routine operands code) (place line : ℕ) (calls : CallsAt G place routine 0 line)
+module _ (G : Image) (routine operands slots : ℕ) (code : (entry line : ℕ) → List Instr) (shuffle : IsShuffle G routine operands slots code) (place line : ℕ) (calls : CallsAt G place routine 0 line)
     (arguments over below : List Operand) (taken : top_of operands over ≡ Some (arguments, below)) (memory : Memory) (trace : Trace) where
   abbrev pub its : ImageRoutine
   its = shuffle.its
@@ -40,13 +40,13 @@ module _ (G : Image) (routine operands : ℕ) (code : ℕ → List Instr) (shuff
   top_taken : top_of its.arguments over ≡ Some (arguments, below)
   top_taken = ap (λ n. top_of n over) shuffle.takes ∙ taken
 
-  calls_it : (b : Bool) → ltb (length memory.frames.calls) call_limit ≡ b
+  pub calls_it : (b : Bool) → ltb (length memory.frames.calls) call_limit ≡ b
       → outcome G (at place over memory trace)
-      ≡ cond b (record { weight = weights arguments; to = Running 0 (at its.entry below (within (map Some arguments) (None ∷ [])) trace) }) (record { weight = weights arguments; to = Stopped (Error run_error.CALL_DEPTH (unit_in G memory.frames) calls.instruction.line) trace })
+      ≡ cond b (record { weight = weights arguments; to = Running 0 (at its.entry below (within (map Some arguments) (replicate slots None)) trace) }) (record { weight = weights arguments; to = Stopped (Error run_error.CALL_DEPTH (unit_in G memory.frames) calls.instruction.line) trace })
   calls_it true e =
       let fits : ltb routine (length G.routines) ≡ true = grind (arith, nat_tests, shuffle.numbered) in
       ap (λ o. outcome_of G o (at place over memory trace)) calls.stands ∙ rw (calls.is_call, calls.names, calls.parent, fits, shuffle.there, top_taken, e)
-      (ap (λ n. record { weight = weights arguments; to = Running 0 (at its.entry below (within (map Some arguments) (replicate n None)) trace) }) shuffle.has_slot)
+      (ap (λ n. record { weight = weights arguments; to = Running 0 (at its.entry below (within (map Some arguments) (replicate n None)) trace) }) shuffle.has_slots)
   calls_it false e =
       let fits : ltb routine (length G.routines) ≡ true = grind (arith, nat_tests, shuffle.numbered) in
       ap (λ o. outcome_of G o (at place over memory trace)) calls.stands ∙ rw (calls.is_call, calls.names, calls.parent, fits, shuffle.there, top_taken, e) refl
@@ -59,7 +59,7 @@ module _ (G : Image) (routine operands : ℕ) (code : ℕ → List Instr) (shuff
   pub call_follows : {A : Type 0} {Within : State → Type 0} {n : ℕ} (s : meaning.State) {c : Computation A} {P : A → meaning.State → State → Type 0} {d : ℕ} {e : A → ℕ} → s.trace ≡ trace → Steady c
       → length memory.frames.calls ≤ suc (length s.calls)
       → ((k : State) → IsNotLeft memory.frames k.frames → Within k)
-      → Follows Within G n (at its.entry below (within (map Some arguments) (None ∷ [])) trace) (with_depth s) c P d e
+      → Follows Within G n (at its.entry below (within (map Some arguments) (replicate slots None)) trace) (with_depth s) c P d e
       → Follows Within G n (at place over memory trace) (with_depth s) c P (suc (weights arguments) + d) e
   call_follows {A = A} {Within = Within} {n = n} s {c = c} {P = P} {d = d} {e = e} same steady deep stays then = by_test (ltb (length memory.frames.calls) call_limit) refl
     where

@@ -15,7 +15,6 @@ use Rattle.ep_meaning.specs.Calls.{entered, back_in}
 use Rattle.ep_values.specs.Events.{Trace}
 use Rattle.ep_meaning.specs.Steps.{Component, Call, Allocation, type_along, allocation_at, assigned_at, assigned, type_in, type_at, ended_in, has_ended, with_events}
 use Rattle.ep_values.specs.Values.{Value, value_with}
-use Rattle.ep_values.specs.TypeValues.{is_within}
 use Rattle.ep_meaning.specs.Steps as meaning
 use Rattle.ep_values.specs.TypeValues.{TypeValue, bare_of}
 use Rattle.ep_meaning.specs.Valid.{Declarations}

@@ -1,5 +1,5 @@
 -- A routine that gives the value of a component of an array to others.
-use Rattle.std.proofs.Common.{◌≡◌, ℕ, ℤ, pos, zero, suc, ◌+◌, ◌*◌, ◌≤◌, ◌<◌, inr, Bool, true, false, cond, ltb, leb, IsTrue, List, [], ◌∷◌, ◌++◌, Option, Some, None, length, replicate, slice_get, refl, sym, ap, ◌∙◌, subst, append_assoc, suc-add, arith}
+use Rattle.std.proofs.Common.{◌≡◌, ℕ, ℤ, pos, zero, suc, ◌+◌, ◌*◌, ◌≤◌, ◌<◌, inr, Bool, true, false, cond, ltb, leb, IsTrue, List, [], ◌∷◌, ◌++◌, Option, Some, None, length, slice_get, refl, sym, ap, ◌∙◌, subst, append_assoc, suc-add, arith}
 use Rattle.std.proofs.lemmas.Bool.Decides.{nat_tests}
 use Rattle.std.proofs.lemmas.Option.{slice_get_within}
 use Rattle.std.specs.Prelude.{⊤, ◌+ℤ◌, if◌then◌else◌, int_lt}
@@ -9,19 +9,19 @@ use Rattle.ep_object.specs.Frames.{slots_over}
 use Rattle.ep_simulation.specs.Matching.{AreAmong, Grown, Injection, IsLike, IsSpot, Matches, Memory, Slots, at, every_slot, slot_of_frame}
 use Rattle.ep_object.specs.Operands.{Operand, Word}
 use Rattle.ep_object.specs.Operands as operand
-use Rattle.ep_simulation.specs.Promises.{CallsAt, IsFill, IsValueOf, StandFrom, turning_code}
-use Rattle.ep_object.specs.Runs.{outcome, outcome_of, unit_in}
+use Rattle.ep_simulation.specs.Promises.{CallsAt, IsFill, IsShuffle, IsValueOf, StandFrom, filling_code, turning_code}
+use Rattle.ep_object.specs.Runs.{outcome, unit_in}
 use Rattle.ep_object.specs.State.{Error, Frame, Frames, Running, State, Stopped}
 use Rattle.ep_object.specs.declared.code.Image.{Image}
 use Rattle.ep_object.specs.declared.code.ImageRoutine.{ImageRoutine}
 use Rattle.ep_object.specs.declared.op.TheConstants as op
-use Rattle.ep_object.specs.declared.state.FrameNumber.TheVariants as number
 use Rattle.ep_object.specs.declared.state.Place.{Place as PlaceOf}
 use Rattle.ep_object.proofs.public.Grows.{is_prefix}
+use Rattle.ep_simulation.proofs.following.Shuffling as shuffling
 use Rattle.ep_simulation.proofs.public.following.Bind.{Met, follows_changed, follows_counted, follows_credit, follows_gives_up, follows_less, follows_paid, follows_waits, gives_up}
 use Rattle.ep_simulation.proofs.public.following.Choices.{going_of}
 use Rattle.ep_simulation.proofs.public.following.Fragments.{Does}
-use Rattle.ep_simulation.proofs.public.following.Routines.{leaves, left_memory, lost_calls, not_left-called}
+use Rattle.ep_simulation.proofs.public.following.Routines.{leaves, left_memory, lost_calls}
 use Rattle.ep_simulation.proofs.public.following.Swapping.{swap_follows, swap_ticks}
 use Rattle.ep_simulation.proofs.public.matching.Assigned.{ended_keeps, value_keeps}
 use Rattle.ep_simulation.proofs.public.matching.BareValues.{result_by, structure_given, suits_bare}
@@ -144,8 +144,12 @@ module _ (declared : Declarations) (G : Image) (routine : ℕ) (fill : IsFill G 
     (injection : Injection) (memory : Memory) (other : Operand) (value : IsValueOf injection memory k r other)
     (spot : IsSpot injection memory.types v p) (described : IsLike memory.types p.type_number (type.Array low high of)) (below : List Operand)
     (s : meaning.State) (matches : Matches declared G injection s memory) where
+  -- it with its code
+  abbrev shuffle : IsShuffle G routine 4 1 (λ entry. filling_code entry fill.swap)
+  shuffle = fill.shuffles
+
   abbrev its : ImageRoutine
-  its = fill.its
+  its = shuffle.its
 
   -- the state of the meaning, which knows of the call
   abbrev now_known : meaning.State
@@ -201,23 +205,23 @@ module _ (declared : Declarations) (G : Image) (routine : ℕ) (fill : IsFill G 
     stays there ops = record { over = t.frame ∷ []; own = memory.frames.calls; is = t.frames; runs = record { turn = t.turn; routine = t.routine_is; unit = t.unit_is; calls = still_calls memory.frames.calls } }
 
     -- `Slot`, which gives the place of the array
-    place_pushed : (there : ℕ) (ops : List Operand) → slice_get G.instructions there ≡ Some (instr op.SLOT (pos 0) 0 fill.line)
+    place_pushed : (there : ℕ) (ops : List Operand) → slice_get G.instructions there ≡ Some (instr op.SLOT (pos 0) 0 shuffle.line)
         → outcome G (at there ops now sh.trace) ≡ in_one (Running 0 (at (there + 1) (operand.Place p ∷ ops) now sh.trace))
-    place_pushed there ops has = slot_pushes G there fill.line 0 0 ops (t.frame).slots now sh.trace has (own_slots now t.frame memory.frames.calls t.frames) p t.slot
+    place_pushed there ops has = slot_pushes G there shuffle.line 0 0 ops (t.frame).slots now sh.trace has (own_slots now t.frame memory.frames.calls t.frames) p t.slot
 
     -- `Peek` of an index
-    from_pushed : (there : ℕ) (ops : List Operand) → slice_get G.instructions there ≡ Some (instr op.PEEK (pos 1) 0 fill.line)
+    from_pushed : (there : ℕ) (ops : List Operand) → slice_get G.instructions there ≡ Some (instr op.PEEK (pos 1) 0 shuffle.line)
         → outcome G (at there ops now sh.trace) ≡ in_one (Running 0 (at (there + 1) (Word from ∷ ops) now sh.trace))
-    from_pushed there ops has = outcome_at G (instr op.PEEK (pos 1) 0 fill.line) there ops now sh.trace has ∙ rw (t.frames, t.arguments) refl
+    from_pushed there ops has = outcome_at G (instr op.PEEK (pos 1) 0 shuffle.line) there ops now sh.trace has ∙ rw (t.frames, t.arguments) refl
 
-    last_pushed : (there : ℕ) (ops : List Operand) → slice_get G.instructions there ≡ Some (instr op.PEEK (pos 3) 0 fill.line)
+    last_pushed : (there : ℕ) (ops : List Operand) → slice_get G.instructions there ≡ Some (instr op.PEEK (pos 3) 0 shuffle.line)
         → outcome G (at there ops now sh.trace) ≡ in_one (Running 0 (at (there + 1) (Word last ∷ ops) now sh.trace))
-    last_pushed there ops has = outcome_at G (instr op.PEEK (pos 3) 0 fill.line) there ops now sh.trace has ∙ rw (t.frames, t.arguments) refl
+    last_pushed there ops has = outcome_at G (instr op.PEEK (pos 3) 0 shuffle.line) there ops now sh.trace has ∙ rw (t.frames, t.arguments) refl
 
     -- `Dup` of an index
-    doubled : (there : ℕ) (z : ℤ) → slice_get G.instructions there ≡ Some (instr op.DUP (pos 0) 0 fill.line)
+    doubled : (there : ℕ) (z : ℤ) → slice_get G.instructions there ≡ Some (instr op.DUP (pos 0) 0 shuffle.line)
         → outcome G (at there (Word z ∷ below) now sh.trace) ≡ in_one (Running 0 (at (there + 1) (Word z ∷ Word z ∷ below) now sh.trace))
-    doubled there z has = outcome_at G (instr op.DUP (pos 0) 0 fill.line) there (Word z ∷ below) now sh.trace has
+    doubled there z has = outcome_at G (instr op.DUP (pos 0) 0 shuffle.line) there (Word z ∷ below) now sh.trace has
 
   -- ---- a turn
 
@@ -249,56 +253,56 @@ module _ (declared : Declarations) (G : Image) (routine : ℕ) (fill : IsFill G 
           }
 
   -- the code from the head of a turn on
-  body : StandFrom G head (turning_code its.entry fill.swap fill.line)
-  body = fill.stands.1.1.1
+  body : StandFrom G head (turning_code its.entry fill.swap shuffle.line)
+  body = shuffle.stands.1.1.1
 
   module _ (sh : meaning.State) (longer : Injection) (now : Memory) (t : Turning sh longer now) (z : ℤ) (i : ℕ) (at_index : component_at low high z ≡ Some i) where
     -- the place of the component that gets the value
     abbrev target : PlaceOf
-    target = component_place declared G (to_swap + 1) fill.line (Word z ∷ below) low high of z v p body.1.1.1.0 longer now (now_spot sh longer now t) (now_described sh longer now t) i
+    target = component_place declared G (to_swap + 1) shuffle.line (Word z ∷ below) low high of z v p body.1.1.1.0 longer now (now_spot sh longer now t) (now_described sh longer now t) i
 
     -- and that of the one that has it
     abbrev source : PlaceOf
-    source = component_place declared G (to_swap + 1 + 1 + 1 + 1) fill.line (operand.Place target ∷ Word z ∷ below) low high of from v p body.1.1.1.1.1.1.0 longer now (now_spot sh longer now t) (now_described sh longer now t) f
+    source = component_place declared G (to_swap + 1 + 1 + 1 + 1) shuffle.line (operand.Place target ∷ Word z ∷ below) low high of from v p body.1.1.1.1.1.1.0 longer now (now_spot sh longer now t) (now_described sh longer now t) f
 
     target_spot : IsSpot longer now.types (component v i) target
-    target_spot = component_spot declared G (to_swap + 1) fill.line (Word z ∷ below) low high of z v p body.1.1.1.0 longer now (now_spot sh longer now t) (now_described sh longer now t) i (is_within_count (count_of low high) (gap low z) i at_index)
+    target_spot = component_spot declared G (to_swap + 1) shuffle.line (Word z ∷ below) low high of z v p body.1.1.1.0 longer now (now_spot sh longer now t) (now_described sh longer now t) i (is_within_count (count_of low high) (gap low z) i at_index)
 
     source_spot : IsSpot longer now.types (component v f) source
-    source_spot = component_spot declared G (to_swap + 1 + 1 + 1 + 1) fill.line (operand.Place target ∷ Word z ∷ below) low high of from v p body.1.1.1.1.1.1.0 longer now (now_spot sh longer now t) (now_described sh longer now t) f (is_within_count (count_of low high) (gap low from) f at_from)
+    source_spot = component_spot declared G (to_swap + 1 + 1 + 1 + 1) shuffle.line (operand.Place target ∷ Word z ∷ below) low high of from v p body.1.1.1.1.1.1.0 longer now (now_spot sh longer now t) (now_described sh longer now t) f (is_within_count (count_of low high) (gap low from) f at_from)
 
     target_like : IsLike now.types target.type_number of
-    target_like = let a = array declared G (to_swap + 1) fill.line (Word z ∷ below) low high of z v p body.1.1.1.0 longer now (now_spot sh longer now t) (now_described sh longer now t) in a.like
+    target_like = let a = array declared G (to_swap + 1) shuffle.line (Word z ∷ below) low high of z v p body.1.1.1.0 longer now (now_spot sh longer now t) (now_described sh longer now t) in a.like
 
     source_like : IsLike now.types source.type_number of
-    source_like = let a = array declared G (to_swap + 1 + 1 + 1 + 1) fill.line (operand.Place target ∷ Word z ∷ below) low high of from v p body.1.1.1.1.1.1.0 longer now (now_spot sh longer now t) (now_described sh longer now t) in a.like
+    source_like = let a = array declared G (to_swap + 1 + 1 + 1 + 1) shuffle.line (operand.Place target ∷ Word z ∷ below) low high of from v p body.1.1.1.1.1.1.0 longer now (now_spot sh longer now t) (now_described sh longer now t) in a.like
 
     target_found : outcome G (at (to_swap + 1) (Word z ∷ operand.Place p ∷ Word z ∷ below) now sh.trace) ≡ in_one (Running 0 (at (to_swap + 1 + 1) (operand.Place target ∷ Word z ∷ below) now sh.trace))
-    target_found = index_leads declared G (to_swap + 1) fill.line (Word z ∷ below) low high of z v p body.1.1.1.0 longer now (now_spot sh longer now t) (now_described sh longer now t) (under sh) t.is t.living i at_index
+    target_found = index_leads declared G (to_swap + 1) shuffle.line (Word z ∷ below) low high of z v p body.1.1.1.0 longer now (now_spot sh longer now t) (now_described sh longer now t) (under sh) t.is t.living i at_index
 
     source_found : outcome G (at (to_swap + 1 + 1 + 1 + 1) (Word from ∷ operand.Place p ∷ operand.Place target ∷ Word z ∷ below) now sh.trace) ≡ in_one (Running 0 (at to_load (operand.Place source ∷ operand.Place target ∷ Word z ∷ below) now sh.trace))
-    source_found = index_leads declared G (to_swap + 1 + 1 + 1 + 1) fill.line (operand.Place target ∷ Word z ∷ below) low high of from v p body.1.1.1.1.1.1.0 longer now (now_spot sh longer now t) (now_described sh longer now t) (under sh) t.is t.living f at_from
+    source_found = index_leads declared G (to_swap + 1 + 1 + 1 + 1) shuffle.line (operand.Place target ∷ Word z ∷ below) low high of from v p body.1.1.1.1.1.1.0 longer now (now_spot sh longer now t) (now_described sh longer now t) (under sh) t.is t.living f at_from
 
     -- it gives the result
     result_is : result_of (component v f) (under sh) ≡ Some r
     result_is =
-        result_by of (component v f) (under sh) (variable_type declared G to_load fill.line below of (component v f) source longer now source_spot source_like (under sh) t.is t.living)
+        result_by of (component v f) (under sh) (variable_type declared G to_load shuffle.line below of (component v f) source longer now source_spot source_like (under sh) t.is t.living)
         ∙ (ap (given_by (Some of)) t.has ∙ gives)
 
     loaded : (o : Operand) × IsValueOf longer now k r o × (outcome G (at to_load (operand.Place source ∷ operand.Place target ∷ Word z ∷ below) now sh.trace) ≡ record { weight = weight_of r; to = Running 0 (at (to_load + 1) (o ∷ operand.Place target ∷ Word z ∷ below) now sh.trace) })
-    loaded = value_loads declared G to_load fill.line (operand.Place target ∷ Word z ∷ below) k of (component v f) source of_kind body.1.1.1.1.1.1.1.0 longer now source_spot source_like (under sh) t.is t.living r injection memory other value result_is
+    loaded = value_loads declared G to_load shuffle.line (operand.Place target ∷ Word z ∷ below) k of (component v f) source of_kind body.1.1.1.1.1.1.1.0 longer now source_spot source_like (under sh) t.is t.living r injection memory other value result_is
 
     -- which suits the other one
     suits_it : suits (type_at (component v i) (under sh)) r ≡ true
     suits_it =
         sym (suits_bare (type_at (component v i) (under sh)) r)
-        ∙ (ap (λ o. suits o r) (variable_type declared G to_load fill.line below of (component v i) target longer now target_spot target_like (under sh) t.is t.living) ∙ suited)
+        ∙ (ap (λ o. suits o r) (variable_type declared G to_load shuffle.line below of (component v i) target longer now target_spot target_like (under sh) t.is t.living) ∙ suited)
 
   abbrev Within : State → Type 0
   Within l = IsNotLeft memory.frames l.frames
 
-  swap_calls : CallsAt G to_swap fill.swap 0 fill.line
-  swap_calls = record { instruction = instr op.CALL (pos fill.swap) 0 fill.line; stands = body.1.1.0; is_call = refl; names = refl; parent = refl; at_line = refl }
+  swap_calls : CallsAt G to_swap fill.swap 0 shuffle.line
+  swap_calls = record { instruction = instr op.CALL (pos fill.swap) 0 shuffle.line; stands = body.1.1.0; is_call = refl; names = refl; parent = refl; at_line = refl }
 
   -- The value is given to one more component, whose steps are spent.
   turn_follows : {A : Type 0} {P : A → meaning.State → State → Type 0} {e : A → ℕ} (n d : ℕ) (c : Computation A) → Steady c
@@ -309,7 +313,7 @@ module _ (declared : Declarations) (G : Image) (routine : ℕ) (fill : IsFill G 
       follows_credit {d = 1 + (1 + (swap_ticks (Word z) (operand.Place p) + (1 + (1 + (1 + (1 + d))))))} {e = e} (omega arith) (λ a. omega arith)
       (follows_waits (stays sh longer now t head (Word z ∷ below)) (doubled sh longer now t head z body.0)
       (follows_waits (stays sh longer now t (head + 1) (Word z ∷ Word z ∷ below)) (place_pushed sh longer now t (head + 1) (Word z ∷ Word z ∷ below) body.1.0)
-      (swap_follows G fill.swap fill.swaps to_swap fill.line swap_calls (Word z) (operand.Place p) (Word z ∷ below) now sh.trace s (sym t.same) (steady_spend (suc (weight_of r)) steady)
+      (swap_follows G fill.swap fill.swaps to_swap shuffle.line swap_calls (Word z) (operand.Place p) (Word z ∷ below) now sh.trace s (sym t.same) (steady_spend (suc (weight_of r)) steady)
       (omega (arith, matches.depth, ap length t.frames)) (λ l. not_left-over memory.frames now.frames l.frames t.frame t.turn t.routine_is t.unit_is t.frames)
       (follows_waits (stays sh longer now t (to_swap + 1) (Word z ∷ operand.Place p ∷ Word z ∷ below)) (target_found sh longer now t z i at_index)
       (follows_waits (stays sh longer now t (to_swap + 1 + 1) (operand.Place place_of ∷ Word z ∷ below)) (place_pushed sh longer now t (to_swap + 1 + 1) (operand.Place place_of ∷ Word z ∷ below) body.1.1.1.1.0)
@@ -329,7 +333,7 @@ module _ (declared : Declarations) (G : Image) (routine : ℕ) (fill : IsFill G 
 
       stored : Does declared G nothing (at (to_load + 1) (its_value.0 ∷ operand.Place place_of ∷ Word z ∷ below) now sh.trace) (weight_of r) behind (Inside every_slot longer now (Bare (Word z ∷ below) tt)) (assigned (component v i) (value_of r) (under sh))
       stored =
-          value_does declared G (to_load + 1) fill.line (Word z ∷ below) k of r its_value.0 (component v i) place_of (may_take k of of_kind) body.1.1.1.1.1.1.1.1.0 longer now its_value.1
+          value_does declared G (to_load + 1) shuffle.line (Word z ∷ below) k of r its_value.0 (component v i) place_of (may_take k of of_kind) body.1.1.1.1.1.1.1.1.0 longer now its_value.1
           (target_spot sh longer now t z i at_index) (target_like sh longer now t z i at_index) (under sh) t.is t.living nothing_lasts tt (suits_it sh longer now t z i at_index)
 
       post : Inside every_slot longer now (Bare (Word z ∷ below) tt) stored.injection stored.memory stored.operands
@@ -348,7 +352,7 @@ module _ (declared : Declarations) (G : Image) (routine : ℕ) (fill : IsFill G 
   compared : (sh : meaning.State) (now : Memory) (z : ℤ) (b : Bool) → int_lt z last ≡ b
       → outcome G (at (behind + 1 + 1) (Word last ∷ Word z ∷ Word z ∷ below) now sh.trace) ≡ in_one (Running 0 (at to_jump (Word (ordinal_of b) ∷ Word z ∷ below) now sh.trace))
   compared sh now z b is =
-      less_answers G (behind + 1 + 1) fill.line (Word z ∷ below) z last body.1.1.1.1.1.1.1.1.1.1.1.0 now sh.trace ∙ ap (λ x. in_one (Running 0 (at to_jump (Word (ordinal_of x) ∷ Word z ∷ below) now sh.trace))) is
+      less_answers G (behind + 1 + 1) shuffle.line (Word z ∷ below) z last body.1.1.1.1.1.1.1.1.1.1.1.0 now sh.trace ∙ ap (λ x. in_one (Running 0 (at to_jump (Word (ordinal_of x) ∷ Word z ∷ below) now sh.trace))) is
 
   -- After the last component it returns.
   leads_out : {A : Type 0} {P : A → meaning.State → State → Type 0} {e : A → ℕ} (n d : ℕ) (c : Computation A) (sh : meaning.State) (longer : Injection) (now : Memory) (t : Turning sh longer now) (z : ℤ) → gap z last ≡ Some 0
@@ -360,20 +364,20 @@ module _ (declared : Declarations) (G : Image) (routine : ℕ) (fill : IsFill G 
       (follows_waits (stays sh longer now t (behind + 1) (Word z ∷ Word z ∷ below)) (last_pushed sh longer now t (behind + 1) (Word z ∷ Word z ∷ below) body.1.1.1.1.1.1.1.1.1.1.0)
       (follows_waits (stays sh longer now t (behind + 1 + 1) (Word last ∷ Word z ∷ Word z ∷ below)) (compared sh now z false (gap_same z last is))
       (follows_waits (stays sh longer now t to_jump (Word (pos 0) ∷ Word z ∷ below)) jumps
-      (follows_waits (stays sh longer now t to_drop (Word z ∷ below)) (outcome_at G (instr op.DROP (pos 0) 0 fill.line) to_drop (Word z ∷ below) now sh.trace drops)
+      (follows_waits (stays sh longer now t to_drop (Word z ∷ below)) (outcome_at G (instr op.DROP (pos 0) 0 shuffle.line) to_drop (Word z ∷ below) now sh.trace drops)
       (follows_waits (stays sh longer now t (to_drop + 1) below) returns next))))))
     where
-      drops : slice_get G.instructions to_drop ≡ Some (instr op.DROP (pos 0) 0 fill.line)
+      drops : slice_get G.instructions to_drop ≡ Some (instr op.DROP (pos 0) 0 shuffle.line)
       drops = body.1.1.1.1.1.1.1.1.1.1.1.1.1.1.1.1.0
 
       jumps : outcome G (at to_jump (Word (pos 0) ∷ Word z ∷ below) now sh.trace) ≡ in_one (Running 0 (at to_drop (Word z ∷ below) now sh.trace))
       jumps =
-          let inside : its.entry + 19 < length G.instructions = omega (arith, slice_get_within G.instructions to_drop (instr op.DROP (pos 0) 0 fill.line) drops) in
-          jump_false_jumps G to_jump fill.line (Word z ∷ below) (pos 0) (its.entry + 19) inside body.1.1.1.1.1.1.1.1.1.1.1.1.0 now sh.trace ∙ ap (λ q. in_one (Running 0 (at q (Word z ∷ below) now sh.trace))) drop_place
+          let inside : its.entry + 19 < length G.instructions = omega (arith, slice_get_within G.instructions to_drop (instr op.DROP (pos 0) 0 shuffle.line) drops) in
+          jump_false_jumps G to_jump shuffle.line (Word z ∷ below) (pos 0) (its.entry + 19) inside body.1.1.1.1.1.1.1.1.1.1.1.1.0 now sh.trace ∙ ap (λ q. in_one (Running 0 (at q (Word z ∷ below) now sh.trace))) drop_place
 
       returns : outcome G (at (to_drop + 1) below now sh.trace) ≡ in_one (Running 0 (at (place + 1) below (left_memory [] memory.frames.calls now) sh.trace))
       returns =
-          leaves G (to_drop + 1) (instr op.RETURN (pos 0) 0 fill.line) below now sh.trace t.frame memory.frames.calls body.1.1.1.1.1.1.1.1.1.1.1.1.1.1.1.1.1.0 refl refl refl t.frames
+          leaves G (to_drop + 1) (instr op.RETURN (pos 0) 0 shuffle.line) below now sh.trace t.frame memory.frames.calls body.1.1.1.1.1.1.1.1.1.1.1.1.1.1.1.1.1.0 refl refl refl t.frames
           ∙ (ap (λ q. in_one (Running 0 (at q below (left_memory (t.frame).made memory.frames.calls now) sh.trace))) t.back
           ∙ ap (λ ns. in_one (Running 0 (at (place + 1) below (left_memory ns memory.frames.calls now) sh.trace))) t.made)
 
@@ -387,24 +391,24 @@ module _ (declared : Declarations) (G : Image) (routine : ℕ) (fill : IsFill G 
       (follows_waits (stays sh longer now t (behind + 1) (Word z ∷ Word z ∷ below)) (last_pushed sh longer now t (behind + 1) (Word z ∷ Word z ∷ below) body.1.1.1.1.1.1.1.1.1.1.0)
       (follows_waits (stays sh longer now t (behind + 1 + 1) (Word last ∷ Word z ∷ Word z ∷ below)) (compared sh now z true (gap_less z last left is))
       (follows_waits (stays sh longer now t to_jump (Word (pos 1) ∷ Word z ∷ below)) goes_on
-      (follows_waits (stays sh longer now t (to_jump + 1) (Word z ∷ below)) (push_pushes G (to_jump + 1) fill.line (Word z ∷ below) (pos 1) body.1.1.1.1.1.1.1.1.1.1.1.1.1.0 now sh.trace)
+      (follows_waits (stays sh longer now t (to_jump + 1) (Word z ∷ below)) (push_pushes G (to_jump + 1) shuffle.line (Word z ∷ below) (pos 1) body.1.1.1.1.1.1.1.1.1.1.1.1.1.0 now sh.trace)
       (follows_waits (stays sh longer now t (to_jump + 1 + 1) (Word (pos 1) ∷ Word z ∷ below)) added
       (follows_waits (stays sh longer now t (to_jump + 1 + 1 + 1) (Word (z +ℤ pos 1) ∷ below)) jumps next)))))))
     where
       goes_on : outcome G (at to_jump (Word (pos 1) ∷ Word z ∷ below) now sh.trace) ≡ in_one (Running 0 (at (to_jump + 1) (Word z ∷ below) now sh.trace))
       goes_on =
-          let inside : its.entry + 19 < length G.instructions = omega (arith, slice_get_within G.instructions to_drop (instr op.DROP (pos 0) 0 fill.line) body.1.1.1.1.1.1.1.1.1.1.1.1.1.1.1.1.0) in
-          jump_false_jumps G to_jump fill.line (Word z ∷ below) (pos 1) (its.entry + 19) inside body.1.1.1.1.1.1.1.1.1.1.1.1.0 now sh.trace
+          let inside : its.entry + 19 < length G.instructions = omega (arith, slice_get_within G.instructions to_drop (instr op.DROP (pos 0) 0 shuffle.line) body.1.1.1.1.1.1.1.1.1.1.1.1.1.1.1.1.0) in
+          jump_false_jumps G to_jump shuffle.line (Word z ∷ below) (pos 1) (its.entry + 19) inside body.1.1.1.1.1.1.1.1.1.1.1.1.0 now sh.trace
 
       added : outcome G (at (to_jump + 1 + 1) (Word (pos 1) ∷ Word z ∷ below) now sh.trace) ≡ in_one (Running 0 (at (to_jump + 1 + 1 + 1) (Word (z +ℤ pos 1) ∷ below) now sh.trace))
       added =
-          add_answers G (to_jump + 1 + 1) fill.line below z (pos 1) body.1.1.1.1.1.1.1.1.1.1.1.1.1.1.0 now sh.trace
-          ∙ ap (λ b. in_one (going_of (to_jump + 1 + 1 + 1) below now (unit_in G now.frames) fill.line sh.trace (if b then Number (z +ℤ pos 1) else Fault run_error.OVERFLOW))) (integer_next z last left is small large)
+          add_answers G (to_jump + 1 + 1) shuffle.line below z (pos 1) body.1.1.1.1.1.1.1.1.1.1.1.1.1.1.0 now sh.trace
+          ∙ ap (λ b. in_one (going_of (to_jump + 1 + 1 + 1) below now (unit_in G now.frames) shuffle.line sh.trace (if b then Number (z +ℤ pos 1) else Fault run_error.OVERFLOW))) (integer_next z last left is small large)
 
       jumps : outcome G (at (to_jump + 1 + 1 + 1) (Word (z +ℤ pos 1) ∷ below) now sh.trace) ≡ in_one (Running 0 (at head (Word (z +ℤ pos 1) ∷ below) now sh.trace))
       jumps =
-          let inside : its.entry + 3 < length G.instructions = omega (arith, slice_get_within G.instructions head (instr op.DUP (pos 0) 0 fill.line) body.0) in
-          jump_jumps G (to_jump + 1 + 1 + 1) fill.line (Word (z +ℤ pos 1) ∷ below) (its.entry + 3) inside body.1.1.1.1.1.1.1.1.1.1.1.1.1.1.1.0 now sh.trace ∙ ap (λ q. in_one (Running 0 (at q (Word (z +ℤ pos 1) ∷ below) now sh.trace))) head_place
+          let inside : its.entry + 3 < length G.instructions = omega (arith, slice_get_within G.instructions head (instr op.DUP (pos 0) 0 shuffle.line) body.0) in
+          jump_jumps G (to_jump + 1 + 1 + 1) shuffle.line (Word (z +ℤ pos 1) ∷ below) (its.entry + 3) inside body.1.1.1.1.1.1.1.1.1.1.1.1.1.1.1.0 now sh.trace ∙ ap (λ q. in_one (Running 0 (at q (Word (z +ℤ pos 1) ∷ below) now sh.trace))) head_place
 
   -- So many more components than one get the value, in as many turns.
   turns_follow : {A : Type 0} {P : A → meaning.State → State → Type 0} {e : A → ℕ} (n d : ℕ) (c : Computation A) → Steady c
@@ -423,12 +427,6 @@ module _ (declared : Declarations) (G : Image) (routine : ℕ) (fill : IsFill G 
 
   -- ---- the call
 
-  abbrev its_frame : List (Option Operand) → List (Option PlaceOf) → Frame
-  its_frame left slots = record { routine = routine; arguments = left; slots = slots; parent = number.Unit its.unit; back = place + 1; made = [] }
-
-  abbrev within : List (Option Operand) → List (Option PlaceOf) → Memory
-  within left slots = record memory { frames = record memory.frames { calls = its_frame left slots ∷ memory.frames.calls } }
-
   -- with all arguments, and without the first one
   abbrev all_left : List (Option Operand)
   all_left = Some (Word last) ∷ Some (Word first) ∷ Some (Word from) ∷ Some (operand.Place p) ∷ []
@@ -439,34 +437,35 @@ module _ (declared : Declarations) (G : Image) (routine : ℕ) (fill : IsFill G 
   abbrev over : List Operand
   over = Word last ∷ Word first ∷ Word from ∷ operand.Place p ∷ below
 
-  -- it takes the four operands
-  top_taken : top_of its.arguments over ≡ Some (Word last ∷ Word first ∷ Word from ∷ operand.Place p ∷ [], below)
-  top_taken =
-      let enough : leb 4 (length over) ≡ true = grind (arith, nat_tests) in
-      ap (λ n. top_of n over) fill.takes ∙ rw enough refl
+  abbrev arguments : List Operand
+  arguments = Word last ∷ Word first ∷ Word from ∷ operand.Place p ∷ []
+
+  taken : top_of 4 over ≡ Some (arguments, below)
+  taken = let enough : leb 4 (length over) ≡ true = grind (arith, nat_tests) in rw enough refl
+
+  abbrev its_frame : List (Option Operand) → List (Option PlaceOf) → Frame
+  its_frame left slots = shuffling.its_frame G routine 4 1 (λ entry. filling_code entry fill.swap) shuffle place line calls arguments over below taken memory s.trace left slots
+
+  abbrev within : List (Option Operand) → List (Option PlaceOf) → Memory
+  within left slots = shuffling.within G routine 4 1 (λ entry. filling_code entry fill.swap) shuffle place line calls arguments over below taken memory s.trace left slots
 
   calls_it : (b : Bool) → ltb (length memory.frames.calls) call_limit ≡ b
       → outcome G (at place over memory s.trace) ≡ in_one (cond b (Running 0 (at its.entry below (within all_left (None ∷ [])) s.trace)) (Stopped (Error run_error.CALL_DEPTH (unit_in G memory.frames) calls.instruction.line) s.trace))
-  calls_it true e =
-      let fits : ltb routine (length G.routines) ≡ true = grind (arith, nat_tests, fill.numbered) in
-      ap (λ o. outcome_of G o (at place over memory s.trace)) calls.stands ∙ rw (calls.is_call, calls.names, calls.parent, fits, fill.there, top_taken, e)
-      (ap (λ n. in_one (Running 0 (at its.entry below (within all_left (replicate n None)) s.trace))) fill.has_slot)
-  calls_it false e =
-      let fits : ltb routine (length G.routines) ≡ true = grind (arith, nat_tests, fill.numbered) in
-      ap (λ o. outcome_of G o (at place over memory s.trace)) calls.stands ∙ rw (calls.is_call, calls.names, calls.parent, fits, fill.there, top_taken, e) refl
+  calls_it true e = shuffling.calls_it G routine 4 1 (λ entry. filling_code entry fill.swap) shuffle place line calls arguments over below taken memory s.trace true e
+  calls_it false e = shuffling.calls_it G routine 4 1 (λ entry. filling_code entry fill.swap) shuffle place line calls arguments over below taken memory s.trace false e
 
   -- while it is under way the caller is not left
   called : (left : List (Option Operand)) (slots : List (Option PlaceOf)) (there : ℕ) (ops : List Operand) → Within (at there ops (within left slots) s.trace)
-  called left slots there ops = not_left-called memory.frames (within left slots).frames (its_frame left slots) (not_left-here (within left slots).frames)
+  called left slots there ops = shuffling.called G routine 4 1 (λ entry. filling_code entry fill.swap) shuffle place line calls arguments over below taken memory s.trace {Within = Within} (λ l stays. stays) left slots there ops
 
   takes_place : outcome G (at its.entry below (within all_left (None ∷ [])) s.trace) ≡ in_one (Running 0 (at (its.entry + 1) (operand.Place p ∷ below) (within indexes_left (None ∷ [])) s.trace))
-  takes_place = outcome_at G (instr op.ARG (pos 0) 0 fill.line) its.entry below (within all_left (None ∷ [])) s.trace fill.stands.0
+  takes_place = outcome_at G (instr op.ARG (pos 0) 0 shuffle.line) its.entry below (within all_left (None ∷ [])) s.trace shuffle.stands.0
 
   binds_it : outcome G (at (its.entry + 1) (operand.Place p ∷ below) (within indexes_left (None ∷ [])) s.trace) ≡ in_one (Running 0 (at (its.entry + 1 + 1) below (within indexes_left (Some p ∷ [])) s.trace))
-  binds_it = outcome_at G (instr op.BIND (pos 0) 0 fill.line) (its.entry + 1) (operand.Place p ∷ below) (within indexes_left (None ∷ [])) s.trace fill.stands.1.0
+  binds_it = outcome_at G (instr op.BIND (pos 0) 0 shuffle.line) (its.entry + 1) (operand.Place p ∷ below) (within indexes_left (None ∷ [])) s.trace shuffle.stands.1.0
 
   first_pushed : outcome G (at (its.entry + 1 + 1) below (within indexes_left (Some p ∷ [])) s.trace) ≡ in_one (Running 0 (at head (Word first ∷ below) (within indexes_left (Some p ∷ [])) s.trace))
-  first_pushed = outcome_at G (instr op.PEEK (pos 2) 0 fill.line) (its.entry + 1 + 1) below (within indexes_left (Some p ∷ [])) s.trace fill.stands.1.1.0
+  first_pushed = outcome_at G (instr op.PEEK (pos 2) 0 shuffle.line) (its.entry + 1 + 1) below (within indexes_left (Some p ∷ [])) s.trace shuffle.stands.1.1.0
 
   module _ (living : has_ended v.allocation s ≡ false) (has : value_at (component v f) s ≡ value_of r) where
     begun : Turning now_known injection (within indexes_left (Some p ∷ []))

@@ -6,7 +6,7 @@ use Rattle.ep_simulation.specs.Follows.{Follows, IsNotLeft}
 use Rattle.ep_simulation.specs.Matching.{Memory, at}
 use Rattle.ep_object.specs.Operands.{Operand, Word}
 use Rattle.ep_object.specs.Operands as operand
-use Rattle.ep_simulation.specs.Promises.{CallsAt, IsShuffle, ranging_code}
+use Rattle.ep_simulation.specs.Promises.{CallsAt, IsRange, ranging_code}
 use Rattle.ep_object.specs.Runs.{outcome}
 use Rattle.ep_object.specs.State.{Running, State}
 use Rattle.ep_object.specs.declared.code.Image.{Image}
@@ -25,7 +25,7 @@ use Rattle.ep_meaning.specs.Steps as meaning
 abbrev pub range_ticks : ℕ
 range_ticks = 11
 
-module _ (G : Image) (routine : ℕ) (range : IsShuffle G routine 3 ranging_code) (place line : ℕ) (calls : CallsAt G place routine 0 line) (p : PlaceOf) (low high : ℤ) (below : List Operand) (memory : Memory) (trace : Trace) where
+module _ (G : Image) (routine : ℕ) (range : IsRange G routine) (place line : ℕ) (calls : CallsAt G place routine 0 line) (p : PlaceOf) (low high : ℤ) (below : List Operand) (memory : Memory) (trace : Trace) where
   -- what it takes, and what it leaves
   abbrev pub range_given : List Operand
   range_given = Word high ∷ Word low ∷ operand.Place p ∷ below
@@ -46,7 +46,7 @@ module _ (G : Image) (routine : ℕ) (range : IsShuffle G routine 3 ranging_code
   indexes_left = Some (Word high) ∷ Some (Word low) ∷ None ∷ []
 
   abbrev inside : List (Option Operand) → List (Option PlaceOf) → Memory
-  inside left slots = within G routine 3 ranging_code range place line calls arguments range_given below taken memory trace left slots
+  inside left slots = within G routine 3 1 (λ entry. ranging_code) range place line calls arguments range_given below taken memory trace left slots
 
   -- behind the instruction that puts the place into the slot
   abbrev bound : Memory
@@ -71,7 +71,7 @@ module _ (G : Image) (routine : ℕ) (range : IsShuffle G routine 3 ranging_code
       → Follows Within G n (at place range_given memory trace) (with_depth s) c P (range_ticks + d) e
   range_follows {Within = Within} {n = n} s {c = c} {P = P} {d = d} {e = f} same steady deep stays then =
       follows_credit {d = 1 + (1 + (1 + (1 + (1 + (1 + (1 + (1 + (1 + (1 + (1 + d))))))))))} {e = f} (omega arith) (λ a. omega arith)
-      (call_follows G routine 3 ranging_code range place line calls arguments range_given below taken memory trace s same steady deep stays
+      (call_follows G routine 3 1 (λ entry. ranging_code) range place line calls arguments range_given below taken memory trace s same steady deep stays
       (follows_waits (over all_left (None ∷ []) e below)
       (outcome_at G (instr op.ARG (pos 0) 0 range.line) e below (inside all_left (None ∷ [])) trace range.stands.0)
       (follows_waits (over indexes_left (None ∷ []) (e + 1) (operand.Place p ∷ below))
@@ -93,4 +93,4 @@ module _ (G : Image) (routine : ℕ) (range : IsShuffle G routine 3 ranging_code
       (follows_waits (over indexes_left (Some p ∷ []) (e + 1 + 1 + 1 + 1 + 1 + 1 + 1 + 1 + 1) range_left) leaves_it then)))))))))))
     where
       over : (left : List (Option Operand)) (slots : List (Option PlaceOf)) (there : ℕ) (st : List Operand) → Within (at there st (inside left slots) trace)
-      over left slots there st = called G routine 3 ranging_code range place line calls arguments range_given below taken memory trace {Within = Within} stays left slots there st
+      over left slots there st = called G routine 3 1 (λ entry. ranging_code) range place line calls arguments range_given below taken memory trace {Within = Within} stays left slots there st

@@ -7,7 +7,7 @@ use Rattle.ep_simulation.specs.Follows.{Follows, IsNotLeft}
 use Rattle.ep_simulation.specs.Matching.{Memory, at}
 use Rattle.ep_object.specs.Operands.{Operand, Word, weight}
 use Rattle.ep_object.specs.Operands as operand
-use Rattle.ep_simulation.specs.Promises.{CallsAt, IsShuffle, spreading_code}
+use Rattle.ep_simulation.specs.Promises.{CallsAt, IsSpread, spreading_code}
 use Rattle.ep_object.specs.Runs.{outcome}
 use Rattle.ep_object.specs.State.{Running, State}
 use Rattle.ep_object.specs.declared.code.Image.{Image}
@@ -27,7 +27,7 @@ use Rattle.ep_meaning.specs.Steps as meaning
 abbrev pub spread_ticks : ℕ → ℕ
 spread_ticks w = 16 + 4 * w
 
-module _ (G : Image) (routine : ℕ) (spread : IsShuffle G routine 5 spreading_code) (place line : ℕ) (calls : CallsAt G place routine 0 line) (low high : ℤ) (p : PlaceOf) (o : Operand) (below : List Operand) (memory : Memory) (trace : Trace) where
+module _ (G : Image) (routine : ℕ) (spread : IsSpread G routine) (place line : ℕ) (calls : CallsAt G place routine 0 line) (low high : ℤ) (p : PlaceOf) (o : Operand) (below : List Operand) (memory : Memory) (trace : Trace) where
   -- what it takes, and what it leaves
   abbrev pub spread_given : List Operand
   spread_given = o ∷ o ∷ operand.Place p ∷ Word high ∷ Word low ∷ below
@@ -46,7 +46,7 @@ module _ (G : Image) (routine : ℕ) (spread : IsShuffle G routine 5 spreading_c
   left_by upper lower array = upper ∷ lower ∷ array ∷ Some (Word high) ∷ Some (Word low) ∷ []
 
   abbrev inside : List (Option Operand) → List (Option PlaceOf) → Memory
-  inside left slots = within G routine 5 spreading_code spread place line calls arguments spread_given below taken memory trace left slots
+  inside left slots = within G routine 5 1 (λ entry. spreading_code) spread place line calls arguments spread_given below taken memory trace left slots
 
   -- behind the instruction that puts the place into the slot; where the lower value is taken, and where both are
   abbrev bound : Memory
@@ -83,7 +83,7 @@ module _ (G : Image) (routine : ℕ) (spread : IsShuffle G routine 5 spreading_c
       → Follows Within G n (at place spread_given memory trace) (with_depth s) c P (spread_ticks (weight o) + d) e
   spread_follows {Within = Within} {n = n} s {c = c} {P = P} {d = d} {e = f} same steady deep stays then =
       follows_credit {d = suc (weight o + (weight o + 0)) + (1 + (1 + (1 + (suc (weight o) + (1 + (1 + (1 + (1 + (suc (weight o) + (1 + (1 + (1 + (1 + (1 + (1 + d)))))))))))))))} {e = f} (omega arith) (λ a. omega arith)
-      (call_follows G routine 5 spreading_code spread place line calls arguments spread_given below taken memory trace s same steady deep stays
+      (call_follows G routine 5 1 (λ entry. spreading_code) spread place line calls arguments spread_given below taken memory trace s same steady deep stays
       (follows_waits (over (left_by (Some o) (Some o) (Some (operand.Place p))) (None ∷ []) e below)
       (outcome_at G (instr op.ARG (pos 2) 0 spread.line) e below (inside (left_by (Some o) (Some o) (Some (operand.Place p))) (None ∷ [])) trace spread.stands.0)
       (follows_waits (over (left_by (Some o) (Some o) None) (None ∷ []) (e + 1) (operand.Place p ∷ below))
@@ -115,4 +115,4 @@ module _ (G : Image) (routine : ℕ) (spread : IsShuffle G routine 5 spreading_c
       (follows_waits (over (left_by None None None) (Some p ∷ []) (e + 1 + 1 + 1 + 1 + 1 + 1 + 1 + 1 + 1 + 1 + 1 + 1 + 1 + 1) tested) leaves_it then))))))))))))))))
     where
       over : (left : List (Option Operand)) (slots : List (Option PlaceOf)) (there : ℕ) (st : List Operand) → Within (at there st (inside left slots) trace)
-      over left slots there st = called G routine 5 spreading_code spread place line calls arguments spread_given below taken memory trace {Within = Within} stays left slots there st
+      over left slots there st = called G routine 5 1 (λ entry. spreading_code) spread place line calls arguments spread_given below taken memory trace {Within = Within} stays left slots there st

@@ -34,7 +34,6 @@ use Rattle.ep_meaning.specs.Meaning.{begins_where}
 use Rattle.ep_values.specs.Printing.{Members, Number, Result}
 use Rattle.ep_meaning.specs.Results.{has_base, misfit, start_from, start_in, suits}
 use Rattle.ep_meaning.specs.Steps.{Computation, bind, change, give, spend, stop, with_type}
-use Rattle.ep_values.specs.Values.{Value}
 use Rattle.ep_values.specs.TypeValues.{is_within}
 use Rattle.ep_meaning.specs.Steps as meaning
 use Rattle.ep_values.specs.TypeValues as type
