@@ -11,6 +11,9 @@ use std::alloc::{AllocError, Global};
 use std::marker::Model;
 use std::slice;
 
+/// The word of a variable that has no value.
+pub const UNDEFINED: i64 = i64::MIN;
+
 /// The words of a segment that has not one of them.
 #[derive(Drop)]
 pub struct Body {
@@ -75,10 +78,10 @@ impl Entry {
     {
         if size == 1 {
             return Ok(Entry {
-                form: Form::Word(type_number, i64::MIN),
+                form: Form::Word(type_number, UNDEFINED),
             });
         }
-        let words = vec![in alloc; i64::MIN; size as usize]?;
+        let words = vec![in alloc; UNDEFINED; size as usize]?;
         Entry::of_vec(alloc, type_number, words)
     }
 
@@ -177,11 +180,11 @@ impl Entry {
             Form::Ended => {}
             Form::Word(_, word) => {
                 if count == 1 {
-                    *word = i64::MIN;
+                    *word = UNDEFINED;
                 }
             }
             Form::Words(body) => {
-                body.words[offset..offset + count].fill(i64::MIN);
+                body.words[offset..offset + count].fill(UNDEFINED);
             }
         }
     }

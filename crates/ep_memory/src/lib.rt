@@ -13,4 +13,5 @@ mod entry;
 mod memory;
 
 pub use answers::{Cell, Full, MakeRefusal, Released, Stored};
+pub use entry::UNDEFINED;
 pub use memory::Memory;
