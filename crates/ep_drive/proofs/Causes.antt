@@ -6,7 +6,7 @@ use Rattle.ep_token.proofs.public.TokenLaws.{tokens-one, tokens-apart, stuck-one
 use Rattle.ep_token.specs.Tokens.{Tokens}
 use Rattle.ep_token.specs.declared.refusal.TokenRefusal.{TokenRefusal}
 use Rattle.ep_token.specs.declared.token.Token.{Token}
-use Rattle.ep_grammar.proofs.Refusal.{one_tree}
+use Rattle.ep_grammar.proofs.public.Refusal.{one_tree}
 use Rattle.ep_grammar.specs.Refusals.{RefusedAt}
 use Rattle.ep_grammar.specs.Rules.{Grammar, Begins}
 use Rattle.ep_grammar.specs.declared.stop.TheConstants.{MAX_NESTING}

@@ -4,7 +4,7 @@ use Rattle.std.proofs.lemmas.Bool.Decides.{Decides-eqb}
 use Rattle.ep_token.proofs.public.TokenLaws.{tokens-one}
 use Rattle.ep_tree.specs.declared.component.Component.{Component}
 use Rattle.ep_tree.specs.declared.component.Component.TheVariants as component_is
-use Rattle.ep_grammar.proofs.Refusal.{one_tree}
+use Rattle.ep_grammar.proofs.public.Refusal.{one_tree}
 use Rattle.ep_grammar.specs.Rules.{Grammar}
 use Rattle.ep_grammar.specs.declared.stop.TheConstants.{MAX_NESTING}
 use Rattle.ep_typed.specs.Nodes.{unit_nodes, heading_nodes, type_nodes, constant_nodes, variable_nodes, routine_nodes, stmt_nodes}

@@ -6,10 +6,10 @@ use Rattle.ep_grammar.specs.declared.stop.Stop.{Stop}
 use Rattle.ep_grammar.specs.Classes.{Class, has, class_of, End}
 use Rattle.ep_grammar.specs.Descriptions.{Step, More}
 use Rattle.ep_grammar.specs.Reading.{Outcome, Parser, and_then, go_on, steps}
-use Rattle.ep_grammar.proofs.Outcomes.{took, stopped, never_stops}
+use Rattle.ep_grammar.proofs.public.Outcomes.{took, stopped, never_stops}
 use Rattle.ep_grammar.proofs.Classed.{out_front, out_end}
 use Rattle.ep_grammar.proofs.Complete.{if_true, if_false}
-use Rattle.ep_grammar.proofs.Like.{Calm, calm_ok, rest_of, with_rest, Like, Takes, enough}
+use Rattle.ep_grammar.proofs.public.Like.{Calm, calm_ok, rest_of, with_rest, Like, Takes, enough}
 use Rattle.ep_grammar.proofs.Reach.{Reach, one_step_more, one_step_ends, reach_wider, reach_as, reach_map}
 
 -- The text begins with these tokens, of which there is one at least, and tokens can be added to them. The rest of the text is as the last argument says.

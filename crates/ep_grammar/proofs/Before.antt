@@ -8,15 +8,15 @@ use Rattle.ep_grammar.specs.Descriptions.{Nonterminal, Step, More, Last, AlwaysO
 use Rattle.ep_grammar.specs.Reading.{Outcome, Parser, and_then, taken, peek, go_on, steps, Inside, read_inside, within, by_shape, refused, read}
 use Rattle.ep_grammar.specs.Rules.{rule, inside_at, read_components}
 use Rattle.ep_grammar.specs.Units.{components}
-use Rattle.ep_grammar.proofs.Outcomes.{took, stopped, never_stops}
+use Rattle.ep_grammar.proofs.public.Outcomes.{took, stopped, never_stops}
 use Rattle.ep_grammar.proofs.Classed.{by_cases, not_also, out_front, out_end}
 use Rattle.ep_grammar.proofs.Static.{both, any, opposite, only_if, nullable, first, first_inside, guarded, Good, both_case}
 use Rattle.ep_grammar.proofs.Checked.{good_rule, good_components, rule_guarded, components_guarded}
 use Rattle.ep_grammar.proofs.Sorts.{there}
 use Rattle.ep_grammar.proofs.Ending.{beyond, beyond_inside, steady, lasts, none, ends, opens_inside, clear, closes, all_open, much_room, Room, room_at, some_room}
 use Rattle.ep_grammar.proofs.Ended.{rule_closes, rule_beyond, components_close, components_last_little, components_last_much, components_end_little, components_end_much, components_clear}
-use Rattle.ep_grammar.proofs.Like.{rest_of, Like, Takes}
-use Rattle.ep_grammar.proofs.Looks.{ends_not, no_end, step_takes_at, alike_at, looks_at}
+use Rattle.ep_grammar.proofs.public.Like.{rest_of, Like, Takes}
+use Rattle.ep_grammar.proofs.public.Looks.{ends_not, no_end, step_takes_at, alike_at, looks_at}
 use Rattle.ep_grammar.proofs.Passing.{Passes, Ready, any_both, passes_at, ready}
 use Rattle.ep_grammar.proofs.Reach.{Reach, Onward, Finish, within_there, shaped_rest, shaped_close, rooms_there, finish, reaches, reaches_inside, reach_then, onward_apply, onward_row, onward_first, onward_second}
 use Rattle.ep_grammar.proofs.Ahead.{Ahead, stopped_same, bind_stop, map_stop, which, ahead_wider, ahead_as, ahead_map, ahead_if, ahead_second, row_first, row_second}

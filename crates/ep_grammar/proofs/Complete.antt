@@ -8,7 +8,7 @@ use Rattle.ep_grammar.specs.Classes.{Class, classes, has, class_of, line_of}
 use Rattle.ep_grammar.specs.Descriptions.{Nonterminal, Node, Step, More, Last, AlwaysOne, Syntax, give, token, line, inside, apply, either, switch, row, deeper, shaped}
 use Rattle.ep_grammar.specs.Derived.{Family, Steps, no_step, last_step, one_step, derives}
 use Rattle.ep_grammar.specs.Reading.{Outcome, Parser, and_then, taken, read_token, go_on, steps, Inside, read_inside, within, by_shape, refused, read}
-use Rattle.ep_grammar.proofs.Outcomes.{took}
+use Rattle.ep_grammar.proofs.public.Outcomes.{took}
 use Rattle.ep_grammar.proofs.Classed.{disjoint, true_false, by_cases, apart, also, in_front, in_end, out_front, out_end, out_both}
 use Rattle.ep_grammar.proofs.Static.{both, any, only_if, nullable, nullable_inside, first, first_inside, after, after_inside, needs, Good, Alike, both_case}
 use Rattle.ep_grammar.proofs.Sorts.{there, sort_class}

@@ -9,7 +9,7 @@ use Rattle.ep_grammar.specs.Descriptions as d
 use Rattle.ep_grammar.specs.Reading.{Parser, and_then, taken, peek, go_on, steps, Inside, read_inside, cause, within, by_shape, refused, read}
 use Rattle.ep_grammar.specs.Rules.{rule, inside_at, read_components}
 use Rattle.ep_grammar.specs.Units.{components}
-use Rattle.ep_grammar.proofs.Outcomes.{took, stopped, never_stops}
+use Rattle.ep_grammar.proofs.public.Outcomes.{took, stopped, never_stops}
 use Rattle.ep_grammar.proofs.Classed.{true_false, also, not_also, out_front, out_end}
 use Rattle.ep_grammar.proofs.Static.{both, any, only_if, nullable, first, first_inside, guarded, Good, both_case}
 use Rattle.ep_grammar.proofs.Ahead.{Ahead, stopped_same, bind_stop, map_stop, which, ahead_wider, ahead_as, ahead_map, ahead_if, ahead_second, row_first, row_second}
@@ -17,8 +17,8 @@ use Rattle.ep_grammar.proofs.Checked.{good_rule, good_components, rule_guarded, 
 use Rattle.ep_grammar.proofs.Sorts.{there}
 use Rattle.ep_grammar.proofs.Ending.{beyond, beyond_inside, much_room, opens, opens_inside, ends, all_open, clear, closes}
 use Rattle.ep_grammar.proofs.Ended.{rule_closes, rule_beyond, components_close}
-use Rattle.ep_grammar.proofs.Like.{Like, Takes}
-use Rattle.ep_grammar.proofs.Looks.{ends_not, no_end, step_takes_at, grows_at, grows}
+use Rattle.ep_grammar.proofs.public.Like.{Like, Takes}
+use Rattle.ep_grammar.proofs.public.Looks.{ends_not, no_end, step_takes_at, grows_at, grows}
 use Rattle.ep_grammar.proofs.Passing.{Passes, Ready, any_both, any_false, passes_at, ready}
 use Rattle.ep_grammar.proofs.Reach.{Reach, Onward, reach_then, within_there, each_opens, shaped_rest, shaped_close, reaches, reaches_inside, onward_apply, onward_row, onward_first, onward_second}
 

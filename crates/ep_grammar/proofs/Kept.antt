@@ -6,18 +6,18 @@ use Rattle.ep_grammar.specs.Classes.{Class, has, class_of, line_of, End}
 use Rattle.ep_grammar.specs.Descriptions.{Nonterminal, Node, Step, More, Last, HasShape, AlwaysOne, always_first, always_second, Syntax, give, token, line, inside, apply, either, switch, row, deeper, shaped}
 use Rattle.ep_grammar.specs.Reading.{Parser, and_then, taken, go_on, steps, Inside, read_inside, within, by_shape, refused, read}
 use Rattle.ep_grammar.specs.Rules.{rule, derived_at, inside_at}
-use Rattle.ep_grammar.proofs.Outcomes.{took, never, bind_ok, same_took}
+use Rattle.ep_grammar.proofs.public.Outcomes.{took, never, bind_ok, same_took}
 use Rattle.ep_grammar.proofs.Classed.{true_false, not_also, out_front, out_end}
 use Rattle.ep_grammar.proofs.Static.{both, any, opposite, only_if, nullable, first, Good, both_case}
 use Rattle.ep_grammar.proofs.Checked.{good_rule}
 use Rattle.ep_grammar.proofs.Sorts.{there}
 use Rattle.ep_grammar.proofs.Sound.{token_ok, chosen, within_ok, by_shape_ok, sound}
 use Rattle.ep_grammar.proofs.Complete.{begun, if_true, if_false, shape_took}
-use Rattle.ep_grammar.proofs.Knot.{sound_at, begun_at}
+use Rattle.ep_grammar.proofs.public.Knot.{sound_at, begun_at}
 use Rattle.ep_grammar.proofs.Ending.{beyond, beyond_inside, steady, steady_inside, lasts, none, ends, Room, room_at, some_room}
 use Rattle.ep_grammar.proofs.Ended.{rule_beyond, rule_steady, rule_lasts_none, rule_lasts_little, rule_lasts_much}
-use Rattle.ep_grammar.proofs.Like.{Like, Takes, shorter}
-use Rattle.ep_grammar.proofs.Looks.{ends_not, no_end, step_takes_at, alike_at, looks_at}
+use Rattle.ep_grammar.proofs.public.Like.{Like, Takes, shorter}
+use Rattle.ep_grammar.proofs.public.Looks.{ends_not, no_end, step_takes_at, alike_at, looks_at}
 use Rattle.ep_grammar.proofs.Passing.{no_steps}
 use Rattle.ep_grammar.proofs.Reach.{behind_nothing, one_step_more, one_step_ends, within_there}
 use Rattle.ep_grammar.proofs.Ahead.{class_up, moved, longer, next_steps}

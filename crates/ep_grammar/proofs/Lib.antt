@@ -1,19 +1,15 @@
-pub mod Ahead
-pub mod Before
-pub mod Checked
-pub mod Classed
-pub mod Complete
-pub mod Completed
-pub mod Ended
-pub mod Ending
-pub mod Outcomes
-pub mod Passing
-pub mod Reach
-pub mod Sorts
-pub mod Sound
-pub mod Static
-pub mod Knot
-pub mod Kept
-pub mod Like
-pub mod Looks
-pub mod Refusal
+mod Ahead
+mod Before
+mod Checked
+mod Classed
+mod Complete
+mod Completed
+mod Ended
+mod Ending
+mod Kept
+mod Passing
+pub mod public
+mod Reach
+mod Sorts
+mod Sound
+mod Static

@@ -8,7 +8,7 @@ use Rattle.ep_grammar.specs.Descriptions.{Nonterminal, Node, Step, give, token, 
 use Rattle.ep_grammar.specs.Descriptions as d
 use Rattle.ep_grammar.specs.Reading.{Outcome, Parser, and_then, taken, read_token, steps, Inside, read_inside, cause, within, by_shape, refused, read}
 use Rattle.ep_grammar.specs.Rules.{rule, inside_at}
-use Rattle.ep_grammar.proofs.Outcomes.{took, stopped}
+use Rattle.ep_grammar.proofs.public.Outcomes.{took, stopped}
 use Rattle.ep_grammar.proofs.Classed.{within_list, not_also, out_front, out_end}
 use Rattle.ep_grammar.proofs.Static.{both, any, only_if, nullable, nullable_inside, first, first_inside, guarded, Good, both_case}
 use Rattle.ep_grammar.proofs.Checked.{good_rule, rule_first, rule_nullable, rule_guarded}

@@ -6,7 +6,7 @@ use Rattle.ep_grammar.specs.Classes.{Class, Sort, classes, has, same, class_of, 
 use Rattle.ep_grammar.specs.Descriptions.{Nonterminal, field_lists, statements, Step, More, Last, HasShape, AlwaysOne, always_first, always_second, Syntax, give, token, line, inside, apply, either, switch, row, deeper, shaped}
 use Rattle.ep_grammar.specs.Reading.{Parser, and_then, taken, read_token, go_on, steps, Inside, read_inside, within, by_shape, refused, read}
 use Rattle.ep_grammar.specs.Rules.{rule, inside_at}
-use Rattle.ep_grammar.proofs.Outcomes.{took}
+use Rattle.ep_grammar.proofs.public.Outcomes.{took}
 use Rattle.ep_grammar.proofs.Classed.{by_cases, true_false, same_true, also, not_also, out_front, out_end, out_both, in_either}
 use Rattle.ep_grammar.proofs.Static.{both, any, opposite, only_if, nullable, nullable_inside, first, first_inside, guarded, Good, both_case, flipped}
 use Rattle.ep_grammar.proofs.Ending.{lead, token_for, kind_for, kind_class, beyond, beyond_inside, Room, no_room, little_room, much_room, room_at, some_room, pick, opens, opens_inside, ends, all_open, clear, closes}
@@ -14,7 +14,7 @@ use Rattle.ep_grammar.proofs.Ended.{rule_closes, rule_ends, rule_opens, rule_ope
 use Rattle.ep_grammar.proofs.Checked.{good_rule, rule_guarded}
 use Rattle.ep_grammar.proofs.Sorts.{there, sort_class}
 use Rattle.ep_grammar.proofs.Complete.{if_true, if_false}
-use Rattle.ep_grammar.proofs.Looks.{only_if_out, no_end}
+use Rattle.ep_grammar.proofs.public.Looks.{only_if_out, no_end}
 use Rattle.ep_grammar.proofs.Passing.{Passes, Ready, any_both, no_steps, passes_at, ready}
 
 -- Tokens can be added to these so that the parser takes them all, where none of these classes follows.

@@ -8,7 +8,7 @@ use Rattle.ep_grammar.specs.Classes.{Class, Sort, carried, has, class_of, after_
 use Rattle.ep_grammar.specs.Descriptions.{Nonterminal, Node, Step, More, Last, AlwaysOne, Syntax, give, token, line, inside, apply, either, switch, row, deeper, shaped}
 use Rattle.ep_grammar.specs.Derived.{Family, Steps, no_step, last_step, one_step, derives}
 use Rattle.ep_grammar.specs.Reading.{Outcome, Parser, and_then, taken, read_token, go_on, steps, Inside, read_inside, within, by_shape, refused, read}
-use Rattle.ep_grammar.proofs.Outcomes.{took, never, bind_ok, same_took}
+use Rattle.ep_grammar.proofs.public.Outcomes.{took, never, bind_ok, same_took}
 
 taken_ok : {A : Type 0} (o : Option A) (i : List Token) (x : A) (b : List Token) → taken o i ≡ took x b → (o ≡ Some x) × (after_first i ≡ b)
 taken_ok None i x b h = never h

@@ -6,11 +6,11 @@ use Rattle.ep_tree.specs.declared.component.Component.{Component}
 use Rattle.ep_grammar.specs.declared.stop.Stop.{Stop}
 use Rattle.ep_grammar.specs.declared.stop.Stop.TheVariants as stop
 use Rattle.ep_grammar.specs.Rules.{Grammar, read_components}
-use Rattle.ep_grammar.proofs.Outcomes.{took, stopped, never, same_took}
-use Rattle.ep_grammar.proofs.Like.{rest_of}
-use Rattle.ep_grammar.proofs.Looks.{components_look}
-use Rattle.ep_grammar.proofs.Knot.{grammar_sound, grammar_complete}
-use Rattle.ep_grammar.proofs.Refusal.{stop_refused, left_refused}
+use Rattle.ep_grammar.proofs.public.Outcomes.{took, stopped, never, same_took}
+use Rattle.ep_grammar.proofs.public.Like.{rest_of}
+use Rattle.ep_grammar.proofs.public.Looks.{components_look}
+use Rattle.ep_grammar.proofs.public.Knot.{grammar_sound, grammar_complete}
+use Rattle.ep_grammar.proofs.public.Refusal.{stop_refused, left_refused}
 use Rattle.ep_parse.specs.declared.text.ParseRefusal.TheVariants as refusal
 use Rattle.ep_parse.specs.Refusals.{Refuses, first_line, last_line, line_at, refusal_at}
 

@@ -1,4 +1,4 @@
-use Rattle.ep_grammar.proofs.Refusal.{stop_refused, left_refused}
+use Rattle.ep_grammar.proofs.public.Refusal.{stop_refused, left_refused}
 use Rattle.ep_grammar.proofs.laws.laws_of_refusals.Goals as goal
 
 pub returns-clause-stop : goal.returns-clause-stop

@@ -1,5 +1,5 @@
-use Rattle.ep_grammar.proofs.Knot.{grammar_sound, grammar_complete}
-use Rattle.ep_grammar.proofs.Refusal.{one_tree, more_levels}
+use Rattle.ep_grammar.proofs.public.Knot.{grammar_sound, grammar_complete}
+use Rattle.ep_grammar.proofs.public.Refusal.{one_tree, more_levels}
 use Rattle.ep_grammar.proofs.laws.laws_of_the_grammar.Goals as goal
 
 pub returns-clause-sound : goal.returns-clause-sound

@@ -10,14 +10,14 @@ use Rattle.ep_grammar.specs.Derived.{Family}
 use Rattle.ep_grammar.specs.Reading.{Parser, and_then, steps, Inside, read_inside, cause, within, by_shape, refused, read}
 use Rattle.ep_grammar.specs.Units.{components}
 use Rattle.ep_grammar.specs.Rules.{rule, derived_at, inside_at, read_components}
-use Rattle.ep_grammar.proofs.Outcomes.{took, stopped}
+use Rattle.ep_grammar.proofs.public.Outcomes.{took, stopped}
 use Rattle.ep_grammar.proofs.Classed.{true_false, not_also, out_both}
 use Rattle.ep_grammar.proofs.Static.{any, only_if, nullable_inside, first_inside, nullable, first, guarded, Good, Alike}
 use Rattle.ep_grammar.proofs.Checked.{good_rule, good_components}
 use Rattle.ep_grammar.proofs.Sound.{Sounds, sound}
 use Rattle.ep_grammar.proofs.Complete.{Begun, begun}
-use Rattle.ep_grammar.proofs.Knot.{sound_at, begun_at}
-use Rattle.ep_grammar.proofs.Like.{Like, Takes, like_give, like_stop, like_by, like_then, like_class, like_token, like_shape, like_row, like_nested}
+use Rattle.ep_grammar.proofs.public.Knot.{sound_at, begun_at}
+use Rattle.ep_grammar.proofs.public.Like.{Like, Takes, like_give, like_stop, like_by, like_then, like_class, like_token, like_shape, like_row, like_nested}
 use Rattle.ep_grammar.proofs.Sorts.{there}
 use Rattle.ep_grammar.proofs.Passing.{Passes, passes_at}
 

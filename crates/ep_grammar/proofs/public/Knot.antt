@@ -7,7 +7,7 @@ use Rattle.ep_grammar.specs.Descriptions.{Nonterminal, Node}
 use Rattle.ep_grammar.specs.Reading.{read_inside}
 use Rattle.ep_grammar.specs.Units.{components}
 use Rattle.ep_grammar.specs.Rules.{rule, derived_at, inside_at, Grammar, read_components}
-use Rattle.ep_grammar.proofs.Outcomes.{took, never, same_took}
+use Rattle.ep_grammar.proofs.public.Outcomes.{took, never, same_took}
 use Rattle.ep_grammar.proofs.Classed.{also, not_also}
 use Rattle.ep_grammar.proofs.Static.{nullable_inside, first_inside, after_inside, nullable, first, after}
 use Rattle.ep_grammar.proofs.Checked.{good_rule, good_components, rule_first, rule_nullable, rule_after, components_end}

@@ -8,9 +8,9 @@ use Rattle.ep_grammar.specs.Reading.{Outcome}
 use Rattle.ep_grammar.specs.Rules.{Grammar, Begins, read_components}
 use Rattle.ep_grammar.specs.Refusals.{RefusedAt, SyntaxRefusedAt, NestingRefusedAt, RefusedFor, place_of}
 use Rattle.ep_grammar.specs.Units.{components}
-use Rattle.ep_grammar.proofs.Outcomes.{took, stopped, never, same_took}
-use Rattle.ep_grammar.proofs.Like.{Calm, rest_of, with_rest}
-use Rattle.ep_grammar.proofs.Looks.{components_look, components_grow, only_if_out}
+use Rattle.ep_grammar.proofs.public.Outcomes.{took, stopped, never, same_took}
+use Rattle.ep_grammar.proofs.public.Like.{Calm, rest_of, with_rest}
+use Rattle.ep_grammar.proofs.public.Looks.{components_look, components_grow, only_if_out}
 use Rattle.ep_grammar.specs.Classes.{End}
 use Rattle.ep_grammar.proofs.Before.{components_before, components_kept, components_finish}
 use Rattle.ep_grammar.proofs.Classed.{out_both}
@@ -18,7 +18,7 @@ use Rattle.ep_grammar.proofs.Static.{only_if, nullable}
 use Rattle.ep_grammar.proofs.Completed.{Completed, components_complete}
 use Rattle.ep_grammar.proofs.Ended.{components_beyond}
 use Rattle.ep_grammar.proofs.Ending.{beyond}
-use Rattle.ep_grammar.proofs.Knot.{grammar_sound, grammar_complete, one_tree_at}
+use Rattle.ep_grammar.proofs.public.Knot.{grammar_sound, grammar_complete, one_tree_at}
 
 -- an outcome that leaves a token is none that reads a text to its end
 not_whole : (o : Outcome (List Component)) (t : Token) (z : List Token) (cs : List Component) → with_rest o (t ∷ z) ≡ took cs [] → ⊥

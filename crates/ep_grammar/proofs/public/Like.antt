@@ -7,7 +7,7 @@ use Rattle.ep_grammar.specs.declared.stop.Stop.TheVariants.{Syntax, Nested}
 use Rattle.ep_grammar.specs.Classes.{Class, Sort, has, class_of, after_first, End}
 use Rattle.ep_grammar.specs.Descriptions.{Step, More, Last}
 use Rattle.ep_grammar.specs.Reading.{Outcome, Parser, and_then, taken, peek, read_token, go_on, steps, by_shape}
-use Rattle.ep_grammar.proofs.Outcomes.{took, stopped}
+use Rattle.ep_grammar.proofs.public.Outcomes.{took, stopped}
 
 abbrev pub rest_of : {A : Type 0} → Outcome A → List Token
 rest_of (Ok p) = p.1
