@@ -2,7 +2,7 @@
 use Rattle.std.proofs.Common.{◌≡◌, ℕ, ◌+◌, ◌-◌, ◌<◌, ◌≤◌, length, take, drop, List, ◌++◌, ◌⊎◌, inl, inr, Option, refl, sym, ap, ◌∙◌, subst, arith, append_assoc}
 use Rattle.std.proofs.Math.Seq.{take-add}
 use Rattle.std.proofs.lemmas.Bool.{cases_lt}
-use Rattle.ep_token.proofs.TokenLaws.{tokens-one, tokens-apart, stuck-one}
+use Rattle.ep_token.proofs.public.TokenLaws.{tokens-one, tokens-apart, stuck-one}
 use Rattle.ep_token.specs.Tokens.{Tokens}
 use Rattle.ep_token.specs.declared.refusal.TokenRefusal.{TokenRefusal}
 use Rattle.ep_token.specs.declared.token.Token.{Token}

@@ -1,7 +1,7 @@
 -- A built component is ruled out in one way, but for which rule is named, and is then no program.
 use Rattle.std.proofs.Common.{◌≡◌, ℕ, ◌+◌, ◌<◌, ◌≤◌, ◌==◌, min, length, sum, map, Bool, true, false, ◌&&◌, IsTrue, List, [], ◌∷◌, refl, sym, ap, ◌∙◌, subst, arith}
 use Rattle.std.proofs.lemmas.Bool.Decides.{Decides-eqb}
-use Rattle.ep_token.proofs.TokenLaws.{tokens-one}
+use Rattle.ep_token.proofs.public.TokenLaws.{tokens-one}
 use Rattle.ep_tree.specs.declared.component.Component.{Component}
 use Rattle.ep_tree.specs.declared.component.Component.TheVariants as component_is
 use Rattle.ep_grammar.proofs.public.Refusal.{one_tree}

@@ -21,7 +21,7 @@ use Rattle.ep_grammar.specs.Descriptions.{component_values}
 use Rattle.ep_grammar.specs.Expressions.{Called, Rest, bracket_labels, component_value, element, field_of, index_tail, inner_labels, inner_values_end, inner_values_rest, label_of, labels, labels_start, more_elements_of, otherwise_of, second_of, value_labels, values_rest_of, structured, structured_tail, values_from, values_tail}
 use Rattle.ep_grammar.specs.Reading.{Inside, Outcome, Parser, and_then, applied, read, read_inside, read_token}
 use Rattle.ep_grammar.specs.Rules.{inside_at, inside_with}
-use Rattle.ep_reader.proofs.Outcomes.{applied_err, applied_ok}
+use Rattle.ep_reader.proofs.public.Outcomes.{applied_err, applied_ok}
 use Rattle.ep_parse_expr.specs.Called.{ReadsRest, RestIs, factor_with, last_field, name_in}
 use Rattle.ep_parse_expr.specs.Tails.{labelled_tail}
 

@@ -26,14 +26,17 @@ last_field (s ∷ t ∷ more) = last_field (t ∷ more)
 -- a factor of its name, its selectors and the values of a structured value; the selectors are then the second name
 abbrev pub factor_with : ℕ → List ℕ → List Selector → Option Values → Factor
 factor_with at name selectors None = factor_is.Access (access_node at name selectors)
-factor_with at name selectors (Some values) = factor_is.Structured at (qualified_node at name (last_field selectors)) values
+factor_with at name selectors (Some values) =
+    factor_is.Structured at (qualified_node at name (last_field selectors)) values
 
 -- the selectors begin with those that were there before, and a structured value has no more
 abbrev pub RestIs : List Selector → Outcome Called → List Selector → Option Values → List Token → Type 0
-RestIs before outcome selectors None new = (more : List Selector) × (outcome ≡ Ok (accessed more, new)) × (selectors ≡ before ++ more)
+RestIs before outcome selectors None new =
+    (more : List Selector) × (outcome ≡ Ok (accessed more, new)) × (selectors ≡ before ++ more)
 RestIs before outcome selectors (Some values) new = (outcome ≡ Ok (structured values 0, new)) × (selectors ≡ before)
 
 -- what a function that reads this ensures
-abbrev pub ReadsRest : List Selector → Outcome Called → Result (List Selector × Option Values) Stop → List Token → Type 0
+abbrev pub ReadsRest :
+    List Selector → Outcome Called → Result (List Selector × Option Values) Stop → List Token → Type 0
 ReadsRest before outcome (Ok rest) new = RestIs before outcome rest.0 rest.1 new
 ReadsRest before outcome (Err e) new = e ≢ stop.NoMemory → outcome ≡ Err (e, new)

@@ -9,4 +9,6 @@ use Rattle.ep_grammar.specs.Expressions.{inner_values_end, values_from}
 
 -- `":" cvalue { ";" element } [ [ ";" ] "otherwise" cvalue ] [ ";" ] "]"`
 unfoldable pub labelled_tail : Syntax (ℕ → List Label → Values)
-labelled_tail = give (λ v rest at labels. values_from rest at (element_is.Labelled at labels v)) <* symbol sym.COLON & inside component_values & inner_values_end
+labelled_tail =
+    give (λ v rest at labels. values_from rest at (element_is.Labelled at labels v))
+    <* symbol sym.COLON & inside component_values & inner_values_end

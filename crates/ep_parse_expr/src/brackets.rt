@@ -18,7 +18,7 @@ use std::alloc::Global;
 
 /// `"]" { selector }` after indexes, which are added to the selectors before them
 #[cycle(expression)]
-#[tactic(auto, using(ep_reader::proofs::Outcomes::assoc), unfolding(ep_grammar::specs::Expressions::index_tail))]
+#[tactic(auto, using(ep_reader::proofs::public::Outcomes::assoc), unfolding(ep_grammar::specs::Expressions::index_tail))]
 fn index_tail(
     alloc: Global,
     reader: &mut Reader<'_>,
@@ -27,7 +27,8 @@ fn index_tail(
     bracket: Line,
     before: List<Selector>,
 ) -> Result<(List<Selector>, Option<Boxed<Values>>), Stop>
-    ensures { ReadsRest before (applied (λ r. r indexes bracket) (read (inside_at room) index_tail reader.old)) result reader.new }
+    ensures { ReadsRest before (applied (λ r. r indexes bracket) (read (inside_at room) index_tail reader.old))
+        result reader.new }
 {
     reader.symbol(symbol::RIGHT_BRACKET)?;
     let mut selected = before;
@@ -48,7 +49,8 @@ fn bracket_labels(
 ) -> Result<(List<Selector>, Option<Boxed<Values>>), Stop>
     requires less { inner < room }
     requires inside { inside_at room ≡ inside_with inner }
-    ensures { ReadsRest before (applied (λ r. r bracket) (read (inside_at room) bracket_labels reader.old)) result reader.new }
+    ensures { ReadsRest before (applied (λ r. r bracket) (read (inside_at room) bracket_labels reader.old))
+        result reader.new }
 {
     let start = reader.line();
     let labels = labels(alloc, reader, inner)?;

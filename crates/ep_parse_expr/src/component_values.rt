@@ -2,7 +2,8 @@
 
 ghost use Rattle.std.specs.Prelude.{◌<◌, ◌≡◌};
 ghost use Rattle.ep_tree.specs.declared.expression.Factor.TheVariants.{Set};
-ghost use Rattle.ep_grammar.specs.Expressions.{bracketed_value, component_value, expression_rest, value_content, value_labels};
+ghost use Rattle.ep_grammar.specs.Expressions.{bracketed_value, component_value};
+ghost use Rattle.ep_grammar.specs.Expressions.{expression_rest, value_content, value_labels};
 ghost use Rattle.ep_grammar.specs.Reading.{Reads, applied, read};
 ghost use Rattle.ep_grammar.specs.Rules.{inside_at, inside_with};
 
@@ -26,7 +27,8 @@ fn set_expression(
     line: Line,
     labels: List<Label>,
 ) -> Result<Boxed<Expression>, Stop>
-    ensures { Reads (applied (λ r. r line (Set line labels)) (read (inside_at room) expression_rest reader.old)) result reader.new }
+    ensures { Reads (applied (λ r. r line (Set line labels)) (read (inside_at room) expression_rest reader.old))
+        result reader.new }
 {
     let set = Boxed::new(alloc, Factor::Set(line, labels))?;
     let multipliers = multipliers(alloc, reader, room)?;
@@ -37,7 +39,7 @@ fn set_expression(
 
 /// `labels "]"` and the rest of an expression, or `labels ":" value .. "]"`
 #[cycle(expression)]
-#[tactic(auto, using(ep_reader::proofs::Outcomes::assoc, crate::proofs::Rests::labels_inside, crate::proofs::Rests::values_tail_is), unfolding(ep_grammar::specs::Expressions::value_labels, ep_grammar::specs::Expressions::set_tail))]
+#[tactic(auto, using(ep_reader::proofs::public::Outcomes::assoc, crate::proofs::Rests::labels_inside, crate::proofs::Rests::values_tail_is), unfolding(ep_grammar::specs::Expressions::value_labels, ep_grammar::specs::Expressions::set_tail))]
 fn value_labels(
     alloc: Global,
     reader: &mut Reader<'_>,
@@ -82,7 +84,7 @@ fn value_content(
 
 /// `"[" values "]"`, or an expression that begins with a set
 #[cycle(expression)]
-#[tactic(auto, using(ep_reader::proofs::Outcomes::assoc), unfolding(ep_grammar::specs::Expressions::bracketed_value, ep_grammar::specs::Expressions::empty_set_tail))]
+#[tactic(auto, using(ep_reader::proofs::public::Outcomes::assoc), unfolding(ep_grammar::specs::Expressions::bracketed_value, ep_grammar::specs::Expressions::empty_set_tail))]
 fn bracketed_value(
     alloc: Global,
     reader: &mut Reader<'_>,

@@ -3,7 +3,9 @@
 ghost use Rattle.std.specs.Prelude.{◌++◌};
 ghost use Rattle.ep_tree.specs.Nodes.{values_node};
 ghost use Rattle.ep_grammar.specs.Descriptions.{optional};
-ghost use Rattle.ep_grammar.specs.Expressions.{case_element, case_tagged, case_tail, case_values, component_value, element, filled_values, labelled_element, more_elements_of, of_element, otherwise_of, values, values_rest_of};
+ghost use Rattle.ep_grammar.specs.Expressions.{case_element, case_tagged, case_tail, case_values, component_value};
+ghost use Rattle.ep_grammar.specs.Expressions.{element, filled_values, labelled_element, more_elements_of};
+ghost use Rattle.ep_grammar.specs.Expressions.{of_element, otherwise_of, values, values_rest_of};
 ghost use Rattle.ep_grammar.specs.Reading.{Reads, ReadsOnto, applied, read};
 ghost use Rattle.ep_grammar.specs.Rules.{inside_at, inside_with};
 ghost use Rattle.ep_parse_expr.specs.Tails.{labelled_tail};
@@ -50,7 +52,8 @@ fn more_elements(
         reader,
         before,
         |reader: &mut Reader<'_>| -> Result<Option<Element>, Stop>
-            ensures { Reads (read (inside_at room) (optional of_element element) reader.entry.now) result reader.exit.now }
+            ensures { Reads (read (inside_at room) (optional of_element element) reader.entry.now)
+                result reader.exit.now }
         {
             if !reader.begins_element() {
                 return Ok(None);
@@ -70,7 +73,8 @@ fn values_of(
     line: Line,
     before: List<Element>,
 ) -> Result<Boxed<Values>, Stop>
-    ensures { Reads (applied (λ p. values_node line (before ++ p.0) p.1) (read (inside_at room) (values_rest_of element component_value) reader.old)) result reader.new }
+    ensures { Reads (applied (λ p. values_node line (before ++ p.0) p.1)
+        (read (inside_at room) (values_rest_of element component_value) reader.old)) result reader.new }
 {
     let elements = more_elements(alloc, reader, room, before)?;
     if !reader.sees_word(word::OTHERWISE) {
@@ -104,7 +108,8 @@ pub(crate) fn labelled_values(
     start: Line,
     labels: List<Label>,
 ) -> Result<Boxed<Values>, Stop>
-    ensures { Reads (applied (λ w. w start labels) (read (inside_with inner) labelled_tail reader.old)) result reader.new }
+    ensures { Reads (applied (λ w. w start labels) (read (inside_with inner) labelled_tail reader.old))
+        result reader.new }
 {
     reader.symbol(symbol::COLON)?;
     let value = component_value(alloc, reader, inner)?;

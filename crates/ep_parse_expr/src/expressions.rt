@@ -3,7 +3,8 @@
 ghost use Rattle.std.specs.Prelude.{Some, None};
 ghost use Rattle.ep_grammar.specs.Classes.{adding_operators, classes, multiplying_operators};
 ghost use Rattle.ep_grammar.specs.Descriptions.{optional};
-ghost use Rattle.ep_grammar.specs.Expressions.{addend, addends, comparison_part, expression, label_of, labels, multiplier, multipliers, simple, term};
+ghost use Rattle.ep_grammar.specs.Expressions.{addend, addends, comparison_part, expression, label_of};
+ghost use Rattle.ep_grammar.specs.Expressions.{labels, multiplier, multipliers, simple, term};
 ghost use Rattle.ep_grammar.specs.Reading.{Reads, read};
 ghost use Rattle.ep_grammar.specs.Rules.{inside_at};
 
@@ -68,7 +69,9 @@ pub(crate) fn multipliers(
         reader,
         none,
         |reader: &mut Reader<'_>| -> Result<Option<Multiplier>, Stop>
-            ensures { Reads (read (inside_at room) (optional (classes multiplying_operators) multiplier) reader.entry.now) result reader.exit.now }
+            ensures { Reads
+                (read (inside_at room) (optional (classes multiplying_operators) multiplier) reader.entry.now)
+                result reader.exit.now }
         {
             let Some(operator) = reader.multiplying_operator() else {
                 return Ok(None);
@@ -105,7 +108,8 @@ pub(crate) fn addends(
         reader,
         none,
         |reader: &mut Reader<'_>| -> Result<Option<Addend>, Stop>
-            ensures { Reads (read (inside_at room) (optional (classes adding_operators) addend) reader.entry.now) result reader.exit.now }
+            ensures { Reads (read (inside_at room) (optional (classes adding_operators) addend) reader.entry.now)
+                result reader.exit.now }
         {
             let Some(operator) = reader.adding_operator() else {
                 return Ok(None);

@@ -1,6 +1,7 @@
 //! Factors.
 
-ghost use Rattle.ep_grammar.specs.Expressions.{called, called_field, factor, members, negated, parenthesized, set_constructor};
+ghost use Rattle.ep_grammar.specs.Expressions.{called, called_field, factor, members};
+ghost use Rattle.ep_grammar.specs.Expressions.{negated, parenthesized, set_constructor};
 ghost use Rattle.ep_grammar.specs.Reading.{Reads, applied, read};
 ghost use Rattle.ep_grammar.specs.Rules.{inside_at};
 

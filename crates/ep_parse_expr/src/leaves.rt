@@ -1,6 +1,7 @@
 //! What is read with no level inside it.
 
-ghost use Rattle.ep_grammar.specs.Expressions.{field_selector, nil_factor, number_factor, pointer_selector, qualified_name, text_factor};
+ghost use Rattle.ep_grammar.specs.Expressions.{field_selector, nil_factor, number_factor};
+ghost use Rattle.ep_grammar.specs.Expressions.{pointer_selector, qualified_name, text_factor};
 ghost use Rattle.ep_grammar.specs.Reading.{Reads, read};
 ghost use Rattle.ep_grammar.specs.Rules.{inside_at};
 

@@ -1,7 +1,8 @@
 //! Accesses: a name and what is selected of it.
 
 ghost use Rattle.ep_grammar.specs.Descriptions.{optional};
-ghost use Rattle.ep_grammar.specs.Expressions.{access, argument, argument_selector, arguments, expression, index_selector, inner_expressions, of_selector, selector, selectors};
+ghost use Rattle.ep_grammar.specs.Expressions.{access, argument, argument_selector, arguments, expression};
+ghost use Rattle.ep_grammar.specs.Expressions.{index_selector, inner_expressions, of_selector, selector, selectors};
 ghost use Rattle.ep_grammar.specs.Reading.{Reads, ReadsOnto, read};
 ghost use Rattle.ep_grammar.specs.Rules.{inside_at, inside_with};
 
@@ -127,7 +128,8 @@ pub(crate) fn selectors(
         reader,
         before,
         |reader: &mut Reader<'_>| -> Result<Option<Selector>, Stop>
-            ensures { Reads (read (inside_at room) (optional of_selector selector) reader.entry.now) result reader.exit.now }
+            ensures { Reads (read (inside_at room) (optional of_selector selector) reader.entry.now)
+                result reader.exit.now }
         {
             if !reader.begins_selector() {
                 return Ok(None);

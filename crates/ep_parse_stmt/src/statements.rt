@@ -3,7 +3,11 @@
 ghost use Rattle.ep_grammar.specs.Descriptions.{either, optional, statements};
 ghost use Rattle.ep_grammar.specs.Expressions.{access, name, of_expression, on_word};
 ghost use Rattle.ep_token.specs.declared.word.TheConstants as word;
-ghost use Rattle.ep_grammar.specs.Statements.{accesses, arm, arms, case_arms, case_statement, compound, compound_statement, else_part, for_members, for_range, for_statement, if_statement, inner_statements, labelled_arms, loop_statement, other, other_arms, repeat_statement, simple_statement, statement, while_statement, with_statement};
+ghost use Rattle.ep_grammar.specs.Statements.{accesses, arm, arms, case_arms, case_statement, compound};
+ghost use Rattle.ep_grammar.specs.Statements.{compound_statement, else_part, for_members, for_range};
+ghost use Rattle.ep_grammar.specs.Statements.{for_statement, if_statement, inner_statements, labelled_arms};
+ghost use Rattle.ep_grammar.specs.Statements.{loop_statement, other, other_arms, repeat_statement};
+ghost use Rattle.ep_grammar.specs.Statements.{simple_statement, statement, while_statement, with_statement};
 ghost use Rattle.ep_grammar.specs.Reading.{Reads, applied, read, read_inside};
 ghost use Rattle.ep_grammar.specs.Rules.{inside_at};
 
@@ -140,7 +144,8 @@ fn arms(alloc: Global, reader: &mut Reader<'_>, room: u32) -> Result<List<Arm>, 
         reader,
         found,
         |reader: &mut Reader<'_>| -> Result<Option<Arm>, Stop>
-            ensures { Reads (read (inside_at room) (optional of_expression arm) reader.entry.now) result reader.exit.now }
+            ensures { Reads (read (inside_at room) (optional of_expression arm) reader.entry.now)
+                result reader.exit.now }
         {
             if !reader.begins_expression() {
                 return Ok(None);
@@ -320,7 +325,8 @@ fn for_rest(
     line: Line,
     name: Name,
 ) -> Result<Statement, Stop>
-    ensures { Reads (applied (λ r. r line name) (read (inside_at room) (either (on_word word.IN) for_members for_range) reader.old)) result reader.new }
+    ensures { Reads (applied (λ r. r line name)
+        (read (inside_at room) (either (on_word word.IN) for_members for_range) reader.old)) result reader.new }
 {
     if reader.sees_word(word::IN) {
         return for_members(alloc, reader, room, line, name);

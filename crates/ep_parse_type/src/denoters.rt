@@ -3,7 +3,11 @@
 ghost use Rattle.ep_token.specs.declared.word.TheConstants as word;
 ghost use Rattle.ep_grammar.specs.Descriptions.{plains, field_lists, optional};
 ghost use Rattle.ep_grammar.specs.Expressions.{of_expression, on_word};
-ghost use Rattle.ep_grammar.specs.Types.{array, core, enumeration, field_section, fields, initial, inner_fields, inner_plains, named_or_range, names, names_in_parentheses, other_fields, plain, pointer, range_end, record_structure, restricted, section_fields, sections, sections_end, set_structure, structure, structured, type_denoter, type_of, variant, variant_fields, variant_part, variant_selector, variants};
+ghost use Rattle.ep_grammar.specs.Types.{array, core, enumeration, field_section, fields, initial, inner_fields};
+ghost use Rattle.ep_grammar.specs.Types.{inner_plains, named_or_range, names, names_in_parentheses, other_fields};
+ghost use Rattle.ep_grammar.specs.Types.{plain, pointer, range_end, record_structure, restricted, section_fields};
+ghost use Rattle.ep_grammar.specs.Types.{sections, sections_end, set_structure, structure, structured, type_denoter};
+ghost use Rattle.ep_grammar.specs.Types.{type_of, variant, variant_fields, variant_part, variant_selector, variants};
 ghost use Rattle.ep_grammar.specs.Classes.{names as name_tokens};
 ghost use Rattle.ep_grammar.specs.Reading.{Reads, applied, read, read_inside, read_token};
 ghost use Rattle.ep_grammar.specs.Rules.{inside_at};
@@ -373,7 +377,8 @@ fn variants(alloc: Global, reader: &mut Reader<'_>, room: u32) -> Result<List<Va
         reader,
         found,
         |reader: &mut Reader<'_>| -> Result<Option<Variant>, Stop>
-            ensures { Reads (read (inside_at room) (optional of_expression variant) reader.entry.now) result reader.exit.now }
+            ensures { Reads (read (inside_at room) (optional of_expression variant) reader.entry.now)
+                result reader.exit.now }
         {
             if !reader.begins_expression() {
                 return Ok(None);
@@ -406,7 +411,8 @@ fn other_part(
     reader: &mut Reader<'_>,
     room: u32,
 ) -> Result<Option<Boxed<Fields>>, Stop>
-    ensures { Reads (read (inside_at room) (optional (on_word word.OTHERWISE) other_fields) reader.old) result reader.new }
+    ensures { Reads (read (inside_at room) (optional (on_word word.OTHERWISE) other_fields) reader.old)
+        result reader.new }
 {
     if !reader.sees_word(word::OTHERWISE) {
         return Ok(None);
@@ -471,7 +477,8 @@ fn sections_end(
     sections: List<FieldSection>,
     line: Line,
 ) -> Result<Fields, Stop>
-    ensures { Reads (applied (λ r. r sections line) (read (inside_at room) sections_end reader.old)) result reader.new }
+    ensures { Reads (applied (λ r. r sections line) (read (inside_at room) sections_end reader.old))
+        result reader.new }
 {
     let variants = Boxed::new(alloc, variant_part(alloc, reader, room)?)?;
     Ok(Fields {

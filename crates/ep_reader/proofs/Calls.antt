@@ -9,8 +9,8 @@ use Rattle.ep_grammar.specs.Classes.{Class, Symbol, exactly, same, has, class_of
 use Rattle.ep_grammar.specs.Descriptions.{Step, More, Last}
 use Rattle.ep_grammar.specs.Reading.{Outcome, Parser, Reads, and_then, read_token, steps, turns}
 use Rattle.ep_reader.specs.Rows.{ReadsBy, optional_by, item_by, item_after_by, item_or_end_by, separated_by}
-use Rattle.ep_reader.proofs.Outcomes.{one_class}
-use Rattle.ep_reader.proofs.Turning.{Turning}
+use Rattle.ep_reader.proofs.public.Outcomes.{one_class}
+use Rattle.ep_reader.proofs.public.Turning.{Turning}
 
 -- what one call answers
 pub called_reads : {F T : Type 0} {g : Shared F (MutBor (List Token) × Unit {0}) (Result T Stop × (MutBor (List Token) × Unit {0}))} {p : Parser T} {f : F} {y z : MutBor (List Token)} {r : Result T Stop} → ReadsBy g f p → g.post f (y, tt) (r, (z, tt)) → Reads (p y.now) r z.now

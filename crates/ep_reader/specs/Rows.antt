@@ -10,7 +10,9 @@ use Rattle.ep_grammar.specs.Descriptions.{Step, More, Last}
 use Rattle.ep_grammar.specs.Reading.{Parser, Reads, and_then, read_token, steps}
 
 -- a call of f at a `&mut` to these tokens may give r, and leave those
-pub record CalledAt {F R : Type 0} (g : Shared F (MutBor (List Token) × Unit {0}) (R × (MutBor (List Token) × Unit {0}))) (f : F) (i : List Token) (r : R) (j : List Token) : Type 0 where
+pub record CalledAt
+    {F R : Type 0} (g : Shared F (MutBor (List Token) × Unit {0}) (R × (MutBor (List Token) × Unit {0})))
+    (f : F) (i : List Token) (r : R) (j : List Token) : Type 0 where
   pub shown : MutBor (List Token)
   pub shows : shown.now ≡ i
   pub left : MutBor (List Token)
@@ -18,7 +20,9 @@ pub record CalledAt {F R : Type 0} (g : Shared F (MutBor (List Token) × Unit {0
   pub leaves : left.now ≡ j
 
 -- each call of the closure reads what this parser does
-abbrev pub ReadsBy : {F T : Type 0} → Shared F (MutBor (List Token) × Unit {0}) (Result T Stop × (MutBor (List Token) × Unit {0})) → F → Parser T → Type 0
+abbrev pub ReadsBy : {F T : Type 0}
+    → Shared F (MutBor (List Token) × Unit {0}) (Result T Stop × (MutBor (List Token) × Unit {0}))
+    → F → Parser T → Type 0
 ReadsBy {F} {T} g f p = (i j : List Token) (r : Result T Stop) → CalledAt g f i r j → Reads (p i) r j
 
 -- the items of a row after those that were found
@@ -31,7 +35,10 @@ item_by p = λ i. and_then (p i) (λ x k. Ok (More x, k))
 
 -- a step that is an item after this symbol
 abbrev pub item_after_by : {A : Type 0} → ℕ → Parser A → Parser (Step A (Unit {0}))
-item_after_by {A} n p = λ i. and_then {A = A → Step A (Unit {0})} (and_then (read_token (exactly (Symbol n)) i) (λ u k. Ok ((λ x. More x), k))) (λ f j. and_then (p j) (λ x k. Ok (f x, k)))
+item_after_by {A} n p = λ i.
+    and_then {A = A → Step A (Unit {0})}
+    (and_then (read_token (exactly (Symbol n)) i) (λ u k. Ok ((λ x. More x), k)))
+    (λ f j. and_then (p j) (λ x k. Ok (f x, k)))
 
 -- an item where one begins, and nothing elsewhere
 abbrev pub optional_by : {A : Type 0} → List Class → Parser A → Parser (Option A)
@@ -40,12 +47,19 @@ optional_by cs p = λ i. if has cs (class_of i) then and_then (p i) (λ x k. Ok 
 -- a step that is an item after a semicolon, or a semicolon at the end
 abbrev pub item_or_end_by : {A : Type 0} → List Class → Parser A → Parser (Step A (Unit {0}))
 item_or_end_by {A} cs p = λ i.
-    and_then {A = Step A (Unit {0}) → Step A (Unit {0})} (and_then (read_token (exactly (Symbol symbols.SEMICOLON)) i) (λ u k. Ok ((λ x. x), k)))
-    (λ f j. and_then (if has cs (class_of j) then and_then (p j) (λ x k. Ok (More x, k)) else Ok (Last (tt {0}), j)) (λ x k. Ok (f x, k)))
+    and_then {A = Step A (Unit {0}) → Step A (Unit {0})}
+    (and_then (read_token (exactly (Symbol symbols.SEMICOLON)) i) (λ u k. Ok ((λ x. x), k)))
+    (λ f j.
+    and_then (if has cs (class_of j) then and_then (p j) (λ x k. Ok (More x, k)) else Ok (Last (tt {0}), j))
+    (λ x k. Ok (f x, k)))
 
 -- `item { symbol item }`
 abbrev pub separated_by : {A : Type 0} → ℕ → Parser A → Parser (List A)
-separated_by n p = λ i. and_then (and_then (and_then (p i) (λ x k. Ok (x ∷ [], k))) (λ found j. steps (Symbol n ∷ []) (item_after_by n p) (tt {0}) (length j) found j)) (λ w k. Ok (w.0, k))
+separated_by n p = λ i.
+    and_then
+    (and_then (and_then (p i) (λ x k. Ok (x ∷ [], k)))
+    (λ found j. steps (Symbol n ∷ []) (item_after_by n p) (tt {0}) (length j) found j))
+    (λ w k. Ok (w.0, k))
 
 -- `{ item }`, after the items that were found
 abbrev pub many_by : {A : Type 0} → List Class → Parser A → List A → Parser (List A)

@@ -1,10 +1,13 @@
 //! The tokens that are left to a parser.
 
-ghost use Rattle.std.specs.Prelude.{if◌then◌else◌, ◌≡◌, ◌<◌, ℕ, length, IfOk, MatchOption, true, false, Ok, [], ◌∷◌};
-ghost use Rattle.ep_grammar.specs.Classes.{same, has, class_of, class_of_name, line_of, after_first, classes, Word, Symbol, Number, Text, Interface, Implementation, Forward};
-ghost use Rattle.ep_grammar.specs.Classes.{exactly, names, numbers, texts, relational_operators, signs, adding_operators, multiplying_operators, directions};
+ghost use Rattle.std.specs.Prelude.{◌≡◌, ◌<◌, length, IfOk, Ok, [], ◌∷◌};
+ghost use Rattle.ep_grammar.specs.Classes.{same, has, class_of, class_of_name, line_of, after_first};
+ghost use Rattle.ep_grammar.specs.Classes.{Word, Symbol, Number, Text, Interface, Implementation, Forward};
+ghost use Rattle.ep_grammar.specs.Classes.{exactly, names, numbers, texts, signs, directions};
+ghost use Rattle.ep_grammar.specs.Classes.{relational_operators, adding_operators, multiplying_operators};
 ghost use Rattle.ep_token.specs.declared.word.TheConstants as word;
-ghost use Rattle.ep_grammar.specs.Reading.{Reads, and_then, read_token, peek};
+ghost use Rattle.ep_grammar.specs.Reading.{Reads, read_token};
+ghost use Rattle.ep_reader.specs.Options.{ReadsOperator, flag_by};
 ghost use Rattle.ep_grammar.specs.Expressions.{of_name, of_selector, of_factor, of_expression, of_element, of_values};
 ghost use Rattle.ep_grammar.specs.Types.{of_structure};
 ghost use Rattle.ep_grammar.specs.Statements.{of_loop};
@@ -184,7 +187,7 @@ impl<'a> Reader<'a> {
 
     /// Takes a relational operator, if one comes next.
     pub fn relational_operator(&mut self) -> Option<RelationalOperator>
-        ensures { MatchOption result ((has (classes relational_operators) (class_of self.old) ≡ false) × (self.new ≡ self.old)) (λ found. (has (classes relational_operators) (class_of self.old) ≡ true) × (read_token relational_operators self.old ≡ Ok (found, self.new))) }
+        ensures { ReadsOperator relational_operators result self.old self.new }
     {
         let found = if self.sees_symbol(symbol::EQUAL) {
             RelationalOperator::Equal
@@ -209,7 +212,7 @@ impl<'a> Reader<'a> {
 
     /// Takes a sign, if one comes next.
     pub fn sign(&mut self) -> Option<Sign>
-        ensures { MatchOption result ((has (classes signs) (class_of self.old) ≡ false) × (self.new ≡ self.old)) (λ found. (has (classes signs) (class_of self.old) ≡ true) × (read_token signs self.old ≡ Ok (found, self.new))) }
+        ensures { ReadsOperator signs result self.old self.new }
     {
         let found = if self.sees_symbol(symbol::PLUS) {
             Sign::Plus
@@ -224,7 +227,7 @@ impl<'a> Reader<'a> {
 
     /// Takes an adding operator, if one comes next.
     pub fn adding_operator(&mut self) -> Option<AddingOperator>
-        ensures { MatchOption result ((has (classes adding_operators) (class_of self.old) ≡ false) × (self.new ≡ self.old)) (λ found. (has (classes adding_operators) (class_of self.old) ≡ true) × (read_token adding_operators self.old ≡ Ok (found, self.new))) }
+        ensures { ReadsOperator adding_operators result self.old self.new }
     {
         let found = if self.sees_symbol(symbol::PLUS) {
             AddingOperator::Plus
@@ -245,7 +248,7 @@ impl<'a> Reader<'a> {
 
     /// Takes a multiplying operator, if one comes next.
     pub fn multiplying_operator(&mut self) -> Option<MultiplyingOperator>
-        ensures { MatchOption result ((has (classes multiplying_operators) (class_of self.old) ≡ false) × (self.new ≡ self.old)) (λ found. (has (classes multiplying_operators) (class_of self.old) ≡ true) × (read_token multiplying_operators self.old ≡ Ok (found, self.new))) }
+        ensures { ReadsOperator multiplying_operators result self.old self.new }
     {
         let found = if self.sees_symbol(symbol::STAR) {
             MultiplyingOperator::Times
@@ -385,7 +388,7 @@ impl<'a> Reader<'a> {
 
     /// Takes this word symbol, if it comes next, and tells whether it did.
     pub fn takes_word(&mut self, word: u8) -> bool
-        ensures { (if has (Word word ∷ []) (class_of self.old) then and_then (read_token (exactly (Word word)) self.old) (λ x k. Ok (true, k)) else Ok (false, self.old)) ≡ Ok (result, self.new) }
+        ensures { flag_by word self.old ≡ Ok (result, self.new) }
     {
         if !self.sees_word(word) {
             return false;

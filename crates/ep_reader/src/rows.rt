@@ -41,7 +41,8 @@ pub fn many<T: Drop, F: Fn(&mut Reader<'_>) -> Result<Option<T>, Stop>>(
     item: F,
 ) -> Result<List<T>, Stop>
     requires { F.IsAlwaysCallable item }
-    ensures { (cs : List Class) (p : Parser T) → ReadsBy F.Fn item (optional_by cs p) → Reads (many_by cs p found reader.old) result reader.new }
+    ensures { (cs : List Class) (p : Parser T) → ReadsBy F.Fn item (optional_by cs p)
+        → Reads (many_by cs p found reader.old) result reader.new }
 {
     let mut found = found;
     for _turn in 0..reader.left() {
@@ -60,7 +61,8 @@ pub fn closed<T: Drop, F: Fn(&mut Reader<'_>) -> Result<Option<T>, Stop>>(
     item: F,
 ) -> Result<List<T>, Stop>
     requires { F.IsAlwaysCallable item }
-    ensures { (cs : List Class) (p : Parser T) → ReadsBy F.Fn item (optional_by cs p) → Reads (closed_by cs p found reader.old) result reader.new }
+    ensures { (cs : List Class) (p : Parser T) → ReadsBy F.Fn item (optional_by cs p)
+        → Reads (closed_by cs p found reader.old) result reader.new }
 {
     let mut found = found;
     for _turn in 0..reader.left() {

@@ -1,12 +1,12 @@
-pub mod CommentLaws
-pub mod Comments
-pub mod NameLaws
-pub mod Names
-pub mod NumberLaws
-pub mod Numerals
-pub mod PieceLaws
-pub mod Steps
-pub mod StringLaws
-pub mod Strings
-pub mod SymbolLaws
-pub mod TokenLaws
+pub mod public
+mod CommentLaws
+mod Comments
+mod NameLaws
+mod Names
+mod NumberLaws
+mod Numerals
+mod PieceLaws
+mod Steps
+mod StringLaws
+mod Strings
+mod SymbolLaws

@@ -4,7 +4,9 @@ use Rattle.ep_token.specs.Bytes as byte
 
 -- whether bytes begin with `{` or `(*`
 abbrev pub opens_comment : List ℕ → Bool
-opens_comment bytes = slice_index bytes 0 == byte.left_brace || (slice_index bytes 0 == byte.left_parenthesis && slice_index bytes 1 == byte.star)
+opens_comment bytes =
+    slice_index bytes 0 == byte.left_brace
+    || (slice_index bytes 0 == byte.left_parenthesis && slice_index bytes 1 == byte.star)
 
 -- a text that opens a comment
 abbrev pub IsOpener : List ℕ → Type 0

@@ -1,5 +1,6 @@
 -- What an unsigned number is, and its value.
-use Rattle.std.specs.Prelude.{◌≡◌, ◌≢◌, ℕ, ◌+◌, ◌-◌, ◌*◌, ◌≤◌, Bool, true, ◌||◌, ◌==◌, nat_lt, if◌then◌else◌, List, [], ◌∷◌, ◌++◌, fold, ◌⊎◌}
+use Rattle.std.specs.Prelude.{◌≡◌, ◌≢◌, ℕ, ◌+◌, ◌-◌, ◌*◌, ◌≤◌, Bool, true, ◌||◌, ◌==◌}
+use Rattle.std.specs.Prelude.{nat_lt, if◌then◌else◌, List, [], ◌∷◌, ◌++◌, fold, ◌⊎◌}
 use Rattle.std.specs.List.{list_all}
 use Rattle.std.specs.Char.{is_ascii_alphabetic, is_ascii_alphanumeric, is_ascii_digit, to_ascii_lowercase}
 use Rattle.ep_token.specs.Bytes as byte
@@ -8,7 +9,8 @@ use Rattle.ep_token.specs.Bytes as byte
 abbrev pub maxint : ℕ
 maxint = 9223372036854775807
 
--- the value of a digit, or of a letter in any case, where `a` is ten (ISO 10206, 6.1.7); no digit of any radix has the value 36
+-- the value of a digit, or of a letter in any case, where `a` is ten (ISO 10206, 6.1.7);
+-- no digit of any radix has the value 36
 unfoldable pub digit_value : ℕ → ℕ
 digit_value b = if is_ascii_digit b then b - 48 else if is_ascii_alphabetic b then to_ascii_lowercase b - 87 else 36
 

@@ -8,4 +8,8 @@ special_symbols = codes "+" ∷ codes "-" ∷ codes "*" ∷ codes "=" ∷ codes 
 
 -- the symbol that a text stands for: some have a second spelling (ISO 10206, 6.1.11)
 unfoldable pub reference_spelling : List ℕ → List ℕ
-reference_spelling text = if bytes_eq text (codes "(.") then codes "[" else if bytes_eq text (codes ".)") then codes "]" else if bytes_eq text (codes "@") then codes "^" else text
+reference_spelling text =
+    if bytes_eq text (codes "(.") then codes "["
+    else if bytes_eq text (codes ".)") then codes "]"
+    else if bytes_eq text (codes "@") then codes "^"
+    else text

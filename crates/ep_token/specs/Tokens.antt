@@ -1,5 +1,6 @@
 -- The tokens of a source text (ISO 10206, 6.1), and where a text has none.
-use Rattle.std.specs.Prelude.{◌≡◌, ℕ, suc, ◌+◌, ◌<◌, ◌≤◌, pos, Bool, true, false, ◌||◌, ◌==◌, List, [], ◌∷◌, ◌++◌, length, take, drop, map, count_by, Option, Some, None, ◌⊎◌}
+use Rattle.std.specs.Prelude.{◌≡◌, ℕ, suc, ◌+◌, ◌<◌, ◌≤◌, pos, Bool, true, false, ◌||◌, ◌==◌, List, []}
+use Rattle.std.specs.Prelude.{◌∷◌, ◌++◌, length, take, drop, map, count_by, Option, Some, None, ◌⊎◌}
 use Rattle.std.specs.Option.{option_to_list}
 use Rattle.std.specs.Char.{is_ascii_digit}
 use Rattle.ep_base.specs.Identifiers.{is_identifier, lower_case}
@@ -7,7 +8,8 @@ use Rattle.ep_token.specs.declared.token.Token.{Token}
 use Rattle.ep_token.specs.declared.token.TokenKind.{TokenKind}
 use Rattle.ep_token.specs.declared.token.TokenKind.TheVariants.{Word, Id, Number, Str, Sym}
 use Rattle.ep_token.specs.declared.refusal.TokenRefusal.{TokenRefusal}
-use Rattle.ep_token.specs.declared.refusal.TokenRefusal.TheVariants.{NoToken, OpenComment, OpenString, BadNumber, LongName, NoMemory}
+use Rattle.ep_token.specs.declared.refusal.TokenRefusal.TheVariants.{NoToken, OpenComment, OpenString}
+use Rattle.ep_token.specs.declared.refusal.TokenRefusal.TheVariants.{BadNumber, LongName, NoMemory}
 use Rattle.ep_token.specs.Spellings.{place_of}
 use Rattle.ep_token.specs.Words.{word_symbols}
 use Rattle.ep_token.specs.Symbols.{special_symbols, reference_spelling}
@@ -29,7 +31,9 @@ IsSeparator text = (b : ℕ) × (text ≡ b ∷ []) × (is_separator b ≡ true)
 abbrev pub IsSpelled : List ℕ → Option TokenKind → Type 0
 IsSpelled text None = IsSeparator text ⊎ IsComment text
 IsSpelled text (Some (Word word)) = (is_identifier text ≡ true) × (place_of word_symbols (lower_case text) ≡ Some word)
-IsSpelled text (Some (Id name)) = (is_identifier text ≡ true) × (length text ≤ MAX_NAME) × (place_of word_symbols (lower_case text) ≡ None) × (name ≡ lower_case text)
+IsSpelled text (Some (Id name)) =
+    (is_identifier text ≡ true) × (length text ≤ MAX_NAME)
+    × (place_of word_symbols (lower_case text) ≡ None) × (name ≡ lower_case text)
 IsSpelled text (Some (Number value)) = (n : ℕ) × IsNumber text n × (value ≡ pos n)
 IsSpelled text (Some (Str bytes)) = IsString text bytes
 IsSpelled text (Some (Sym symbol)) = place_of special_symbols (reference_spelling text) ≡ Some symbol
@@ -41,7 +45,8 @@ begins test (b ∷ bs) = test b
 
 -- no longer identifier begins where the text does
 abbrev pub IsLongestName : List ℕ → List ℕ → Type 0
-IsLongestName text rest = (more after : List ℕ) → rest ≡ more ++ after → is_identifier (text ++ more) ≡ true → more ≡ []
+IsLongestName text rest =
+    (more after : List ℕ) → rest ≡ more ++ after → is_identifier (text ++ more) ≡ true → more ≡ []
 
 -- what may stand behind a text that is taken so
 abbrev pub MayPrecede : List ℕ → Option TokenKind → List ℕ → Type 0
@@ -50,7 +55,8 @@ MayPrecede text (Some (Word word)) rest = IsLongestName text rest
 MayPrecede text (Some (Id name)) rest = IsLongestName text rest
 MayPrecede text (Some (Number value)) rest = begins continues_number rest ≡ false
 MayPrecede text (Some (Str bytes)) rest = Unit {0}
-MayPrecede text (Some (Sym symbol)) rest = text ≡ byte.left_parenthesis ∷ [] → begins (λ b. b == byte.star) rest ≡ false
+MayPrecede text (Some (Sym symbol)) rest =
+    text ≡ byte.left_parenthesis ∷ [] → begins (λ b. b == byte.star) rest ≡ false
 
 -- the first n bytes can be taken so
 pub record CanBeTaken (bytes : List ℕ) (n : ℕ) (kind : Option TokenKind) : Type 0 where
@@ -87,7 +93,8 @@ token_at bytes start n kind = token_of (line_at bytes start) start (start + n) k
 -- the tokens among pieces, of which the first begins at a place
 abbrev pub tokens_of : List ℕ → ℕ → List Piece → List Token
 tokens_of bytes place [] = []
-tokens_of bytes place (piece ∷ pieces) = map (token_at bytes place piece.0) (option_to_list piece.1) ++ tokens_of bytes (place + piece.0) pieces
+tokens_of bytes place (piece ∷ pieces) =
+    map (token_at bytes place piece.0) (option_to_list piece.1) ++ tokens_of bytes (place + piece.0) pieces
 
 -- the whole text is a row of pieces, and these are its tokens
 pub record Tokens (bytes : List ℕ) (list : List Token) : Type 0 where
@@ -105,7 +112,9 @@ HasCause bytes line (OpenComment at) = (at ≡ line) × (opens_comment bytes ≡
 HasCause bytes line (OpenString at) = (at ≡ line) × (begins (λ b. b == byte.quote) bytes ≡ true)
 HasCause bytes line (BadNumber at) = (at ≡ line) × (begins is_ascii_digit bytes ≡ true)
 HasCause bytes line (LongName at) = (at ≡ line) × BeginsLongName bytes
-HasCause bytes line (NoToken at) = (at ≡ line) × (opens_comment bytes ≡ false) × (begins (λ b. b == byte.quote) bytes ≡ false) × (begins is_ascii_digit bytes ≡ false) × (BeginsLongName bytes → ⊥)
+HasCause bytes line (NoToken at) =
+    (at ≡ line) × (opens_comment bytes ≡ false) × (begins (λ b. b == byte.quote) bytes ≡ false)
+    × (begins is_ascii_digit bytes ≡ false) × (BeginsLongName bytes → ⊥)
 HasCause bytes line NoMemory = ⊥
 
 -- the bytes before the place are pieces, each the longest at its place, and none can be taken at the place

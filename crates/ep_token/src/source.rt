@@ -1,6 +1,7 @@
 //! The tokens of a whole source text.
 
-ghost use Rattle.std.specs.Prelude.{◌≡◌, ◌⊎◌, ℕ, ◌+◌, ◌<◌, ◌≤◌, ◌^◌, ◌==◌, List, ◌++◌, length, map, count_by, Option, IfOk, OnOk, IsErrOf, IsOkUnless};
+ghost use Rattle.std.specs.Prelude.{◌≡◌, ◌⊎◌, ℕ, ◌+◌, ◌<◌, ◌≤◌, ◌^◌, ◌==◌, List, ◌++◌, length};
+ghost use Rattle.std.specs.Prelude.{map, count_by, Option, IfOk, OnOk, IsErrOf, IsOkUnless};
 ghost use Rattle.std.specs.Option.{option_to_list};
 ghost use Rattle.ep_token.specs.declared.refusal.TokenRefusal.{TokenRefusal};
 ghost use Rattle.ep_token.specs.declared.token.Token.{Token};
@@ -28,25 +29,31 @@ pub fn tokens(alloc: Global, source: &[u8]) -> Result<Vec<Token>, TokenRefusal>
     ensures accepted { (list : List Token) → Tokens source.now list → IsOkUnless result TokenRefusal.NoMemory }
 
     // A refusal is that of the place where the text is stuck, and a text that is stuck is refused.
-    ensures refused { (refusal : TokenRefusal) → IsErrOf result refusal → (refusal ≡ TokenRefusal.NoMemory) ⊎ ((place : ℕ) × Stuck source.now place refusal) }
-    ensures stuck { (place : ℕ) (refusal : TokenRefusal) → Stuck source.now place refusal → IsErrOf result refusal ⊎ IsErrOf result TokenRefusal.NoMemory }
+    ensures refused { (refusal : TokenRefusal) → IsErrOf result refusal
+        → (refusal ≡ TokenRefusal.NoMemory) ⊎ ((place : ℕ) × Stuck source.now place refusal) }
+    ensures stuck { (place : ℕ) (refusal : TokenRefusal) → Stuck source.now place refusal
+        → IsErrOf result refusal ⊎ IsErrOf result TokenRefusal.NoMemory }
 {
     scan(alloc, source)
 }
 
 /// A text has one list of tokens or one place where it is stuck, and not both.
 pub fn one_reading()
-    ensures some { (bytes : List ℕ) → ((list : List Token) × Tokens bytes list) ⊎ ((place : ℕ) × (refusal : TokenRefusal) × Stuck bytes place refusal) }
+    ensures some { (bytes : List ℕ) → ((list : List Token) × Tokens bytes list)
+        ⊎ ((place : ℕ) × (refusal : TokenRefusal) × Stuck bytes place refusal) }
     ensures list { (bytes : List ℕ) (list other : List Token) → Tokens bytes list → Tokens bytes other → list ≡ other }
-    ensures apart { (bytes : List ℕ) (list : List Token) (place : ℕ) (refusal : TokenRefusal) → Tokens bytes list → Stuck bytes place refusal → ⊥ }
-    ensures place { (bytes : List ℕ) (place other : ℕ) (refusal cause : TokenRefusal) → Stuck bytes place refusal → Stuck bytes other cause → (place ≡ other) × (refusal ≡ cause) }
+    ensures apart { (bytes : List ℕ) (list : List Token) (place : ℕ) (refusal : TokenRefusal)
+        → Tokens bytes list → Stuck bytes place refusal → ⊥ }
+    ensures place { (bytes : List ℕ) (place other : ℕ) (refusal cause : TokenRefusal)
+        → Stuck bytes place refusal → Stuck bytes other cause → (place ≡ other) × (refusal ≡ cause) }
 {}
 
 /// Reads a text piece by piece, each byte of it once but for the end of a string that is not closed.
 fn scan(alloc: Global, source: &[u8]) -> Result<Vec<Token>, TokenRefusal>
     requires { length source.now ≤ MAX_SOURCE }
     ensures found { IfOk result (λ found. Tokens source.now found.items) }
-    ensures refused { (refusal : TokenRefusal) → IsErrOf result refusal → (refusal ≡ TokenRefusal.NoMemory) ⊎ ((place : ℕ) × Stuck source.now place refusal) }
+    ensures refused { (refusal : TokenRefusal) → IsErrOf result refusal
+        → (refusal ≡ TokenRefusal.NoMemory) ⊎ ((place : ℕ) × Stuck source.now place refusal) }
 {
     let mut found = Vec::new(alloc);
     let mut place = 0;

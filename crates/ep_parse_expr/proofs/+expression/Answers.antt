@@ -7,8 +7,8 @@ use Rattle.ep_grammar.specs.Expressions.{addend, addends, argument, argument_sel
 use Rattle.ep_grammar.specs.Reading.{Inside, Reads, applied, read}
 use Rattle.ep_grammar.specs.Rules.{inside_at, inside_with}
 use Rattle.ep_reader.specs.Rows.{many_by}
-use Rattle.ep_reader.proofs.Levels.{handed, opened}
-use Rattle.ep_reader.proofs.Onto.{onto}
+use Rattle.ep_reader.proofs.public.Levels.{handed, opened}
+use Rattle.ep_reader.proofs.public.Onto.{onto}
 use Rattle.ep_parse_expr.specs.Called.{ReadsRest}
 use Rattle.ep_parse_expr.proofs.Rests.{bracket_indexes, bracket_neither, bracket_refused, bracket_values, bracket_values_refused, handed_rest, labelled_ok, labelled_refused, labelled_unended, labels_inside, value_ok, value_refused}
 use Rattle.ep_parse_expr.proofs.+expression.Goals as goal

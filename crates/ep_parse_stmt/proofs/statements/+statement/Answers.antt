@@ -1,13 +1,13 @@
 use Rattle.std.proofs.Common.{of_calls, refl, rules, arith}
 use Rattle.std.proofs.lemmas.Grind.{common_steps}
 use Rattle.ep_grammar.specs.Statements.{arm, arms, case_statement, compound, for_members, for_range, for_statement, if_statement, inner_statements, other, repeat_statement, while_statement, with_statement}
-use Rattle.ep_reader.proofs.Levels.{handed, opened, unopened}
-use Rattle.ep_reader.proofs.Shaped.{one_of}
+use Rattle.ep_reader.proofs.public.Levels.{handed, opened, unopened}
+use Rattle.ep_reader.proofs.public.Shaped.{one_of}
 use Rattle.ep_grammar.specs.Descriptions.{statements}
 use Rattle.ep_grammar.specs.Expressions.{of_expression}
 use Rattle.ep_grammar.specs.Reading.{read, read_inside}
 use Rattle.ep_grammar.specs.Rules.{inside_at}
-use Rattle.ep_reader.proofs.Begun.{closed_behind}
+use Rattle.ep_reader.proofs.public.Begun.{closed_behind}
 use Rattle.ep_parse_stmt.proofs.statements.+statement.Goals as goal
 
 pub inner_statements-returns : goal.inner_statements-returns

@@ -1,14 +1,14 @@
 use Rattle.std.proofs.Common.{of_calls, refl, rules, arith}
 use Rattle.std.proofs.lemmas.Grind.{common_steps}
 use Rattle.ep_grammar.specs.Types.{field_section, inner_plains, other_fields, sections, structured, variant, variant_part, variants}
-use Rattle.ep_reader.proofs.Levels.{handed, opened, unopened}
-use Rattle.ep_reader.proofs.Shaped.{one_of}
+use Rattle.ep_reader.proofs.public.Levels.{handed, opened, unopened}
+use Rattle.ep_reader.proofs.public.Shaped.{one_of}
 use Rattle.ep_grammar.specs.Descriptions.{plains}
 use Rattle.ep_grammar.specs.Expressions.{of_expression}
 use Rattle.ep_grammar.specs.Reading.{read, read_inside}
 use Rattle.ep_grammar.specs.Rules.{inside_at}
-use Rattle.ep_reader.proofs.Begun.{closed_behind}
-use Rattle.ep_reader.proofs.RowLoops.{turns_over, after_none, ended_begun, end_more, end_refused, end_reached}
+use Rattle.ep_reader.proofs.public.Begun.{closed_behind}
+use Rattle.ep_reader.proofs.public.RowLoops.{turns_over, after_none, ended_begun, end_more, end_refused, end_reached}
 use Rattle.ep_parse_type.proofs.denoters.+types.Goals as goal
 
 pub inner_plains-returns : goal.inner_plains-returns

@@ -4,7 +4,7 @@ use Rattle.ep_grammar.specs.Reading.{read}
 use Rattle.ep_grammar.specs.Rules.{inside_at}
 use Rattle.ep_grammar.specs.Expressions.{of_name, on}
 use Rattle.ep_grammar.specs.Types.{field_section, sections}
-use Rattle.ep_reader.proofs.RowLoops.{Turns, or_end}
+use Rattle.ep_reader.proofs.public.RowLoops.{Turns, or_end}
 use Rattle.ep_parse_type.proofs.denoters.+types.Given as goal
 
 abbrev pub decreases-array : goal.decreases-array

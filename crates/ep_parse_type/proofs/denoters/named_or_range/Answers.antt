@@ -7,7 +7,7 @@ use Rattle.ep_grammar.specs.Expressions.{expression, on}
 use Rattle.ep_grammar.specs.Types.{named_or_range, named_core, range_end}
 use Rattle.ep_grammar.specs.Reading.{Outcome, Reads}
 use Rattle.ep_grammar.specs.Rules.{inside_at}
-use Rattle.ep_reader.proofs.Shaped.{shaped_first, shaped_second, one_of}
+use Rattle.ep_reader.proofs.public.Shaped.{shaped_first, shaped_second, one_of}
 use Rattle.ep_parse_type.proofs.denoters.named_or_range.Goals as goal
 
 pub returns-then-sees_symbol : goal.returns-then-sees_symbol

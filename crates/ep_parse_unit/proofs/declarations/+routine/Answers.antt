@@ -3,7 +3,7 @@ use Rattle.ep_grammar.specs.Declarations.{block_body, of_parts, part, parts, rou
 use Rattle.ep_grammar.specs.Reading.{Reads, read}
 use Rattle.ep_grammar.specs.Rules.{inside_at}
 use Rattle.ep_reader.specs.Rows.{many_by}
-use Rattle.ep_reader.proofs.Levels.{handed, opened, unopened}
+use Rattle.ep_reader.proofs.public.Levels.{handed, opened, unopened}
 use Rattle.ep_parse_unit.proofs.declarations.+routine.Goals as goal
 
 pub parts-returns : goal.parts-returns

@@ -1,7 +1,7 @@
 use Rattle.std.proofs.Common.{refl}
 use Rattle.ep_grammar.specs.Declarations.{types}
-use Rattle.ep_reader.proofs.Levels.{handed, opened, unopened}
-use Rattle.ep_reader.proofs.Shaped.{one_of}
+use Rattle.ep_reader.proofs.public.Levels.{handed, opened, unopened}
+use Rattle.ep_reader.proofs.public.Shaped.{one_of}
 use Rattle.ep_parse_unit.proofs.declarations.types.Goals as goal
 
 pub returns-in_err-_inner : goal.returns-in_err-_inner

@@ -1,6 +1,6 @@
 use Rattle.std.proofs.Common.{refl}
 use Rattle.ep_grammar.specs.Declarations.{variable_declaration}
-use Rattle.ep_reader.proofs.Levels.{handed, opened, unopened}
+use Rattle.ep_reader.proofs.public.Levels.{handed, opened, unopened}
 use Rattle.ep_parse_unit.proofs.declarations.variable_declaration.Goals as goal
 
 pub returns-in_err-_inner : goal.returns-in_err-_inner

@@ -3,7 +3,7 @@ use Rattle.ep_grammar.specs.Declarations.{variable_declaration, variable_declara
 use Rattle.ep_grammar.specs.Expressions.{of_name}
 use Rattle.ep_grammar.specs.Reading.{read}
 use Rattle.ep_grammar.specs.Rules.{inside_at}
-use Rattle.ep_reader.proofs.Begun.{some_behind}
+use Rattle.ep_reader.proofs.public.Begun.{some_behind}
 use Rattle.ep_parse_unit.proofs.declarations.variable_declarations.Goals as goal
 
 pub returns : goal.returns

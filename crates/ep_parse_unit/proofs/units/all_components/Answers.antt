@@ -3,7 +3,7 @@ use Rattle.std.proofs.lemmas.Grind.{common_steps}
 use Rattle.ep_grammar.specs.Descriptions.{item}
 use Rattle.ep_grammar.specs.Reading.{read, turns, steps}
 use Rattle.ep_grammar.specs.Rules.{inside_at}
-use Rattle.ep_reader.proofs.Turning.{one_more, no_more}
+use Rattle.ep_reader.proofs.public.Turning.{one_more, no_more}
 use Rattle.ep_grammar.specs.Units.{component, of_component}
 use Rattle.ep_parse_unit.proofs.units.all_components.Goals as goal
 

@@ -3,7 +3,7 @@ use Rattle.ep_grammar.specs.Units.{export_part, export_parts}
 use Rattle.ep_grammar.specs.Expressions.{of_name}
 use Rattle.ep_grammar.specs.Reading.{read}
 use Rattle.ep_grammar.specs.Rules.{inside_at}
-use Rattle.ep_reader.proofs.Begun.{some_behind}
+use Rattle.ep_reader.proofs.public.Begun.{some_behind}
 use Rattle.ep_parse_unit.proofs.units.export_parts.Goals as goal
 
 pub returns : goal.returns

@@ -1,8 +1,8 @@
 use Rattle.std.proofs.Common.{ap, ◌∙◌, Ok}
 use Rattle.ep_token.specs.declared.symbol.TheConstants as symbols
 use Rattle.ep_reader.proofs.Calls.{at_symbol, called_reads, closed_end, closed_err, closed_ok, row_begins}
-use Rattle.ep_reader.proofs.Levels.{handed}
-use Rattle.ep_reader.proofs.Turning.{row_ends, row_goes_on, row_is_ended, row_is_over, row_refused}
+use Rattle.ep_reader.proofs.public.Levels.{handed}
+use Rattle.ep_reader.proofs.public.Turning.{row_ends, row_goes_on, row_is_ended, row_is_over, row_refused}
 use Rattle.ep_reader.proofs.rows.closed.Goals as goal
 
 pub loop-turn-init : goal.loop-turn-init

@@ -3,7 +3,7 @@ use Rattle.ep_token.specs.declared.symbol.TheConstants as symbols
 use Rattle.ep_grammar.specs.Classes.{Class, Symbol}
 use Rattle.ep_grammar.specs.Reading.{Parser}
 use Rattle.ep_reader.specs.Rows.{ReadsBy, item_or_end_by, closed_by, optional_by}
-use Rattle.ep_reader.proofs.Turning.{Turning}
+use Rattle.ep_reader.proofs.public.Turning.{Turning}
 use Rattle.ep_reader.proofs.rows.closed.Given as goal
 
 abbrev pub invariant-loop-turn : goal.invariant-loop-turn

@@ -1,7 +1,7 @@
 use Rattle.std.proofs.Common.{ap, ◌∙◌, Ok}
 use Rattle.ep_reader.proofs.Calls.{called_reads, item_not_there, item_refused, item_there, row_begins, step_err, step_ok}
-use Rattle.ep_reader.proofs.Levels.{handed}
-use Rattle.ep_reader.proofs.Turning.{row_ends, row_goes_on, row_is_over, row_refused}
+use Rattle.ep_reader.proofs.public.Levels.{handed}
+use Rattle.ep_reader.proofs.public.Turning.{row_ends, row_goes_on, row_is_over, row_refused}
 use Rattle.ep_reader.proofs.rows.many.Goals as goal
 
 pub loop-turn-init : goal.loop-turn-init

@@ -1,6 +1,6 @@
 use Rattle.ep_reader.proofs.Calls.{after_err, after_ok, at_symbol, called_reads, separated_begins, separated_refused}
-use Rattle.ep_reader.proofs.Levels.{handed}
-use Rattle.ep_reader.proofs.Turning.{row_ends, row_goes_on, row_is_over, row_refused}
+use Rattle.ep_reader.proofs.public.Levels.{handed}
+use Rattle.ep_reader.proofs.public.Turning.{row_ends, row_goes_on, row_is_over, row_refused}
 use Rattle.ep_reader.proofs.rows.separated.Goals as goal
 
 pub returns-in_err-first : goal.returns-in_err-first

@@ -2,7 +2,7 @@ use Rattle.std.proofs.Common.{[], ◌∷◌}
 use Rattle.ep_grammar.specs.Classes.{Symbol}
 use Rattle.ep_grammar.specs.Reading.{Parser}
 use Rattle.ep_reader.specs.Rows.{ReadsBy, item_after_by, separated_by}
-use Rattle.ep_reader.proofs.Turning.{Turning}
+use Rattle.ep_reader.proofs.public.Turning.{Turning}
 use Rattle.ep_reader.proofs.rows.separated.Given as goal
 
 abbrev pub invariant-loop-turn : goal.invariant-loop-turn

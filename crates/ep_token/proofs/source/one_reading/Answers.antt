@@ -1,5 +1,5 @@
 -- The row of longest pieces is one.
-use Rattle.ep_token.proofs.TokenLaws.{text-answer, tokens-one, tokens-apart, stuck-one}
+use Rattle.ep_token.proofs.public.TokenLaws.{text-answer, tokens-one, tokens-apart, stuck-one}
 use Rattle.ep_token.proofs.source.one_reading.Goals as goal
 
 pub returns-clause-some : goal.returns-clause-some

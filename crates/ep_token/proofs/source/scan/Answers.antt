@@ -4,7 +4,7 @@ use Rattle.std.proofs.lemmas.Result.{err_from_is_err_and}
 use Rattle.ep_token.specs.declared.refusal.TokenRefusal.{TokenRefusal}
 use Rattle.ep_token.specs.declared.refusal.TokenRefusal.TheVariants.{NoMemory}
 use Rattle.ep_token.specs.Tokens.{Stuck}
-use Rattle.ep_token.proofs.TokenLaws.{Reached, piece-within, piece-slice, step-found, step-stuck}
+use Rattle.ep_token.proofs.public.TokenLaws.{Reached, piece-within, piece-slice, step-found, step-stuck}
 use Rattle.ep_token.proofs.source.scan.Goals as goal
 
 pub returns-in_err-len-clause-refused : goal.returns-in_err-len-clause-refused

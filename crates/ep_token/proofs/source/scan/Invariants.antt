@@ -1,5 +1,5 @@
 use Rattle.std.proofs.Common.{length, ◌-◌}
-use Rattle.ep_token.proofs.TokenLaws.{Reached}
+use Rattle.ep_token.proofs.public.TokenLaws.{Reached}
 use Rattle.ep_token.proofs.source.scan.Given as goal
 
 abbrev pub invariant-loop-place : goal.invariant-loop-place

@@ -5,7 +5,7 @@ use Rattle.ep_token.specs.declared.refusal.TokenRefusal.{TokenRefusal}
 use Rattle.ep_token.specs.declared.refusal.TokenRefusal.TheVariants.{NoMemory}
 use Rattle.ep_token.specs.declared.token.Token.{Token}
 use Rattle.ep_token.specs.Tokens.{AreInOrder, Stuck, Tokens}
-use Rattle.ep_token.proofs.TokenLaws.{tokens-one, tokens-apart, stuck-one, tokens-order}
+use Rattle.ep_token.proofs.public.TokenLaws.{tokens-one, tokens-apart, stuck-one, tokens-order}
 use Rattle.ep_token.proofs.source.tokens.Goals as goal
 
 abbrev Answer : Type 0

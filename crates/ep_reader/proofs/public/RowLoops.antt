@@ -7,7 +7,7 @@ use Rattle.ep_grammar.specs.declared.stop.Stop.TheVariants.{NoMemory}
 use Rattle.ep_grammar.specs.Classes.{Class, Symbol, exactly, same, has, class_of}
 use Rattle.ep_grammar.specs.Descriptions.{Step, More, Last, Syntax, give, either, apply, row, symbol, single, first_of_pair, some, many, separated, closed, item, item_after}
 use Rattle.ep_grammar.specs.Reading.{Outcome, Parser, Inside, and_then, applied, steps, read, read_token}
-use Rattle.ep_reader.proofs.Outcomes.{chosen, one_class, passed}
+use Rattle.ep_reader.proofs.public.Outcomes.{chosen, one_class, passed}
 
 -- The outcome is that of the turns from this one to the last, after the items that were found.
 pub record Turns {A B C : Type 0} (o : Outcome C) (node : List A × B → C) (e : Option Inside) (cs : List Class) (s : Syntax (Step A B)) (r : B) (last turn : ℕ) (found : List A) (i : List Token) : Type 0 where

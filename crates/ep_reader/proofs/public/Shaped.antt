@@ -5,7 +5,7 @@ use Rattle.ep_grammar.specs.declared.stop.Stop.TheVariants.{Syntax as NotSyntax}
 use Rattle.ep_grammar.specs.Classes.{Class, has, class_of, line_of}
 use Rattle.ep_grammar.specs.Descriptions.{Syntax}
 use Rattle.ep_grammar.specs.Reading.{Outcome, Parser, Inside, and_then, applied, by_shape, refused, read}
-use Rattle.ep_reader.proofs.Outcomes.{chosen, one_class, passed}
+use Rattle.ep_reader.proofs.public.Outcomes.{chosen, one_class, passed}
 
 -- two applications in turn
 twice : {C Z : Type 0} (o : Outcome (C → ℕ → Z)) (c : C) (at : ℕ) → applied (λ (h : ℕ → Z). h at) (and_then o (λ h k. Ok (h c, k))) ≡ applied (λ r. r c at) o

@@ -7,7 +7,7 @@ use Rattle.ep_grammar.specs.Classes.{Class, has, class_of}
 use Rattle.ep_grammar.specs.Descriptions.{Step, More, Last}
 use Rattle.ep_grammar.specs.Reading.{Outcome, Parser, Reads, ReadsOnto, and_then, applied, go_on, steps}
 use Rattle.ep_reader.specs.Rows.{from_found}
-use Rattle.ep_reader.proofs.Outcomes.{applied_err, applied_ok}
+use Rattle.ep_reader.proofs.public.Outcomes.{applied_err, applied_ok}
 
 -- what was found, after these
 abbrev behind : {A B : Type 0} → List A → List A × B → List A × B
