@@ -33,7 +33,8 @@ pub fn components(alloc: Global, tokens: &[Token]) -> Result<Vec<Component>, Par
     ensures derived { IfOk result (λ found. Grammar MAX_NESTING tokens.now found.items) }
 
     // Tokens that derive components are answered with them, unless memory is wanting.
-    ensures accepted { (list : List Component) → Grammar MAX_NESTING tokens.now list → MatchResult result (λ found. found.items ≡ list) (λ refusal. refusal ≡ ParseRefusal.NoMemory) }
+    ensures accepted { (list : List Component) → Grammar MAX_NESTING tokens.now list
+        → MatchResult result (λ found. found.items ≡ list) (λ refusal. refusal ≡ ParseRefusal.NoMemory) }
 
     ensures refused { IfErr result (Refuses MAX_NESTING tokens.now) }
 {
@@ -52,7 +53,8 @@ pub fn components(alloc: Global, tokens: &[Token]) -> Result<Vec<Component>, Par
 /// The refusal of the token at which a reader of the tokens stands.
 fn refusal(stop: Stop, tokens: &[Token], reader: &Reader<'_>) -> ParseRefusal
     requires { length tokens.now < 2 ^ 32 }
-    ensures { result ≡ refusal_at stop (length tokens.now - length reader.now) (first_line (last_line 1 tokens.now) reader.now) }
+    ensures { result ≡ refusal_at stop (length tokens.now - length reader.now)
+        (first_line (last_line 1 tokens.now) reader.now) }
 {
     let place = tokens.len().saturating_sub(reader.left()) as u32;
     let line = line(tokens, reader);

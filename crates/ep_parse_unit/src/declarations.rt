@@ -1,8 +1,13 @@
 //! Definitions, declarations and routines.
 
 ghost use Rattle.ep_grammar.specs.Descriptions.{optional, routines};
-ghost use Rattle.ep_grammar.specs.Expressions.{of_name};
-ghost use Rattle.ep_grammar.specs.Declarations.{block_body, constant_definition, constant_definitions, constants, discriminant_section, discriminant_sections, discriminants, formal_section, formal_sections, formal_type, formal_type_of, formals, forward_body, function, function_start, of_parts, part, parts, procedure, result_name, routine, routine_body, routine_heading, routine_part, routine_start, type_definition, type_definitions, types, variable_declaration, variable_declarations, variables};
+ghost use Rattle.ep_grammar.specs.Declarations.{block_body, constant_definition, constant_definitions, constants};
+ghost use Rattle.ep_grammar.specs.Declarations.{discriminant_section, discriminant_sections, discriminants};
+ghost use Rattle.ep_grammar.specs.Declarations.{formal_section, formal_sections, formal_type, formal_type_of, formals};
+ghost use Rattle.ep_grammar.specs.Declarations.{forward_body, function, function_start, of_parts, part, parts};
+ghost use Rattle.ep_grammar.specs.Declarations.{procedure, result_name, routine, routine_body, routine_heading};
+ghost use Rattle.ep_grammar.specs.Declarations.{routine_part, routine_start, type_definition, type_definitions, types};
+ghost use Rattle.ep_grammar.specs.Declarations.{variable_declaration, variable_declarations, variables};
 ghost use Rattle.ep_grammar.specs.Reading.{Reads, read, read_inside};
 ghost use Rattle.ep_grammar.specs.Rules.{inside_at};
 
@@ -11,7 +16,7 @@ use ep_grammar::Stop;
 use ep_parse_expr::{component_value, qualified_name};
 use ep_parse_stmt::compound;
 use ep_parse_type::{names, type_denoter};
-use ep_reader::{Reader, level, many, separated};
+use ep_reader::{Reader, level, many, one_or_more, separated};
 use ep_token::{symbol, word};
 use ep_tree::{
     ConstantDefinition, Constants, DiscriminantSection, FormalSection, FormalType, Part, Routine,
@@ -38,7 +43,6 @@ fn constant_definition(
 }
 
 /// `id "=" cvalue ";" { id "=" cvalue ";" }`
-#[tactic(auto, unfolding(ep_grammar::specs::Declarations::constant_definitions))]
 fn constant_definitions(
     alloc: Global,
     reader: &mut Reader<'_>,
@@ -46,19 +50,12 @@ fn constant_definitions(
 ) -> Result<List<ConstantDefinition>, Stop>
     ensures { Reads (read (inside_at room) constant_definitions reader.old) result reader.new }
 {
-    let mut found = List::with_room(alloc, 1)?;
-    found.push(constant_definition(alloc, reader, room)?)?;
-    many(
+    one_or_more(
+        alloc,
         reader,
-        found,
-        |reader: &mut Reader<'_>| -> Result<Option<ConstantDefinition>, Stop>
-            ensures { Reads (read (inside_at room) (optional of_name constant_definition) reader.entry.now) result reader.exit.now }
-        {
-            if !reader.sees_name() {
-                return Ok(None);
-            }
-            Ok(Some(constant_definition(alloc, reader, room)?))
-        },
+        |reader: &mut Reader<'_>| -> Result<ConstantDefinition, Stop>
+            ensures { Reads (read (inside_at room) constant_definition reader.entry.now) result reader.exit.now }
+        { constant_definition(alloc, reader, room) },
     )
 }
 
@@ -154,7 +151,6 @@ fn type_definition(
 }
 
 /// `tdef ";" { tdef ";" }`
-#[tactic(auto, unfolding(ep_grammar::specs::Declarations::type_definitions))]
 fn type_definitions(
     alloc: Global,
     reader: &mut Reader<'_>,
@@ -162,19 +158,12 @@ fn type_definitions(
 ) -> Result<List<TypeDefinition>, Stop>
     ensures { Reads (read (inside_at room) type_definitions reader.old) result reader.new }
 {
-    let mut found = List::with_room(alloc, 1)?;
-    found.push(type_definition(alloc, reader, room)?)?;
-    many(
+    one_or_more(
+        alloc,
         reader,
-        found,
-        |reader: &mut Reader<'_>| -> Result<Option<TypeDefinition>, Stop>
-            ensures { Reads (read (inside_at room) (optional of_name type_definition) reader.entry.now) result reader.exit.now }
-        {
-            if !reader.sees_name() {
-                return Ok(None);
-            }
-            Ok(Some(type_definition(alloc, reader, room)?))
-        },
+        |reader: &mut Reader<'_>| -> Result<TypeDefinition, Stop>
+            ensures { Reads (read (inside_at room) type_definition reader.entry.now) result reader.exit.now }
+        { type_definition(alloc, reader, room) },
     )
 }
 
@@ -209,7 +198,6 @@ fn variable_declaration(
 }
 
 /// `ids ":" type ";" { ids ":" type ";" }`
-#[tactic(auto, unfolding(ep_grammar::specs::Declarations::variable_declarations))]
 fn variable_declarations(
     alloc: Global,
     reader: &mut Reader<'_>,
@@ -217,19 +205,12 @@ fn variable_declarations(
 ) -> Result<List<VariableDeclaration>, Stop>
     ensures { Reads (read (inside_at room) variable_declarations reader.old) result reader.new }
 {
-    let mut found = List::with_room(alloc, 1)?;
-    found.push(variable_declaration(alloc, reader, room)?)?;
-    many(
+    one_or_more(
+        alloc,
         reader,
-        found,
-        |reader: &mut Reader<'_>| -> Result<Option<VariableDeclaration>, Stop>
-            ensures { Reads (read (inside_at room) (optional of_name variable_declaration) reader.entry.now) result reader.exit.now }
-        {
-            if !reader.sees_name() {
-                return Ok(None);
-            }
-            Ok(Some(variable_declaration(alloc, reader, room)?))
-        },
+        |reader: &mut Reader<'_>| -> Result<VariableDeclaration, Stop>
+            ensures { Reads (read (inside_at room) variable_declaration reader.entry.now) result reader.exit.now }
+        { variable_declaration(alloc, reader, room) },
     )
 }
 

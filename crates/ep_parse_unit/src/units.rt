@@ -3,8 +3,13 @@
 ghost use Rattle.std.specs.Prelude.{◌≡◌, ◌≢◌, ◌++◌, [], ◌∷◌, IfErr, IfOk, OnOk, Err, Ok};
 ghost use Rattle.ep_grammar.specs.Declarations.{of_parts};
 ghost use Rattle.ep_grammar.specs.Descriptions.{optional};
-ghost use Rattle.ep_grammar.specs.Expressions.{name, of_name};
-ghost use Rattle.ep_grammar.specs.Units.{action, actions, begin_action, block, component, components, end_action, export_item, export_items, export_part, export_parts, exports, finalization, heading_part, heading_parts, heading_rest, heading_routine, implementation_rest, import_item, import_items, import_list, import_part, import_specification, import_specifications, imports, interface_rest, module_component, module_rest, parameters, plain_item, program, program_component, protected_item, renaming, some_actions, unit};
+ghost use Rattle.ep_grammar.specs.Units.{action, actions, begin_action, block, component, components, end_action};
+ghost use Rattle.ep_grammar.specs.Units.{export_item, export_items, export_part, export_parts, exports};
+ghost use Rattle.ep_grammar.specs.Units.{finalization, heading_part, heading_parts, heading_rest, heading_routine};
+ghost use Rattle.ep_grammar.specs.Units.{implementation_rest, import_item, import_items, import_list, import_part};
+ghost use Rattle.ep_grammar.specs.Units.{import_specification, import_specifications, imports, interface_rest};
+ghost use Rattle.ep_grammar.specs.Units.{module_component, module_rest, parameters, plain_item, program};
+ghost use Rattle.ep_grammar.specs.Units.{program_component, protected_item, renaming, some_actions, unit};
 ghost use Rattle.ep_grammar.specs.Reading.{Reads, applied, read};
 ghost use Rattle.ep_grammar.specs.Rules.{inside_at};
 ghost use Rattle.ep_grammar.specs.declared.stop.Stop.TheVariants.{NoMemory};
@@ -14,7 +19,7 @@ use ep_base::{Boxed, Line, List, Name, Names, NoMemory};
 use ep_grammar::Stop;
 use ep_parse_stmt::{boxed_statement, compound};
 use ep_parse_type::names_in_parentheses;
-use ep_reader::{Reader, level, many, separated};
+use ep_reader::{Reader, level, many, one_or_more, separated};
 use ep_token::{symbol, word};
 use ep_tree::{
     Block, Component, Export, ExportItem, Heading, HeadingPart, Implementation, Import, ImportItem,
@@ -130,7 +135,6 @@ fn import_specification(alloc: Global, reader: &mut Reader<'_>, room: u32) -> Re
 }
 
 /// `import ";" { import ";" }`
-#[tactic(auto, unfolding(ep_grammar::specs::Units::import_specifications))]
 fn import_specifications(
     alloc: Global,
     reader: &mut Reader<'_>,
@@ -138,19 +142,12 @@ fn import_specifications(
 ) -> Result<List<Import>, Stop>
     ensures { Reads (read (inside_at room) import_specifications reader.old) result reader.new }
 {
-    let mut found = List::with_room(alloc, 1)?;
-    found.push(import_specification(alloc, reader, room)?)?;
-    many(
+    one_or_more(
+        alloc,
         reader,
-        found,
-        |reader: &mut Reader<'_>| -> Result<Option<Import>, Stop>
-            ensures { Reads (read (inside_at room) (optional of_name import_specification) reader.entry.now) result reader.exit.now }
-        {
-            if !reader.sees_name() {
-                return Ok(None);
-            }
-            Ok(Some(import_specification(alloc, reader, room)?))
-        },
+        |reader: &mut Reader<'_>| -> Result<Import, Stop>
+            ensures { Reads (read (inside_at room) import_specification reader.entry.now) result reader.exit.now }
+        { import_specification(alloc, reader, room) },
     )
 }
 
@@ -235,23 +232,15 @@ fn export_part(alloc: Global, reader: &mut Reader<'_>, room: u32) -> Result<Expo
 }
 
 /// `export ";" { export ";" }`
-#[tactic(auto, unfolding(ep_grammar::specs::Units::export_parts))]
 fn export_parts(alloc: Global, reader: &mut Reader<'_>, room: u32) -> Result<List<Export>, Stop>
     ensures { Reads (read (inside_at room) export_parts reader.old) result reader.new }
 {
-    let mut found = List::with_room(alloc, 1)?;
-    found.push(export_part(alloc, reader, room)?)?;
-    many(
+    one_or_more(
+        alloc,
         reader,
-        found,
-        |reader: &mut Reader<'_>| -> Result<Option<Export>, Stop>
-            ensures { Reads (read (inside_at room) (optional of_name export_part) reader.entry.now) result reader.exit.now }
-        {
-            if !reader.sees_name() {
-                return Ok(None);
-            }
-            Ok(Some(export_part(alloc, reader, room)?))
-        },
+        |reader: &mut Reader<'_>| -> Result<Export, Stop>
+            ensures { Reads (read (inside_at room) export_part reader.entry.now) result reader.exit.now }
+        { export_part(alloc, reader, room) },
     )
 }
 
@@ -307,7 +296,8 @@ fn heading_parts(
         reader,
         none,
         |reader: &mut Reader<'_>| -> Result<Option<HeadingPart>, Stop>
-            ensures { Reads (read (inside_at room) (optional of_parts heading_part) reader.entry.now) result reader.exit.now }
+            ensures { Reads (read (inside_at room) (optional of_parts heading_part) reader.entry.now)
+                result reader.exit.now }
         {
             if !reader.begins_part() {
                 return Ok(None);
@@ -480,7 +470,8 @@ fn implementation_rest(
     line: Line,
     name: Name,
 ) -> Result<Component, Stop>
-    ensures { Reads (applied (λ r. r line name) (read (inside_at room) implementation_rest reader.old)) result reader.new }
+    ensures { Reads (applied (λ r. r line name) (read (inside_at room) implementation_rest reader.old))
+        result reader.new }
 {
     reader.implementation()?;
     reader.symbol(symbol::SEMICOLON)?;
@@ -572,7 +563,8 @@ pub fn all_components(
     room: u32,
 ) -> Result<Vec<Component>, Stop>
     ensures found { IfOk result (λ all. read (inside_at room) components reader.old ≡ Ok (all.items, reader.new)) }
-    ensures stopped { IfErr result (λ e. e ≢ NoMemory → read (inside_at room) components reader.old ≡ Err (e, reader.new)) }
+    ensures stopped { IfErr result
+        (λ e. e ≢ NoMemory → read (inside_at room) components reader.old ≡ Err (e, reader.new)) }
 {
     let mut found = Vec::new(alloc);
     add(&mut found, component(alloc, reader, room)?)?;

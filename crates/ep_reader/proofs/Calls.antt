@@ -8,7 +8,7 @@ use Rattle.ep_grammar.specs.declared.stop.Stop.{Stop}
 use Rattle.ep_grammar.specs.Classes.{Class, Symbol, exactly, same, has, class_of}
 use Rattle.ep_grammar.specs.Descriptions.{Step, More, Last}
 use Rattle.ep_grammar.specs.Reading.{Outcome, Parser, Reads, and_then, read_token, steps, turns}
-use Rattle.ep_reader.specs.Rows.{ReadsBy, optional_by, item_by, item_after_by, item_or_end_by, separated_by}
+use Rattle.ep_reader.specs.Rows.{ReadsBy, optional_by, item_by, item_after_by, item_or_end_by, row_by}
 use Rattle.ep_reader.proofs.public.Outcomes.{one_class}
 use Rattle.ep_reader.proofs.public.Turning.{Turning}
 
@@ -67,17 +67,19 @@ all_left last n h = omega arith
 pub row_begins : {A B : Type 0} {cs : List Class} {step : Parser (Step A B)} {r : B} {last : ℕ} {found : List A} (i : List Token) → last ≡ length i → Turning (turns cs step r (length i) found i) cs step r last 0 found i
 row_begins {A} {B} {cs} {step} {r} {last} {found} i l = record { is = ap (λ n. turns cs step r n found i) (all_left last (length i) l) }
 
-pub separated_begins : {A : Type 0} (n : ℕ) (p : Parser A) (i : List Token) {j : List Token} {x : A} {last : ℕ} {none found : List A} → p i ≡ Ok (x, j) → none ≡ [] → found ≡ none ++ x ∷ [] → last ≡ length j → Turning (separated_by n p i) (Symbol n ∷ []) (item_after_by n p) (tt {0}) last 0 found j
-separated_begins {A} n p i {j} {x} {last} {none} {found} h f g l =
+-- the row of which the first item was read
+pub first_found : {A : Type 0} (cs : List Class) (step : Parser (Step A (Unit {0}))) (p : Parser A) (i : List Token) {j : List Token} {x : A} {last : ℕ} {none found : List A} → p i ≡ Ok (x, j) → none ≡ [] → found ≡ none ++ x ∷ [] → last ≡ length j → Turning (row_by p cs step i) cs step (tt {0}) last 0 found j
+first_found {A} cs step p i {j} {x} {last} {none} {found} h f g l =
     let grown : x ∷ [] ≡ found = sym (g ∙ ap (λ w. w ++ x ∷ []) f) in
     record {
-      is = ap (λ (w : Outcome A). and_then (and_then (and_then w (λ x k. Ok (x ∷ [], k))) (λ found j. steps (Symbol n ∷ []) (item_after_by n p) (tt {0}) (length j) found j)) (λ w k. Ok (w.0, k))) h
-          ∙ ap (λ m. turns (Symbol n ∷ []) (item_after_by n p) (tt {0}) m (x ∷ []) j) (all_left last (length j) l)
-          ∙ ap (λ w. turns (Symbol n ∷ []) (item_after_by n p) (tt {0}) (last - 0) w j) grown;
+      is = ap (λ (w : Outcome A). and_then (and_then (and_then w (λ x k. Ok (x ∷ [], k))) (λ found j. steps cs step (tt {0}) (length j) found j)) (λ w k. Ok (w.0, k))) h
+          ∙ ap (λ m. turns cs step (tt {0}) m (x ∷ []) j) (all_left last (length j) l)
+          ∙ ap (λ w. turns cs step (tt {0}) (last - 0) w j) grown;
     }
 
-pub separated_refused : {A : Type 0} (n : ℕ) (p : Parser A) (i : List Token) {j : List Token} {e : Stop} → p i ≡ Err (e, j) → separated_by n p i ≡ Err (e, j)
-separated_refused n p i h = rw h refl
+-- the row of which the first item was refused
+pub first_refused : {A : Type 0} (cs : List Class) (step : Parser (Step A (Unit {0}))) (p : Parser A) (i : List Token) {j : List Token} {e : Stop} → p i ≡ Err (e, j) → row_by p cs step i ≡ Err (e, j)
+first_refused cs step p i h = rw h refl
 
 -- ---- what one step answers
 

@@ -1,5 +1,5 @@
 -- The lemmas that this crate offers to the parsers above it; the other files of proofs/ are its own.
--- Begun: a row whose first item was read, and whose other items `many` or `closed` reads.
+-- Begun: a row whose first item was read, and whose other items `closed` reads.
 -- Levels: what needs a level inside it, where one is left and where none is, and an error that is handed on.
 -- Onto: the items that a row adds to those before it.
 -- Outcomes: outcomes that follow one another, and what an outcome under a constructor says of the one below it.

@@ -53,13 +53,20 @@ item_or_end_by {A} cs p = λ i.
     and_then (if has cs (class_of j) then and_then (p j) (λ x k. Ok (More x, k)) else Ok (Last (tt {0}), j))
     (λ x k. Ok (f x, k)))
 
+-- an item, and then steps, each where the next token is of one of these classes
+abbrev pub row_by : {A : Type 0} → Parser A → List Class → Parser (Step A (Unit {0})) → Parser (List A)
+row_by p cs step = λ i.
+    and_then
+    (and_then (and_then (p i) (λ x k. Ok (x ∷ [], k))) (λ found j. steps cs step (tt {0}) (length j) found j))
+    (λ w k. Ok (w.0, k))
+
+-- `item { item }`
+abbrev pub some_by : {A : Type 0} → List Class → Parser A → Parser (List A)
+some_by cs p = row_by p cs (item_by p)
+
 -- `item { symbol item }`
 abbrev pub separated_by : {A : Type 0} → ℕ → Parser A → Parser (List A)
-separated_by n p = λ i.
-    and_then
-    (and_then (and_then (p i) (λ x k. Ok (x ∷ [], k)))
-    (λ found j. steps (Symbol n ∷ []) (item_after_by n p) (tt {0}) (length j) found j))
-    (λ w k. Ok (w.0, k))
+separated_by n p = row_by p (Symbol n ∷ []) (item_after_by n p)
 
 -- `{ item }`, after the items that were found
 abbrev pub many_by : {A : Type 0} → List Class → Parser A → List A → Parser (List A)

@@ -5,7 +5,7 @@ use Rattle.ep_token.specs.declared.token.Token.{Token}
 use Rattle.ep_grammar.specs.declared.stop.Stop.{Stop}
 use Rattle.ep_grammar.specs.declared.stop.Stop.TheVariants.{NoMemory}
 use Rattle.ep_grammar.specs.Classes.{Class, Symbol, exactly, same, has, class_of}
-use Rattle.ep_grammar.specs.Descriptions.{Step, More, Last, Syntax, give, either, apply, row, symbol, single, first_of_pair, some, many, separated, closed, item, item_after}
+use Rattle.ep_grammar.specs.Descriptions.{Step, More, Last, Syntax, give, either, apply, row, symbol, single}
 use Rattle.ep_grammar.specs.Reading.{Outcome, Parser, Inside, and_then, applied, steps, read, read_token}
 use Rattle.ep_reader.proofs.public.Outcomes.{chosen, one_class, passed}
 
@@ -118,36 +118,6 @@ module _ {A B : Type 0} (e : Option Inside) (cs : List Class) (s : Syntax A) (b 
   end_last : false ≡ has cs (class_of j) → read e (or_end cs s b) i ≡ Ok (Last b, j)
   end_last h = after_ok e symbols.SEMICOLON (λ x. x) (either cs (apply (give More) s) (give (Last b))) i a (passed (read e (apply (give More) s) j) (Ok (Last b, j)) (sym h))
 
--- ---- items one after the other
-
-pub some_begun : {A : Type 0} {e : Option Inside} {cs : List Class} {s : Syntax A} (i : List Token) {j : List Token} {x : A} {last : ℕ} {none found : List A} → read e s i ≡ Ok (x, j) → none ≡ [] → found ≡ none ++ x ∷ [] → last ≡ length j → Turns (read e (some cs s) i) first_of_pair e cs (item s) (tt {0}) last 0 found j
-some_begun {A} {e} {cs} {s} i h f g l = record { same = row_begun first_of_pair e cs s (item s) (tt {0}) i h f g l }
-
-pub many_begun : {A : Type 0} {e : Option Inside} {cs : List Class} {s : Syntax A} (i : List Token) {last : ℕ} {found : List A} → found ≡ [] → last ≡ length i → Turns (read e (many cs s) i) first_of_pair e cs (item s) (tt {0}) last 0 found i
-many_begun {A} {e} {cs} {s} i {last} {found} f l = record { same = begun first_of_pair cs (read e (item s)) (tt {0}) last [] found i l (sym f) }
-
-module _ {A C : Type 0} {o : Outcome C} {node : List A × Unit {0} → C} {e : Option Inside} {cs : List Class} {s : Syntax A} {last turn : ℕ} {found : List A} {i : List Token} (t : Turns o node e cs (item s) (tt {0}) last turn found i) where
-  pub item_more : {x : A} {j : List Token} {grown : List A} → turn < last → true ≡ has cs (class_of i) → read e s i ≡ Ok (x, j) → grown ≡ found ++ x ∷ [] → Turns o node e cs (item s) (tt {0}) last (turn + 1) grown j
-  item_more h c q g = turn_more t h (sym c) (meant_ok e More s i q) g
-
-  pub item_refused : {c : Stop} {j : List Token} → turn < last → true ≡ has cs (class_of i) → (c ≢ NoMemory → read e s i ≡ Err (c, j)) → c ≢ NoMemory → o ≡ Err (c, j)
-  item_refused h b q n = turn_refused t h (sym b) (meant_err e More s i (q n))
-
-  pub item_none : turn < last → false ≡ has cs (class_of i) → o ≡ Ok (node (found, tt {0}), i)
-  item_none h c = turn_none t h (sym c)
-
--- ---- items with a symbol between them
-
-pub separated_begun : {A : Type 0} {e : Option Inside} {n : ℕ} {s : Syntax A} (i : List Token) {j : List Token} {x : A} {last : ℕ} {none found : List A} → read e s i ≡ Ok (x, j) → none ≡ [] → found ≡ none ++ x ∷ [] → last ≡ length j → Turns (read e (separated n s) i) first_of_pair e (Symbol n ∷ []) (item_after n s) (tt {0}) last 0 found j
-separated_begun {A} {e} {n} {s} i h f g l = record { same = row_begun first_of_pair e (Symbol n ∷ []) s (item_after n s) (tt {0}) i h f g l }
-
-module _ {A C : Type 0} {o : Outcome C} {node : List A × Unit {0} → C} {e : Option Inside} {n : ℕ} {s : Syntax A} {last turn : ℕ} {found : List A} {i : List Token} (t : Turns o node e (Symbol n ∷ []) (item_after n s) (tt {0}) last turn found i) where
-  pub after_more : {u : Unit {0}} {x : A} {j k : List Token} {grown : List A} → turn < last → true ≡ same (class_of i) (Symbol n) → read_token (exactly (Symbol n)) i ≡ Ok (u, j) → read e s j ≡ Ok (x, k) → grown ≡ found ++ x ∷ [] → Turns o node e (Symbol n ∷ []) (item_after n s) (tt {0}) last (turn + 1) grown k
-  after_more h b a q g = turn_more t h (one_class (same (class_of i) (Symbol n)) true b) (after_ok e n More s i a q) g
-
-  pub after_refused : {u : Unit {0}} {c : Stop} {j k : List Token} → turn < last → true ≡ same (class_of i) (Symbol n) → read_token (exactly (Symbol n)) i ≡ Ok (u, j) → (c ≢ NoMemory → read e s j ≡ Err (c, k)) → c ≢ NoMemory → o ≡ Err (c, k)
-  after_refused h b a q m = turn_refused t h (one_class (same (class_of i) (Symbol n)) true b) (after_err e n More s i a (q m))
-
 -- no symbol follows
 pub after_none : {A B C : Type 0} {o : Outcome C} {node : List A × B → C} {e : Option Inside} {n : ℕ} {s : Syntax (Step A B)} {r : B} {last turn : ℕ} {found : List A} {i : List Token} → Turns o node e (Symbol n ∷ []) s r last turn found i → turn < last → false ≡ same (class_of i) (Symbol n) → o ≡ Ok (node (found, r), i)
 after_none {A} {B} {C} {o} {node} {e} {n} {s} {r} {last} {turn} {found} {i} t h b = turn_none t h (one_class (same (class_of i) (Symbol n)) false b)
@@ -158,9 +128,6 @@ after_none {A} {B} {C} {o} {node} {e} {n} {s} {r} {last} {turn} {found} {i} t h 
 pub ended_begun : {A B : Type 0} {e : Option Inside} {cs : List Class} (s : Syntax A) {step : Syntax (Step A B)} {r : B} (i : List Token) {j : List Token} {x : A} {last : ℕ} {none found : List A} → read e s i ≡ Ok (x, j) → none ≡ [] → found ≡ none ++ x ∷ [] → last ≡ length j → Turns (read e (row (apply (give single) s) cs step r) i) (λ p. p) e cs step r last 0 found j
 ended_begun {A} {B} {e} {cs} s {step} {r} i h f g l =
     record { same = same_outcome (read e (row (apply (give single) s) cs step r) i) ∙ row_begun (λ p. p) e cs s step r i h f g l }
-
-pub closed_begun : {A : Type 0} {e : Option Inside} {cs : List Class} {s : Syntax A} (i : List Token) {j : List Token} {x : A} {last : ℕ} {none found : List A} → read e s i ≡ Ok (x, j) → none ≡ [] → found ≡ none ++ x ∷ [] → last ≡ length j → Turns (read e (closed cs s) i) first_of_pair e (Symbol symbols.SEMICOLON ∷ []) (or_end cs s (tt {0})) (tt {0}) last 0 found j
-closed_begun {A} {e} {cs} {s} i h f g l = record { same = row_begun first_of_pair e (Symbol symbols.SEMICOLON ∷ []) s (or_end cs s (tt {0})) (tt {0}) i h f g l }
 
 module _ {A B C : Type 0} {o : Outcome C} {node : List A × B → C} {e : Option Inside} {cs : List Class} {s : Syntax A} {b r : B} {last turn : ℕ} {found : List A} {i : List Token} (t : Turns o node e (Symbol symbols.SEMICOLON ∷ []) (or_end cs s b) r last turn found i) where
   pub end_more : {u : Unit {0}} {x : A} {j k : List Token} {grown : List A} → turn < last → true ≡ same (class_of i) (Symbol symbols.SEMICOLON) → read_token (exactly (Symbol symbols.SEMICOLON)) i ≡ Ok (u, j) → true ≡ has cs (class_of j) → read e s j ≡ Ok (x, k) → grown ≡ found ++ x ∷ [] → Turns o node e (Symbol symbols.SEMICOLON ∷ []) (or_end cs s b) r last (turn + 1) grown k

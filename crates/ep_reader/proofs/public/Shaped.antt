@@ -1,7 +1,6 @@
 -- Nodes with a line, made of what was read by its shape.
-use Rattle.std.proofs.Common.{◌≡◌, ℕ, Bool, true, false, if◌then◌else◌, List, Option, Some, None, Ok, Err, refl, sym, ap, ◌∙◌}
+use Rattle.std.proofs.Common.{◌≡◌, ℕ, Bool, true, false, if◌then◌else◌, List, Option, Some, Ok, Err, refl, sym, ap, ◌∙◌}
 use Rattle.ep_token.specs.declared.token.Token.{Token}
-use Rattle.ep_grammar.specs.declared.stop.Stop.TheVariants.{Syntax as NotSyntax}
 use Rattle.ep_grammar.specs.Classes.{Class, has, class_of, line_of}
 use Rattle.ep_grammar.specs.Descriptions.{Syntax}
 use Rattle.ep_grammar.specs.Reading.{Outcome, Parser, Inside, and_then, applied, by_shape, refused, read}
@@ -11,10 +10,6 @@ use Rattle.ep_reader.proofs.public.Outcomes.{chosen, one_class, passed}
 twice : {C Z : Type 0} (o : Outcome (C → ℕ → Z)) (c : C) (at : ℕ) → applied (λ (h : ℕ → Z). h at) (and_then o (λ h k. Ok (h c, k))) ≡ applied (λ r. r c at) o
 twice (Ok p) c at = refl
 twice (Err p) c at = refl
-
-same_either : {X : Type 0} (b : Bool) (o : Outcome X) → (if b then o else o) ≡ o
-same_either true o = refl
-same_either false o = refl
 
 -- a class among these, which are one
 pub one_of : (b v : Bool) → v ≡ b → v ≡ (if b then true else false)
@@ -48,15 +43,3 @@ module _ {A C D Z : Type 0} (e : Option Inside) (s : Syntax A) (f : A → Option
   unfolding second_at
   shaped_second {d} b q =
       went ∙ ap (applied (λ (r : ℕ → Z). r at)) (passed (first_at (f y)) second_at (sym b) ∙ ap (λ w. by_shape w (read e u) refused j) q) ∙ twice (read e u j) d at
-
-  -- by the second, where there is no first
-  pub shaped_other : {d : D} → f y ≡ None → g y ≡ Some d → by_shapes e s f cs t g u i ≡ applied (λ r. r d at) (read e u j)
-  unfolding first_at second_at
-  shaped_other {d} p q =
-      went ∙ ap (applied (λ (r : ℕ → Z). r at)) (ap (λ w. if has cs (class_of j) then first_at w else second_at) p ∙ same_either (has cs (class_of j)) second_at ∙ ap (λ w. by_shape w (read e u) refused j) q) ∙ twice (read e u j) d at
-
-  -- by neither
-  pub shaped_neither : false ≡ has cs (class_of j) → g y ≡ None → by_shapes e s f cs t g u i ≡ Err (NotSyntax, j)
-  unfolding second_at
-  shaped_neither b q =
-      went ∙ ap (applied (λ (r : ℕ → Z). r at)) (passed (first_at (f y)) second_at (sym b) ∙ ap (λ w. by_shape w (read e u) refused j) q)

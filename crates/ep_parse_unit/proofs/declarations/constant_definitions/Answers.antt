@@ -1,13 +1,9 @@
 use Rattle.std.proofs.Common.{of_calls}
 use Rattle.ep_grammar.specs.Declarations.{constant_definition, constant_definitions}
-use Rattle.ep_grammar.specs.Expressions.{of_name}
 use Rattle.ep_grammar.specs.Reading.{read}
 use Rattle.ep_grammar.specs.Rules.{inside_at}
-use Rattle.ep_reader.proofs.public.Begun.{some_behind}
 use Rattle.ep_parse_unit.proofs.declarations.constant_definitions.Goals as goal
 
 pub returns : goal.returns
 unfolding constant_definitions
-returns c =
-    some_behind (inside_at c.args.room) of_name constant_definition c.args.reader.now c.in_ok-constant_definition.ensures c.in_ok-found.ensures c.in_ok-push.ensures.ok c.many.result c.many.new.reader
-    (c.many.ensures of_name (read (inside_at c.args.room) constant_definition) (λ i j r called. search of_calls))
+returns c = c.one_or_more.ensures (read (inside_at c.args.room) constant_definition) (λ i j r called. search of_calls)

@@ -1,13 +1,19 @@
-use Rattle.ep_reader.proofs.Calls.{after_err, after_ok, at_symbol, called_reads, separated_begins, separated_refused}
+use Rattle.std.proofs.Common.{[], ◌∷◌}
+use Rattle.ep_grammar.specs.Classes.{Symbol}
+use Rattle.ep_reader.specs.Rows.{item_after_by}
+use Rattle.ep_reader.proofs.Calls.{after_err, after_ok, at_symbol, called_reads, first_found, first_refused}
 use Rattle.ep_reader.proofs.public.Levels.{handed}
 use Rattle.ep_reader.proofs.public.Turning.{row_ends, row_goes_on, row_is_over, row_refused}
 use Rattle.ep_reader.proofs.rows.separated.Goals as goal
 
 pub returns-in_err-first : goal.returns-in_err-first
-returns-in_err-first g c p h = handed _ _ _ c.in_err-first.field-0.0 c.from_residual-in_err-first.ensures.1 (λ n. separated_refused _ p _ (called_reads h c.in_err-first.ensures n))
+returns-in_err-first g c p h =
+    handed _ _ _ c.in_err-first.field-0.0 c.from_residual-in_err-first.ensures.1 (λ n.
+    first_refused (Symbol c.args.symbol ∷ []) (item_after_by c.args.symbol p) p _ (called_reads h c.in_err-first.ensures n))
 
 pub loop-turn-init : goal.loop-turn-init
-loop-turn-init g c p h = (separated_begins _ p _ (called_reads h c.in_ok-first.ensures) c.in_ok-found.ensures c.in_ok-push.ensures.ok c.left-turn-end.ensures)
+loop-turn-init g c p h =
+    first_found (Symbol c.args.symbol ∷ []) (item_after_by c.args.symbol p) p _ (called_reads h c.in_ok-first.ensures) c.in_ok-found.ensures c.in_ok-push.ensures.ok c.left-turn-end.ensures
 
 pub returns-then-not-sees_symbol : goal.returns-then-not-sees_symbol
 returns-then-not-sees_symbol g c p h = row_ends (c.loop-turn.invariant p h) (at_symbol c.args.symbol c.loop-turn.reader c.if-not-sees_symbol.ensures)
