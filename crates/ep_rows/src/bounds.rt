@@ -7,7 +7,7 @@ ghost use Rattle.ep_values.specs.Bounds.{component_at, count_of};
 use ep_object::limit;
 
 /// How many numbers are within the bounds.
-#[tactic(auto, using(crate::proofs::IndexTypes::count_within, crate::proofs::IndexTypes::count_without))]
+#[tactic(auto, using(ep_values::proofs::public::Bounds::count_within, ep_values::proofs::public::Bounds::count_without))]
 pub(crate) fn count(low: i64, high: i64) -> u128
     ensures count { result ≡ count_of low high }
     ensures small { result ≤ 2 ^ 64 }
