@@ -4,7 +4,7 @@ use Rattle.std.proofs.lemmas.Option.{same_Some}
 use Rattle.ep_gen_code.specs.Credit.{least_credit}
 use Rattle.ep_gen_expr.proofs.public.Answering.{IsFollowed, IsPlaceFollowed}
 use Rattle.ep_simulation.proofs.public.following.Fragments.{fragment_to, fragment_give, inside_bind, fragment_bind_place}
-use Rattle.ep_simulation.proofs.public.matching.Growing.{unit_in-same, is_spot-grown, describes-grown, inside_here}
+use Rattle.ep_simulation.proofs.public.matching.MoreMemory.{unit_in-same, is_spot-grown, describes-grown, inside_here}
 use Rattle.ep_simulation.specs.Follows.{Facts, Fragment, Inside, OnTop, Operands, point}
 use Rattle.ep_simulation.proofs.public.matching.Awaiting.{value-grown, value_on_top}
 use Rattle.ep_meaning.proofs.public.ValueKinds.{kinds_are_one}

@@ -15,7 +15,7 @@ use Rattle.ep_object.specs.declared.state.Place.{Place as PlaceOf}
 use Rattle.ep_simulation.proofs.public.following.Bind.{follows_give, follows_paid}
 use Rattle.ep_simulation.proofs.public.following.Choices.{ReadsResult, follows_read, fragment_using}
 use Rattle.ep_simulation.proofs.public.following.Fragments.{FailsWith, fragment_from, fragment_give, fragment_less, fragment_to, inside_bind, landed}
-use Rattle.ep_simulation.proofs.public.matching.Growing.{inside_here, not_left-here, unit_in-same}
+use Rattle.ep_simulation.proofs.public.matching.MoreMemory.{inside_here, not_left-here, unit_in-same}
 use Rattle.ep_simulation.proofs.public.rows.FieldRow.{IsAmong, among_there, field_does, field_fails}
 use Rattle.ep_simulation.proofs.public.rows.PlaceRows.{load_fails, load_reads}
 use Rattle.ep_meaning.proofs.public.Steady.{steady_reached}

@@ -35,7 +35,7 @@ use Rattle.ep_simulation.proofs.public.following.Ranging.{range_follows, range_t
 use Rattle.ep_simulation.proofs.public.following.Spreading.{spread_follows, spread_ticks}
 use Rattle.ep_simulation.proofs.public.following.Swapping.{swap_ticks}
 use Rattle.ep_simulation.proofs.public.matching.Awaiting.{on_top, value-grown, value_on_top, value_weight}
-use Rattle.ep_simulation.proofs.public.matching.Growing.{describes-grown, grown_refl, inside_here, inside_later, is_spot-grown, not_left-here, not_left-later, same_routine-refl, still_routine, unit_in-same}
+use Rattle.ep_simulation.proofs.public.matching.MoreMemory.{describes-grown, grown_refl, inside_here, inside_later, is_spot-grown, not_left-here, not_left-later, same_routine-refl, still_routine, unit_in-same}
 use Rattle.ep_simulation.proofs.public.matching.Indexes.{integer_between, range_inside}
 use Rattle.ep_simulation.proofs.public.rows.IndexRow.{index_fails, index_reads, number_is}
 use Rattle.ep_simulation.proofs.public.rows.NamelessRows.{matches_depth}

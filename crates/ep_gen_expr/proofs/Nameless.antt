@@ -17,7 +17,7 @@ use Rattle.ep_simulation.proofs.public.following.Choices.{fragment_using}
 use Rattle.ep_simulation.proofs.public.following.Fragments.{Does, FailsWith, fragment_less, landed}
 use Rattle.ep_simulation.proofs.public.following.Swapping.{swap_follows, swap_ticks}
 use Rattle.ep_simulation.proofs.public.matching.Awaiting.{value-grown, value_weight}
-use Rattle.ep_simulation.proofs.public.matching.Growing.{grown_refl, not_left-here, same_routine-refl}
+use Rattle.ep_simulation.proofs.public.matching.MoreMemory.{grown_refl, not_left-here, same_routine-refl}
 use Rattle.ep_simulation.proofs.public.matching.Standing.{Stands, place_stands}
 use Rattle.ep_simulation.proofs.public.rows.NamelessRows.{NamelessOnTop, dispose_does, matches_depth, new_does}
 use Rattle.ep_simulation.proofs.public.rows.PlaceRows.{load_fails, structure_loads}

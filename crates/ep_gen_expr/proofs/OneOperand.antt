@@ -9,7 +9,7 @@ use Rattle.ep_object.specs.Runs.{unit_in}
 use Rattle.ep_object.specs.declared.code.Image.{Image}
 use Rattle.ep_object.specs.declared.code.Reference.{Reference}
 use Rattle.ep_simulation.proofs.public.following.Fragments.{fragment_less, fragment_to, fragment_one, fragment_give}
-use Rattle.ep_simulation.proofs.public.matching.Growing.{inside_here}
+use Rattle.ep_simulation.proofs.public.matching.MoreMemory.{inside_here}
 use Rattle.ep_simulation.proofs.public.rows.Rows.{RowAnswers, push_pushes, neg_answers, abs_answers, sqr_answers, odd_answers, not_answers, check_answers}
 use Rattle.ep_simulation.proofs.public.rows.TextRows.{drop_drops, dup_pushes}
 use Rattle.ep_meaning.specs.Calls.{Handler}

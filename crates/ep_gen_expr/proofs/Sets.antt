@@ -15,7 +15,7 @@ use Rattle.ep_object.proofs.public.SetWords.{few_members, members_set, none_set}
 use Rattle.ep_simulation.proofs.public.following.Choices.{Reads, fragment_fetched}
 use Rattle.ep_simulation.proofs.public.following.Fragments.{fragment_bind_number, fragment_credit, fragment_from, fragment_give, fragment_less, fragment_one, fragment_to, inside_bind}
 use Rattle.ep_simulation.proofs.public.matching.Awaiting.{on_top, value-grown, value_on_top}
-use Rattle.ep_simulation.proofs.public.matching.Growing.{inside_here, unit_in-same}
+use Rattle.ep_simulation.proofs.public.matching.MoreMemory.{inside_here, unit_in-same}
 use Rattle.ep_simulation.proofs.public.rows.Rows.{RowPushes}
 use Rattle.ep_simulation.proofs.public.rows.SetRows.{MembersOnTop, add_reads, card_pushes, difference_pushes, in_pushes, intersection_pushes, none_pushes, other_pushes, same_pushes, span_reads, subset_pushes, superset_pushes, symmetric_difference_pushes, union_pushes}
 use Rattle.ep_meaning.specs.Calls.{Handler}

@@ -12,7 +12,7 @@ use Rattle.ep_object.specs.declared.code.Image.{Image}
 use Rattle.ep_object.specs.declared.code.Instr.{Instr}
 use Rattle.ep_object.specs.declared.code.Reference.{Reference}
 use Rattle.ep_simulation.proofs.public.following.Fragments.{fragment_less, fragment_to, fragment_from, fragment_one, fragment_waits, fragment_move, fragment_give, fragment_credit, fragment_bind_number}
-use Rattle.ep_simulation.proofs.public.matching.Growing.{inside_here}
+use Rattle.ep_simulation.proofs.public.matching.MoreMemory.{inside_here}
 use Rattle.ep_simulation.proofs.public.rows.Rows.{jump_false_jumps, not_answers}
 use Rattle.ep_simulation.proofs.public.rows.TextRows.{drop_drops, dup_pushes}
 use Rattle.ep_meaning.specs.Calls.{Handler}

@@ -12,7 +12,7 @@ use Rattle.ep_object.specs.declared.code.Reference.{Reference}
 use Rattle.ep_simulation.proofs.public.following.Choices.{ReadsResult, follows_read, fragment_known}
 use Rattle.ep_simulation.proofs.public.following.Fragments.{FailsWith, fragment_bind_number, fragment_credit, fragment_less, fragment_to, inside_bind}
 use Rattle.ep_simulation.proofs.public.matching.Awaiting.{value-grown}
-use Rattle.ep_simulation.proofs.public.matching.Growing.{unit_in-same}
+use Rattle.ep_simulation.proofs.public.matching.MoreMemory.{unit_in-same}
 use Rattle.ep_simulation.proofs.public.rows.PartRows.{field_part, index_part, index_part_fails}
 use Rattle.ep_values.specs.Bounds.{component_at}
 use Rattle.ep_meaning.specs.Calls.{Handler}

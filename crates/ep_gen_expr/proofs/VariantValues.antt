@@ -16,7 +16,7 @@ use Rattle.ep_simulation.proofs.public.following.Bind.{follows_credit, follows_f
 use Rattle.ep_simulation.proofs.public.following.Choices.{ReadsResult, Nothing, Result_of, follows_read}
 use Rattle.ep_simulation.proofs.public.following.Fragments.{fragment_bind_number, fragment_credit, fragment_from, fragment_less, fragment_paid, fragment_to, inside_bind}
 use Rattle.ep_simulation.proofs.public.matching.Awaiting.{value-grown}
-use Rattle.ep_simulation.proofs.public.matching.Growing.{not_left-here, unit_in-same}
+use Rattle.ep_simulation.proofs.public.matching.MoreMemory.{not_left-here, unit_in-same}
 use Rattle.ep_simulation.proofs.public.rows.PartRows.{defined_part, field_part}
 use Rattle.ep_simulation.proofs.public.rows.Rows.{fail_fails, jump_false_jumps}
 use Rattle.ep_simulation.proofs.public.rows.TextRows.{dup_value}

@@ -25,7 +25,7 @@ use Rattle.ep_object.specs.declared.code.Reference.{Reference}
 use Rattle.ep_object.specs.declared.op.TheConstants as op
 use Rattle.ep_simulation.proofs.public.following.Fragments.{inside_bind, fragment_credit, fragment_post, fragment_to}
 use Rattle.ep_simulation.proofs.public.matching.Awaiting.{value_weight}
-use Rattle.ep_simulation.proofs.public.matching.Growing.{described-longer, unit_in-same}
+use Rattle.ep_simulation.proofs.public.matching.MoreMemory.{described-longer, unit_in-same}
 use Rattle.ep_simulation.proofs.public.rows.InitialRow.{IsTried, init_follows, set_begins, value_begins, word_begins}
 use Rattle.ep_meaning.specs.Steady.{IsSteadyHandler}
 use Rattle.ep_meaning.specs.Calls.{Handler}

@@ -12,7 +12,7 @@ use Rattle.ep_object.specs.declared.code.Instr.{Instr}
 use Rattle.ep_object.specs.declared.code.Reference.{Reference}
 use Rattle.ep_simulation.proofs.public.following.Choices.{fragment_branch, fragment_turns, fragment_turns_until}
 use Rattle.ep_simulation.proofs.public.following.Fragments.{fragment_give, fragment_to, fragment_from, fragment_less, fragment_credit, fragment_one, fragment_move, fragment_bind_number, fragment_bind_bare}
-use Rattle.ep_simulation.proofs.public.matching.Growing.{unit_in-same, grown_refl, same_routine-refl, inside_here}
+use Rattle.ep_simulation.proofs.public.matching.MoreMemory.{unit_in-same, grown_refl, same_routine-refl, inside_here}
 use Rattle.ep_simulation.proofs.public.rows.Rows.{jump_jumps, jump_false_jumps}
 use Rattle.ep_meaning.specs.Steady.{IsSteadyHandler}
 use Rattle.ep_meaning.specs.Calls.{Handler}

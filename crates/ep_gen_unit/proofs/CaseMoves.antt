@@ -10,7 +10,7 @@ use Rattle.ep_object.specs.declared.code.Image.{Image}
 use Rattle.ep_object.specs.declared.code.Instr.{Instr}
 use Rattle.ep_object.specs.declared.code.Reference.{Reference}
 use Rattle.ep_simulation.proofs.public.following.Fragments.{fragment_give, fragment_stop, fragment_from, fragment_less, fragment_one, fragment_waits, fragment_move, fragment_bind_number, fragment_bind_bare}
-use Rattle.ep_simulation.proofs.public.matching.Growing.{unit_in-same, inside_here}
+use Rattle.ep_simulation.proofs.public.matching.MoreMemory.{unit_in-same, inside_here}
 use Rattle.ep_simulation.proofs.public.rows.Rows.{jump_jumps, fail_fails}
 use Rattle.ep_simulation.proofs.public.rows.TextRows.{drop_drops}
 use Rattle.ep_meaning.specs.Calls.{Handler}

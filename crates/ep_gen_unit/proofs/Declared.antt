@@ -4,7 +4,7 @@ use Rattle.std.proofs.lemmas.Option.{get_or_from_slice_get, slice_get_within}
 use Rattle.std.proofs.lemmas.Slice.Eq.{bytes_eq-Decides}
 use Rattle.std.specs.Prelude.{All, if◌then◌else◌}
 use Rattle.ep_gen_unit.specs.UnitLaws.{AreDeclared}
-use Rattle.ep_simulation.proofs.public.matching.Growing.{slice_get-prefix}
+use Rattle.ep_simulation.proofs.public.matching.MoreMemory.{slice_get-prefix}
 use Rattle.ep_simulation.specs.Scene.{HaveValidTypes}
 use Rattle.ep_meaning.proofs.public.Auxiliaries.{block_valid, withs_denoted}
 use Rattle.ep_typed.specs.Auxiliaries.{block_auxiliaries, with_variables}

@@ -27,7 +27,7 @@ use Rattle.ep_values.specs.Events.{Trace}
 use Rattle.ep_simulation.proofs.public.following.Bind.{follows_paid, follows_changed}
 use Rattle.ep_simulation.proofs.public.following.Choices.{fragment_branch, fragment_branch_one, fragment_using}
 use Rattle.ep_simulation.proofs.public.following.Fragments.{Does, FailsWith, landed, fragment_cut, fragment_give, fragment_to, fragment_from, fragment_less, fragment_credit, fragment_waits, fragment_move, fragment_bind_number, fragment_bind_bare, fragment_bind_place}
-use Rattle.ep_simulation.proofs.public.matching.Growing.{unit_in-same, inside_here, not_left-here}
+use Rattle.ep_simulation.proofs.public.matching.MoreMemory.{unit_in-same, inside_here, not_left-here}
 use Rattle.ep_simulation.proofs.public.rows.ChangeRows.{undefine_does, undefine_fails_ended}
 use Rattle.ep_simulation.proofs.public.rows.Rows.{jump_jumps, jump_false_jumps, unequal_answers}
 use Rattle.ep_simulation.proofs.public.rows.TextRows.{drop_drops, dup_pushes}

@@ -21,7 +21,7 @@ use Rattle.ep_object.specs.declared.code.Image.{Image}
 use Rattle.ep_object.specs.declared.code.ImageUnit.{ImageUnit}
 use Rattle.ep_object.specs.declared.code.Reference.{Reference}
 use Rattle.ep_simulation.proofs.public.following.Fragments.{inside_bind, fragment_bind_bare, fragment_credit, fragment_give, fragment_to}
-use Rattle.ep_simulation.proofs.public.matching.Growing.{inside_here, no_calls, unit_in-same}
+use Rattle.ep_simulation.proofs.public.matching.MoreMemory.{inside_here, no_calls, unit_in-same}
 use Rattle.ep_simulation.specs.Starts.{AreStarts}
 use Rattle.ep_simulation.proofs.public.rows.MakeRow.{RunsInUnit, make_does}
 use Rattle.ep_simulation.specs.Scene.{HaveValidTypes}

@@ -23,7 +23,7 @@ use Rattle.ep_object.specs.declared.op.TheConstants as op
 use Rattle.ep_simulation.proofs.public.following.Choices.{fragment_turns}
 use Rattle.ep_simulation.proofs.public.following.Fragments.{fragment_bind_bare, fragment_bind_place, fragment_credit, fragment_from, fragment_to, fragment_waits, inside_bind}
 use Rattle.ep_simulation.proofs.public.matching.Awaiting.{value_on_top}
-use Rattle.ep_simulation.proofs.public.matching.Growing.{describes-grown, grown_refl, is_spot-grown, same_routine-refl, unit_in-same}
+use Rattle.ep_simulation.proofs.public.matching.MoreMemory.{describes-grown, grown_refl, is_spot-grown, same_routine-refl, unit_in-same}
 use Rattle.ep_simulation.proofs.public.rows.ChangeRows.{may_take, ordinal_takes, set_takes}
 use Rattle.ep_simulation.proofs.public.rows.Rows.{jump_jumps, jump_false_jumps, push_pushes}
 use Rattle.ep_simulation.proofs.public.rows.SetRows.{least_pushes}

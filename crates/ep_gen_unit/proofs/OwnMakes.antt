@@ -27,7 +27,7 @@ use Rattle.ep_simulation.specs.Scene.{HaveValidOwnTypes}
 use Rattle.ep_object.specs.declared.code.Image.{Image}
 use Rattle.ep_object.specs.declared.code.Reference.{Reference}
 use Rattle.ep_simulation.proofs.public.following.Fragments.{fragment_bind, fragment_credit, fragment_weaken, fragment_post, fragment_give, fragment_from, fragment_to, fragment_less}
-use Rattle.ep_simulation.proofs.public.matching.Growing.{same_routine-refl, still_routine, still_runs-trans, unit_in-still}
+use Rattle.ep_simulation.proofs.public.matching.MoreMemory.{same_routine-refl, still_routine, still_runs-trans, unit_in-still}
 use Rattle.ep_simulation.specs.Starts.{AreStarts}
 use Rattle.ep_simulation.proofs.public.matching.Awaiting.{arguments_in, AreAwaited, awaited-grown, awaited-taken, value-grown, without_argument}
 use Rattle.ep_simulation.proofs.public.rows.ArgumentRows.{Taken, taken-later, same_arguments, value_taken, variable_taken}

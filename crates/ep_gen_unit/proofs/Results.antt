@@ -8,7 +8,7 @@ use Rattle.ep_simulation.proofs.public.following.Bind.{follows_credit, follows_g
 use Rattle.ep_simulation.proofs.public.following.Choices.{Reads, ReadsResult, Nothing, Result_of, fragment_fetched, fragment_using}
 use Rattle.ep_simulation.proofs.public.following.Fragments.{FailsWith, fragment_bind, fragment_from, fragment_waits}
 use Rattle.ep_simulation.proofs.public.matching.Awaiting.{value_on_top}
-use Rattle.ep_simulation.proofs.public.matching.Growing.{not_left-here, still_routine, unit_in-same}
+use Rattle.ep_simulation.proofs.public.matching.MoreMemory.{not_left-here, still_routine, unit_in-same}
 use Rattle.ep_simulation.proofs.public.rows.ChangeRows.{variable_type}
 use Rattle.ep_simulation.proofs.public.rows.OwnRows.{own_reads}
 use Rattle.ep_simulation.proofs.public.rows.TextRows.{dup_place}

@@ -27,7 +27,7 @@ use Rattle.ep_simulation.proofs.public.following.Fragments.{fragment_bind, fragm
 use Rattle.ep_simulation.proofs.public.following.Promising.{lasts_own}
 use Rattle.ep_simulation.proofs.public.following.Routines.{begun_memory, grown_begun, parent_of_call, routine_keeps}
 use Rattle.ep_simulation.proofs.public.matching.Awaiting.{AreAwaited, Handed, arguments_in, awaited-grown, handed}
-use Rattle.ep_simulation.proofs.public.matching.Growing.{among_same, slice_get-prefix, still_routine, unit_in-same, unit_in-still}
+use Rattle.ep_simulation.proofs.public.matching.MoreMemory.{among_same, slice_get-prefix, still_routine, unit_in-same, unit_in-still}
 use Rattle.ep_simulation.proofs.public.matching.Names.{activation_knows}
 use Rattle.ep_simulation.proofs.public.matching.OwnVariables.{in_activation-lasts}
 use Rattle.ep_simulation.specs.Activations.{KnowsNames, IsCallable, InActivation}

@@ -22,7 +22,7 @@ use Rattle.ep_simulation.proofs.public.rows.ChangeRows.{MayTake, value_does, val
 use Rattle.ep_simulation.proofs.public.following.Choices.{follows_checked-weighed, fragment_using}
 use Rattle.ep_simulation.proofs.public.following.Fragments.{FailsWith, fragment_give, fragment_stop, fragment_to, fragment_less, fragment_credit, fragment_bind_place, inside_bind}
 use Rattle.ep_simulation.proofs.public.matching.Awaiting.{value_on_top}
-use Rattle.ep_simulation.proofs.public.matching.Growing.{unit_in-same, is_spot-grown, describes-grown, inside_here}
+use Rattle.ep_simulation.proofs.public.matching.MoreMemory.{unit_in-same, is_spot-grown, describes-grown, inside_here}
 use Rattle.ep_simulation.proofs.public.rows.Rows.{outcome_at}
 use Rattle.ep_meaning.specs.Steady.{IsSteadyHandler}
 use Rattle.ep_meaning.specs.Calls.{Handler}

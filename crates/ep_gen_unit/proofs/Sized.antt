@@ -7,7 +7,7 @@ use Rattle.ep_object.specs.declared.code.Image.{Image}
 use Rattle.ep_simulation.proofs.public.following.Bind.{follows_credit, follows_waits, follows_give, follows_counted, follows_gives_up}
 use Rattle.ep_simulation.proofs.public.following.Fragments.{Does, fragment_less, landed}
 use Rattle.ep_simulation.proofs.public.following.Losing.{fragment_counted}
-use Rattle.ep_simulation.proofs.public.matching.Growing.{not_left-here}
+use Rattle.ep_simulation.proofs.public.matching.MoreMemory.{not_left-here}
 use Rattle.ep_meaning.proofs.public.Steady.{steady_change}
 use Rattle.ep_meaning.specs.Steady.{Grows}
 use Rattle.ep_meaning.specs.Steps.{bind, spend, change}

@@ -17,7 +17,7 @@ use Rattle.ep_object.specs.State.{Frames}
 use Rattle.ep_object.specs.declared.code.Image.{Image}
 use Rattle.ep_object.specs.declared.code.Object.{Object}
 use Rattle.ep_simulation.proofs.public.following.Fragments.{fragment_bind_bare}
-use Rattle.ep_simulation.proofs.public.matching.Growing.{unit_in-same}
+use Rattle.ep_simulation.proofs.public.matching.MoreMemory.{unit_in-same}
 use Rattle.ep_typed.specs.Routines.{made_by_unit}
 use Rattle.ep_meaning.specs.Steady.{IsSteadyHandler}
 use Rattle.ep_meaning.specs.Calls.{Handler}

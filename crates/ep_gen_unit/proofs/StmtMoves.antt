@@ -26,7 +26,7 @@ use Rattle.ep_object.specs.declared.code.Image.{Image}
 use Rattle.ep_object.specs.declared.code.Instr.{Instr}
 use Rattle.ep_object.specs.declared.code.Reference.{Reference}
 use Rattle.ep_simulation.proofs.public.following.Fragments.{fragment_to, fragment_bind_bare}
-use Rattle.ep_simulation.proofs.public.matching.Growing.{unit_in-same}
+use Rattle.ep_simulation.proofs.public.matching.MoreMemory.{unit_in-same}
 use Rattle.ep_meaning.specs.Steady.{IsSteadyHandler}
 use Rattle.ep_meaning.specs.Calls.{Handler}
 use Rattle.ep_meaning.proofs.public.Steady.{steady_exec_all}

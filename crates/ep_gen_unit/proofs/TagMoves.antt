@@ -32,7 +32,7 @@ use Rattle.ep_object.specs.declared.state.Place.{Place as PlaceOf}
 use Rattle.ep_simulation.proofs.public.following.Bind.{follows_changed, follows_credit, follows_from, follows_give, follows_paid, follows_waits}
 use Rattle.ep_simulation.proofs.public.following.Choices.{fragment_branch, fragment_using, going_of}
 use Rattle.ep_simulation.proofs.public.following.Fragments.{Does, FailsWith, landed, fragment_bind_bare, fragment_bind_number, fragment_bind_place, fragment_credit, fragment_from, fragment_give, fragment_less, fragment_stop, fragment_to, fragment_waits, inside_bind}
-use Rattle.ep_simulation.proofs.public.matching.Growing.{describes-grown, inside_here, is_spot-grown, not_left-here, unit_in-same}
+use Rattle.ep_simulation.proofs.public.matching.MoreMemory.{describes-grown, inside_here, is_spot-grown, not_left-here, unit_in-same}
 use Rattle.ep_simulation.proofs.public.rows.ChangeRows.{ordinal_takes, undefine_does_any, variable_type}
 use Rattle.ep_simulation.proofs.public.rows.FieldRow.{IsAmong, LeadsTo, among_there, field_does, field_fails, field_leads_to}
 use Rattle.ep_simulation.proofs.public.rows.PlaceRows.{defined_fails, defined_tells, load_leads}

@@ -12,7 +12,7 @@ use Rattle.ep_gen_unit.proofs.Referred.{arrays_referred, own_count, swap_referre
 use Rattle.ep_gen_unit.proofs.Units.{moved_own, of_object, routine_there}
 use Rattle.ep_simulation.proofs.public.following.Fragments.{fragment_credit, fragment_cut, fragment_from, fragment_post}
 use Rattle.ep_simulation.proofs.public.following.Routines.{begun_memory, type_keeps}
-use Rattle.ep_simulation.proofs.public.matching.Growing.{among_same}
+use Rattle.ep_simulation.proofs.public.matching.MoreMemory.{among_same}
 use Rattle.ep_simulation.proofs.public.matching.OwnVariables.{in_activation-lasts}
 use Rattle.ep_simulation.specs.Activations.{InActivation}
 use Rattle.ep_simulation.specs.Follows.{Facts, Fragment, Inside, Since, TypeOnTop, point}

@@ -17,7 +17,7 @@ use Rattle.ep_simulation.proofs.public.following.Bind.{follows_less, follows_pos
 use Rattle.ep_simulation.proofs.public.following.Fragments.{fragment_to, fragment_credit}
 use Rattle.ep_simulation.proofs.public.rows.MakeRow.{RunsInUnit}
 use Rattle.ep_simulation.proofs.public.matching.Names.{none_named}
-use Rattle.ep_simulation.proofs.public.matching.Growing.{among_same, inside_here, no_calls, since_here, since_lasts}
+use Rattle.ep_simulation.proofs.public.matching.MoreMemory.{among_same, inside_here, no_calls, since_here, since_lasts}
 use Rattle.ep_object.specs.Effects.{Returns, light}
 use Rattle.ep_object.specs.Table.{obey}
 use Rattle.ep_typed.specs.Routines.{made_by_unit, unit_variables}

@@ -21,7 +21,7 @@ use Rattle.ep_object.specs.declared.code.Reference.{Reference}
 use Rattle.ep_object.specs.declared.op.TheConstants as op
 use Rattle.ep_object.specs.declared.state.Place.{Place as PlaceOf}
 use Rattle.ep_simulation.proofs.public.following.Fragments.{fragment_bind_bare, fragment_bind_place, fragment_credit, fragment_effect, fragment_less, fragment_to}
-use Rattle.ep_simulation.proofs.public.matching.Growing.{unit_in-same}
+use Rattle.ep_simulation.proofs.public.matching.MoreMemory.{unit_in-same}
 use Rattle.ep_simulation.proofs.public.rows.BindRow.{own_binds, unit_binds}
 use Rattle.ep_simulation.proofs.public.rows.MakeRow.{RunsInUnit}
 use Rattle.ep_meaning.proofs.public.Steady.{steady_bind, steady_exec, steady_names}

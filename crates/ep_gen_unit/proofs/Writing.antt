@@ -19,7 +19,7 @@ use Rattle.ep_object.specs.declared.code.Reference.{Reference}
 use Rattle.ep_simulation.proofs.public.rows.ChangeRows.{put_does}
 use Rattle.ep_simulation.proofs.public.rows.Pieces.{piece_form}
 use Rattle.ep_simulation.proofs.public.following.Fragments.{fragment_to, fragment_from, fragment_less, fragment_credit, fragment_waits, fragment_effect, fragment_stop, fragment_move, fragment_give, fragment_bind_bare, fragment_bind_number, fragment_bind_text}
-use Rattle.ep_simulation.proofs.public.matching.Growing.{unit_in-same, inside_here}
+use Rattle.ep_simulation.proofs.public.matching.MoreMemory.{unit_in-same, inside_here}
 use Rattle.ep_simulation.proofs.public.rows.PlaceRows.{output_pushes}
 use Rattle.ep_simulation.proofs.public.rows.Rows.{RowPushes, push_pushes}
 use Rattle.ep_simulation.proofs.public.rows.TextRows.{RowFails, chars_pushes, form_integer, form_boolean, form_wide_integer, form_wide_boolean, form_wide_text, form_negative_integer, form_negative_boolean, form_negative_text}

@@ -11,7 +11,7 @@ use Rattle.ep_object.specs.declared.op.TheConstants as op
 use Rattle.ep_object.proofs.public.SetWords.{AreOrdinals, all_members, few_members, set_ordinals, with_members}
 use Rattle.ep_simulation.proofs.public.following.Bind.{Met}
 use Rattle.ep_simulation.proofs.public.following.Fragments.{fragment_from, fragment_give, fragment_less, fragment_moves, fragment_one, fragment_to}
-use Rattle.ep_simulation.proofs.public.matching.Growing.{inside_here}
+use Rattle.ep_simulation.proofs.public.matching.MoreMemory.{inside_here}
 use Rattle.ep_simulation.proofs.public.rows.Rows.{push_pushes}
 use Rattle.ep_simulation.proofs.public.rows.SetRows.{add_pushes, none_pushes}
 use Rattle.ep_meaning.specs.Calls.{Handler}

@@ -9,7 +9,7 @@ use Rattle.ep_object.specs.declared.code.Image.{Image}
 use Rattle.ep_object.specs.declared.code.Instr.{Instr}
 use Rattle.ep_simulation.proofs.public.following.Choices.{going_of, fragment_answer}
 use Rattle.ep_simulation.proofs.public.following.Fragments.{fragment_less}
-use Rattle.ep_simulation.proofs.public.matching.Growing.{inside_here}
+use Rattle.ep_simulation.proofs.public.matching.MoreMemory.{inside_here}
 use Rattle.ep_simulation.proofs.public.rows.Rows.{RowAnswers}
 use Rattle.ep_meaning.specs.Calls.{Handler}
 use Rattle.ep_gen_code.specs.Credit.{least_credit}

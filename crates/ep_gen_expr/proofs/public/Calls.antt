@@ -10,7 +10,7 @@ use Rattle.ep_simulation.proofs.public.following.Fragments.{fragment_to, fragmen
 use Rattle.ep_simulation.proofs.public.following.Promising.{call_follows}
 use Rattle.ep_simulation.proofs.public.matching.Awaiting.{on_top}
 use Rattle.ep_meaning.proofs.public.ValueKinds.{kinds_are_one}
-use Rattle.ep_simulation.proofs.public.matching.Growing.{grown_trans, inside_here, same_routine-trans, unit_in-same}
+use Rattle.ep_simulation.proofs.public.matching.MoreMemory.{grown_trans, inside_here, same_routine-trans, unit_in-same}
 use Rattle.ep_simulation.proofs.public.matching.Names.{callable}
 use Rattle.ep_simulation.proofs.public.rows.Rows.{jump_jumps}
 use Rattle.ep_simulation.specs.Activations.{KnowsNames}

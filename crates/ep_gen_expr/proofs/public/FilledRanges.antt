@@ -30,7 +30,7 @@ use Rattle.ep_simulation.proofs.public.following.Promising.{grown_fewer, same_ro
 use Rattle.ep_simulation.proofs.public.matching.Assigned.{ended_keeps, value_got}
 use Rattle.ep_simulation.proofs.public.matching.Awaiting.{value-grown, value_on_top}
 use Rattle.ep_simulation.proofs.public.matching.BareValues.{suits_bare}
-use Rattle.ep_simulation.proofs.public.matching.Growing.{describes-grown, inside_here, inside_later, is_spot-grown, not_left-here, not_left-later, still_routine, unit_in-same}
+use Rattle.ep_simulation.proofs.public.matching.MoreMemory.{describes-grown, inside_here, inside_later, is_spot-grown, not_left-here, not_left-later, still_routine, unit_in-same}
 use Rattle.ep_simulation.proofs.public.matching.Indexes.{component_far, integer_between, range_inside}
 use Rattle.ep_simulation.proofs.public.matching.Standing.{int_le-trans, place_stands}
 use Rattle.ep_simulation.proofs.public.rows.ChangeRows.{may_take, value_does, value_ended, value_fails, variable_type}

@@ -17,7 +17,7 @@ use Rattle.ep_object.specs.declared.code.Reference.{Reference}
 use Rattle.ep_object.specs.declared.state.Place.{Place as PlaceOf}
 use Rattle.ep_simulation.proofs.public.following.Choices.{Reads, fragment_fetch, follows_fetch, fragment_using}
 use Rattle.ep_simulation.proofs.public.following.Fragments.{FailsWith, fragment_less, fragment_post, fragment_to, fragment_paid, fragment_give, fragment_credit, fragment_bind_place, fragment_bind_number}
-use Rattle.ep_simulation.proofs.public.matching.Growing.{unit_in-same, inside_here, is_spot-grown, describes-grown}
+use Rattle.ep_simulation.proofs.public.matching.MoreMemory.{unit_in-same, inside_here, is_spot-grown, describes-grown}
 use Rattle.ep_simulation.proofs.public.rows.IndexRow.{index_fails, index_reads}
 use Rattle.ep_simulation.proofs.public.rows.OwnRows.{own_reads, level_reads}
 use Rattle.ep_simulation.proofs.public.rows.PlaceRows.{unit_reads}

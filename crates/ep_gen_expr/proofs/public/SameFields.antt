@@ -24,7 +24,7 @@ use Rattle.ep_simulation.proofs.public.following.Bind.{follows_counted}
 use Rattle.ep_simulation.proofs.public.following.Fragments.{fragment_credit, fragment_from, fragment_to, fragment_waits, inside_bind}
 use Rattle.ep_simulation.proofs.public.following.Swapping.{swap_follows, swap_ticks}
 use Rattle.ep_simulation.proofs.public.matching.Awaiting.{value_on_top}
-use Rattle.ep_simulation.proofs.public.matching.Growing.{describes-grown, grown_refl, is_spot-grown, same_routine-refl, unit_in-same}
+use Rattle.ep_simulation.proofs.public.matching.MoreMemory.{describes-grown, grown_refl, is_spot-grown, same_routine-refl, unit_in-same}
 use Rattle.ep_simulation.proofs.public.rows.ChangeRows.{may_take}
 use Rattle.ep_simulation.proofs.public.rows.NamelessRows.{matches_depth}
 use Rattle.ep_simulation.proofs.public.rows.Rows.{outcome_at}

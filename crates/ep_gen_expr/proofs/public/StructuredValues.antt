@@ -21,7 +21,7 @@ use Rattle.ep_object.specs.declared.state.Place.{Place as PlaceOf}
 use Rattle.ep_simulation.proofs.public.following.Choices.{Reads, follows_checked-spent, follows_fetched, fragment_using}
 use Rattle.ep_simulation.proofs.public.following.Fragments.{FailsWith, fragment_bind_number, fragment_credit, fragment_from, fragment_give, fragment_less, fragment_to, fragment_waits, inside_bind}
 use Rattle.ep_simulation.proofs.public.matching.Awaiting.{value_on_top}
-use Rattle.ep_simulation.proofs.public.matching.Growing.{describes-grown, inside_here, is_spot-grown, unit_in-same}
+use Rattle.ep_simulation.proofs.public.matching.MoreMemory.{describes-grown, inside_here, is_spot-grown, unit_in-same}
 use Rattle.ep_simulation.proofs.public.rows.ChangeRows.{MayTake, may_take, value_does, value_ended, value_fails}
 use Rattle.ep_simulation.proofs.public.rows.IndexRow.{index_fails, index_reads}
 use Rattle.ep_simulation.proofs.public.rows.Rows.{outcome_at}

@@ -15,7 +15,7 @@ use Rattle.ep_object.specs.declared.state.Place.{Place as PlaceOf}
 use Rattle.ep_simulation.proofs.public.following.Bind.{Met, follows_credit, follows_from, follows_waits, follows_stop, follows_paid, follows_give}
 use Rattle.ep_simulation.proofs.public.following.Choices.{fragment_using}
 use Rattle.ep_simulation.proofs.public.following.Fragments.{FailsWith, landed, fragment_less, fragment_to, fragment_credit}
-use Rattle.ep_simulation.proofs.public.matching.Growing.{not_left-here}
+use Rattle.ep_simulation.proofs.public.matching.MoreMemory.{not_left-here}
 use Rattle.ep_simulation.proofs.public.rows.FieldRow.{IsAmong, LeadsTo, among_there, field_does, field_fails, field_leads_to}
 use Rattle.ep_simulation.proofs.public.rows.PlaceRows.{defined_tells, load_leads}
 use Rattle.ep_simulation.proofs.public.rows.Rows.{fail_fails, jump_false_jumps}

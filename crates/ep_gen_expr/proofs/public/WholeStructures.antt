@@ -26,7 +26,7 @@ use Rattle.ep_object.specs.declared.op.TheConstants as op
 use Rattle.ep_object.specs.declared.state.Place.{Place as PlaceOf}
 use Rattle.ep_simulation.proofs.public.following.Fragments.{fragment_credit, fragment_from, fragment_to, fragment_waits, inside_bind}
 use Rattle.ep_simulation.proofs.public.following.Promising.{type_follows}
-use Rattle.ep_simulation.proofs.public.matching.Growing.{describes-grown, is_spot-grown, unit_in-same}
+use Rattle.ep_simulation.proofs.public.matching.MoreMemory.{describes-grown, is_spot-grown, unit_in-same}
 use Rattle.ep_simulation.proofs.public.rows.NamelessRows.{NamelessOnTop, deref_pushes}
 use Rattle.ep_simulation.proofs.public.rows.Rows.{outcome_at}
 use Rattle.ep_meaning.proofs.public.Bares.{bare_size, bare_twice, value_bare}

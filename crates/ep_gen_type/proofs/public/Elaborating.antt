@@ -19,7 +19,7 @@ use Rattle.ep_object.specs.declared.code.Reference.{Reference}
 use Rattle.ep_simulation.proofs.public.following.Fragments.{inside_bind, fragment_from, fragment_give, fragment_to, fragment_less, fragment_waits, fragment_credit}
 use Rattle.ep_simulation.proofs.public.following.Losing.{fragment_counted}
 use Rattle.ep_simulation.proofs.public.following.Promising.{type_follows}
-use Rattle.ep_simulation.proofs.public.matching.Growing.{described-longer, inside_here, unit_in-same}
+use Rattle.ep_simulation.proofs.public.matching.MoreMemory.{described-longer, inside_here, unit_in-same}
 use Rattle.ep_simulation.specs.Starts.{AreStarts, AreStartsOfEach}
 use Rattle.ep_simulation.proofs.public.rows.NewTypes.{AreDescribed, stacked, ord_does, arr_does, rec_does, set_does}
 use Rattle.ep_simulation.proofs.public.rows.Rows.{push_pushes}

@@ -8,7 +8,7 @@ use Rattle.ep_gen_unit.proofs.Units.{start_is, unit_simulates, routine_there as 
 use Rattle.ep_simulation.proofs.public.Alone.{placements_alone, stands-alone, distinct-alone}
 use Rattle.ep_simulation.proofs.public.matching.Beginning.{first_memory, first_injection, first_matches}
 use Rattle.ep_simulation.proofs.public.following.Bind.{follows_bind, follows_stop}
-use Rattle.ep_simulation.proofs.public.matching.Growing.{not_left-same}
+use Rattle.ep_simulation.proofs.public.matching.MoreMemory.{not_left-same}
 use Rattle.ep_simulation.proofs.public.following.Simulating.{simulation_follows, leaves_enters}
 use Rattle.ep_simulation.proofs.public.Tells.{Never, tells, tells_at_end, tells_close}
 use Rattle.ep_simulation.specs.Follows.{Follows, Bare, SameRoutine, IsNotLeft}

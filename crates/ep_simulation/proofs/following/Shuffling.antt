@@ -16,7 +16,7 @@ use Rattle.ep_object.specs.declared.state.Place.{Place as PlaceOf}
 use Rattle.ep_object.proofs.public.Grows.{is_prefix}
 use Rattle.ep_simulation.proofs.public.following.Bind.{follows_gives_up, follows_waits, gives_up}
 use Rattle.ep_simulation.proofs.public.following.Routines.{lost_calls, not_left-called}
-use Rattle.ep_simulation.proofs.public.matching.Growing.{not_left-here}
+use Rattle.ep_simulation.proofs.public.matching.MoreMemory.{not_left-here}
 use Rattle.ep_outside.specs.Known.{IsPrefix}
 use Rattle.ep_values.specs.Events.{Trace}
 use Rattle.ep_meaning.specs.Nameless.{with_depth}

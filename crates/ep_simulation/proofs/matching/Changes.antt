@@ -7,7 +7,7 @@ use Rattle.ep_object.specs.declared.code.ImageUnit.{ImageUnit}
 use Rattle.ep_object.specs.declared.state.Place.{Place}
 use Rattle.ep_object.specs.declared.state.Segment.{Segment}
 use Rattle.ep_object.proofs.public.Elements.{length-set, slice_get-set-same, slice_get-set-other}
-use Rattle.ep_simulation.proofs.public.matching.Growing.{is_spot-grown, describes-grown}
+use Rattle.ep_simulation.proofs.public.matching.MoreMemory.{is_spot-grown, describes-grown}
 use Rattle.ep_simulation.proofs.public.matching.Standing.{represented-same, living_represented}
 use Rattle.ep_object.proofs.public.Grows.{is_prefix}
 use Rattle.ep_simulation.proofs.matching.HiddenWords.{hidden_words-set, hidden_words-grown}

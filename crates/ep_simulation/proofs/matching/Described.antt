@@ -8,7 +8,7 @@ use Rattle.ep_object.specs.declared.state.Kind.{Kind}
 use Rattle.ep_object.specs.declared.state.Kind.TheVariants as kind
 use Rattle.ep_object.specs.declared.state.RecordPart.{RecordPart}
 use Rattle.ep_object.specs.declared.state.TypeEntry.{TypeEntry}
-use Rattle.ep_simulation.proofs.public.matching.Growing.{bare-longer, each_bare-longer}
+use Rattle.ep_simulation.proofs.public.matching.MoreMemory.{bare-longer, each_bare-longer}
 use Rattle.ep_outside.specs.Known.{IsPrefix}
 use Rattle.ep_values.specs.Bounds.{count_of}
 use Rattle.ep_values.specs.TypeValues as type

@@ -11,7 +11,7 @@ use Rattle.ep_object.specs.declared.state.Segment.{Segment}
 use Rattle.ep_object.proofs.public.Grows.{is_prefix}
 use Rattle.ep_simulation.proofs.matching.Changes.{is_in-same, matches_units-grown, same_or_not}
 use Rattle.ep_object.proofs.public.Elements.{length-set, slice_get-set-same, slice_get-set-other}
-use Rattle.ep_simulation.proofs.public.matching.Growing.{grown_refl, grown_trans}
+use Rattle.ep_simulation.proofs.public.matching.MoreMemory.{grown_refl, grown_trans}
 use Rattle.ep_simulation.proofs.matching.HiddenWords.{hidden_words-ended}
 use Rattle.ep_simulation.proofs.public.matching.Standing.{allocated, represented-same}
 use Rattle.ep_meaning.specs.Steps.{Allocation, allocation_at, with_ended, living_words, type_in, type_at, ended_in, has_ended, with_all_ended}

@@ -5,7 +5,7 @@ use Rattle.std.specs.Prelude.{if◌then◌else◌}
 use Rattle.std.specs.List.{list_any}
 use Rattle.std.proofs.lemmas.Bool.Decides.{nat_tests}
 use Rattle.ep_simulation.specs.Matching.{Memory, Mapped, Injection, is_at, IsIn, IsHidden, Slots, Grown, hidden_from, hidden_words}
-use Rattle.ep_simulation.proofs.public.matching.Growing.{before_or_not, is_in-longer}
+use Rattle.ep_simulation.proofs.public.matching.MoreMemory.{before_or_not, is_in-longer}
 use Rattle.ep_object.specs.State.{Segments}
 use Rattle.ep_values.specs.TypeValues.{TypeValue}
 use Rattle.ep_object.specs.declared.state.Segment.{Segment}

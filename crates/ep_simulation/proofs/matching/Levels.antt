@@ -14,7 +14,7 @@ use Rattle.ep_object.specs.declared.state.FrameNumber.TheVariants as number
 use Rattle.ep_object.specs.declared.state.Place.{Place}
 use Rattle.ep_simulation.proofs.matching.Changes.{slot-grown}
 use Rattle.ep_object.proofs.public.Elements.{slice_get-pushed}
-use Rattle.ep_simulation.proofs.public.matching.Growing.{slice_get-prefix, describes-grown}
+use Rattle.ep_simulation.proofs.public.matching.MoreMemory.{slice_get-prefix, describes-grown}
 use Rattle.ep_meaning.specs.Steps.{Call, Variables, named_in, around_by}
 use Rattle.ep_meaning.specs.Steps as meaning
 use Rattle.ep_meaning.specs.Valid.{Declarations, Level}

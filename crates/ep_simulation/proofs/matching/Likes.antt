@@ -11,7 +11,7 @@ use Rattle.ep_object.specs.declared.state.Kind.TheVariants as kind
 use Rattle.ep_object.specs.declared.state.RecordPart.{RecordPart}
 use Rattle.ep_object.specs.declared.state.TypeEntry.{TypeEntry}
 use Rattle.ep_simulation.proofs.matching.Described.{bare_form, bare_one, one_bare_number}
-use Rattle.ep_simulation.proofs.public.matching.Growing.{entry_as}
+use Rattle.ep_simulation.proofs.public.matching.MoreMemory.{entry_as}
 use Rattle.ep_meaning.proofs.public.Bares.{bare_size, bare_twice}
 use Rattle.ep_values.specs.TypeValues as type
 use Rattle.ep_values.specs.TypeValues.{ComponentTypes, Start, TypeValue, bare_each, bare_of, is_started, size_of}

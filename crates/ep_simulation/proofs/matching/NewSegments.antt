@@ -7,7 +7,7 @@ use Rattle.ep_simulation.specs.Starts.{AreStarts, start_words, words_kept}
 use Rattle.ep_object.specs.State.{TypeTable, size_begun}
 use Rattle.ep_object.specs.declared.state.Kind.{Kind}
 use Rattle.ep_object.specs.declared.state.Segment.{Segment}
-use Rattle.ep_simulation.proofs.public.matching.Growing.{entry_as}
+use Rattle.ep_simulation.proofs.public.matching.MoreMemory.{entry_as}
 use Rattle.ep_simulation.proofs.matching.Starting.{begun_words, starts_hold, starts_length}
 use Rattle.ep_values.specs.Values.{start_of}
 use Rattle.ep_values.specs.TypeValues.{TypeValue, is_started, size_of}

@@ -16,7 +16,7 @@ use Rattle.ep_object.specs.declared.state.Place.{Place}
 use Rattle.ep_object.specs.declared.state.Segment.{Segment}
 use Rattle.ep_simulation.proofs.matching.Changes.{matches_frame-grown, of_type-same}
 use Rattle.ep_object.proofs.public.Elements.{slice_get-push, slice_get-pushed, mapped-push, slice_get-set-same, slice_get-set-other, length-set}
-use Rattle.ep_simulation.proofs.public.matching.Growing.{slice_get-prefix, is_in-longer, is_of-longer}
+use Rattle.ep_simulation.proofs.public.matching.MoreMemory.{slice_get-prefix, is_in-longer, is_of-longer}
 use Rattle.ep_object.proofs.public.Grows.{is_prefix}
 use Rattle.ep_simulation.proofs.matching.HiddenWords.{hidden_words-pushed}
 use Rattle.ep_simulation.proofs.matching.NewSegments.{fresh_holds, new_segment}

@@ -2,8 +2,8 @@ pub mod Assigned
 pub mod Awaiting
 pub mod BareValues
 pub mod Beginning
-pub mod Growing
 pub mod Indexes
+pub mod MoreMemory
 pub mod Names
 pub mod OwnVariables
 pub mod Standing

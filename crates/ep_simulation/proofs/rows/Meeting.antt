@@ -15,7 +15,7 @@ use Rattle.ep_object.proofs.public.Grows.{is_prefix, prefix_then}
 use Rattle.ep_simulation.proofs.matching.Counts.{met-held, met-typed, met_lost, met_new, met_types-le}
 use Rattle.ep_simulation.proofs.matching.Described.{IsEntryOf, entry_bare, entry_sized, entry-longer, has_size-longer}
 use Rattle.ep_object.proofs.public.Elements.{slice_get-pushed}
-use Rattle.ep_simulation.proofs.public.matching.Growing.{bare-longer, entry_as, kind-longer, slice_get-prefix}
+use Rattle.ep_simulation.proofs.public.matching.MoreMemory.{bare-longer, entry_as, kind-longer, slice_get-prefix}
 use Rattle.ep_simulation.proofs.matching.TypeTables.{bare_not_known, bare_words, entry_found, kind_words, not_first, not_known, type_words, types-added, types-known}
 use Rattle.ep_outside.specs.Known.{IsPrefix}
 use Rattle.ep_meaning.specs.Steps.{Resources, held, met, words_of_type}

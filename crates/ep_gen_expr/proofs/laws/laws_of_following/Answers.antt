@@ -1,6 +1,6 @@
 use Rattle.std.proofs.Common.{arith}
 use Rattle.ep_simulation.proofs.public.following.Fragments.{fragment_credit}
-use Rattle.ep_simulation.proofs.public.matching.Growing.{since_lasts}
+use Rattle.ep_simulation.proofs.public.matching.MoreMemory.{since_lasts}
 use Rattle.ep_simulation.proofs.public.matching.Names.{since_knows-names}
 use Rattle.ep_gen_expr.proofs.public.Following.{place_follows, expression_follows}
 use Rattle.ep_gen_expr.proofs.laws.laws_of_following.Goals as goal

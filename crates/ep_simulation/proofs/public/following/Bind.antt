@@ -4,7 +4,7 @@ use Rattle.ep_simulation.specs.Follows.{end_of, Pays, StaysWithin, Meets, GivesU
 use Rattle.ep_object.specs.Runs.{outcome, tick_of, tick, run, run_from}
 use Rattle.ep_object.specs.State.{State, Going, Running, Stopped, Error}
 use Rattle.ep_object.specs.declared.code.Image.{Image}
-use Rattle.ep_simulation.proofs.public.matching.Growing.{before_or_not}
+use Rattle.ep_simulation.proofs.public.matching.MoreMemory.{before_or_not}
 use Rattle.ep_object.proofs.public.Grows.{prefix_then}
 use Rattle.ep_object.proofs.public.Views.{run_more, run_waits, run_acts}
 use Rattle.ep_simulation.proofs.following.Weights.{pays_join, pays_weaken, pays_waits}

@@ -9,7 +9,7 @@ use Rattle.ep_object.specs.State.{State, Going, Running, Stopped, Error}
 use Rattle.ep_object.specs.declared.code.Image.{Image}
 use Rattle.ep_simulation.proofs.public.following.Bind.{Met, follows_credit, follows_waits, follows_paid, follows_stop, follows_give, follows_changed}
 use Rattle.ep_simulation.proofs.public.following.Fragments.{Does, FailsWith, landed, fragment_bind_number, fragment_bind_bare, fragment_credit, fragment_less, fragment_waits, fragment_one, fragment_move, fragment_give, fragment_cut, fragment_stop}
-use Rattle.ep_simulation.proofs.public.matching.Growing.{grown_trans, not_left-here, same_routine-trans, inside_here}
+use Rattle.ep_simulation.proofs.public.matching.MoreMemory.{grown_trans, not_left-here, same_routine-trans, inside_here}
 use Rattle.ep_meaning.proofs.public.Steady.{steady_if, steady_bind, steady_spend, steady_give, steady_turns, steady_turns_until}
 use Rattle.ep_meaning.specs.Calls.{Handler}
 use Rattle.ep_values.specs.Events.{Trace}

@@ -25,7 +25,7 @@ use Rattle.ep_simulation.proofs.public.following.Routines.{leaves, left_memory, 
 use Rattle.ep_simulation.proofs.public.following.Swapping.{swap_follows, swap_ticks}
 use Rattle.ep_simulation.proofs.public.matching.Assigned.{ended_keeps, value_keeps}
 use Rattle.ep_simulation.proofs.public.matching.BareValues.{result_by, structure_given, suits_bare}
-use Rattle.ep_simulation.proofs.public.matching.Growing.{describes-grown, grown_refl, grown_trans, is_spot-grown, not_left-here, same_call-refl}
+use Rattle.ep_simulation.proofs.public.matching.MoreMemory.{describes-grown, grown_refl, grown_trans, is_spot-grown, not_left-here, same_call-refl}
 use Rattle.ep_simulation.proofs.public.matching.Indexes.{component_far, gap_less, gap_nearer, gap_next, gap_same, integer_next}
 use Rattle.ep_simulation.proofs.public.rows.ChangeRows.{may_take, value_does, variable_type}
 use Rattle.ep_simulation.proofs.rows.FrameRows.{own_slots, slot_pushes}

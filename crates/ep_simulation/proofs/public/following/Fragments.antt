@@ -8,7 +8,7 @@ use Rattle.ep_object.specs.State.{State, Running, Stopped, Error}
 use Rattle.ep_object.specs.declared.code.Image.{Image}
 use Rattle.ep_object.specs.declared.state.Place.{Place as PlaceOf}
 use Rattle.ep_simulation.proofs.public.following.Bind.{follows_bind, follows_less, follows_weaken, follows_wider, follows_credit, follows_from, follows_waits, follows_paid, follows_moves, follows_give, follows_changed, follows_cut, follows_stop}
-use Rattle.ep_simulation.proofs.public.matching.Growing.{inside_later, not_left-here, not_left-later, still_routine}
+use Rattle.ep_simulation.proofs.public.matching.MoreMemory.{inside_later, not_left-here, not_left-later, still_routine}
 use Rattle.ep_values.specs.Printing.{Result}
 use Rattle.ep_values.specs.Printing as result
 use Rattle.ep_meaning.specs.Steady.{Steady}

@@ -5,7 +5,7 @@ use Rattle.ep_simulation.specs.Matching.{Matches}
 use Rattle.ep_object.specs.declared.code.Image.{Image}
 use Rattle.ep_simulation.proofs.public.following.Bind.{follows_paid, follows_give, follows_counted, follows_gives_up}
 use Rattle.ep_simulation.proofs.public.following.Fragments.{Does, landed}
-use Rattle.ep_simulation.proofs.public.matching.Growing.{not_left-here}
+use Rattle.ep_simulation.proofs.public.matching.MoreMemory.{not_left-here}
 use Rattle.ep_meaning.proofs.public.Steady.{steady_bind, steady_give, steady_spend, steady_change}
 use Rattle.ep_meaning.specs.Steady.{Grows}
 use Rattle.ep_meaning.specs.Steps.{give, bind, spend, change}

@@ -12,7 +12,7 @@ use Rattle.ep_object.specs.State.{State, Frames, Running, Stopped}
 use Rattle.ep_object.specs.declared.code.Image.{Image}
 use Rattle.ep_simulation.proofs.public.following.Bind.{Met, follows_post, one_state}
 use Rattle.ep_simulation.proofs.public.following.Fragments.{fragment_post}
-use Rattle.ep_simulation.proofs.public.matching.Growing.{before_or_not, not_left-same, since_here, since_holds}
+use Rattle.ep_simulation.proofs.public.matching.MoreMemory.{before_or_not, not_left-same, since_here, since_holds}
 use Rattle.ep_object.proofs.public.Grows.{is_prefix}
 use Rattle.ep_simulation.proofs.public.following.Simulating.{stays_in}
 use Rattle.ep_simulation.proofs.public.Tells.{events_between, ends_after}

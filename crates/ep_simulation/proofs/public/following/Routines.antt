@@ -29,7 +29,7 @@ use Rattle.ep_simulation.proofs.public.matching.Awaiting.{value_anywhere}
 use Rattle.ep_simulation.proofs.matching.Changes.{matches_entered, matches_left}
 use Rattle.ep_object.proofs.public.Elements.{slice_get-drop}
 use Rattle.ep_simulation.proofs.matching.Endings.{without, ends_both}
-use Rattle.ep_simulation.proofs.public.matching.Growing.{grown_refl, grown_trans, not_left-here, not_left-still, same_call-refl, same_routine-refl, same_routine-trans, still_routine}
+use Rattle.ep_simulation.proofs.public.matching.MoreMemory.{grown_refl, grown_trans, not_left-here, not_left-still, same_call-refl, same_routine-refl, same_routine-trans, still_routine}
 use Rattle.ep_simulation.proofs.matching.Levels.{parent_there, level_called}
 use Rattle.ep_simulation.proofs.public.matching.Standing.{slice_get-some}
 use Rattle.ep_object.proofs.public.Grows.{is_prefix}

@@ -17,7 +17,7 @@ use Rattle.ep_object.specs.State.{State, Frames, Going, Running, Stopped}
 use Rattle.ep_object.specs.declared.code.Image.{Image}
 use Rattle.ep_object.specs.declared.code.ImageRoutine.{ImageRoutine}
 use Rattle.ep_simulation.proofs.public.following.Bind.{one_state, stays_wider, stays_here, stays_join, Met, gives_up_weaken, follows_moves, run_instruction}
-use Rattle.ep_simulation.proofs.public.matching.Growing.{before_or_not, no_calls, not_left-here, not_left-same}
+use Rattle.ep_simulation.proofs.public.matching.MoreMemory.{before_or_not, no_calls, not_left-here, not_left-same}
 use Rattle.ep_object.proofs.public.Grows.{is_prefix, prefix_then, run_grows}
 use Rattle.ep_simulation.proofs.public.Tells.{running_before, events_between, ends_after}
 use Rattle.ep_object.proofs.public.Views.{runs_extend}

@@ -9,7 +9,7 @@ use Rattle.ep_object.specs.Operands.{Operand, Set, Text, Word, weight, weights}
 use Rattle.ep_simulation.specs.Promises.{Passing, ByValue, ByReference, IsArgument, AreArguments, IsValueOf}
 use Rattle.ep_object.specs.State.{Frame}
 use Rattle.ep_object.proofs.public.Elements.{length-set, slice_get-set-other}
-use Rattle.ep_simulation.proofs.public.matching.Growing.{bare-longer, describes-grown, is_spot-grown}
+use Rattle.ep_simulation.proofs.public.matching.MoreMemory.{bare-longer, describes-grown, is_spot-grown}
 use Rattle.ep_meaning.specs.Calls.{Argument, Value, Variable}
 use Rattle.ep_simulation.proofs.matching.Words.{has_at-longer}
 use Rattle.ep_meaning.specs.Meaning.{weights_of}

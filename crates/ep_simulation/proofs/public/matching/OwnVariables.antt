@@ -14,7 +14,7 @@ use Rattle.ep_object.specs.declared.code.Image.{Image}
 use Rattle.ep_object.specs.declared.state.Place.{Place}
 use Rattle.ep_simulation.proofs.matching.Changes.{slot-grown, matches_frame-grown}
 use Rattle.ep_object.proofs.public.Elements.{slice_get-set-same, slice_get-set-other}
-use Rattle.ep_simulation.proofs.public.matching.Growing.{is_in-longer, describes-grown, grown_trans, still_routine, still_runs-trans, is_of-longer}
+use Rattle.ep_simulation.proofs.public.matching.MoreMemory.{is_in-longer, describes-grown, grown_trans, still_routine, still_runs-trans, is_of-longer}
 use Rattle.ep_simulation.proofs.matching.Levels.{level-same, around-lasts}
 use Rattle.ep_simulation.proofs.matching.NewVariables.{new_place, with_variable, with_segment, next_item, grown_making, grown_same_frames, of_type-more, new_allocation, represented_making, new_spot, output_lives, injected_making, counts_making}
 use Rattle.ep_simulation.proofs.public.matching.Standing.{slice_get-some, mapped_within, both, one_type_of}

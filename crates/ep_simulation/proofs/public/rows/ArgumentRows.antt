@@ -22,7 +22,7 @@ use Rattle.ep_simulation.proofs.public.following.Bind.{follows_waits, follows_pa
 use Rattle.ep_simulation.proofs.public.following.Fragments.{fragment_goes, fragment_waits, fragment_from}
 use Rattle.ep_simulation.proofs.public.matching.Awaiting.{arguments_in, value_anywhere, value_weight, without_argument}
 use Rattle.ep_object.proofs.public.Elements.{slice_get-set-same, slice_get-set-other}
-use Rattle.ep_simulation.proofs.public.matching.Growing.{grown_refl, grown_trans, not_left-here, still_runs-trans, still_routine, unit_in-still}
+use Rattle.ep_simulation.proofs.public.matching.MoreMemory.{grown_refl, grown_trans, not_left-here, still_runs-trans, still_routine, unit_in-still}
 use Rattle.ep_simulation.proofs.matching.Levels.{level-same}
 use Rattle.ep_simulation.proofs.public.matching.OwnVariables.{bound_own-same, bound_own-other}
 use Rattle.ep_simulation.proofs.public.matching.Standing.{slice_get-some, one_type_of, allocated}

@@ -20,7 +20,7 @@ use Rattle.ep_object.specs.declared.op.TheConstants as op
 use Rattle.ep_object.specs.declared.state.Place.{Place}
 use Rattle.ep_simulation.proofs.public.following.Fragments.{Does}
 use Rattle.ep_object.proofs.public.Elements.{slice_get-set-same, slice_get-set-other, length-set}
-use Rattle.ep_simulation.proofs.public.matching.Growing.{grown_refl, same_call-refl}
+use Rattle.ep_simulation.proofs.public.matching.MoreMemory.{grown_refl, same_call-refl}
 use Rattle.ep_simulation.proofs.matching.NewVariables.{bound-same, bound-other, same_name}
 use Rattle.ep_simulation.proofs.public.matching.Standing.{slice_get-some, one_type_of}
 use Rattle.ep_simulation.proofs.matching.Words.{type_is-along}

@@ -18,7 +18,7 @@ use Rattle.ep_object.specs.declared.state.Place.{Place}
 use Rattle.ep_simulation.proofs.matching.Changes.{storing, matches_events, grown_storing, matches_assigned}
 use Rattle.ep_object.proofs.public.Elements.{length-set}
 use Rattle.ep_simulation.proofs.public.following.Fragments.{Does, FailsWith}
-use Rattle.ep_simulation.proofs.public.matching.Growing.{slice_get-prefix, grown_refl, same_routine-refl, inside_here}
+use Rattle.ep_simulation.proofs.public.matching.MoreMemory.{slice_get-prefix, grown_refl, same_routine-refl, inside_here}
 use Rattle.ep_simulation.proofs.public.rows.Rows.{instr, in_one, outcome_at}
 use Rattle.ep_simulation.proofs.public.matching.Standing.{Stands, place_stands, StandsOrdinal, ordinal_stands, allocated, place_ended, represents_living, type_of_variable}
 use Rattle.ep_simulation.proofs.public.matching.BareValues.{has_bare, has_with-bare, own_bare}

@@ -17,7 +17,7 @@ use Rattle.ep_object.specs.declared.state.Place.{Place}
 use Rattle.ep_object.specs.declared.state.RecordPart.{RecordPart}
 use Rattle.ep_object.specs.declared.state.TypeEntry.{TypeEntry}
 use Rattle.ep_simulation.proofs.public.following.Fragments.{Does, FailsWith}
-use Rattle.ep_simulation.proofs.public.matching.Growing.{inside_here}
+use Rattle.ep_simulation.proofs.public.matching.MoreMemory.{inside_here}
 use Rattle.ep_simulation.proofs.public.matching.Standing.{Stands, place_stands, place_ended}
 use Rattle.ep_simulation.proofs.matching.Words.{among_within, part_along-on, part_within}
 use Rattle.ep_simulation.proofs.public.rows.Rows.{instr, in_one, outcome_at}

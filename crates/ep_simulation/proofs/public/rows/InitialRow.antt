@@ -20,7 +20,7 @@ use Rattle.ep_object.specs.declared.state.Kind.TheVariants as kinds
 use Rattle.ep_simulation.proofs.public.following.Fragments.{FailsWith, fragment_less, fragment_stop}
 use Rattle.ep_simulation.proofs.public.following.Losing.{fragment_counted}
 use Rattle.ep_simulation.proofs.matching.Described.{bare_form, one_bare_number}
-use Rattle.ep_simulation.proofs.public.matching.Growing.{entry_as}
+use Rattle.ep_simulation.proofs.public.matching.MoreMemory.{entry_as}
 use Rattle.ep_simulation.proofs.matching.Likes.{IsKindLike, kind_like}
 use Rattle.ep_simulation.proofs.matching.Starting.{start_bare, value_words}
 use Rattle.ep_simulation.proofs.matching.Values.{type_is_same}

@@ -16,7 +16,7 @@ use Rattle.ep_simulation.proofs.public.following.Bind.{gives_up}
 use Rattle.ep_object.proofs.public.Elements.{slice_get-set-same, slice_get-set-other}
 use Rattle.ep_simulation.proofs.public.following.Fragments.{Does}
 use Rattle.ep_object.proofs.public.Grows.{is_prefix}
-use Rattle.ep_simulation.proofs.public.matching.Growing.{same_call-refl}
+use Rattle.ep_simulation.proofs.public.matching.MoreMemory.{same_call-refl}
 use Rattle.ep_simulation.proofs.matching.Counts.{lost_words, past_limit, live_bounded}
 use Rattle.ep_simulation.proofs.public.rows.Rows.{instr, in_one, outcome_at}
 use Rattle.ep_values.specs.Events.{Trace}

@@ -24,7 +24,7 @@ use Rattle.ep_simulation.proofs.public.matching.Standing.{mapped_within}
 use Rattle.ep_simulation.proofs.matching.Counts.{live_bounded, lost_words, past_limit}
 use Rattle.ep_object.proofs.public.Elements.{slice_get-pushed}
 use Rattle.ep_simulation.proofs.matching.Endings.{ends_both, without}
-use Rattle.ep_simulation.proofs.public.matching.Growing.{is_in-longer, is_of-longer, same_routine-refl}
+use Rattle.ep_simulation.proofs.public.matching.MoreMemory.{is_in-longer, is_of-longer, same_routine-refl}
 use Rattle.ep_simulation.proofs.matching.NewSegments.{described_within, has_entry, new_segment, size_is}
 use Rattle.ep_simulation.proofs.matching.NewVariables.{counts_making, grown_making, grown_same_frames, injected_making, new_allocation, next_item, of_type-more, output_lives, represented_making, with_segment, with_variable}
 use Rattle.ep_simulation.proofs.matching.Starting.{begun_words}

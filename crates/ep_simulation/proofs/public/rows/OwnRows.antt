@@ -22,7 +22,7 @@ use Rattle.ep_object.proofs.public.Grows.{is_prefix}
 use Rattle.ep_simulation.proofs.matching.Counts.{lost_words, past_limit, live_bounded}
 use Rattle.ep_simulation.proofs.public.matching.Awaiting.{arguments_in}
 use Rattle.ep_object.proofs.public.Elements.{slice_get-set-same, slice_get-pushed}
-use Rattle.ep_simulation.proofs.public.matching.Growing.{inside_here}
+use Rattle.ep_simulation.proofs.public.matching.MoreMemory.{inside_here}
 use Rattle.ep_simulation.proofs.matching.Levels.{level_up}
 use Rattle.ep_simulation.proofs.public.matching.Standing.{slice_get-some}
 use Rattle.ep_simulation.proofs.matching.NewSegments.{has_entry, described_within, new_segment, size_is}

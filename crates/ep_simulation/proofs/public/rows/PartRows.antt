@@ -21,7 +21,7 @@ use Rattle.ep_simulation.proofs.public.following.Choices.{Nothing, ReadsResult, 
 use Rattle.ep_simulation.proofs.public.following.Fragments.{FailsWith}
 use Rattle.ep_simulation.proofs.public.matching.BareValues.{structure_given}
 use Rattle.ep_simulation.proofs.matching.Described.{bare_entry, entry_size}
-use Rattle.ep_simulation.proofs.public.matching.Growing.{inside_here}
+use Rattle.ep_simulation.proofs.public.matching.MoreMemory.{inside_here}
 use Rattle.ep_simulation.proofs.matching.SetValues.{members_loaded, undefined_loaded}
 use Rattle.ep_simulation.proofs.public.matching.Standing.{within_host, word_defined}
 use Rattle.ep_simulation.proofs.matching.Values.{taken, taken_holds, taken_length, taken_there}

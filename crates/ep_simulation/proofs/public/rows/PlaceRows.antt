@@ -18,7 +18,7 @@ use Rattle.ep_object.specs.declared.code.ImageUnit.{ImageUnit}
 use Rattle.ep_object.specs.declared.state.Place.{Place}
 use Rattle.ep_simulation.proofs.public.following.Choices.{Reads, Misses, Finds, ReadsResult, Nothing, Result_of}
 use Rattle.ep_simulation.proofs.public.following.Fragments.{Does, FailsWith}
-use Rattle.ep_simulation.proofs.public.matching.Growing.{inside_here}
+use Rattle.ep_simulation.proofs.public.matching.MoreMemory.{inside_here}
 use Rattle.ep_simulation.proofs.public.rows.Rows.{instr, in_one, RowPushes, outcome_at}
 use Rattle.ep_simulation.proofs.public.matching.BareValues.{own_bare, result_by, structure_given}
 use Rattle.ep_simulation.proofs.matching.Likes.{like_array, like_one, like_ordinal, like_record, like_set}

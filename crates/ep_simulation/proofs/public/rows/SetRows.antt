@@ -15,7 +15,7 @@ use Rattle.ep_object.specs.declared.code.Image.{Image}
 use Rattle.ep_object.specs.declared.code.Instr.{Instr}
 use Rattle.ep_object.proofs.public.SetWords.{members_set}
 use Rattle.ep_simulation.proofs.public.following.Choices.{Reads, Misses, Finds}
-use Rattle.ep_simulation.proofs.public.matching.Growing.{inside_here}
+use Rattle.ep_simulation.proofs.public.matching.MoreMemory.{inside_here}
 use Rattle.ep_simulation.proofs.rows.Answers.{bit-same}
 use Rattle.ep_simulation.proofs.public.rows.Rows.{instr, in_one, outcome_at, RowPushes}
 use Rattle.ep_values.specs.Events.{Trace}
