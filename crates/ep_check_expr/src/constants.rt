@@ -33,7 +33,7 @@ pub struct ConstantForm {
 
 /// What a constant is asked for.
 #[derive(Clone, Copy, Drop)]
-pub(crate) enum Purpose {
+pub enum Purpose {
     /// The value of a constant definition that may be a structured value.
     Definition,
     /// The value of another constant definition, or a constant expression.

@@ -23,10 +23,11 @@ mod structured_constants;
 
 pub use broken::Broken;
 pub use constants::{
-    ConstantForm, bound_value, constant_expression_value, constant_value, initial_state_value,
-    label_value,
+    ConstantForm, Purpose, bound_value, constant_expression_value, constant_value,
+    initial_state_value, label_value,
 };
 pub use expressions::{
     typed_access, typed_arguments, typed_expression, typed_value, written_expression,
 };
 pub use structured::asked_by;
+pub use structured_constants::{ConstantValue, NoConstant};

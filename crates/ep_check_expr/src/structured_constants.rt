@@ -15,7 +15,7 @@ use std::alloc::Global;
 
 /// A constant.
 #[derive(Drop)]
-pub(crate) enum ConstantValue {
+pub enum ConstantValue {
     /// A number or a set.
     Known(KnownValue),
     /// An array or a record: the number of its type, and what its components are given.
@@ -48,7 +48,7 @@ impl ConstantValue {
 
 /// Why a form is no constant.
 #[derive(Clone, Copy, Drop)]
-pub(crate) enum NoConstant {
+pub enum NoConstant {
     /// A variable is read or a function is called.
     Varies,
     /// There would be an error.

@@ -9,7 +9,7 @@ use ep_tree::{Arm, Compound, Statement};
 
 /// A form of `for` statements.
 #[derive(Clone, Copy)]
-enum ForForm {
+pub enum ForForm {
     /// With bounds (ISO 10206, 6.9.3.9.2).
     Bounds,
     /// Over the members of a set (ISO 10206, 6.9.3.9.3).

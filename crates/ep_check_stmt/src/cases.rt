@@ -25,11 +25,11 @@ use ep_typed::{CaseArm, CaseArms, CaseRange, CaseRanges, TypedExpr, TypedStmt, T
 use std::alloc::Global;
 
 /// The ranges of labels so far, and whether all labels are built.
-pub(crate) struct Labels {
+pub struct Labels {
     /// The ranges of those that are built.
-    pub(crate) ranges: CaseRanges,
+    pub ranges: CaseRanges,
     /// Whether all are.
-    pub(crate) built: bool,
+    pub built: bool,
 }
 
 impl Drop for Labels {

@@ -22,8 +22,9 @@ mod targets;
 mod threats;
 mod writing;
 
-pub use auxiliaries::{has_for, has_for_in};
+pub use auxiliaries::{ForForm, has_for, has_for_in};
+pub use cases::Labels;
 pub use outcome::{CheckRefusal, Outcome, refused_at};
 pub use statements::{Context, FunctionResult, Locals, Row};
-pub use tags::assigns_tag;
+pub use tags::{Reached, assigns_tag};
 pub use threats::{Entire, assigns, inner_threatens, threatens};

@@ -65,11 +65,11 @@ pub(crate) fn assignment(
 
 /// What an access names: its kind, and whether it is a tag.
 #[derive(Clone, Copy)]
-pub(crate) struct Reached {
+pub struct Reached {
     /// The kind.
-    kind: Kind,
+    pub kind: Kind,
     /// Whether it is a tag.
-    is_tag: bool,
+    pub is_tag: bool,
 }
 
 /// What is no tag.

@@ -16,7 +16,7 @@ use Rattle.ep_check_expr.specs.StructuredValues.{Components, arranged, array_beg
 use Rattle.ep_check_expr.proofs.public.Keeping.{Satisfies, any-satisfies, if-satisfies, then-satisfies}
 
 -- ---- a property that every structured value has
-unless-unfit : {A : Type 0} (P : A → Type 0) (b : Bool) (J : Judged A) → (b ≡ true → Satisfies P J) → Satisfies P (if b then J else unfit)
+pub unless-unfit : {A : Type 0} (P : A → Type 0) (b : Bool) (J : Judged A) → (b ≡ true → Satisfies P J) → Satisfies P (if b then J else unfit)
 unless-unfit P true J h = h refl
 unless-unfit P false J h = tt
 
