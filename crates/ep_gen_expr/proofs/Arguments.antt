@@ -9,7 +9,7 @@ use Rattle.ep_simulation.specs.Follows.{Facts, Fragment, Inside, OnTop, Operands
 use Rattle.ep_simulation.proofs.public.matching.Awaiting.{value-grown, value_on_top}
 use Rattle.ep_meaning.proofs.public.ValueKinds.{kinds_are_one}
 use Rattle.ep_typed.specs.Viewed.{denoter_of}
-use Rattle.ep_simulation.specs.Matching.{Memory, Injection, Slots, Grown}
+use Rattle.ep_simulation.specs.Matching.{MachineMemory, Injection, Slots, Grown}
 use Rattle.ep_object.specs.Operands.{Operand}
 use Rattle.ep_object.specs.Operands as operand
 use Rattle.ep_object.specs.Placing.{Placement}
@@ -32,7 +32,7 @@ use Rattle.ep_typed.specs.declared.unit.UnitType.{UnitType}
 use Rattle.ep_values.specs.TypeValues.{TypeValue}
 
 -- an argument that lies on the operands goes on being one while memory grows
-argument_later : {untouched : Slots} {injection longer : Injection} {memory after : Memory} (k : Passing) (x : Argument) (o : Operand)
+argument_later : {untouched : Slots} {injection longer : Injection} {memory after : MachineMemory} (k : Passing) (x : Argument) (o : Operand)
     → Grown untouched injection memory longer after → IsArgument injection memory k x o → IsArgument longer after k x o
 argument_later (ByValue k) (Value r) o g h = value-grown k r o g h
 argument_later (ByValue k) (Variable m) o g h = absurd h
@@ -69,13 +69,13 @@ module _ (declared : Declarations) (G : Image) (untouched : Slots) (Here : Facts
   -- this place of the object, and leaves on the operands below what is passed so.
   abbrev pub IsArgumentFollowed : Passing → Actual → ℕ → ℕ → List Instr → Type 0
   IsArgumentFollowed k a line at is =
-      (injection : Injection) (memory : Memory) (below : List Operand) (d : ℕ) → least_credit ≤ d → unit_in G memory.frames ≡ unit
+      (injection : Injection) (memory : MachineMemory) (below : List Operand) (d : ℕ) → least_credit ≤ d → unit_in G memory.frames ≡ unit
       → Fragment declared G Here n (point injection memory (p.instructions.before + at) below) (argument call g unit line a) (p.instructions.before + (at + length is)) (λ x. Inside untouched injection memory (ArgumentOnTop k below x)) d (λ x. d + 8)
 
   -- the same of actual parameters in order, one for each formal one
   abbrev pub AreArgumentsFollowed : List Passing → Actuals → ℕ → ℕ → List Instr → Type 0
   AreArgumentsFollowed formals given line at is =
-      (injection : Injection) (memory : Memory) (below : List Operand) (d : ℕ) → least_credit ≤ d → unit_in G memory.frames ≡ unit
+      (injection : Injection) (memory : MachineMemory) (below : List Operand) (d : ℕ) → least_credit ≤ d → unit_in G memory.frames ≡ unit
       → Fragment declared G Here n (point injection memory (p.instructions.before + at) below) (arguments call g unit line given) (p.instructions.before + (at + length is)) (λ xs. Inside untouched injection memory (λ last final operands. AreArguments last final formals xs below operands)) d (λ xs. d)
 
 module _ {declared : Declarations} {G : Image} {untouched : Slots} {Here : Facts} (p : Placement) (call : Handler) (steady_call : IsSteadyHandler call) (g : ℕ) (unit : List ℕ) (n : ℕ) where

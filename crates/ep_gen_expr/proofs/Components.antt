@@ -3,7 +3,7 @@ use Rattle.std.proofs.Common.{◌≡◌, ℕ, pos, suc, ◌+◌, ◌≤◌, List
 use Rattle.ep_gen_code.specs.Instructions.{bare, instr}
 use Rattle.ep_gen_expr.specs.ExprCode.{steps_code}
 use Rattle.ep_simulation.specs.Follows.{Facts, Fragment, Inside, OnTop, PlaceOnTop, point}
-use Rattle.ep_simulation.specs.Matching.{Injection, IsLike, IsSpot, Memory, Slots, at as standing}
+use Rattle.ep_simulation.specs.Matching.{Injection, IsLike, IsSpot, MachineMemory, Slots, at as standing}
 use Rattle.ep_object.specs.Operands.{Operand}
 use Rattle.ep_object.specs.Operands as operand
 use Rattle.ep_object.specs.Placing.{CodeStands, Placement}
@@ -32,7 +32,7 @@ use Rattle.ep_values.specs.declared.run_error.TheConstants as run_error
 module _ {declared : Declarations} {G : Image} {untouched : Slots} {Here : Facts} (call : Handler) (g : ℕ) (unit : List ℕ) (line n : ℕ) where
   -- `Field`, with its step
   pub selected_follows : (place : ℕ) (ts : ComponentTypes) (k : ℕ) (of : TypeValue) → type_among ts k ≡ Some of → slice_get G.instructions place ≡ Some (instr op.FIELD (pos k) 0 line)
-      → (injection : Injection) (memory : Memory) (below : List Operand) (a : Component) (q : PlaceOf) (d : ℕ) → 1 ≤ d → unit_in G memory.frames ≡ unit
+      → (injection : Injection) (memory : MachineMemory) (below : List Operand) (a : Component) (q : PlaceOf) (d : ℕ) → 1 ≤ d → unit_in G memory.frames ≡ unit
       → IsSpot injection memory.types a q → IsLike memory.types q.type_number (type.Record ts)
       → Fragment declared G Here n (point injection memory place (operand.Place q ∷ below)) (selected call g unit line a k) (place + 1) (λ c. Inside untouched injection memory (PlaceOnTop of below c)) d (λ c. d)
   selected_follows place ts k of is has injection memory below a q d enough home spot described =
@@ -45,7 +45,7 @@ module _ {declared : Declarations} {G : Image} {untouched : Slots} {Here : Facts
 
   -- `Load` of a variable of a type whose values are of the kind
   pub loaded_follows : (place : ℕ) (kind : Kind) (t : TypeValue) → IsTypeOfKind kind t → slice_get G.instructions place ≡ Some (bare line op.LOAD)
-      → (injection : Injection) (memory : Memory) (below : List Operand) (a : Component) (q : PlaceOf) (d : ℕ) → 1 ≤ d → unit_in G memory.frames ≡ unit
+      → (injection : Injection) (memory : MachineMemory) (below : List Operand) (a : Component) (q : PlaceOf) (d : ℕ) → 1 ≤ d → unit_in G memory.frames ≡ unit
       → IsSpot injection memory.types a q → IsLike memory.types q.type_number t
       → Fragment declared G Here n (point injection memory place (operand.Place q ∷ below)) (read call g unit line a) (place + 1) (λ r. Inside untouched injection memory (OnTop kind below r)) d (λ r. d + 8 + weight_of r)
   loaded_follows place kind t of_kind has injection memory below a q d enough home spot described =
@@ -58,7 +58,7 @@ module _ {declared : Declarations} {G : Image} {untouched : Slots} {Here : Facts
 module _ {declared : Declarations} {G : Image} {untouched : Slots} {Here : Facts} (ps : List Placement) (p : Placement) (references : List Reference) (call : Handler) (steady_call : IsSteadyHandler call) (g : ℕ) (unit : List ℕ) (line n : ℕ) where
   -- steps from the record on top to a component inside of it
   pub reached_follows : (ts : ComponentTypes) (steps : List ℕ) (of : TypeValue) → LeadTo ts steps of → (at : ℕ) → CodeStands G ps p references at (steps_code line steps)
-      → (injection : Injection) (memory : Memory) (below : List Operand) (a : Component) (q : PlaceOf) (d : ℕ) → 1 ≤ d → unit_in G memory.frames ≡ unit
+      → (injection : Injection) (memory : MachineMemory) (below : List Operand) (a : Component) (q : PlaceOf) (d : ℕ) → 1 ≤ d → unit_in G memory.frames ≡ unit
       → IsSpot injection memory.types a q → IsLike memory.types q.type_number (type.Record ts)
       → Fragment declared G Here n (point injection memory (p.instructions.before + at) (operand.Place q ∷ below)) (reached call g unit line a steps) (p.instructions.before + (at + length (steps_code line steps))) (λ c. Inside untouched injection memory (PlaceOnTop of below c)) d (λ c. d)
   reached_follows ts [] of leads at stands injection memory below a q d enough home spot described = absurd leads

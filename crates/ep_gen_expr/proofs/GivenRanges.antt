@@ -14,7 +14,7 @@ use Rattle.ep_gen_expr.proofs.public.StructuredValues.{IsElementFollowed, elemen
 use Rattle.ep_gen_expr.proofs.public.Stays.{spreads_length}
 use Rattle.ep_gen_expr.specs.ExprCode.{drops_code, given_code, spread_code, spreads_code, tested_code}
 use Rattle.ep_simulation.specs.Follows.{After, Bare, Facts, Follows, Fragment, Inside, IsNotLeft, Lands, Lasts, OnTop, PlaceOnTop, point}
-use Rattle.ep_simulation.specs.Matching.{Injection, IsLike, IsSpot, Matches, Memory, Slots, at as standing}
+use Rattle.ep_simulation.specs.Matching.{Injection, IsLike, IsSpot, Matches, MachineMemory, Slots, at as standing}
 use Rattle.ep_object.specs.Operands.{Operand, Word, weight}
 use Rattle.ep_object.specs.Operands as operand
 use Rattle.ep_object.specs.Placing.{CodeStands, Placement}
@@ -112,7 +112,7 @@ index_within low high z k h = by_gap (gap low z) refl h
 
 module _ (declared : Declarations) (G : Image) (untouched : Slots) (Here : Facts) (p : Placement) (call : Handler) (g : ℕ) (unit : List ℕ) (line n : ℕ) (low high : ℤ) (of : TypeValue) where
   -- The indexes of a range are below the place of the array, which has both.
-  pub record RangeBelow (q : PlaceOf) (rest : List Operand) (range : CaseRange) (injection : Injection) (memory : Memory) (operands : List Operand) : Type 0 where
+  pub record RangeBelow (q : PlaceOf) (rest : List Operand) (range : CaseRange) (injection : Injection) (memory : MachineMemory) (operands : List Operand) : Type 0 where
     pub first : ℕ
     pub at_first : component_at low high range.low ≡ Some first
     pub last : ℕ
@@ -123,7 +123,7 @@ module _ (declared : Declarations) (G : Image) (untouched : Slots) (Here : Facts
   -- of a range through this code, and leaves them below the place.
   abbrev pub IsRangeFollowed : Designator → ℕ → List Instr → Type 0
   IsRangeFollowed r at code =
-      (injection : Injection) (memory : Memory) (rest : List Operand) (a : Component) (q : PlaceOf) (d : ℕ) → element_credit ≤ d → unit_in G memory.frames ≡ unit
+      (injection : Injection) (memory : MachineMemory) (rest : List Operand) (a : Component) (q : PlaceOf) (d : ℕ) → element_credit ≤ d → unit_in G memory.frames ≡ unit
       → IsSpot injection memory.types a q → IsLike memory.types q.type_number (type.Array low high of)
       → Fragment declared G Here n (point injection memory (p.instructions.before + at) (operand.Place q ∷ rest)) (indexes call g unit line a r) (p.instructions.before + (at + length code)) (λ range. Inside untouched injection memory (RangeBelow q rest range)) d (λ range. d)
 
@@ -143,13 +143,13 @@ module _ (declared : Declarations) (G : Image) (untouched : Slots) (Here : Facts
   -- ---- one index
 
   -- `Index` has found the component with an index, whose place is on top
-  record Located (z : ℤ) (below : List Operand) (a c : Component) (injection : Injection) (memory : Memory) (operands : List Operand) : Type 0 where
+  record Located (z : ℤ) (below : List Operand) (a c : Component) (injection : Injection) (memory : MachineMemory) (operands : List Operand) : Type 0 where
     number : ℕ
     at_number : component_at low high z ≡ Some number
     is_component : c ≡ component a number
     top : PlaceOnTop of below c injection memory operands
 
-  located_follows : (place : ℕ) → slice_get G.instructions place ≡ Some (bare line op.INDEX) → (z : ℤ) (injection : Injection) (memory : Memory) (below : List Operand) (a : Component) (q : PlaceOf) (d d1 : ℕ) → 1 + d1 ≤ d → unit_in G memory.frames ≡ unit
+  located_follows : (place : ℕ) → slice_get G.instructions place ≡ Some (bare line op.INDEX) → (z : ℤ) (injection : Injection) (memory : MachineMemory) (below : List Operand) (a : Component) (q : PlaceOf) (d d1 : ℕ) → 1 + d1 ≤ d → unit_in G memory.frames ≡ unit
       → IsSpot injection memory.types a q → IsLike memory.types q.type_number array
       → Fragment declared G Here n (point injection memory place (Word z ∷ operand.Place q ∷ below)) (located call g unit line a z) (place + 1) (λ c. Inside untouched injection memory (Located z below a c)) d (λ c. d1)
   located_follows place has z injection memory below a q d d1 enough home spot described =
@@ -179,7 +179,7 @@ module _ (declared : Declarations) (G : Image) (untouched : Slots) (Here : Facts
   -- ---- the indexes of a range
 
   -- the call that leaves what tests them
-  ranged_follows : {A : Type 0} {c : Computation A} {to : ℕ} {P : A → After} {e : A → ℕ} (place : ℕ) → (let r = arrays.range in CallsAt G place r.routine 0 line) → (injection : Injection) (memory : Memory) (q : PlaceOf) (from upto : ℤ) (below : List Operand) (d : ℕ) → Steady c
+  ranged_follows : {A : Type 0} {c : Computation A} {to : ℕ} {P : A → After} {e : A → ℕ} (place : ℕ) → (let r = arrays.range in CallsAt G place r.routine 0 line) → (injection : Injection) (memory : MachineMemory) (q : PlaceOf) (from upto : ℤ) (below : List Operand) (d : ℕ) → Steady c
       → Fragment declared G Here n (point injection memory (place + 1) (Word from ∷ operand.Place q ∷ Word upto ∷ operand.Place q ∷ operand.Place q ∷ Word upto ∷ Word from ∷ below)) c to P d e
       → Fragment declared G Here n (point injection memory place (Word upto ∷ Word from ∷ operand.Place q ∷ below)) (bind (change with_depth) (λ _. c)) to P (range_ticks + d) e
   ranged_follows place calls injection memory q from upto below d steady next =
@@ -212,7 +212,7 @@ module _ (declared : Declarations) (G : Image) (untouched : Slots) (Here : Facts
     second_drop = instr_at G (omega arith) stands.1.1.1.1.0
 
     -- Both indexes are tested.
-    ranging_follows : (injection : Injection) (memory : Memory) (rest : List Operand) (a : Component) (q : PlaceOf) (from upto : ℤ) (d : ℕ) → 16 ≤ d → unit_in G memory.frames ≡ unit
+    ranging_follows : (injection : Injection) (memory : MachineMemory) (rest : List Operand) (a : Component) (q : PlaceOf) (from upto : ℤ) (d : ℕ) → 16 ≤ d → unit_in G memory.frames ≡ unit
         → IsSpot injection memory.types a q → IsLike memory.types q.type_number array
         → Fragment declared G Here n (point injection memory to_call (Word upto ∷ Word from ∷ operand.Place q ∷ rest)) (ranging call g unit line a from upto) (p.instructions.before + (at + 5)) (λ range. Inside untouched injection memory (RangeBelow declared G untouched Here p call g unit line n low high of q rest range)) d (λ range. d + 40)
     ranging_follows injection memory rest a q from upto d enough home spot described =
@@ -271,7 +271,7 @@ module _ (declared : Declarations) (G : Image) (untouched : Slots) (Here : Facts
   -- ---- a value for the components with the indexes of a range
 
   -- the call that leaves what they are given by
-  spreading_follows : {A : Type 0} {c : Computation A} {to : ℕ} {P : A → After} {e : A → ℕ} (place : ℕ) → (let r = arrays.spread in CallsAt G place r.routine 0 line) → (injection : Injection) (memory : Memory) (q : PlaceOf) (from upto : ℤ) (o : Operand) (below : List Operand) (d : ℕ) → Steady c
+  spreading_follows : {A : Type 0} {c : Computation A} {to : ℕ} {P : A → After} {e : A → ℕ} (place : ℕ) → (let r = arrays.spread in CallsAt G place r.routine 0 line) → (injection : Injection) (memory : MachineMemory) (q : PlaceOf) (from upto : ℤ) (o : Operand) (below : List Operand) (d : ℕ) → Steady c
       → Fragment declared G Here n (point injection memory (place + 1) (Word (ordinal_of (int_le from upto)) ∷ Word from ∷ operand.Place q ∷ o ∷ Word upto ∷ Word from ∷ Word from ∷ operand.Place q ∷ o ∷ operand.Place q ∷ below)) c to P d e
       → Fragment declared G Here n (point injection memory place (o ∷ o ∷ operand.Place q ∷ Word upto ∷ Word from ∷ below)) (bind (change with_depth) (λ _. c)) to P (spread_ticks (weight o) + d) e
   spreading_follows place calls injection memory q from upto o below d steady next =
@@ -346,7 +346,7 @@ module _ (declared : Declarations) (G : Image) (untouched : Slots) (Here : Facts
       row = Word upto ∷ Word from ∷ Word from ∷ operand.Place q ∷ kept
 
       -- The components have what the first one has.
-      filled_follows : (injection : Injection) (memory : Memory) → IsValueOf injection memory k r o → IsSpot injection memory.types a q → IsLike memory.types q.type_number array
+      filled_follows : (injection : Injection) (memory : MachineMemory) → IsValueOf injection memory k r o → IsSpot injection memory.types a q → IsLike memory.types q.type_number array
           → suits (Some of) r ≡ true → (s : meaning.State) → Matches declared G injection s memory → Here injection s memory → has_ended a.allocation s ≡ false → value_at (component a f) s ≡ value_of r → (d : ℕ) → 1 ≤ d
           → Follows (λ l. IsNotLeft memory.frames l.frames) G n (standing (to_find + 1 + 1 + 1) row memory s.trace) s (fills_all a r (range ∷ [])) (λ u. Lands declared G Here end (Inside untouched injection memory (Bare kept u))) d (λ u. d)
       filled_follows injection memory value spot described suited s matches here living has d enough =
@@ -374,7 +374,7 @@ module _ (declared : Declarations) (G : Image) (untouched : Slots) (Here : Facts
           inside_image = omega (arith, inside, room)
 
       -- The first one is given the value, and then all of them have it.
-      stored_follows : (injection : Injection) (memory : Memory) (t : PlaceOf) → IsValueOf injection memory k r o → unit_in G memory.frames ≡ unit
+      stored_follows : (injection : Injection) (memory : MachineMemory) (t : PlaceOf) → IsValueOf injection memory k r o → unit_in G memory.frames ≡ unit
           → IsSpot injection memory.types a q → IsLike memory.types q.type_number array → IsSpot injection memory.types (component a f) t → IsLike memory.types t.type_number of → (d : ℕ) → 1 ≤ d
           → Fragment declared G Here n (point injection memory (to_find + 1 + 1) (o ∷ operand.Place t ∷ row)) (bind (given call g unit line (component a f) r) (λ _. fills_all a r (range ∷ []))) end (λ u. Inside untouched injection memory (Bare kept u)) (d + 1 + weight_of r) (λ u. d)
       stored_follows injection memory t value home spot described spot_t described_t d enough =
@@ -393,7 +393,7 @@ module _ (declared : Declarations) (G : Image) (untouched : Slots) (Here : Facts
           }
 
       -- where there are some
-      some_follow : (injection : Injection) (memory : Memory) → IsValueOf injection memory k r o → unit_in G memory.frames ≡ unit
+      some_follow : (injection : Injection) (memory : MachineMemory) → IsValueOf injection memory k r o → unit_in G memory.frames ≡ unit
           → IsSpot injection memory.types a q → IsLike memory.types q.type_number array → (d : ℕ) → 8 + 3 * weight_of r ≤ d
           → Fragment declared G Here n (point injection memory to_find (Word from ∷ operand.Place q ∷ o ∷ row)) (bind (located call g unit line a from) (λ c. bind (change with_depth) (λ _. bind (given call g unit line c r) (λ _. fills_all a r (range ∷ []))))) end (λ u. Inside untouched injection memory (Bare kept u)) d (λ u. d - (7 + 3 * weight_of r))
       some_follow injection memory value home spot described d enough =
@@ -411,7 +411,7 @@ module _ (declared : Declarations) (G : Image) (untouched : Slots) (Here : Facts
           (stored_follows v1 m1 top.place (value-grown k r o grown value) (unit_in-same G routine ∙ home) (is_spot-grown grown spot) (describes-grown q.type_number array grown described) spot_t top.described (d - (7 + 3 * weight_of r)) (omega (arith, enough)))))))
 
     -- where there are none
-    none_follow : (o : Operand) (q : PlaceOf) (rest : List Operand) (injection : Injection) (memory : Memory) (d : ℕ) → 7 + weight o ≤ d
+    none_follow : (o : Operand) (q : PlaceOf) (rest : List Operand) (injection : Injection) (memory : MachineMemory) (d : ℕ) → 7 + weight o ≤ d
         → Fragment declared G Here n (point injection memory skipped (Word from ∷ operand.Place q ∷ o ∷ Word upto ∷ Word from ∷ Word from ∷ operand.Place q ∷ o ∷ operand.Place q ∷ rest)) (give tt) end (λ u. Inside untouched injection memory (Bare (o ∷ operand.Place q ∷ rest) u)) d (λ u. d - (7 + weight o))
     none_follow o q rest injection memory d enough =
         fragment_to {to = skipped + 1 + 1 + 1 + 1 + 1 + 1 + 1} (omega arith)
@@ -425,7 +425,7 @@ module _ (declared : Declarations) (G : Image) (untouched : Slots) (Here : Facts
         (fragment_give (omega arith) (inside_here refl)))))))))
 
     -- The components with the indexes of the range are given the value.
-    given_each_follows : (r : Result) (o : Operand) (a : Component) (q : PlaceOf) (rest : List Operand) (injection : Injection) (memory : Memory) → IsValueOf injection memory k r o → unit_in G memory.frames ≡ unit
+    given_each_follows : (r : Result) (o : Operand) (a : Component) (q : PlaceOf) (rest : List Operand) (injection : Injection) (memory : MachineMemory) → IsValueOf injection memory k r o → unit_in G memory.frames ≡ unit
         → IsSpot injection memory.types a q → IsLike memory.types q.type_number array → (d : ℕ)
         → Fragment declared G Here n (point injection memory place (o ∷ operand.Place q ∷ Word upto ∷ Word from ∷ rest)) (given_each call g unit line a range r) end (λ u. Inside untouched injection memory (Bare (o ∷ operand.Place q ∷ rest) u)) (d + weight_of r) (λ u. d + weight_of r)
     given_each_follows r o a q rest injection memory value home spot described d =
@@ -442,7 +442,7 @@ module _ (declared : Declarations) (G : Image) (untouched : Slots) (Here : Facts
         (λ unordered. fragment_credit {d = d + 46 + 56 * weight_of r} {e = λ u. d + 46 + 56 * weight_of r - (7 + weight o)} (omega arith) (λ u. omega (arith, heavy))
         (none_follow o q rest injection memory (d + 46 + 56 * weight_of r) (omega (arith, heavy))))))))
       where
-        leads : (b : Bool) (m : Memory) (trace : Trace)
+        leads : (b : Bool) (m : MachineMemory) (trace : Trace)
             → outcome G (standing (place + 1 + 1) (Word (ordinal_of b) ∷ Word from ∷ operand.Place q ∷ o ∷ Word upto ∷ Word from ∷ Word from ∷ operand.Place q ∷ o ∷ operand.Place q ∷ rest) m trace)
             ≡ record { weight = 0; to = Running 0 (standing (if b then to_find else skipped) (Word from ∷ operand.Place q ∷ o ∷ Word upto ∷ Word from ∷ Word from ∷ operand.Place q ∷ o ∷ operand.Place q ∷ rest) m trace) }
         leads true m trace = jump_false_jumps G (place + 1 + 1) line (Word from ∷ operand.Place q ∷ o ∷ Word upto ∷ Word from ∷ Word from ∷ operand.Place q ∷ o ∷ operand.Place q ∷ rest) (ordinal_of true) (p.instructions.before + (at + 8)) (omega (arith, inside, room)) tests m trace
@@ -456,7 +456,7 @@ module _ (declared : Declarations) (G : Image) (untouched : Slots) (Here : Facts
   -- the value and what the components are given through this code to an end, and leaves the value on top.
   abbrev pub AreGivenFollowed : Designators → Computation Result → ℕ → ℕ → Type 0
   AreGivenFollowed ds value at end =
-      (injection : Injection) (memory : Memory) (rest : List Operand) (a : Component) (q : PlaceOf) (d : ℕ) → element_credit ≤ d → unit_in G memory.frames ≡ unit
+      (injection : Injection) (memory : MachineMemory) (rest : List Operand) (a : Component) (q : PlaceOf) (d : ℕ) → element_credit ≤ d → unit_in G memory.frames ≡ unit
       → IsSpot injection memory.types a q → IsLike memory.types q.type_number array
       → Fragment declared G Here n (point injection memory (p.instructions.before + at) (operand.Place q ∷ rest)) (given_at call g unit line a ds value) (p.instructions.before + end) (λ r. Inside untouched injection memory (OnTop k (operand.Place q ∷ rest) r)) d (λ r. d + 1 + weight_of r)
 

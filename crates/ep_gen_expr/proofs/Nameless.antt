@@ -2,7 +2,7 @@
 use Rattle.std.proofs.Common.{◌≡◌, ℕ, pos, suc, ◌+◌, ◌*◌, ◌≤◌, ◌<◌, ◌⊎◌, inl, inr, List, [], ◌∷◌, Some, length, slice_get, false, refl, sym, subst, arith}
 use Rattle.ep_gen_code.specs.Instructions.{bare}
 use Rattle.ep_simulation.specs.Follows.{Facts, Follows, GivesUp, Inside, IsNotLeft, IsStructure, Lands, Lasts, Fragment, OnTop, point}
-use Rattle.ep_simulation.specs.Matching.{Describes, Injection, IsLike, IsSpot, Matches, Memory, Slots, at as standing}
+use Rattle.ep_simulation.specs.Matching.{Describes, Injection, IsLike, IsSpot, Matches, MachineMemory, Slots, at as standing}
 use Rattle.ep_object.specs.Operands.{Operand, Word, weight}
 use Rattle.ep_object.specs.Operands as operand
 use Rattle.ep_simulation.specs.Promises.{CallsAt, IsSwap}
@@ -43,12 +43,12 @@ end_ticks u = 7 + 4 * size_of u
 module _ (declared : Declarations) (G : Image) (untouched : Slots) (Here : Facts) (lasts : Lasts untouched Here) (line : ℕ) where
   -- `New`, over the number of a type
   pub begins_follows : (n place : ℕ) (t : TypeValue) (number : ℕ) → slice_get G.instructions place ≡ Some (bare line op.NEW)
-      → (injection : Injection) (memory : Memory) (below : List Operand) (d : ℕ) → 1 ≤ d → Describes memory.types number t → IsTypeValue t → AreStarts t
+      → (injection : Injection) (memory : MachineMemory) (below : List Operand) (d : ℕ) → 1 ≤ d → Describes memory.types number t → IsTypeValue t → AreStarts t
       → Fragment declared G Here n (point injection memory place (Word (pos number) ∷ below)) (begins_nameless t) (place + 1) (λ m. Inside untouched injection memory (NamelessOnTop t below m)) d (λ m. d + 63 + 62 * size_of t)
   begins_follows n place t number has injection memory below d enough described valid starts =
       fragment_less {n = suc n} (omega arith) (record { by = λ s matches here. follows_counted (counted t) (go s (new_does matches t number described valid starts place line below has lasts here)) })
     where
-      After : ℕ → Injection → Memory → List Operand → Type 0
+      After : ℕ → Injection → MachineMemory → List Operand → Type 0
       After m = Inside untouched injection memory (NamelessOnTop t below m)
 
       go : (s : meaning.State)
@@ -60,11 +60,11 @@ module _ (declared : Declarations) (G : Image) (untouched : Slots) (Here : Facts
           follows_paid {v = size_of t} {w = size_of t + size_of t} {d1 = d + 63 + 62 * size_of t} (not_left-here memory.frames) refl x.does (omega arith) (omega arith) (omega arith) (record { by = λ m l. made.by m l })
       go s (inr x) = follows_gives_up (steady_spend (suc (size_of t + size_of t)) (record { by = λ m s. grows_nameless t s })) enough x
 
-  module _ (call : Handler) (g : ℕ) (unit : List ℕ) (routine : ℕ) (swap : IsSwap G routine) (place k : ℕ) (u : TypeValue) (structured : IsStructured u) (load : slice_get G.instructions place ≡ Some (bare line op.LOAD)) (calls : CallsAt G (place + 1) routine 0 line) (disposes : slice_get G.instructions (place + 1 + 1) ≡ Some (bare line op.DISPOSE)) (injection : Injection) (memory : Memory) (below : List Operand) (q : PlaceOf) (home : unit_in G memory.frames ≡ unit) (spot : IsSpot injection memory.types (whole k) q) (described : IsLike memory.types q.type_number u) (numbered : 2 < k) (above : 2 < q.segment) where
+  module _ (call : Handler) (g : ℕ) (unit : List ℕ) (routine : ℕ) (swap : IsSwap G routine) (place k : ℕ) (u : TypeValue) (structured : IsStructured u) (load : slice_get G.instructions place ≡ Some (bare line op.LOAD)) (calls : CallsAt G (place + 1) routine 0 line) (disposes : slice_get G.instructions (place + 1 + 1) ≡ Some (bare line op.DISPOSE)) (injection : Injection) (memory : MachineMemory) (below : List Operand) (q : PlaceOf) (home : unit_in G memory.frames ≡ unit) (spot : IsSpot injection memory.types (whole k) q) (described : IsLike memory.types q.type_number u) (numbered : 2 < k) (above : 2 < q.segment) where
     abbrev number_on : Operand
     number_on = Word (pos q.segment)
 
-    abbrev After : Result → Injection → Memory → List Operand → Type 0
+    abbrev After : Result → Injection → MachineMemory → List Operand → Type 0
     After r = Inside untouched injection memory (OnTop (kind.Structured u) below r)
 
     -- it ends

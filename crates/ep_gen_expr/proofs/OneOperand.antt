@@ -2,7 +2,7 @@
 use Rattle.std.proofs.Common.{◌≡◌, ℕ, ℤ, pos, suc, ◌+◌, ◌%◌, IsTrue, List, ◌∷◌, length, refl, arith}
 use Rattle.ep_simulation.specs.Follows.{Facts}
 use Rattle.std.specs.Prelude.{◌-ℤ◌, ◌*ℤ◌, neg_ℤ, unsigned_abs}
-use Rattle.ep_simulation.specs.Matching.{Slots, Memory, Injection}
+use Rattle.ep_simulation.specs.Matching.{Slots, MachineMemory, Injection}
 use Rattle.ep_object.specs.Operands.{Operand, Word}
 use Rattle.ep_object.specs.Placing.{Placement, CodeStands}
 use Rattle.ep_object.specs.Runs.{unit_in}
@@ -31,7 +31,7 @@ module _ (declared : Declarations) (G : Image) (untouched : Slots) (Here : Facts
   abbrev Operates : ℕ → ℕ → Unary → Host → Host → Type 0
   Operates n at operation operand result =
       (z : ℤ) → IsTrue (is_of_host operand z)
-      → (injection : Injection) (memory : Memory) (below : List Operand) (d : ℕ)
+      → (injection : Injection) (memory : MachineMemory) (below : List Operand) (d : ℕ)
       → unit_in G memory.frames ≡ unit
       → Evaluates declared G untouched Here n injection memory (p.instructions.before + at) (Word z ∷ below) (answering call g unit line (unary_answer operation z)) (p.instructions.before + (at + length (one_code line operation))) (Ordinal result) below (d + 8) (d + 8)
 

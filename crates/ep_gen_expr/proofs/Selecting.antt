@@ -2,7 +2,7 @@
 use Rattle.std.proofs.Common.{◌≡◌, ℕ, ℤ, pos, ◌+◌, ◌*◌, ◌≤◌, ◌<◌, Bool, true, false, ◌&&◌, List, ◌∷◌, length, Some, slice_get, refl, ap, ◌∙◌, subst, arith}
 use Rattle.std.specs.Prelude.{if◌then◌else◌}
 use Rattle.ep_simulation.specs.Follows.{point, Facts, After, Fragment}
-use Rattle.ep_simulation.specs.Matching.{Memory, Injection}
+use Rattle.ep_simulation.specs.Matching.{MachineMemory, Injection}
 use Rattle.ep_object.specs.Operands.{Operand, Word}
 use Rattle.ep_object.specs.Placing.{Placement, CodeStands}
 use Rattle.ep_object.specs.Runs.{unit_in}
@@ -59,7 +59,7 @@ module _ (G : Image) (ps : List Placement) (p : Placement) (references : List Re
   field_at = instr_at G (omega arith) behind_tests.1.1.1.0
 
   module _ {A : Type 0} {declared : Declarations} {Here : Facts} (call : Handler) (g : ℕ) (unit : List ℕ) (room : p.instructions.before + p.instructions.own ≤ length G.instructions)
-      (n : ℕ) (injection : Injection) (memory : Memory) (below : List Operand) (home : unit_in G memory.frames ≡ unit) {to d : ℕ} {P : A → After} {e : A → ℕ} (taken : Computation A)
+      (n : ℕ) (injection : Injection) (memory : MachineMemory) (below : List Operand) (home : unit_in G memory.frames ≡ unit) {to d : ℕ} {P : A → After} {e : A → ℕ} (taken : Computation A)
       (takes : Fragment declared G Here n (point injection memory (p.instructions.before + (bad_place at s + 2)) below) taken to P d e) where
     abbrev inactive : Computation A
     inactive = stop (meaning.Error run_error.INACTIVE_VARIANT unit line)

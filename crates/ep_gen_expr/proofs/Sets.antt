@@ -2,7 +2,7 @@
 use Rattle.std.proofs.Common.{◌≡◌, ℕ, ℤ, pos, suc, ◌+◌, ◌≤◌, not, IsTrue, List, [], ◌∷◌, ◌++◌, length, length-append, Bool, Some, slice_get, refl, sym, ap, ◌∙◌, subst, arith}
 use Rattle.std.proofs.lemmas.Bool.Decides.{nat_tests}
 use Rattle.ep_simulation.specs.Follows.{Facts, Fragment, Inside, OnTop, point}
-use Rattle.ep_simulation.specs.Matching.{Injection, Memory, Slots, at as standing}
+use Rattle.ep_simulation.specs.Matching.{Injection, MachineMemory, Slots, at as standing}
 use Rattle.ep_object.specs.Operands.{Operand, Set, Word}
 use Rattle.ep_object.specs.Placing.{Placement, CodeStands, placed}
 use Rattle.ep_simulation.specs.Promises.{IsValueOf}
@@ -62,7 +62,7 @@ answer_light set.In x y = refl
 card_integer : (n : ℕ) → n ≤ member_limit → IsTrue (is_of_host host.Integer (pos n))
 card_integer n le = grind (arith, nat_tests)
 
-module _ (G : Image) (place : ℕ) (below : List Operand) (injection : Injection) (memory : Memory) (x y : Result) (xo yo : Operand) where
+module _ (G : Image) (place : ℕ) (below : List Operand) (injection : Injection) (memory : MachineMemory) (x y : Result) (xo yo : Operand) where
   -- the instruction leaves the value of this result in place of the two operands
   record Leaves (k : Kind) (r : Result) : Type 0 where
     left : Operand
@@ -142,13 +142,13 @@ module _ (declared : Declarations) (G : Image) (untouched : Slots) (Here : Facts
   -- which begins at this place of the object, and leaves the set with what it gives.
   abbrev pub IsDesignatorFollowed : Designator → ℕ → List Instr → Type 0
   IsDesignatorFollowed d at code =
-      (injection : Injection) (memory : Memory) (below : List Operand) (ms : List ℕ) (credit : ℕ) → IsSet ms → least_credit ≤ credit → unit_in G memory.frames ≡ unit
+      (injection : Injection) (memory : MachineMemory) (below : List Operand) (ms : List ℕ) (credit : ℕ) → IsSet ms → least_credit ≤ credit → unit_in G memory.frames ≡ unit
       → Fragment declared G Here n (point injection memory (p.instructions.before + at) (Set ms ∷ below)) (extended call g unit line ms d) (p.instructions.before + (at + length code)) (λ ns. Inside untouched injection memory (MembersOnTop below ns)) credit (λ ns. credit)
 
   -- the same of member designators in order
   abbrev pub AreDesignatorsFollowed : Designators → ℕ → List Instr → Type 0
   AreDesignatorsFollowed ds at code =
-      (injection : Injection) (memory : Memory) (below : List Operand) (ms : List ℕ) (credit : ℕ) → IsSet ms → least_credit ≤ credit → unit_in G memory.frames ≡ unit
+      (injection : Injection) (memory : MachineMemory) (below : List Operand) (ms : List ℕ) (credit : ℕ) → IsSet ms → least_credit ≤ credit → unit_in G memory.frames ≡ unit
       → Fragment declared G Here n (point injection memory (p.instructions.before + at) (Set ms ∷ below)) (collected call g unit line ms ds) (p.instructions.before + (at + length code)) (λ ns. Inside untouched injection memory (MembersOnTop below ns)) credit (λ ns. credit)
 
 module _ {declared : Declarations} {G : Image} {untouched : Slots} {Here : Facts} (ps : List Placement) (p : Placement) (references : List Reference) (call : Handler) (steady_call : IsSteadyHandler call) (g : ℕ) (unit : List ℕ) (line n : ℕ) where

@@ -2,7 +2,7 @@
 use Rattle.std.proofs.Common.{◌≡◌, ℕ, ℤ, pos, ◌+◌, Bool, true, false, IsTrue, List, [], ◌∷◌, length, Some, slice_get, ap, ◌∙◌, arith}
 use Rattle.ep_simulation.specs.Follows.{Facts}
 use Rattle.std.specs.Prelude.{◌+ℤ◌, neg_ℤ}
-use Rattle.ep_simulation.specs.Matching.{Slots, Memory, Injection}
+use Rattle.ep_simulation.specs.Matching.{Slots, MachineMemory, Injection}
 use Rattle.ep_object.specs.Operands.{Operand, Word}
 use Rattle.ep_object.specs.Placing.{Placement, CodeStands}
 use Rattle.ep_object.specs.Runs.{unit_in}
@@ -35,7 +35,7 @@ module _ (declared : Declarations) (G : Image) (untouched : Slots) (Here : Facts
   -- the sum of a value and a count, within the bounds of the host
   bounded_follows : (n at : ℕ) (h : Host) (low high : ℤ) → low ≡ least h → high ≡ greatest h
       → CodeStands G ps p references at (push line low ∷ push line high ∷ bare line op.STEP ∷ [])
-      → (x count : ℤ) (injection : Injection) (memory : Memory) (below : List Operand) (d : ℕ)
+      → (x count : ℤ) (injection : Injection) (memory : MachineMemory) (below : List Operand) (d : ℕ)
       → unit_in G memory.frames ≡ unit
       → Evaluates declared G untouched Here n injection memory (p.instructions.before + at) (Word count ∷ Word x ∷ below) (answering call g unit line (step_answer false low high x count)) (p.instructions.before + (at + 3)) (Ordinal h) below (d + 15) (d + 8)
   bounded_follows n at h low high is_low is_high stands x count injection memory below d unit_is =
@@ -49,7 +49,7 @@ module _ (declared : Declarations) (G : Image) (untouched : Slots) (Here : Facts
   pub step_follows : (n at : ℕ) (h : Host) (down : Bool) (low high : ℤ) → low ≡ least h → high ≡ greatest h
       → CodeStands G ps p references at (step_code line down low high) → (x count : ℤ)
       → IsTrue (is_of_host host.Integer count)
-      → (injection : Injection) (memory : Memory) (below : List Operand) (d : ℕ)
+      → (injection : Injection) (memory : MachineMemory) (below : List Operand) (d : ℕ)
       → unit_in G memory.frames ≡ unit
       → Evaluates declared G untouched Here n injection memory (p.instructions.before + at) (Word count ∷ Word x ∷ below) (answering call g unit line (step_answer down low high x count)) (p.instructions.before + (at + length (step_code line down low high))) (Ordinal h) below (d + 16) (d + 8)
   step_follows n at h false low high is_low is_high stands x count of_host injection memory below d unit_is =

@@ -2,7 +2,7 @@
 use Rattle.std.proofs.Common.{◌≡◌, ℕ, ℤ, ◌+◌, not, ◌&&◌, ◌||◌, IsTrue, List, [], ◌∷◌, arith}
 use Rattle.ep_simulation.specs.Follows.{Facts}
 use Rattle.std.specs.Prelude.{◌+ℤ◌, ◌-ℤ◌, ◌*ℤ◌, int_le, int_lt}
-use Rattle.ep_simulation.specs.Matching.{Slots, Memory, Injection}
+use Rattle.ep_simulation.specs.Matching.{Slots, MachineMemory, Injection}
 use Rattle.ep_object.specs.Operands.{Operand, Word}
 use Rattle.ep_object.specs.Placing.{Placement, CodeStands}
 use Rattle.ep_object.specs.Runs.{unit_in}
@@ -26,7 +26,7 @@ module _ (declared : Declarations) (G : Image) (untouched : Slots) (Here : Facts
   abbrev Operates : ℕ → ℕ → Binary → Host → Host → Type 0
   Operates n at operation operand result =
       (x y : ℤ) → IsTrue (is_of_host operand x) → IsTrue (is_of_host operand y)
-      → (injection : Injection) (memory : Memory) (below : List Operand) (d : ℕ)
+      → (injection : Injection) (memory : MachineMemory) (below : List Operand) (d : ℕ)
       → unit_in G memory.frames ≡ unit
       → Evaluates declared G untouched Here n injection memory (p.instructions.before + at) (Word y ∷ Word x ∷ below) (answering call g unit line (binary_answer operation x y)) (p.instructions.before + (at + 1)) (Ordinal result) below (d + 16) (d + 8)
 

@@ -1,7 +1,7 @@
 -- The machine follows components of values.
 use Rattle.std.proofs.Common.{◌≡◌, ℕ, ℤ, pos, suc, Some, ◌+◌, ◌≤◌, List, [], ◌∷◌, ◌++◌, length, length-append, slice_get, sym, ap, ◌∙◌, subst, arith}
 use Rattle.ep_simulation.specs.Follows.{point, Facts, Inside, IsStructure, OnTop}
-use Rattle.ep_simulation.specs.Matching.{Injection, Matches, Memory, Slots, at as standing}
+use Rattle.ep_simulation.specs.Matching.{Injection, Matches, MachineMemory, Slots, at as standing}
 use Rattle.ep_object.specs.Operands.{Operand}
 use Rattle.ep_object.specs.Operands as operand
 use Rattle.ep_object.specs.Placing.{Placement, CodeStands}
@@ -43,7 +43,7 @@ module _ (call : Handler) (g : ℕ) (unit : List ℕ) (line : ℕ) (r : Result) 
 module _ {declared : Declarations} {G : Image} {untouched : Slots} {Here : Facts} (ps : List Placement) (p : Placement) (references : List Reference) (call : Handler) (steady_call : IsSteadyHandler call) (g : ℕ) (unit : List ℕ) (line n : ℕ) where
   -- The instruction that takes a component of a value, with the step of the form. It spends the words of the value, which the
   -- credit pays that the value left.
-  taken_follows : (place : ℕ) (operands below : List Operand) (kind : Kind) (r : Result) (k : ℕ) (injection : Injection) (memory : Memory) (d more : ℕ)
+  taken_follows : (place : ℕ) (operands below : List Operand) (kind : Kind) (r : Result) (k : ℕ) (injection : Injection) (memory : MachineMemory) (d more : ℕ)
       → ((s : meaning.State) → Matches declared G injection s memory → Here injection s memory → ReadsResult declared G Here (standing place operands memory s.trace) (weight_of r) run_error.UNDEFINED_VALUE unit line (place + 1) (λ x. Inside untouched injection memory (OnTop kind below x)) s (part_of r k))
       → d + 8 + weight_of r ≤ more
       → Evaluates declared G untouched Here n injection memory place operands (part call g unit line r k) (place + 1) kind below more (d + 8)
@@ -53,7 +53,7 @@ module _ {declared : Declarations} {G : Image} {untouched : Slots} {Here : Facts
   -- `Field`, where the record is on top
   pub field_taken : (place : ℕ) (below : List Operand) (kind : Kind) (ts : ComponentTypes) (r : Result) (o : Operand) (k : ℕ) (of : TypeValue) → type_among ts k ≡ Some of → IsTypeOfKind kind of
       → slice_get G.instructions place ≡ Some (instr op.FIELD (pos k) 0 line)
-      → (injection : Injection) (memory : Memory) → IsStructure (type.Record ts) r injection memory o → (d : ℕ) → unit_in G memory.frames ≡ unit
+      → (injection : Injection) (memory : MachineMemory) → IsStructure (type.Record ts) r injection memory o → (d : ℕ) → unit_in G memory.frames ≡ unit
       → Evaluates declared G untouched Here n injection memory place (o ∷ below) (part call g unit line r k) (place + 1) kind below (d + 8 + weight_of r) (d + 8)
   field_taken place below kind ts r o k of among of_kind has injection memory value d home =
       taken_follows place (o ∷ below) below kind r k injection memory d (d + 8 + weight_of r)
@@ -77,7 +77,7 @@ module _ {declared : Declarations} {G : Image} {untouched : Slots} {Here : Facts
   -- `Index`, where the array and the index are on top
   element_taken : (place : ℕ) (below : List Operand) (kind : Kind) (low high : ℤ) (of : TypeValue) (r : Result) (o : Operand) (z : ℤ) → IsTypeOfKind kind of
       → slice_get G.instructions place ≡ Some (instr op.INDEX (pos 0) 0 line)
-      → (injection : Injection) (memory : Memory) → IsStructure (type.Array low high of) r injection memory o → (d : ℕ) → unit_in G memory.frames ≡ unit
+      → (injection : Injection) (memory : MachineMemory) → IsStructure (type.Array low high of) r injection memory o → (d : ℕ) → unit_in G memory.frames ≡ unit
       → Evaluates declared G untouched Here n injection memory place (operand.Word z ∷ o ∷ below) (part_indexed call g unit line r z) (place + 1) kind below (d + 8 + weight_of r + 8) (d + 8)
   element_taken place below kind low high of r o z of_kind has injection memory value d home =
       let number_is : component_at low high z ≡ part_at r z = sym (ap (λ x. part_at x z) value.is_structure) in

@@ -2,7 +2,7 @@
 use Rattle.std.proofs.Common.{◌≡◌, ℕ, ℤ, pos, suc, ◌+◌, ◌*◌, ◌≤◌, ◌<◌, List, ◌∷◌, ◌++◌, length, length-append, Option, Some, None, slice_get, refl, sym, ap, ◌∙◌, subst, arith}
 use Rattle.std.specs.Prelude.{if◌then◌else◌, is_some}
 use Rattle.ep_simulation.specs.Follows.{point, Facts, Follows, Inside, IsNotLeft, IsStructure, Lands, OnTop}
-use Rattle.ep_simulation.specs.Matching.{Memory, Injection, Matches, Slots, at as standing}
+use Rattle.ep_simulation.specs.Matching.{MachineMemory, Injection, Matches, Slots, at as standing}
 use Rattle.ep_object.specs.Operands.{Operand, Word}
 use Rattle.ep_object.specs.Operands as operand
 use Rattle.ep_object.specs.Placing.{Placement, CodeStands}
@@ -48,7 +48,7 @@ use Rattle.ep_gen_expr.proofs.public.VariantMoves.{follows_found}
 use Rattle.ep_object.specs.declared.op.TheConstants as op
 
 -- where there is a result, it does not matter which error there would be
-read_of : {declared : Declarations} {G : Image} {Here : Facts} {k : State} {besides number other line to : ℕ} {unit : List ℕ} {Post : Result → Injection → Memory → List Operand → Type 0} {s : meaning.State} {o : Option Result} (x : Result)
+read_of : {declared : Declarations} {G : Image} {Here : Facts} {k : State} {besides number other line to : ℕ} {unit : List ℕ} {Post : Result → Injection → MachineMemory → List Operand → Type 0} {s : meaning.State} {o : Option Result} (x : Result)
     → ReadsResult declared G Here k besides number unit line to Post s o → o ≡ Some x → ReadsResult declared G Here k besides other unit line to Post s o
 read_of x (Nothing is fails) e = let none : None ≡ Some x = sym is ∙ e in cc
 read_of x (Result_of r is weight weighs does) e = Result_of r is weight weighs does
@@ -75,7 +75,7 @@ module _ (declared : Declarations) (G : Image) (untouched : Slots) (Here : Facts
     bad = p.instructions.before + bad_place (at + 6) s
 
     -- a value is there twice
-    twice : (t : TypeValue) (r : Result) (o : Operand) (below : List Operand) (from : ℕ) (injection : Injection) (memory : Memory) → IsStructure t r injection memory o → slice_get G.instructions from ≡ Some (bare line op.DUP) → (trace : _)
+    twice : (t : TypeValue) (r : Result) (o : Operand) (below : List Operand) (from : ℕ) (injection : Injection) (memory : MachineMemory) → IsStructure t r injection memory o → slice_get G.instructions from ≡ Some (bare line op.DUP) → (trace : _)
         → outcome G (standing from (o ∷ below) memory trace) ≡ record { weight = 3 * weight_of r; to = Running 0 (standing (from + 1) (o ∷ o ∷ below) memory trace) }
     twice t r o below from injection memory v has trace =
         let many : length v.words ≡ weight_of r = v.sized ∙ sym (ap weight_of v.is_structure) in
@@ -85,7 +85,7 @@ module _ (declared : Declarations) (G : Image) (untouched : Slots) (Here : Facts
         ∙ (ap (λ k. record { weight = 3 * k; to = Running 0 (standing (from + 1) (value ∷ value ∷ below) memory trace) }) many
         ∙ ap (λ x. record { weight = 3 * weight_of r; to = Running 0 (standing (from + 1) (x ∷ x ∷ below) memory trace) }) (sym v.is)))
 
-    module _ (below : List Operand) (injection : Injection) (memory : Memory) (home : unit_in G memory.frames ≡ unit) where
+    module _ (below : List Operand) (injection : Injection) (memory : MachineMemory) (home : unit_in G memory.frames ≡ unit) where
       -- the value of the tag, with its record on top
       module _ (t : Result) (o : Operand) (v : IsStructure (tag_type low high) t injection memory o) (d : ℕ) where
         one : weight_of t ≡ 1
@@ -135,7 +135,7 @@ module _ (declared : Declarations) (G : Image) (untouched : Slots) (Here : Facts
 
     -- The variant, with the value of the record on top: that again, the record of its tag, the value of the tag, and the tests of
     -- the labels.
-    active_part_follows : (below : List Operand) (r : Result) (o : Operand) (injection : Injection) (memory : Memory) → IsStructure (type.Record ts) r injection memory o → unit_in G memory.frames ≡ unit → (d : ℕ)
+    active_part_follows : (below : List Operand) (r : Result) (o : Operand) (injection : Injection) (memory : MachineMemory) → IsStructure (type.Record ts) r injection memory o → unit_in G memory.frames ≡ unit → (d : ℕ)
         → Evaluates declared G untouched Here n injection memory place (o ∷ below) (active_part call g unit line r s number) (p.instructions.before + (bad_place (at + 6) s + 3)) (Structured (type.Record inner)) below (d + 8 + weight_of r) (d + 8)
     active_part_follows below r o injection memory v home d =
         let end : ℕ = p.instructions.before + (bad_place (at + 6) s + 3) in

@@ -5,7 +5,7 @@ use Rattle.ep_gen_code.specs.Referring.{AreReferred, AreArraysReferred, IsSwapRe
 use Rattle.ep_gen_expr.specs.ExprCode.{IsPlaceCode, IsExprCode}
 use Rattle.ep_simulation.specs.Activations.{MatchesNames}
 use Rattle.ep_simulation.specs.Follows.{point, Since, Fragment, Inside, Operands, OnTop, PlaceOnTop}
-use Rattle.ep_simulation.specs.Matching.{Memory, Injection, Slots, AreAmong, kept_slots, HasType, HasOwnType}
+use Rattle.ep_simulation.specs.Matching.{MachineMemory, Injection, Slots, AreAmong, kept_slots, HasType, HasOwnType}
 use Rattle.ep_object.specs.Operands.{Operand}
 use Rattle.ep_object.specs.Placing.{Placement, CodeStands}
 use Rattle.ep_simulation.specs.Promises.{CallsAreKept}
@@ -34,7 +34,7 @@ use Rattle.ep_values.specs.TypeValues.{type_among}
 abbrev pub IsFollowedThrough : {A : Type 0} → Declarations → Image → Placement → List ℕ → Slots → ℕ → ℕ → List Instr
     → Computation A → (List Operand → A → Operands) → (A → ℕ) → Type 0
 IsFollowedThrough declared G p unit untouched n at code c Then gain =
-    (begun : State) (injection : Injection) (memory : Memory) → MatchesNames declared injection begun memory
+    (begun : State) (injection : Injection) (memory : MachineMemory) → MatchesNames declared injection begun memory
     → (below : List Operand) (credit : ℕ) → least_credit ≤ credit → unit_in G memory.frames ≡ unit
     → Fragment declared G (Since untouched injection begun memory) n
     (point injection memory (p.instructions.before + at) below) c (p.instructions.before + (at + length code))

@@ -13,7 +13,7 @@ use Rattle.ep_gen_expr.proofs.public.StructuredValues.{AreElementsFollowed, at_f
 use Rattle.ep_gen_expr.proofs.public.WholeStructures.{named_within, structured_spares, structured_follows}
 use Rattle.ep_gen_type.specs.TypeCode.{parts_code, start_code}
 use Rattle.ep_simulation.specs.Follows.{point, Facts, Lasts, Fragment, Inside, IsStructure, TypeOnTop}
-use Rattle.ep_simulation.specs.Matching.{AreAmong, Describes, Matches, Slots, Memory, Injection, kept_slots}
+use Rattle.ep_simulation.specs.Matching.{AreAmong, Describes, Matches, Slots, MachineMemory, Injection, kept_slots}
 use Rattle.ep_object.specs.Operands.{Operand, Word, weight}
 use Rattle.ep_object.specs.Operands as operand
 use Rattle.ep_object.specs.Placing.{Placement, CodeStands}
@@ -118,7 +118,7 @@ module _ (declared : Declarations) (G : Image) (untouched : Slots) (Here : Facts
         (parts_follow (type.Record ts) more rest some (at + length one) (code_back G ps p references at one (parts_code line more) stands))
 
   -- A result is given that may be tried as the initial state of a type, and its operand is on top of the type's number.
-  record GivenStart (a : TypeValue) (number : ℕ) (below : List Operand) (q : Result) (injection : Injection) (memory : Memory) (operands : List Operand) : Type 0 where
+  record GivenStart (a : TypeValue) (number : ℕ) (below : List Operand) (q : Result) (injection : Injection) (memory : MachineMemory) (operands : List Operand) : Type 0 where
     x : Operand
     is : operands ≡ x ∷ Word (pos number) ∷ below
     weighs : weight x ≡ weight_of q
@@ -127,14 +127,14 @@ module _ (declared : Declarations) (G : Image) (untouched : Slots) (Here : Facts
     tried : (d : Describes memory.types number a) (s : meaning.State) → Matches declared G injection s memory → IsTried memory.types number a d.kind d.bare q x
 
   -- The machine follows a constant, of a type but for initial states, to what may be tried, with credit for the words of the type.
-  record IsTriedBehind (a : TypeValue) (number : ℕ) (v : Expr) (at : ℕ) (injection : Injection) (memory : Memory) (below : List Operand) (d : ℕ) : Type 0 where
+  record IsTriedBehind (a : TypeValue) (number : ℕ) (v : Expr) (at : ℕ) (injection : Injection) (memory : MachineMemory) (below : List Operand) (d : ℕ) : Type 0 where
     extra : ℕ
     enough : suc (size_of a) ≤ d + 8 + extra
     follows : Fragment declared G Here n (point injection memory (p.instructions.before + at) (Word (pos number) ∷ below)) (eval call g unit line v) (p.instructions.before + (at + length (start_code line v)))
         (λ q. Inside untouched injection memory (GivenStart a number below q)) d (λ q. d + 8 + extra + weight_of q)
 
   value_follows : (t a : TypeValue) (number : ℕ) → bare_of a ≡ t → (v : Expr) → IsStartFor types t v → (at : ℕ) → CodeStands G ps p references at (start_code line v)
-      → (injection : Injection) (memory : Memory) (below : List Operand) (d : ℕ) → least_credit ≤ d → unit_in G memory.frames ≡ unit → IsTriedBehind a number v at injection memory below d
+      → (injection : Injection) (memory : MachineMemory) (below : List Operand) (d : ℕ) → least_credit ≤ d → unit_in G memory.frames ≡ unit → IsTriedBehind a number v at injection memory below d
   value_follows t a number over v (word_start low high h w bounds of_host) at stands injection memory below d least home =
       let size : size_of a ≡ 1 = sym (bare_size a) ∙ ap size_of over in
       record {
@@ -206,7 +206,7 @@ module _ (declared : Declarations) (G : Image) (untouched : Slots) (Here : Facts
 
   -- the value of a valid initial state over its type, and the type with it
   pub start_follows : (at : ℕ) (t : TypeValue) (v : Expr) → IsStartFor types t v → CodeStands G ps p references at (start_code line v ++ bare line op.T_INIT ∷ [])
-      → (injection : Injection) (memory : Memory) (below pushed : List Operand) (a : TypeValue) (d : ℕ) → least_credit ≤ d → unit_in G memory.frames ≡ unit
+      → (injection : Injection) (memory : MachineMemory) (below pushed : List Operand) (a : TypeValue) (d : ℕ) → least_credit ≤ d → unit_in G memory.frames ≡ unit
       → TypeOnTop t below a injection memory pushed
       → Fragment declared G Here n (point injection memory (p.instructions.before + at) pushed) (bind (eval call g unit line v) (λ q. begins_where call g unit line a q (start_from q))) (p.instructions.before + (at + length (start_code line v ++ bare line op.T_INIT ∷ []))) (λ b. Inside untouched injection memory (TypeOnTop t below b)) d (λ b. d)
   start_follows at t v fits stands injection memory below pushed a d least home top =

@@ -1,7 +1,7 @@
 -- The machine follows `case`.
 use Rattle.std.proofs.Common.{◌≡◌, ℕ, ℤ, pos, suc, ◌+◌, ◌*◌, ◌≤◌, ◌<◌, List, [], ◌∷◌, length, refl, sym, ap, ◌∙◌, arith}
 use Rattle.ep_simulation.specs.Follows.{point, Facts, Fragment, Inside, Bare}
-use Rattle.ep_simulation.specs.Matching.{Slots, Memory, Injection}
+use Rattle.ep_simulation.specs.Matching.{Slots, MachineMemory, Injection}
 use Rattle.ep_object.specs.Operands.{Operand, Word}
 use Rattle.ep_object.specs.Placing.{Placement, CodeStands}
 use Rattle.ep_object.specs.Runs.{unit_in}
@@ -39,7 +39,7 @@ module _ (declared : Declarations) (G : Image) (untouched : Slots) (Here : Facts
   -- With the value of a selector on top, the machine follows the computation to another place, where that value is gone. Some of the credit before is for the instruction that drops it and for the step of the `case`.
   abbrev pub Selects : ℕ → ℕ → ℤ → Computation (Unit {0}) → Type 0
   Selects at to z c =
-      (injection : Injection) (memory : Memory) (below : List Operand) (d : ℕ) → statement_credit ≤ d → unit_in G memory.frames ≡ unit
+      (injection : Injection) (memory : MachineMemory) (below : List Operand) (d : ℕ) → statement_credit ≤ d → unit_in G memory.frames ≡ unit
       → Fragment declared G Here n (point injection memory (p.instructions.before + at) (Word z ∷ below)) c (p.instructions.before + to) (λ a. Inside untouched injection memory (Bare below a)) (d + 7) (λ a. d)
 
   -- an arm, whose tests end at `test_end` and whose statement ends at `body_end`

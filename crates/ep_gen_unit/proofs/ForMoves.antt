@@ -7,7 +7,7 @@ use Rattle.ep_gen_expr.proofs.public.PlaceTypes.{kind_place}
 use Rattle.ep_gen_code.proofs.public.Placed.{jump_has, jump_false_has}
 use Rattle.ep_gen_unit.proofs.Parts.{code_stands-parts, Moves, ExpressionsFollow, PlacesFollow, statement_credit, ordinal_of_host}
 use Rattle.ep_simulation.specs.Follows.{point, Facts, Lasts, Fragment, Follows, Lands, Inside, Bare, IsNotLeft}
-use Rattle.ep_simulation.specs.Matching.{Slots, Memory, Injection, IsLike, IsSpot, at as standing}
+use Rattle.ep_simulation.specs.Matching.{Slots, MachineMemory, Injection, IsLike, IsSpot, at as standing}
 use Rattle.ep_object.specs.Operands.{Operand, Word}
 use Rattle.ep_object.specs.Operands as operand
 use Rattle.ep_object.specs.Placing.{Placement, CodeStands}
@@ -143,7 +143,7 @@ module _ {declared : Declarations} {G : Image} {untouched : Slots} {Here : Facts
   -- ---- the end
 
   -- the instruction that makes a variable undefined
-  pub undefine_moves : (low high : ℤ) (a : Component) (q : PlaceOf) (line at : ℕ) → CodeStands G ps p references at (bare line op.UNDEFINE ∷ []) → (injection : Injection) (memory : Memory) (below : List Operand) (d : ℕ) → 2 ≤ d → unit_in G memory.frames ≡ unit → IsSpot injection memory.types a q → IsLike memory.types q.type_number (type.Ordinal low high)
+  pub undefine_moves : (low high : ℤ) (a : Component) (q : PlaceOf) (line at : ℕ) → CodeStands G ps p references at (bare line op.UNDEFINE ∷ []) → (injection : Injection) (memory : MachineMemory) (below : List Operand) (d : ℕ) → 2 ≤ d → unit_in G memory.frames ≡ unit → IsSpot injection memory.types a q → IsLike memory.types q.type_number (type.Ordinal low high)
       → Fragment declared G Here n (point injection memory (p.instructions.before + at) (operand.Place q ∷ below)) (using (meaning.Error run_error.DISPOSED unit line) a.allocation (spend 1 (change (assigned a Undefined)))) (p.instructions.before + at + 1) (λ b. Inside untouched injection memory (Bare below b)) d (λ b. d)
   undefine_moves low high a q line at stands injection memory below d enough home spot described =
       fragment_less {n = suc n} (omega arith) (fragment_using {n = suc n} {e = λ b. d} a.allocation
@@ -193,7 +193,7 @@ module _ {declared : Declarations} {G : Image} {untouched : Slots} {Here : Facts
     steady_tested : (k : ℕ) (z w : ℤ) → Steady (spend 1 (if is_same z w then give tt else bind (assigns call n unit line (entire c.variable) (next_value c)) (λ b. turns_to call n unit k line c z (exec call n unit s))))
     steady_tested k z w = steady_spend 1 (steady_if (is_same z w) (steady_give tt) (steady_next k z))
 
-    pub turns_follow : (z : ℤ) (k : ℕ) → k ≤ n → (injection : Injection) (memory : Memory) (below : List Operand) (d : ℕ) → statement_credit ≤ d → unit_in G memory.frames ≡ unit
+    pub turns_follow : (z : ℤ) (k : ℕ) → k ≤ n → (injection : Injection) (memory : MachineMemory) (below : List Operand) (d : ℕ) → statement_credit ≤ d → unit_in G memory.frames ≡ unit
         → Fragment declared G Here k (point injection memory (p.instructions.before + body_at) (Word z ∷ below)) (turns_to call n unit k line c z (exec call n unit s)) (p.instructions.before + (back_at + 2)) (λ b. Inside untouched injection memory (Bare below b)) d (λ b. d)
     turns_follow z zero le injection memory below d enough home = fragment_cut
     turns_follow z (suc k) le injection memory below d enough home =
@@ -214,7 +214,7 @@ module _ {declared : Declarations} {G : Image} {untouched : Slots} {Here : Facts
         (turns_follow z k (omega (arith, le)) v3 m3 below d enough (unit_in-same G routine3 ∙ (unit_in-same G routine2 ∙ (unit_in-same G routine1 ∙ home))))))))))))
       where
         -- the jump that is taken where the value is the last one
-        tests : (z w : ℤ) (below : List Operand) (memory : Memory) (trace : Trace) → outcome G (standing (p.instructions.before + (test_at + 1 + length x.read + 1)) (Word (ordinal_of (not (is_same z w))) ∷ Word z ∷ below) memory trace)
+        tests : (z w : ℤ) (below : List Operand) (memory : MachineMemory) (trace : Trace) → outcome G (standing (p.instructions.before + (test_at + 1 + length x.read + 1)) (Word (ordinal_of (not (is_same z w))) ∷ Word z ∷ below) memory trace)
             ≡ record { weight = 0; to = Running 0 (standing (if is_same z w then p.instructions.before + (back_at + 1) else p.instructions.before + (test_at + 1 + length x.read + 2)) (Word z ∷ below) memory trace) }
         tests z w below memory trace =
             let here : ℕ = p.instructions.before + (test_at + 1 + length x.read + 1) in
@@ -280,7 +280,7 @@ module _ {declared : Declarations} {G : Image} {untouched : Slots} {Here : Facts
     steady_turns w = steady_turns_to call steady_call n unit n line c w steady_body
 
     -- the turns, and what comes before them
-    counts_moves : (injection : Injection) (memory : Memory) (below : List Operand) (d : ℕ) → statement_credit ≤ d → unit_in G memory.frames ≡ unit
+    counts_moves : (injection : Injection) (memory : MachineMemory) (below : List Operand) (d : ℕ) → statement_credit ≤ d → unit_in G memory.frames ≡ unit
         → Fragment declared G Here n (point injection memory (p.instructions.before + f_at) below) (counts call n unit line c (exec call n unit s)) (p.instructions.before + whole) (λ b. Inside untouched injection memory (Bare below b)) (d + 7) (λ b. d)
     counts_moves injection memory below d enough home =
         let code = parts.is_first in

@@ -12,7 +12,7 @@ use Rattle.ep_gen_unit.specs.UnitLaws.{AreDeclared}
 use Rattle.ep_gen_unit.proofs.Sized.{fragment_sized, sized_gains}
 use Rattle.ep_gen_unit.proofs.Parts.{code_stands-parts}
 use Rattle.ep_simulation.specs.Follows.{point, Facts, Lasts, Fragment, Inside, Bare, SameRoutine, TypeOnTop}
-use Rattle.ep_simulation.specs.Matching.{AreAmong, Slots, Memory, Injection, Describes, HasType, kept_slots}
+use Rattle.ep_simulation.specs.Matching.{AreAmong, Slots, MachineMemory, Injection, Describes, HasType, kept_slots}
 use Rattle.ep_object.specs.Operands.{Operand, Word}
 use Rattle.ep_object.specs.Placing.{Placement, CodeStands, HasDistinctNames}
 use Rattle.ep_object.specs.Runs.{unit_in}
@@ -56,7 +56,7 @@ VariablesAreFree declared G untouched x = (unit : ℕ) → slice_get G.units uni
 abbrev pub MovesIn : Declarations → Image → Slots → Facts → Placement → ℕ → ImageUnit → ℕ → ℕ
     → Computation (Unit {0}) → Type 0
 MovesIn declared G untouched Here p n x at to c =
-    (injection : Injection) (memory : Memory) (below : List Operand) (d : ℕ) → least_credit ≤ d
+    (injection : Injection) (memory : MachineMemory) (below : List Operand) (d : ℕ) → least_credit ≤ d
     → RunsInUnit G memory.frames x → unit_in G memory.frames ≡ x.name
     → Fragment declared G Here n (point injection memory (p.instructions.before + at) below) c (p.instructions.before + to) (λ a. Inside untouched injection memory (Bare below a)) d (λ a. d)
 
@@ -67,7 +67,7 @@ module _ (declared : Declarations) (G : Image) (untouched : Slots) (Here : Facts
     make_row_moves : (t : TypeValue) (type_number : ℕ) → IsTypeValue t → AreStarts t
         → ((v : UnitVariable) → declared.variables x.name number ≡ Some v → HasType declared x.name v (bare_of t))
         → (place : ℕ) → slice_get G.instructions place ≡ Some (instr op.MAKE (pos number) 0 line)
-        → (injection : Injection) (memory : Memory) (below : List Operand) (d left : ℕ) → 1 ≤ d → left ≤ d → (size_of t ≡ 0 → suc left ≤ d)
+        → (injection : Injection) (memory : MachineMemory) (below : List Operand) (d left : ℕ) → 1 ≤ d → left ≤ d → (size_of t ≡ 0 → suc left ≤ d)
         → RunsInUnit G memory.frames x → Describes memory.types type_number t
         → Fragment declared G Here n (point injection memory place (Word (pos type_number) ∷ below)) (allocate x.name number t) (place + 1) (λ a. Inside untouched injection memory (Bare below a)) d (λ a. left)
     make_row_moves t type_number valid starts declared_so place has injection memory below d left enough less empty home described =

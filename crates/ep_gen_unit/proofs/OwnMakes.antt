@@ -13,7 +13,7 @@ use Rattle.ep_gen_unit.proofs.Sized.{fragment_sized}
 use Rattle.ep_gen_unit.proofs.Parts.{code_stands-parts}
 use Rattle.ep_simulation.specs.Activations.{InActivation}
 use Rattle.ep_simulation.specs.Follows.{point, Fragment, Lasts, StillRuns, Inside, TypeOnTop}
-use Rattle.ep_simulation.specs.Matching.{AreAmong, Slots, Memory, Injection, IsSpot, Describes, IsLike, HasOwnType, kept_slots}
+use Rattle.ep_simulation.specs.Matching.{AreAmong, Slots, MachineMemory, Injection, IsSpot, Describes, IsLike, HasOwnType, kept_slots}
 use Rattle.ep_object.specs.Calls.{argument_at}
 use Rattle.ep_object.specs.Operands.{Operand, Word}
 use Rattle.ep_object.specs.Operands as operand
@@ -60,13 +60,13 @@ use Rattle.ep_object.specs.declared.op.TheConstants as op
 
 -- From a place of the object to another one, the machine follows the computation in the activation of a routine of the unit,
 -- and leaves the operands as they were.
-abbrev pub MovesOwn : Declarations → Image → Slots → Injection → Memory → Placement → ℕ → List ℕ → ℕ → ℕ → Computation (Unit {0}) → Type 0
+abbrev pub MovesOwn : Declarations → Image → Slots → Injection → MachineMemory → Placement → ℕ → List ℕ → ℕ → ℕ → Computation (Unit {0}) → Type 0
 MovesOwn declared G untouched first start p n unit at to c =
-    (injection : Injection) (memory : Memory) (below : List Operand) (d : ℕ) → least_credit ≤ d → unit_in G memory.frames ≡ unit
+    (injection : Injection) (memory : MachineMemory) (below : List Operand) (d : ℕ) → least_credit ≤ d → unit_in G memory.frames ≡ unit
     → Fragment declared G (InActivation declared untouched first start) n (point injection memory (p.instructions.before + at) below) c (p.instructions.before + to) (λ a. StillBare memory below) d (λ a. d)
 
 -- a value has at most as much weight as a variable of its type has words
-value_fits : (injection : Injection) (memory : Memory) (k : Kind) (t : TypeValue) (r : Result) (o : Operand) → IsTypeOfKind k (bare_of t) → IsValueOf injection memory k r o → weight_of r ≤ size_of t
+value_fits : (injection : Injection) (memory : MachineMemory) (k : Kind) (t : TypeValue) (r : Result) (o : Operand) → IsTypeOfKind k (bare_of t) → IsValueOf injection memory k r o → weight_of r ≤ size_of t
 value_fits injection memory (kind.Ordinal h) t r o of_kind (z, r_is, of_host, o_is) = let none : weight_of r ≡ 0 = ap weight_of r_is in omega (arith, none)
 value_fits injection memory kind.Bytes t r o of_kind v = absurd of_kind
 value_fits injection memory (kind.Set h) t r o of_kind (ms, r_is, is_set, o_is) = let none : weight_of r ≡ 0 = ap weight_of r_is in omega (arith, none)
@@ -79,18 +79,18 @@ credit_left : (t : TypeValue) (w d : ℕ) → w ≤ size_of t → d + 3 + 2 * w 
 credit_left t w d le = omega (arith, le)
 
 -- what is so after a later memory is so after an earlier one
-still_later : {before memory : Memory} {below : List Operand} → StillRuns before.frames memory.frames → (longer : Injection) (after : Memory) (operands : List Operand)
+still_later : {before memory : MachineMemory} {below : List Operand} → StillRuns before.frames memory.frames → (longer : Injection) (after : MachineMemory) (operands : List Operand)
     → StillBare memory below longer after operands → StillBare before below longer after operands
 still_later runs longer after operands h = record { runs = still_runs-trans runs h.runs; operands_are = h.operands_are }
 
-module _ (declared : Declarations) (G : Image) (untouched : Slots) (first : Injection) (start : Memory) (lasts : Lasts untouched (InActivation declared untouched first start)) (ps : List Placement) (p : Placement) (references : List Reference) (call : Handler) (steady_call : IsSteadyHandler call) (n : ℕ) (unit : List ℕ) (own_valid : HaveValidOwnTypes declared)
+module _ (declared : Declarations) (G : Image) (untouched : Slots) (first : Injection) (start : MachineMemory) (lasts : Lasts untouched (InActivation declared untouched first start)) (ps : List Placement) (p : Placement) (references : List Reference) (call : Handler) (steady_call : IsSteadyHandler call) (n : ℕ) (unit : List ℕ) (own_valid : HaveValidOwnTypes declared)
     (types_are : declared.types unit ≡ declared.routine_types) (among : AreAmong untouched (kept_slots declared G)) (kept : CallsAreKept declared G ps call n) (referred : AreReferred declared unit declared.routine_types references) (swap_referred : IsSwapReferred declared unit references) (arrays_referred : AreArraysReferred declared unit references) where
   module _ (number line at : ℕ) (v : UnitVariable) (is_declared : slice_get (variables_up declared 0) number ≡ Some v) where
     -- `Make`, over the number of the type
     make_row_moves : (t : TypeValue) (type_number : ℕ) → IsTypeValue t → AreStarts t
         → ((w : UnitVariable) → slice_get (variables_up declared 0) number ≡ Some w → HasOwnType declared w (bare_of t))
         → (place : ℕ) → slice_get G.instructions place ≡ Some (instr op.MAKE (pos number) 0 line)
-        → (injection : Injection) (memory : Memory) (below : List Operand) (d left : ℕ) → 1 ≤ d → suc left ≤ d + 63 * size_of t
+        → (injection : Injection) (memory : MachineMemory) (below : List Operand) (d left : ℕ) → 1 ≤ d → suc left ≤ d + 63 * size_of t
         → Describes memory.types type_number t
         → Fragment declared G (InActivation declared untouched first start) n (point injection memory place (Word (pos type_number) ∷ below)) (allocate_own number t) (place + 1) (λ a. MadeOwn untouched number t injection memory below) d (λ a. left)
     make_row_moves t type_number valid starts declared_so place has injection memory below d left enough gains described =
@@ -99,7 +99,7 @@ module _ (declared : Declarations) (G : Image) (untouched : Slots) (first : Inje
   -- A variable is made in its slot. Each of its words leaves a credit.
   pub sized_moves : (g number at : ℕ) (v : UnitVariable) (is_declared : slice_get (variables_up declared 0) number ≡ Some v)
       → CodeStands G ps p references at (make_code number v)
-      → (injection : Injection) (memory : Memory) (below : List Operand) (d : ℕ) → least_credit ≤ d → unit_in G memory.frames ≡ unit
+      → (injection : Injection) (memory : MachineMemory) (below : List Operand) (d : ℕ) → least_credit ≤ d → unit_in G memory.frames ≡ unit
       → Fragment declared G (InActivation declared untouched first start) n (point injection memory (p.instructions.before + at) below) (make_own call g unit number v) (p.instructions.before + (at + length (make_code number v))) (λ a. StillBare memory below) d (λ a. d + 3 * size_of (own_valid 0 number v is_declared).type_value)
   sized_moves g number at v is_declared stands injection memory below d enough home =
       let types = declared.routine_types in
@@ -152,7 +152,7 @@ module _ (declared : Declarations) (G : Image) (untouched : Slots) (first : Inje
   pub make_sized_moves : (g number at : ℕ) (v : UnitVariable) (vs : List UnitVariable) (t : TypeValue) → type_of declared.routine_types (denoter_of v.denoter) ≡ Some t
       → ((i : ℕ) (w : UnitVariable) → slice_get (v ∷ vs) i ≡ Some w → slice_get (variables_up declared 0) (number + i) ≡ Some w)
       → CodeStands G ps p references at (make_all_code number (v ∷ vs))
-      → (injection : Injection) (memory : Memory) (below : List Operand) (d : ℕ) → least_credit ≤ d → unit_in G memory.frames ≡ unit
+      → (injection : Injection) (memory : MachineMemory) (below : List Operand) (d : ℕ) → least_credit ≤ d → unit_in G memory.frames ≡ unit
       → Fragment declared G (InActivation declared untouched first start) n (point injection memory (p.instructions.before + at) below) (make_all_own call g unit number (v ∷ vs)) (p.instructions.before + (at + length (make_all_code number (v ∷ vs)))) (λ a. StillBare memory below) d (λ a. d + 3 * size_of t)
   make_sized_moves g number at v vs t has_type are_declared stands injection memory below d enough home =
       let types = declared.routine_types in
@@ -184,7 +184,7 @@ module _ (declared : Declarations) (G : Image) (untouched : Slots) (first : Inje
     -- a value formal takes a value of its kind
     value_moves : (kind : Kind) (r : Result) (o : Operand) → IsOfKind kind declared.routine_types (denoter_of f.denoter)
         → CodeStands G ps p references at (value_code line number f)
-        → (injection : Injection) (memory : Memory) (below : List Operand) (d : ℕ) → least_credit ≤ d → unit_in G memory.frames ≡ unit
+        → (injection : Injection) (memory : MachineMemory) (below : List Operand) (d : ℕ) → least_credit ≤ d → unit_in G memory.frames ≡ unit
         → argument_at (arguments_in memory.frames.calls) number ≡ Some o → suc number ≤ length (arguments_in memory.frames.calls) → IsValueOf injection memory kind r o
         → Fragment declared G (InActivation declared untouched first start) n (point injection memory (p.instructions.before + at) below) (bind (elaborate call g unit line (denoter_of f.denoter)) (λ a. bind (allocate_own number a) (λ _. initialized unit line a r))) (p.instructions.before + (at + length (value_code line number f))) (λ a. Taken untouched injection memory (without_argument number (arguments_in memory.frames.calls)) below) d (λ a. d)
     value_moves kind r o is_kind stands injection memory below d enough home there within value =
@@ -229,7 +229,7 @@ module _ (declared : Declarations) (G : Image) (untouched : Slots) (first : Inje
     -- a variable formal takes a variable
     reference_moves : CodeStands G ps p references at (place_taken line number)
         → (m : Component) (t : TypeValue) (q : PlaceOf) → bare_type_of declared.routine_types (denoter_of f.denoter) ≡ Some t
-        → (injection : Injection) (memory : Memory) (below : List Operand) (d : ℕ) → least_credit ≤ d → unit_in G memory.frames ≡ unit
+        → (injection : Injection) (memory : MachineMemory) (below : List Operand) (d : ℕ) → least_credit ≤ d → unit_in G memory.frames ≡ unit
         → argument_at (arguments_in memory.frames.calls) number ≡ Some (operand.Place q) → suc number ≤ length (arguments_in memory.frames.calls)
         → IsSpot injection memory.types m q → IsLike memory.types q.type_number t
         → Fragment declared G (InActivation declared untouched first start) n (point injection memory (p.instructions.before + at) below) (spend 1 (change (with_own_bound number m))) (p.instructions.before + (at + 2)) (λ a. Taken untouched injection memory (without_argument number (arguments_in memory.frames.calls)) below) d (λ a. d)
@@ -250,7 +250,7 @@ module _ (declared : Declarations) (G : Image) (untouched : Slots) (first : Inje
     -- a formal parameter takes its argument
     take_moves : (w : FormalMode) (q : Passing) (x : Argument) → IsPassed declared.routine_types w f q
         → CodeStands G ps p references at (take_code line number w f)
-        → (o : Operand) (injection : Injection) (memory : Memory) (below : List Operand) (d : ℕ) → least_credit ≤ d → unit_in G memory.frames ≡ unit
+        → (o : Operand) (injection : Injection) (memory : MachineMemory) (below : List Operand) (d : ℕ) → least_credit ≤ d → unit_in G memory.frames ≡ unit
         → argument_at (arguments_in memory.frames.calls) number ≡ Some o → suc number ≤ length (arguments_in memory.frames.calls) → IsArgument injection memory q x o
         → Fragment declared G (InActivation declared untouched first start) n (point injection memory (p.instructions.before + at) below) (takes_by call g unit w line number f x) (p.instructions.before + (at + length (take_code line number w f))) (λ a. Taken untouched injection memory (without_argument number (arguments_in memory.frames.calls)) below) d (λ a. d)
     take_moves mode.Value (ByValue k) (Value r) is_kind stands o injection memory below d enough home there within is =
@@ -274,7 +274,7 @@ module _ (declared : Declarations) (G : Image) (untouched : Slots) (first : Inje
   pub takes_all_moves : (g line number at : ℕ) (fs : List Formal) (qs : List Passing) (xs : List Argument) → ArePassed declared.routine_types fs qs
       → ((i : ℕ) (f : Formal) → slice_get fs i ≡ Some f → slice_get (variables_up declared 0) (number + i) ≡ Some (formal_variable line f))
       → CodeStands G ps p references at (take_all_code line number fs)
-      → (injection : Injection) (memory : Memory) (below : List Operand) (d : ℕ) → least_credit ≤ d → unit_in G memory.frames ≡ unit
+      → (injection : Injection) (memory : MachineMemory) (below : List Operand) (d : ℕ) → least_credit ≤ d → unit_in G memory.frames ≡ unit
       → AreAwaited injection memory qs xs number (arguments_in memory.frames.calls)
       → Fragment declared G (InActivation declared untouched first start) n (point injection memory (p.instructions.before + at) below) (takes_all call g unit line number fs xs) (p.instructions.before + (at + length (take_all_code line number fs))) (λ a. StillBare memory below) d (λ a. d)
   takes_all_moves g line number at [] [] [] passed are_declared stands injection memory below d enough home awaited =

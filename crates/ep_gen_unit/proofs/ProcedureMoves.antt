@@ -6,7 +6,7 @@ use Rattle.ep_gen_expr.proofs.public.Calls.{call_ends}
 use Rattle.ep_gen_code.proofs.public.Placed.{code_back}
 use Rattle.ep_gen_unit.proofs.Parts.{Moves, CallsFollow}
 use Rattle.ep_simulation.specs.Follows.{Facts}
-use Rattle.ep_simulation.specs.Matching.{Memory, Injection, Slots}
+use Rattle.ep_simulation.specs.Matching.{MachineMemory, Injection, Slots}
 use Rattle.ep_object.specs.Operands.{Operand}
 use Rattle.ep_object.specs.Placing.{Placement, CodeStands}
 use Rattle.ep_simulation.specs.Promises.{AreResults, CallsAreKept, ResultsOnTop}
@@ -31,7 +31,7 @@ no_kinds types None (k ∷ ks) e h = absurd h
 no_kinds types (Some r) ks e h = cc
 
 -- so nothing is on top of the operands below
-no_results : (below operands : List Operand) (ks : List Kind) (rs : List Result) (injection : Injection) (memory : Memory)
+no_results : (below operands : List Operand) (ks : List Kind) (rs : List Result) (injection : Injection) (memory : MachineMemory)
     → ks ≡ [] → ResultsOnTop ks below rs injection memory operands → operands ≡ below
 no_results below operands [] [] injection memory e h = h
 no_results below operands [] (r ∷ rs) injection memory e h = absurd h

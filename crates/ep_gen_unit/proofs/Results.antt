@@ -17,7 +17,7 @@ use Rattle.ep_simulation.proofs.public.rows.PlaceRows.{defined_fails, defined_te
 use Rattle.ep_simulation.proofs.public.rows.Rows.{fail_fails, jump_false_jumps}
 use Rattle.ep_simulation.specs.Activations.{KnowsNames}
 use Rattle.ep_simulation.specs.Follows.{Facts, Follows, Fragment, Lands, Inside, OnTop, PlaceOnTop, IsNotLeft, point}
-use Rattle.ep_simulation.specs.Matching.{Memory, Injection, Matches, Slots, HasOwnType, IsLike, IsSpot, at as standing}
+use Rattle.ep_simulation.specs.Matching.{MachineMemory, Injection, Matches, Slots, HasOwnType, IsLike, IsSpot, at as standing}
 use Rattle.ep_object.specs.Operands.{Operand, Word}
 use Rattle.ep_object.specs.Operands as operand
 use Rattle.ep_object.specs.Placing.{Placement, CodeStands}
@@ -58,7 +58,7 @@ ends_so unit line o t is = ap (λ number. meaning.Error number unit line) (sym (
 module _ {declared : Declarations} {G : Image} {Here : Facts} (untouched : Slots) (knows : KnowsNames declared Here) (ps : List Placement) (p : Placement) (references : List Reference) (n : ℕ) (unit : List ℕ) (room : p.instructions.before + p.instructions.own ≤ length G.instructions)
     (number line at : ℕ) (h : Host) (low high : ℤ) (of_host : IsTypeOf h (type.Ordinal low high)) (stands : CodeStands G ps p references at (result_code line number at)) (inside : at + 6 < p.instructions.own) where
   -- from the instruction that tells whether the variable has a value, where it lives
-  given_follows : (injection : Injection) (memory : Memory) (below : List Operand) (a : Component) (q : PlaceOf) → IsSpot injection memory.types a q → IsLike memory.types q.type_number (type.Ordinal low high) → (d : ℕ) → 8 ≤ d → unit_in G memory.frames ≡ unit
+  given_follows : (injection : Injection) (memory : MachineMemory) (below : List Operand) (a : Component) (q : PlaceOf) → IsSpot injection memory.types a q → IsLike memory.types q.type_number (type.Ordinal low high) → (d : ℕ) → 8 ≤ d → unit_in G memory.frames ≡ unit
       → (s : meaning.State) → Matches declared G injection s memory → Here injection s memory → has_ended a.allocation s ≡ false
       → Follows (λ k. IsNotLeft memory.frames k.frames) G n (standing ((p.instructions.before + at) + 2) (operand.Place q ∷ operand.Place q ∷ below) memory s.trace) s (gives_result unit line a) (λ rs. Lands declared G Here ((p.instructions.before + at) + 5) (ResultsOnTop (kind.Ordinal h ∷ []) below rs)) d (λ rs. 1 + credit_of rs)
   given_follows injection memory below a q spot described d enough home s matches here living =
@@ -109,7 +109,7 @@ module _ {declared : Declarations} {G : Image} {Here : Facts} (untouched : Slots
 
   -- the end of a function: the place of the variable, whether that has a value, and the value
   ordinal_moves : (v : UnitVariable) → slice_get (variables_up declared 0) number ≡ Some v → HasOwnType declared v (type.Ordinal low high)
-      → (injection : Injection) (memory : Memory) (below : List Operand) (d : ℕ) → 16 ≤ d → unit_in G memory.frames ≡ unit
+      → (injection : Injection) (memory : MachineMemory) (below : List Operand) (d : ℕ) → 16 ≤ d → unit_in G memory.frames ≡ unit
       → Fragment declared G Here n (point injection memory (p.instructions.before + at) below) (result_at unit line number) ((p.instructions.before + at) + 5) (λ rs. ResultsOnTop (kind.Ordinal h ∷ []) below rs) d (λ rs. 1 + credit_of rs)
   ordinal_moves v is_declared has_type injection memory below d enough home =
       fragment_bind {middle = (p.instructions.before + at) + 1} {P = λ a. Inside untouched injection memory (PlaceOnTop (type.Ordinal low high) below a)} {e = λ a. d - 1}
@@ -134,7 +134,7 @@ module _ {declared : Declarations} {G : Image} {Here : Facts} (untouched : Slots
 pub result_moves : {declared : Declarations} {G : Image} {Here : Facts} (untouched : Slots) (knows : KnowsNames declared Here) (ps : List Placement) (p : Placement) (references : List Reference) (n : ℕ) (unit : List ℕ) (room : p.instructions.before + p.instructions.own ≤ length G.instructions)
     (number line at : ℕ) (h : Host) (t : TypeValue) → IsTypeOf h t → CodeStands G ps p references at (result_code line number at) → at + 6 < p.instructions.own
     → (v : UnitVariable) → slice_get (variables_up declared 0) number ≡ Some v → HasOwnType declared v t
-    → (injection : Injection) (memory : Memory) (below : List Operand) (d : ℕ) → 16 ≤ d → unit_in G memory.frames ≡ unit
+    → (injection : Injection) (memory : MachineMemory) (below : List Operand) (d : ℕ) → 16 ≤ d → unit_in G memory.frames ≡ unit
     → Fragment declared G Here n (point injection memory (p.instructions.before + at) below) (result_at unit line number) (p.instructions.before + at + 5) (λ rs. ResultsOnTop (kind.Ordinal h ∷ []) below rs) d (λ rs. 1 + credit_of rs)
 result_moves untouched knows ps p references n unit room number line at h type.Text of_host stands inside v is_declared has_type injection memory below d enough home = absurd of_host
 result_moves untouched knows ps p references n unit room number line at h (type.Array low high of) of_host stands inside v is_declared has_type injection memory below d enough home = absurd of_host
@@ -149,7 +149,7 @@ result_moves untouched knows ps p references n unit room number line at h (type.
 pub structure_moves : {declared : Declarations} {G : Image} {Here : Facts} (untouched : Slots) (knows : KnowsNames declared Here) (ps : List Placement) (p : Placement) (references : List Reference) (n : ℕ) (unit : List ℕ)
     (number line at : ℕ) (t : TypeValue) → IsStructured t → CodeStands G ps p references at (structure_code line number)
     → (v : UnitVariable) → slice_get (variables_up declared 0) number ≡ Some v → HasOwnType declared v t
-    → (injection : Injection) (memory : Memory) (below : List Operand) (d : ℕ) → 16 ≤ d → unit_in G memory.frames ≡ unit
+    → (injection : Injection) (memory : MachineMemory) (below : List Operand) (d : ℕ) → 16 ≤ d → unit_in G memory.frames ≡ unit
     → Fragment declared G Here n (point injection memory (p.instructions.before + at) below) (result_at unit line number) (p.instructions.before + at + 2) (λ rs. ResultsOnTop (kind.Structured t ∷ []) below rs) (d + 3 * size_of t) (λ rs. 1 + credit_of rs)
 structure_moves {declared = declared} {G = G} {Here = Here} untouched knows ps p references n unit number line at t structured stands v is_declared has_type injection memory below d enough home =
     fragment_bind {middle = (p.instructions.before + at) + 1} {P = λ a. Inside untouched injection memory (PlaceOnTop t below a)} {e = λ a. d - 1 + 3 * size_of t}
@@ -168,7 +168,7 @@ structure_moves {declared = declared} {G = G} {Here = Here} untouched knows ps p
           (λ s matches here living. gives longer after a top.place top.spot top.described s matches here living)),
     ))
   where
-    gives : (longer : Injection) (after : Memory) (a : Component) (q : PlaceOf) → IsSpot longer after.types a q → IsLike after.types q.type_number t
+    gives : (longer : Injection) (after : MachineMemory) (a : Component) (q : PlaceOf) → IsSpot longer after.types a q → IsLike after.types q.type_number t
         → (s : meaning.State) → Matches declared G longer s after → Here longer s after → has_ended a.allocation s ≡ false
         → Follows (λ k. IsNotLeft after.frames k.frames) G n (standing ((p.instructions.before + at) + 1) (operand.Place q ∷ below) after s.trace) s (gives_result unit line a) (λ rs. Lands declared G Here (p.instructions.before + at + 2) (ResultsOnTop (kind.Structured t ∷ []) below rs)) (d - 1 + 3 * size_of t) (λ rs. 1 + credit_of rs)
     gives longer after a q spot described s matches here living =
@@ -193,7 +193,7 @@ structure_moves {declared = declared} {G = G} {Here = Here} untouched knows ps p
 pub set_moves : {declared : Declarations} {G : Image} {Here : Facts} (untouched : Slots) (knows : KnowsNames declared Here) (ps : List Placement) (p : Placement) (references : List Reference) (n : ℕ) (unit : List ℕ)
     (number line at : ℕ) (h : Host) (low high : ℤ) → IsSetOf h (type.Set low high) → CodeStands G ps p references at (structure_code line number)
     → (v : UnitVariable) → slice_get (variables_up declared 0) number ≡ Some v → HasOwnType declared v (type.Set low high)
-    → (injection : Injection) (memory : Memory) (below : List Operand) (d : ℕ) → 16 ≤ d → unit_in G memory.frames ≡ unit
+    → (injection : Injection) (memory : MachineMemory) (below : List Operand) (d : ℕ) → 16 ≤ d → unit_in G memory.frames ≡ unit
     → Fragment declared G Here n (point injection memory (p.instructions.before + at) below) (result_at unit line number) (p.instructions.before + at + 2) (λ rs. ResultsOnTop (kind.Set h ∷ []) below rs) d (λ rs. 1 + credit_of rs)
 set_moves {declared = declared} {G = G} {Here = Here} untouched knows ps p references n unit number line at h low high of_host stands v is_declared has_type injection memory below d enough home =
     fragment_bind {middle = (p.instructions.before + at) + 1} {P = λ a. Inside untouched injection memory (PlaceOnTop t below a)} {e = λ a. d - 1}
@@ -219,10 +219,10 @@ set_moves {declared = declared} {G = G} {Here = Here} untouched knows ps p refer
     t = type.Set low high
 
     -- what `Load` does there
-    Reading : Injection → Memory → Component → PlaceOf → meaning.State → List ℕ → Type 0
+    Reading : Injection → MachineMemory → Component → PlaceOf → meaning.State → List ℕ → Type 0
     Reading longer after a q s u = ReadsResult declared G Here (standing ((p.instructions.before + at) + 1) (operand.Place q ∷ below) after s.trace) 0 1 u line ((p.instructions.before + at) + 1 + 1) (λ r. Inside untouched longer after (OnTop (kind.Set h) below r)) s (result_of a s)
 
-    gives : (longer : Injection) (after : Memory) (a : Component) {q : PlaceOf} (s : meaning.State)
+    gives : (longer : Injection) (after : MachineMemory) (a : Component) {q : PlaceOf} (s : meaning.State)
         → meaning.Error (unresulting (type_at a s)) unit line ≡ meaning.Error run_error.UNDEFINED_VALUE unit line → Reading longer after a q s unit
         → Follows (λ k. IsNotLeft after.frames k.frames) G n (standing ((p.instructions.before + at) + 1) (operand.Place q ∷ below) after s.trace) s (gives_result unit line a) (λ rs. Lands declared G Here (p.instructions.before + at + 2) (ResultsOnTop (kind.Set h ∷ []) below rs)) (d - 1) (λ rs. 1 + credit_of rs)
     gives longer after a s ends (Nothing none fails) =

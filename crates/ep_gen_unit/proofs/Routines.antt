@@ -32,7 +32,7 @@ use Rattle.ep_simulation.proofs.public.matching.Names.{activation_knows}
 use Rattle.ep_simulation.proofs.public.matching.OwnVariables.{in_activation-lasts}
 use Rattle.ep_simulation.specs.Activations.{KnowsNames, IsCallable, InActivation}
 use Rattle.ep_simulation.specs.Follows.{Facts, Lasts, Since, Fragment, Inside, Bare, point}
-use Rattle.ep_simulation.specs.Matching.{AreAmong, Memory, Injection, Slots, kept_slots}
+use Rattle.ep_simulation.specs.Matching.{AreAmong, MachineMemory, Injection, Slots, kept_slots}
 use Rattle.ep_object.specs.Operands.{Operand}
 use Rattle.ep_object.specs.Placing.{Placement, CodeStands, Stands, HasDistinctNames, moved, placed_call, placed_routine}
 use Rattle.ep_simulation.specs.Promises.{Passing, ByValue, ByReference, IsPassed, ArePassed, CallsAt, AreArguments, AreResults, ResultsOnTop, RoutineKeeps, CallsAreKept, credit_of}
@@ -361,7 +361,7 @@ module _ (u : TypedUnit) (o : Object) (is : IsProgramCode u o) (valid : IsValid 
       returns : op_of instruction.op ≡ Some table.Return
       first_field : instruction.a ≡ pos 0
       second_field : instruction.b ≡ 0
-      moves : {Here : Facts} → KnowsNames within Here → (longer : Injection) (after : Memory) (below : List Operand) → unit_in G after.frames ≡ u.name
+      moves : {Here : Facts} → KnowsNames within Here → (longer : Injection) (after : MachineMemory) (below : List Operand) → unit_in G after.frames ≡ u.name
           → Fragment within G Here m (point longer after (p.instructions.before + end) below) (results_given u.name line_of (length formals) y) place (λ rs. ResultsOnTop ks below rs) (63 + more) (λ rs. 1 + credit_of rs)
 
     abbrev result_of_name : RoutineResult → UnitVariable
@@ -465,11 +465,11 @@ module _ (u : TypedUnit) (o : Object) (is : IsProgramCode u o) (valid : IsValid 
     ends = ends_of r.result its.result refl x.end_stands x.room_for
 
     -- a call that hands over such operands
-    module _ (place : ℕ) (parent : FrameNumber) (injection : Injection) (memory : Memory) (below operands : List Operand) (xs : List Argument) (hands : Handed injection memory passings.0 xs below operands) where
+    module _ (place : ℕ) (parent : FrameNumber) (injection : Injection) (memory : MachineMemory) (below operands : List Operand) (xs : List Argument) (hands : Handed injection memory passings.0 xs below operands) where
       counted : length hands.top ≡ image_routine.arguments
       counted = hands.many ∙ (passings.2 ∙ sym takes)
 
-      abbrev begun : Memory
+      abbrev begun : MachineMemory
       begun = begun_memory (own u) G (moved p.routines number) image_routine exists numbered hands.top counted (weights_of xs) hands.weigh parent place memory
 
       home : unit_in G begun.frames ≡ u.name
@@ -494,7 +494,7 @@ module _ (u : TypedUnit) (o : Object) (is : IsProgramCode u o) (valid : IsValid 
           awaited-grown (grown_begun (own u) G (moved p.routines number) image_routine exists numbered hands.top counted (weights_of xs) hands.weigh {untouched = untouched} parent place injection memory) passings.0 xs 0 (map Some hands.top) (subst (λ l. AreAwaited injection memory passings.0 xs 0 (map Some l)) none (hands.awaited 0 [] refl))
 
       -- the block, once the arguments are taken and the variables are made
-      runs_block : (longer : Injection) (after : Memory) (pushed : List Operand) → unit_in G after.frames ≡ u.name → pushed ≡ below
+      runs_block : (longer : Injection) (after : MachineMemory) (pushed : List Operand) → unit_in G after.frames ≡ u.name → pushed ≡ below
           → Fragment within G Here m (point longer after (p.instructions.before + (x.entry.entry + length (own_code r))) pushed) (exec call m u.name (stmt_of r.block)) (p.instructions.before + end) (λ b. Inside left longer after (Bare below b)) (63 + more) (λ b. 63 + more)
       runs_block longer after pushed at_home is_below =
           subst (λ o. Fragment within G Here m (point longer after (p.instructions.before + (x.entry.entry + length (own_code r))) o) (exec call m u.name (stmt_of r.block)) (p.instructions.before + end) (λ b. Inside left longer after (Bare below b)) (63 + more) (λ b. 63 + more)) (sym is_below)
@@ -511,7 +511,7 @@ module _ (u : TypedUnit) (o : Object) (is : IsProgramCode u o) (valid : IsValid 
       steady_gives = steady_results_given u.name line_of (length formals) r.result
 
       -- and then what it gives
-      blocks : (longer : Injection) (after : Memory) (pushed : List Operand) → unit_in G after.frames ≡ u.name → pushed ≡ below
+      blocks : (longer : Injection) (after : MachineMemory) (pushed : List Operand) → unit_in G after.frames ≡ u.name → pushed ≡ below
           → Fragment within G Here m (point longer after (p.instructions.before + (x.entry.entry + length (own_code r))) pushed) (bind (exec call m u.name (stmt_of r.block)) (λ b. gives)) ends.place (λ rs. ResultsOnTop results below rs) (63 + more) (λ rs. 1 + credit_of rs)
       blocks longer after pushed at_home is_below =
           fragment_bind {middle = p.instructions.before + end} {P = λ b. Inside left longer after (Bare below b)} {e = λ b. 63 + more} (λ b. steady_gives)
@@ -521,7 +521,7 @@ module _ (u : TypedUnit) (o : Object) (is : IsProgramCode u o) (valid : IsValid 
       -- the making of the variables, of which that of the result leaves a credit
       makes_all : (y : Option RoutineResult) (valid_result : IsResult u.types y) (at : ℕ) → ((i : ℕ) (v : UnitVariable) → slice_get (result_variable r.name line_of y ++ (r.variables ++ block_auxiliaries (stmt_of r.block))) i ≡ Some v → slice_get (variables_up within 0) (length formals + i) ≡ Some v)
           → CodeStands G ps p o.references at (make_all_code (length formals) (result_variable r.name line_of y ++ (r.variables ++ block_auxiliaries (stmt_of r.block))))
-          → (longer : Injection) (after : Memory) (below : List Operand) → unit_in G after.frames ≡ u.name
+          → (longer : Injection) (after : MachineMemory) (below : List Operand) → unit_in G after.frames ≡ u.name
           → Fragment within G Here m (point longer after (p.instructions.before + at) below) (make_all_own call m u.name (length formals) (result_variable r.name line_of y ++ (r.variables ++ block_auxiliaries (stmt_of r.block)))) (p.instructions.before + (at + length (make_all_code (length formals) (result_variable r.name line_of y ++ (r.variables ++ block_auxiliaries (stmt_of r.block)))))) (λ a. StillBare after below) 63 (λ a. 63 + spare y valid_result)
       makes_all None valid_result at are_declared at_stands longer after below at_home =
           fragment_credit {d = 63} {e = λ a. 63} (omega arith) (λ a. omega arith)
@@ -530,7 +530,7 @@ module _ (u : TypedUnit) (o : Object) (is : IsProgramCode u o) (valid : IsValid 
           make_sized_moves within G untouched injection begun lasts ps p o.references call steady_call m u.name scene.own_types_valid (own_types u) among_same kept_inside referred (swap_referred within u o is (own_count u)) (arrays_referred within u o is (own_count u)) m (length formals) at (result_of_name y) (r.variables ++ block_auxiliaries (stmt_of r.block)) (valid_result.denoter).type_value (valid_result.denoter).has_type are_declared at_stands longer after below 63 (omega arith) at_home
 
       -- the making of the variables, and then the block
-      makes : (longer : Injection) (after : Memory) (pushed : List Operand) → unit_in G after.frames ≡ u.name → pushed ≡ below
+      makes : (longer : Injection) (after : MachineMemory) (pushed : List Operand) → unit_in G after.frames ≡ u.name → pushed ≡ below
           → Fragment within G Here m (point longer after (p.instructions.before + (x.entry.entry + length takes_code)) pushed) (bind (make_all_own call m u.name (length formals) (made_variables r)) (λ a. bind (exec call m u.name (stmt_of r.block)) (λ b. gives))) ends.place (λ rs. ResultsOnTop results below rs) 63 (λ rs. 1 + credit_of rs)
       makes longer after pushed at_home is_below =
           let parts = code_stands-parts G ps p o.references x.entry.entry takes_code makes_code x.makes_stand in
@@ -562,7 +562,7 @@ module _ (u : TypedUnit) (o : Object) (is : IsProgramCode u o) (valid : IsValid 
     callee levels = record { unit = u.name; number = number; levels = levels }
 
     go : (place levels line : ℕ) → CallsAt G place (moved p.routines number) levels line
-        → (injection : Injection) (began : meaning.State) (memory : Memory)
+        → (injection : Injection) (began : meaning.State) (memory : MachineMemory)
         → IsCallable ((own u).types u.name) levels ((own u).around u.name number) injection began.calls memory
         → (below operands : List Operand) (arguments : List Argument)
         → AreArguments injection memory passings.0 arguments below operands

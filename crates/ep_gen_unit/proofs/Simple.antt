@@ -7,7 +7,7 @@ use Rattle.ep_gen_unit.specs.StmtCode.{IsAssignCode}
 use Rattle.ep_gen_expr.proofs.public.PlaceTypes.{IsKindPlace, kind_place}
 use Rattle.ep_gen_unit.proofs.Parts.{Moves, ExpressionsFollow, PlacesFollow, code_stands-parts}
 use Rattle.ep_simulation.specs.Follows.{point, Facts, Lasts, Fragment, Inside, Bare, OnTop}
-use Rattle.ep_simulation.specs.Matching.{Slots, Memory, Injection, IsLike, IsSpot, at as standing}
+use Rattle.ep_simulation.specs.Matching.{Slots, MachineMemory, Injection, IsLike, IsSpot, at as standing}
 use Rattle.ep_object.specs.Operands.{Operand}
 use Rattle.ep_object.specs.Operands as operand
 use Rattle.ep_object.specs.Placing.{Placement, CodeStands}
@@ -47,7 +47,7 @@ module _ {declared : Declarations} {G : Image} {untouched : Slots} {Here : Facts
       fragment_stop {weight = 0} (λ s matches. outcome_at G (bare line op.HALT) (p.instructions.before + at) below memory s.trace stands.0) (omega arith)
 
   -- `Store`, where the variable's place and the value are on top
-  pub store_moves : (k : Kind) (t : TypeValue) (r : Result) (o : Operand) (a : Component) (q : PlaceOf) → MayTake k t → (line at : ℕ) → CodeStands G ps p references at (bare line op.STORE ∷ []) → (injection : Injection) (memory : Memory) → IsValueOf injection memory k r o → (below : List Operand) (d : ℕ) → least_credit ≤ d → unit_in G memory.frames ≡ unit → IsSpot injection memory.types a q → IsLike memory.types q.type_number t
+  pub store_moves : (k : Kind) (t : TypeValue) (r : Result) (o : Operand) (a : Component) (q : PlaceOf) → MayTake k t → (line at : ℕ) → CodeStands G ps p references at (bare line op.STORE ∷ []) → (injection : Injection) (memory : MachineMemory) → IsValueOf injection memory k r o → (below : List Operand) (d : ℕ) → least_credit ≤ d → unit_in G memory.frames ≡ unit → IsSpot injection memory.types a q → IsLike memory.types q.type_number t
       → Fragment declared G Here n (point injection memory (p.instructions.before + at) (o ∷ operand.Place q ∷ below)) (assign call n unit line a r) (p.instructions.before + at + 1) (λ b. Inside untouched injection memory (Bare below b)) (d + weight_of r) (λ b. d)
   store_moves k t r o a q takes line at stands injection memory value below d enough home spot described =
       fragment_less {n = suc n} (omega arith) (fragment_using {n = suc n} {e = λ b. d} a.allocation

@@ -7,7 +7,7 @@ use Rattle.ep_gen_unit.proofs.Parts.{statement_credit, ExpressionsFollow, Places
 use Rattle.ep_gen_unit.proofs.StmtMoves.{statement_moves}
 use Rattle.ep_gen_unit.proofs.WithMoves.{BindsFollow}
 use Rattle.ep_simulation.specs.Follows.{point, Facts, Lasts, Fragment, Inside, Bare}
-use Rattle.ep_simulation.specs.Matching.{Slots, Memory, Injection}
+use Rattle.ep_simulation.specs.Matching.{Slots, MachineMemory, Injection}
 use Rattle.ep_object.specs.Operands.{Operand}
 use Rattle.ep_object.specs.Placing.{Placement, CodeStands}
 use Rattle.ep_simulation.specs.Promises.{CallsAreKept}
@@ -37,14 +37,14 @@ module _ (declared : Declarations) (G : Image) (untouched : Slots) (Here : Facts
   -- the machine makes the variables of the unit, in the unit's frame
   abbrev pub MakesFollow : Type 0
   MakesFollow =
-      (injection : Injection) (memory : Memory) (below : List Operand) (d : ℕ) → least_credit ≤ d
+      (injection : Injection) (memory : MachineMemory) (below : List Operand) (d : ℕ) → least_credit ≤ d
       → unit_in G memory.frames ≡ u.name → RunsAtHome p memory.frames
       → Fragment declared G Here n (point injection memory (p.instructions.before + 0) below) (make_all call n u.name 0 (made_by_unit u)) (p.instructions.before + length (make_all_code 0 (made_by_unit u))) (λ a. Inside untouched injection memory (Bare below a)) d (λ a. d)
 
 module _ {declared : Declarations} {G : Image} {untouched : Slots} {Here : Facts} (lasts : Lasts untouched Here) (ps : List Placement) (p : Placement) (call : Handler) (steady_call : IsSteadyHandler call) (n : ℕ) (u : TypedUnit) (o : Object) (is : IsProgramCode u o) (stands : CodeStands G ps p o.references 0 o.instructions) (room : p.instructions.before + p.instructions.own ≤ length G.instructions) (own : p.instructions.own ≡ length o.instructions) (scene : Scene declared G ps p o.texts)
     (expressions : ExpressionsFollow declared G untouched Here ps p o.texts o.references call n u.name) (places : PlacesFollow declared G untouched Here ps p o.texts o.references call n u.name) (calls : CallsFollow declared G untouched Here ps p o.texts o.references call n u.name) (kept : CallsAreKept declared G ps call n) (binds : BindsFollow declared G untouched Here ps p o.references call n u.name) (valid : IsStmt declared (stmt_of u.start)) (makes : MakesFollow declared G untouched Here p call n u) where
   -- after the step of its call the start makes the variables and runs the block, up to the `Return` behind it
-  pub body_follows : (injection : Injection) (memory : Memory) (below : List Operand) (d : ℕ)
+  pub body_follows : (injection : Injection) (memory : MachineMemory) (below : List Operand) (d : ℕ)
       → statement_credit ≤ d → unit_in G memory.frames ≡ u.name → RunsAtHome p memory.frames
       → Fragment declared G Here n (point injection memory (p.instructions.before + 0) below) (bind (make_all call n u.name 0 (made_by_unit u)) (λ a. exec call n u.name (stmt_of u.start))) (p.instructions.before + (length (make_all_code 0 (made_by_unit u)) + length is.code)) (λ a. Inside untouched injection memory (Bare below a)) d (λ a. d)
   body_follows injection memory below d enough home framed =

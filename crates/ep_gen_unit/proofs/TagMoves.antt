@@ -16,7 +16,7 @@ use Rattle.ep_gen_unit.proofs.Parts.{code_stands-parts, Moves, ExpressionsFollow
 use Rattle.ep_gen_unit.proofs.Simple.{assigned_moves, store_moves}
 use Rattle.ep_gen_unit.proofs.TagLengths.{number_code_length, selected_code_length, selections_code_length}
 use Rattle.ep_simulation.specs.Follows.{point, Facts, After, Lasts, Follows, Fragment, Inside, Bare, IsNotLeft, Lands, Operands, PlaceOnTop}
-use Rattle.ep_simulation.specs.Matching.{Memory, Injection, IsLike, IsSpot, Matches, Slots, at as standing}
+use Rattle.ep_simulation.specs.Matching.{MachineMemory, Injection, IsLike, IsSpot, Matches, Slots, at as standing}
 use Rattle.ep_object.specs.Operands.{Operand, Word}
 use Rattle.ep_object.specs.Operands as operand
 use Rattle.ep_object.specs.Placing.{Placement, CodeStands}
@@ -88,7 +88,7 @@ another_is (Some j) (Some k) = refl
 module _ {A : Type 0} {declared : Declarations} {G : Image} {Here : Facts} (ps : List Placement) (p : Placement) (references : List Reference) (call : Handler) (n : ℕ) (unit : List ℕ) (room : p.instructions.before + p.instructions.own ≤ length G.instructions) where
   -- The tests of the labels of variants, and the number of the one of which a label has the value.
   selections_follow : (line leave k at : ℕ) (labels : List (List CaseRange)) (z : ℤ) → CodeStands G ps p references at (selections_code line leave k at labels) → leave < p.instructions.own → at + selections_length labels < p.instructions.own
-      → (injection : Injection) (memory : Memory) (below : List Operand) {to d : ℕ} {chosen : ℕ → Computation A} {fails : Computation A} {P : A → After} {e : A → ℕ} → 8 ≤ d
+      → (injection : Injection) (memory : MachineMemory) (below : List Operand) {to d : ℕ} {chosen : ℕ → Computation A} {fails : Computation A} {P : A → After} {e : A → ℕ} → 8 ≤ d
       → ((j : ℕ) → Fragment declared G Here n (point injection memory (p.instructions.before + leave) (Word (pos j) ∷ below)) (chosen j) to P (d + 6) e)
       → Fragment declared G Here n (point injection memory (p.instructions.before + (at + selections_length labels)) (Word z ∷ below)) fails to P d e
       → Fragment declared G Here n (point injection memory (p.instructions.before + at) (Word z ∷ below)) (selecting call n unit z labels k chosen fails) to P d e
@@ -117,7 +117,7 @@ module _ {A : Type 0} {declared : Declarations} {G : Image} {Here : Facts} (ps :
 
   -- With a value on top, the number of the variant that it selects takes its place, or what stands for none.
   pub number_follows : (line at : ℕ) (s : Selection) (none z : ℤ) → CodeStands G ps p references at (number_code line at s none) → at + number_length s < p.instructions.own
-      → (injection : Injection) (memory : Memory) (below : List Operand) {to d : ℕ} {chosen : ℕ → Computation A} {fails : Computation A} {P : A → After} {e : A → ℕ} → 8 ≤ d
+      → (injection : Injection) (memory : MachineMemory) (below : List Operand) {to d : ℕ} {chosen : ℕ → Computation A} {fails : Computation A} {P : A → After} {e : A → ℕ} → 8 ≤ d
       → ((j : ℕ) → Fragment declared G Here n (point injection memory (p.instructions.before + (at + number_length s)) (Word (pos j) ∷ below)) (chosen j) to P d e)
       → Fragment declared G Here n (point injection memory (p.instructions.before + (at + number_length s)) (Word none ∷ below)) fails to P d e
       → Fragment declared G Here n (point injection memory (p.instructions.before + at) (Word z ∷ below)) (selects call n unit s z chosen fails) to P (d + 2) e
@@ -151,7 +151,7 @@ module _ (declared : Declarations) (G : Image) (untouched : Slots) (Here : Facts
 
   -- over the place of a record, `Field` leaves that of a component
   component_moves : (line at k : ℕ) (ts : ComponentTypes) (t : TypeValue) (r : Component) (b : PlaceOf) → type_among ts k ≡ Some t → slice_get G.instructions (p.instructions.before + at) ≡ Some (instr op.FIELD (pos k) 0 line)
-      → (injection : Injection) (memory : Memory) (below : List Operand) (d : ℕ) → 8 ≤ d → unit_in G memory.frames ≡ unit → IsSpot injection memory.types r b → IsLike memory.types b.type_number (type.Record ts)
+      → (injection : Injection) (memory : MachineMemory) (below : List Operand) (d : ℕ) → 8 ≤ d → unit_in G memory.frames ≡ unit → IsSpot injection memory.types r b → IsLike memory.types b.type_number (type.Record ts)
       → Fragment declared G Here n (point injection memory (p.instructions.before + at) (operand.Place b ∷ below)) (selected call n unit line r k) (p.instructions.before + at + 1) (λ a. Inside untouched injection memory (PlaceOnTop t below a)) d (λ a. d + 8)
   component_moves line at k ts t r b has_type has injection memory below d enough home spot described =
       let place : ℕ = p.instructions.before + at in
@@ -163,7 +163,7 @@ module _ (declared : Declarations) (G : Image) (untouched : Slots) (Here : Facts
       follows_paid {v = 0} {w = 0} {d1 = d + 8} (not_left-here memory.frames) refl does.does (omega arith) (omega arith) (omega arith) (follows_give (component r k) (omega arith) (landed does))))
 
   -- a change of the state that spends so many steps, by an instruction of that weight
-  follows_sized : {k : State} {s : meaning.State} {to : ℕ} {Post : Unit {0} → After} (w : ℕ) (memory : Memory) (f : meaning.State → meaning.State) (d : ℕ)
+  follows_sized : {k : State} {s : meaning.State} {to : ℕ} {Post : Unit {0} → After} (w : ℕ) (memory : MachineMemory) (f : meaning.State → meaning.State) (d : ℕ)
       → IsNotLeft memory.frames k.frames → k.trace ≡ s.trace → Does declared G Here k w to (Post tt) (f s)
       → Follows (λ j. IsNotLeft memory.frames j.frames) G n k s (spend w (change f)) (λ a. Lands declared G Here to (Post a)) (d + 1) (λ a. d)
   follows_sized {to = to} {Post = Post} zero memory f d within same does =
@@ -177,7 +177,7 @@ module _ (declared : Declarations) (G : Image) (untouched : Slots) (Here : Facts
 
   -- a component of a record becomes undefined
   clear_moves : (line at k : ℕ) (ts : ComponentTypes) (t : TypeValue) (r : Component) (b : PlaceOf) → type_among ts k ≡ Some t → IsTypeValue t → CodeStands G ps p references at (clear_code line k)
-      → (injection : Injection) (memory : Memory) (below : List Operand) (d : ℕ) → 8 ≤ d → unit_in G memory.frames ≡ unit → IsSpot injection memory.types r b → IsLike memory.types b.type_number (type.Record ts)
+      → (injection : Injection) (memory : MachineMemory) (below : List Operand) (d : ℕ) → 8 ≤ d → unit_in G memory.frames ≡ unit → IsSpot injection memory.types r b → IsLike memory.types b.type_number (type.Record ts)
       → Fragment declared G Here n (point injection memory (p.instructions.before + at) (operand.Place b ∷ below)) (clears call n unit line r k) (p.instructions.before + (at + 3)) (λ a. Inside untouched injection memory (Bare (operand.Place b ∷ below) a)) d (λ a. d)
   clear_moves line at k ts t r b has_type valid stands injection memory below d enough home spot described =
       let place : ℕ = p.instructions.before + at in
@@ -207,14 +207,14 @@ module _ (declared : Declarations) (G : Image) (untouched : Slots) (Here : Facts
 
   module _ (line : ℕ) (s : Selection) (ts : ComponentTypes) (r : Component) (b : PlaceOf) where
     -- what is followed over the place of the record
-    abbrev Clearing : (from to k m : ℕ) → Injection → Memory → List Operand → ℕ → Type 0
+    abbrev Clearing : (from to k m : ℕ) → Injection → MachineMemory → List Operand → ℕ → Type 0
     Clearing from to k m injection memory below d =
         Fragment declared G Here n (point injection memory (p.instructions.before + from) (operand.Place b ∷ below)) (clears_all call n unit line r k m) (p.instructions.before + to) (λ a. Inside untouched injection memory (Bare (operand.Place b ∷ below) a)) d (λ a. d)
 
     -- the variants with these labels become undefined, and then others
     clears_follow : (labels : List (List CaseRange)) (k m at to : ℕ) → All HasRange labels → CodeStands G ps p references at (clears_code line k labels) → ((i : ℕ) → i < length labels → IsCleared ts (k + i))
-        → (injection : Injection) (memory : Memory) (below : List Operand) (d : ℕ) → 8 ≤ d → unit_in G memory.frames ≡ unit → IsSpot injection memory.types r b → IsLike memory.types b.type_number (type.Record ts)
-        → ((longer : Injection) (after : Memory) → unit_in G after.frames ≡ unit → IsSpot longer after.types r b → IsLike after.types b.type_number (type.Record ts) → Clearing (at + length (clears_code line k labels)) to (k + length labels) m longer after below d)
+        → (injection : Injection) (memory : MachineMemory) (below : List Operand) (d : ℕ) → 8 ≤ d → unit_in G memory.frames ≡ unit → IsSpot injection memory.types r b → IsLike memory.types b.type_number (type.Record ts)
+        → ((longer : Injection) (after : MachineMemory) → unit_in G after.frames ≡ unit → IsSpot longer after.types r b → IsLike after.types b.type_number (type.Record ts) → Clearing (at + length (clears_code line k labels)) to (k + length labels) m longer after below d)
         → Clearing at to k (length labels + m) injection memory below d
     clears_follow [] k m at to each stands types injection memory below d enough home spot described rest =
         let same : k + 0 ≡ k = omega arith in
@@ -237,7 +237,7 @@ module _ (declared : Declarations) (G : Image) (untouched : Slots) (Here : Facts
 
     -- all of them
     variants_follow : (at : ℕ) → All HasRange s.labels → CodeStands G ps p references at (variants_code line s) → ((i : ℕ) → i < variants_count s → IsCleared ts (variant_number s i))
-        → (injection : Injection) (memory : Memory) (below : List Operand) (d : ℕ) → 8 ≤ d → unit_in G memory.frames ≡ unit → IsSpot injection memory.types r b → IsLike memory.types b.type_number (type.Record ts)
+        → (injection : Injection) (memory : MachineMemory) (below : List Operand) (d : ℕ) → 8 ≤ d → unit_in G memory.frames ≡ unit → IsSpot injection memory.types r b → IsLike memory.types b.type_number (type.Record ts)
         → Clearing at (at + length (variants_code line s)) (variant_number s 0) (variants_count s) injection memory below d
     variants_follow at each stands types injection memory below d enough home spot described =
         clears_follow s.labels (variant_number s 0) (if s.completed then 1 else 0) at (at + length (variants_code line s)) each parts.0 (λ i less. subst (λ j. IsCleared ts j) {x = variant_number s i} {y = variant_number s 0 + i} (omega arith) (types i (omega (arith, less)))) injection memory below d enough home spot described
@@ -260,7 +260,7 @@ module _ (declared : Declarations) (G : Image) (untouched : Slots) (Here : Facts
         counted false is = cc
 
         last : (c : Bool) → CodeStands G ps p references (at + length labelled) (completing c) → at + length (variants_code line s) ≡ at + length labelled + length (completing c) → (c ≡ true → IsCleared ts (variant_number s (length s.labels)))
-            → (longer : Injection) (after : Memory) → unit_in G after.frames ≡ unit → IsSpot longer after.types r b → IsLike after.types b.type_number (type.Record ts) → Clearing (at + length labelled) (at + length (variants_code line s)) (variant_number s 0 + length s.labels) (if c then 1 else 0) longer after below d
+            → (longer : Injection) (after : MachineMemory) → unit_in G after.frames ≡ unit → IsSpot longer after.types r b → IsLike after.types b.type_number (type.Record ts) → Clearing (at + length labelled) (at + length (variants_code line s)) (variant_number s 0 + length s.labels) (if c then 1 else 0) longer after below d
         last true code_stands ends there longer after home2 spot2 described2 =
             let one = there refl in
             let number : variant_number s (length s.labels) ≡ variant_number s 0 + length s.labels = omega arith in
@@ -284,7 +284,7 @@ module _ (declared : Declarations) (G : Image) (untouched : Slots) (Here : Facts
         let parts = code_stands-parts G ps p references (at + 4) number ends behind in
         (parts.0, subst (λ k. CodeStands G ps p references k ends) {x = at + 4 + length number} {y = at + 4 + number_length s} (omega (arith, number_code_length line (at + 4) s none_before)) parts.1)
 
-    pub selected_now_moves : (injection : Injection) (memory : Memory) (below : List Operand) (d : ℕ) → 8 ≤ d → unit_in G memory.frames ≡ unit → IsSpot injection memory.types v q → IsLike memory.types q.type_number (type.Ordinal low high)
+    pub selected_now_moves : (injection : Injection) (memory : MachineMemory) (below : List Operand) (d : ℕ) → 8 ≤ d → unit_in G memory.frames ≡ unit → IsSpot injection memory.types v q → IsLike memory.types q.type_number (type.Ordinal low high)
         → Fragment declared G Here n (point injection memory (p.instructions.before + at) (operand.Place q ∷ below)) (selected_now call n unit line v s) (p.instructions.before + (at + selected_length s)) (λ o. Inside untouched injection memory (Numbered none_before below o)) (d + 7) (λ o. d)
     selected_now_moves injection memory below d enough home spot described =
         row_waits {d1 = d + 6} (dup_place G place line below q stands.0) (omega arith)
@@ -362,7 +362,7 @@ module _ (declared : Declarations) (G : Image) (untouched : Slots) (Here : Facts
 
     tried_moves : (line at : ℕ) (c : Tagging) (s : Selection) (ts : ComponentTypes) (r : Component) (b : PlaceOf) (is : List Instr) → IsPlace declared host.Integer (entire c.value) → IsTriedCode texts references line at c s is → CodeStands G ps p references at is → at + length is < p.instructions.own
         → type_among ts s.tag ≡ Some (tag_type c.low c.high)
-        → (injection : Injection) (memory : Memory) (below : List Operand) (d : ℕ) → statement_credit ≤ d → unit_in G memory.frames ≡ unit → IsSpot injection memory.types r b → IsLike memory.types b.type_number (type.Record ts)
+        → (injection : Injection) (memory : MachineMemory) (below : List Operand) (d : ℕ) → statement_credit ≤ d → unit_in G memory.frames ≡ unit → IsSpot injection memory.types r b → IsLike memory.types b.type_number (type.Record ts)
         → Fragment declared G Here n (point injection memory (p.instructions.before + at) (operand.Place b ∷ below)) (tag_tested call n unit line c r s) (p.instructions.before + (at + length is)) (λ v. Inside untouched injection memory (PlaceOnTop (type.Ordinal c.low c.high) (operand.Place b ∷ below) v)) d (λ v. d + 8)
     tried_moves line at c s ts r b is value code stands_is inside has_tag injection memory below d enough home spot described =
         row_waits {d1 = d - 1} (dup_place G (p.instructions.before + at) line below b stands.0) (omega (arith, enough))
@@ -398,7 +398,7 @@ module _ (declared : Declarations) (G : Image) (untouched : Slots) (Here : Facts
         steady_checked : (v : Component) (z : Result) → Steady (if is_within (type.Ordinal c.low c.high) (number_of z) then give v else stop (meaning.Error run_error.OUTSIDE_TYPE unit line))
         steady_checked v z = steady_if (is_within (type.Ordinal c.low c.high) (number_of z)) (steady_give v) (steady_stop (meaning.Error run_error.OUTSIDE_TYPE unit line))
 
-        checks : (v : Component) (q : PlaceOf) (z : ℤ) (injection : Injection) (memory : Memory) → unit_in G memory.frames ≡ unit → IsSpot injection memory.types v q → IsLike memory.types q.type_number (type.Ordinal c.low c.high) → (x : Bool) → (int_le c.low z && int_le z c.high) ≡ x
+        checks : (v : Component) (q : PlaceOf) (z : ℤ) (injection : Injection) (memory : MachineMemory) → unit_in G memory.frames ≡ unit → IsSpot injection memory.types v q → IsLike memory.types q.type_number (type.Ordinal c.low c.high) → (x : Bool) → (int_le c.low z && int_le z c.high) ≡ x
             → Fragment declared G Here n (point injection memory (p.instructions.before + tests_at + 1 + 1) (Word c.high ∷ Word c.low ∷ Word z ∷ operand.Place q ∷ operand.Place b ∷ below)) (if x then give v else stop (meaning.Error run_error.OUTSIDE_TYPE unit line)) (p.instructions.before + (at + length is)) (λ v. Inside untouched injection memory (PlaceOnTop (type.Ordinal c.low c.high) (operand.Place b ∷ below) v)) (d + 21) (λ v. d + 8)
         checks v q z injection memory home spot described x is_x = by x is_x
           where
@@ -431,7 +431,7 @@ module _ (declared : Declarations) (G : Image) (untouched : Slots) (Here : Facts
 
     change_moves : (line at : ℕ) (c : Tagging) (s : Selection) (ts : ComponentTypes) (r : Component) (b : PlaceOf) (before : Option ℕ) (is : List Instr) → IsPlace declared host.Integer (entire c.value) → IsChangeCode texts references line at c s is → CodeStands G ps p references at is → at + length is < p.instructions.own
         → All HasRange s.labels → ((i : ℕ) → i < variants_count s → IsCleared ts (variant_number s i))
-        → (injection : Injection) (memory : Memory) (below : List Operand) (d : ℕ) → statement_credit ≤ d → unit_in G memory.frames ≡ unit → IsSpot injection memory.types r b → IsLike memory.types b.type_number (type.Record ts)
+        → (injection : Injection) (memory : MachineMemory) (below : List Operand) (d : ℕ) → statement_credit ≤ d → unit_in G memory.frames ≡ unit → IsSpot injection memory.types r b → IsLike memory.types b.type_number (type.Record ts)
         → Fragment declared G Here n (point injection memory (p.instructions.before + at) (Word (number_for none_before before) ∷ operand.Place b ∷ below)) (changes_variant call n unit line c r s before) (p.instructions.before + (at + length is)) (λ a. Inside untouched injection memory (Bare (operand.Place b ∷ below) a)) d (λ a. d)
     change_moves line at c s ts r b before is value code stands_is inside each types injection memory below d enough home spot described =
         fragment_bind_number {host = host.Integer} {e = λ x. d + 8 + weight_of x} (λ z. steady_bind (steady_selected_by call steady_call n unit s (Some z)) (λ now. steady_clearing call steady_call n unit line r s (is_another before now)))
@@ -490,7 +490,7 @@ module _ (declared : Declarations) (G : Image) (untouched : Slots) (Here : Facts
 
     taken_moves : (line at : ℕ) (c : Tagging) (s : Selection) (ts : ComponentTypes) (r : Component) (b : PlaceOf) (is : List Instr) → IsPlace declared host.Integer (entire c.value) → IsTakenCode texts references line at c s is → CodeStands G ps p references at is → at + length is < p.instructions.own
         → type_among ts s.tag ≡ Some (tag_type c.low c.high)
-        → (injection : Injection) (memory : Memory) (below : List Operand) (d : ℕ) → statement_credit ≤ d → unit_in G memory.frames ≡ unit → IsSpot injection memory.types r b → IsLike memory.types b.type_number (type.Record ts)
+        → (injection : Injection) (memory : MachineMemory) (below : List Operand) (d : ℕ) → statement_credit ≤ d → unit_in G memory.frames ≡ unit → IsSpot injection memory.types r b → IsLike memory.types b.type_number (type.Record ts)
         → Fragment declared G Here n (point injection memory (p.instructions.before + at) (operand.Place b ∷ below)) (sets_tag call n unit line c r s) (p.instructions.before + (at + length is)) (λ a. Inside untouched injection memory (Bare below a)) d (λ a. d)
     taken_moves line at c s ts r b is value code stands_is inside has_tag injection memory below d enough home spot described =
         fragment_bind_place {type = tag_type c.low c.high} {e = λ a. d + 8} (λ t. steady_bind (steady_selected call steady_call n unit line t 0) (λ v. steady_bind (steady_eval call steady_call n unit line (Read (entire c.value))) (λ z. steady_assign call steady_call n unit line v z)))

@@ -16,7 +16,7 @@ use Rattle.ep_simulation.proofs.public.matching.MoreMemory.{among_same}
 use Rattle.ep_simulation.proofs.public.matching.OwnVariables.{in_activation-lasts}
 use Rattle.ep_simulation.specs.Activations.{InActivation}
 use Rattle.ep_simulation.specs.Follows.{Facts, Fragment, Inside, Since, TypeOnTop, point}
-use Rattle.ep_simulation.specs.Matching.{Injection, Memory, Slots, kept_slots}
+use Rattle.ep_simulation.specs.Matching.{Injection, MachineMemory, Slots, kept_slots}
 use Rattle.ep_object.specs.Operands.{Operand}
 use Rattle.ep_object.specs.Placing.{CodeStands, Placement, Stands, moved, placed_call, placed_routine, placement_of}
 use Rattle.ep_simulation.specs.Promises.{CallsAreKept, CallsAt, TypeKeeps, type_credit, type_routine}
@@ -144,8 +144,8 @@ module _ (u : TypedUnit) (o : Object) (is : IsProgramCode u o) (G : Image) (ps :
     abbrev end : ℕ
     end = p.instructions.before + (x.entry.entry + length code)
 
-    module _ (place : ℕ) (injection : Injection) (memory : Memory) (below : List Operand) where
-      abbrev begun : Memory
+    module _ (place : ℕ) (injection : Injection) (memory : MachineMemory) (below : List Operand) where
+      abbrev begun : MachineMemory
       begun = begun_memory (own u) G (moved p.routines (number_of index)) image_routine exists numbered [] takes_none 0 refl (frame.Unit image_routine.unit) place memory
 
       home : unit_in G begun.frames ≡ u.name
@@ -166,7 +166,7 @@ module _ (u : TypedUnit) (o : Object) (is : IsProgramCode u o) (G : Image) (ps :
     found = ap (λ b. if b then slice_get u.types index else None) (name_same u.name u.name refl) ∙ there
 
     -- the machine follows a call of it
-    pub type_follows_call : (place line : ℕ) → CallsAt G place (moved p.routines (number_of index)) 0 line → (injection : Injection) (began : meaning.State) (memory : Memory) (below : List Operand)
+    pub type_follows_call : (place line : ℕ) → CallsAt G place (moved p.routines (number_of index)) 0 line → (injection : Injection) (began : meaning.State) (memory : MachineMemory) (below : List Operand)
         → Fragment (own u) G (Since untouched injection began memory) (suc m) (point injection memory place below) (type_does call m u.name line (type_in (u ∷ []) u.name index)) (place + 1) (λ a. Inside untouched injection memory (TypeOnTop v below a)) 0 (λ a. type_credit)
     type_follows_call place line calls injection began memory below =
         subst (λ y. Fragment (own u) G (Since untouched injection began memory) (suc m) (point injection memory place below) (type_does call m u.name line y) (place + 1) (λ a. Inside untouched injection memory (TypeOnTop v below a)) 0 (λ a. type_credit)) (sym found)

@@ -25,7 +25,7 @@ use Rattle.ep_typed.specs.Auxiliaries.{with_variables}
 use Rattle.ep_values.specs.Events.{Trace}
 use Rattle.ep_simulation.specs.Activations.{KnowsNames}
 use Rattle.ep_simulation.specs.Follows.{Facts, Lasts, Since, Bare}
-use Rattle.ep_simulation.specs.Matching.{Memory, Injection, is_undeclared, is_hidden_in, kept_slots, at as standing}
+use Rattle.ep_simulation.specs.Matching.{MachineMemory, Injection, is_undeclared, is_hidden_in, kept_slots, at as standing}
 use Rattle.ep_object.specs.Operands.{Operand}
 use Rattle.ep_object.specs.Placing.{Placement, Span, CodeStands, IsPlacementOf, Stands, HasDistinctNames, moved, placed, placed_routine, placed_object_unit}
 use Rattle.ep_simulation.specs.Promises.{CallsAreKept}
@@ -128,7 +128,7 @@ module _ (u : TypedUnit) (o : Object) (is : IsProgramCode u o) (G : Image) (ps :
       rw (alone, runs, moved_own p.routines n (omega (arith, whole.routines, within)), stands.routines n r h, stands.unit) is.name
 
   -- the machine enters a routine of the object at the place of its entry
-  at_entry : {declared : Declarations} {injection : Injection} {memory : Memory} {below : List Operand} {s : meaning.State} {k : State} (n : ℕ) (r : CodeRoutine)
+  at_entry : {declared : Declarations} {injection : Injection} {memory : MachineMemory} {below : List Operand} {s : meaning.State} {k : State} (n : ℕ) (r : CodeRoutine)
       → slice_get o.routines n ≡ Some r → r.entry < p.instructions.own
       → Enters declared G p.unit (moved p.routines n) injection memory below s k
       → k ≡ standing (p.instructions.before + r.entry) below memory s.trace
@@ -137,7 +137,7 @@ module _ (u : TypedUnit) (o : Object) (is : IsProgramCode u o) (G : Image) (ps :
       enters.is ∙ (ap (λ (x : ImageRoutine). standing x.entry below memory s.trace) same ∙ ap (λ place. standing place below memory s.trace) (moved_own p.instructions r.entry inside))
 
   -- where no call is under way the `Return` leaves the start or the stop
-  returns_from : (place : ℕ) (below : List Operand) (memory : Memory) (trace : Trace) → memory.frames.calls ≡ []
+  returns_from : (place : ℕ) (below : List Operand) (memory : MachineMemory) (trace : Trace) → memory.frames.calls ≡ []
       → obey G return_code (standing place below memory trace) ≡ light Returns
   returns_from place below memory trace alone = rw alone refl
 
@@ -213,7 +213,7 @@ module _ (u : TypedUnit) (o : Object) (is : IsProgramCode u o) (G : Image) (ps :
         subst (λ (y : ImageUnit). k < y.slots) one x.within
 
     -- the machine follows the `Bind` of the variable of a `with`
-    binds : (injection : Injection) (s : meaning.State) (memory : Memory) → memory.frames.calls ≡ [] → memory.frames.unit ≡ p.unit
+    binds : (injection : Injection) (s : meaning.State) (memory : MachineMemory) → memory.frames.calls ≡ [] → memory.frames.unit ≡ p.unit
         → BindsFollow declared G (kept_slots declared G) (Since (kept_slots declared G) injection s memory) ps p o.references call n u.name
     binds injection s memory alone at_home =
         unit_binds_follow since_lasts ps p o.references call n u.name no_routine (placed_object_unit p o) (is.name ∙ sym of_unit) free distinct its_slot

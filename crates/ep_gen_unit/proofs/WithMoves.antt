@@ -8,7 +8,7 @@ use Rattle.ep_gen_unit.proofs.Makes.{VariablesAreFree}
 use Rattle.ep_gen_unit.proofs.Parts.{Moves, PlacesFollow, code_stands-parts}
 use Rattle.ep_simulation.specs.Activations.{InActivation}
 use Rattle.ep_simulation.specs.Follows.{point, Facts, Lasts, Fragment, Inside, Bare}
-use Rattle.ep_simulation.specs.Matching.{Slots, Memory, Injection, IsLike, IsSpot, HasType, HasOwnType, HasTypeUnder}
+use Rattle.ep_simulation.specs.Matching.{Slots, MachineMemory, Injection, IsLike, IsSpot, HasType, HasOwnType, HasTypeUnder}
 use Rattle.ep_object.specs.Operands.{Operand}
 use Rattle.ep_object.specs.Operands as operand
 use Rattle.ep_object.specs.Placing.{Placement, CodeStands, HasDistinctNames}
@@ -44,7 +44,7 @@ module _ (declared : Declarations) (G : Image) (untouched : Slots) (Here : Facts
   abbrev pub BindsFollow : Type 0
   BindsFollow =
       (v : Entire) (of : ℕ) (q : Place) (h : IsWith declared v of q) (line at : ℕ) → CodeStands G ps p references at (instr op.BIND (pos (slot_of v)) 0 line ∷ [])
-      → (injection : Injection) (memory : Memory) (below : List Operand) (d : ℕ) → unit_in G memory.frames ≡ unit
+      → (injection : Injection) (memory : MachineMemory) (below : List Operand) (d : ℕ) → unit_in G memory.frames ≡ unit
       → (c : Component) (x : PlaceOf) → IsSpot injection memory.types c x → IsLike memory.types x.type_number (type.Record h.components)
       → Fragment declared G Here n (point injection memory (p.instructions.before + at) (operand.Place x ∷ below)) (names call n unit v c) (p.instructions.before + at + 1) (λ a. Inside untouched injection memory (Bare below a)) d (λ a. d)
 
@@ -52,7 +52,7 @@ module _ (declared : Declarations) (G : Image) (untouched : Slots) (Here : Facts
 one_has : (ts : List UnitType) (w : UnitVariable) (t : TypeValue) → bare_type_of ts (denoter_of w.denoter) ≡ Some t → (o : Option UnitVariable) → o ≡ Some w → (u : UnitVariable) → o ≡ Some u → HasTypeUnder ts u t
 one_has ts w t has o is u e = subst (λ (x : UnitVariable). HasTypeUnder ts x t) (same_Some w u (sym is ∙ e)) (has_bare_type ts w t has)
 
-module _ {declared : Declarations} {G : Image} {untouched kept : Slots} {first : Injection} {start : Memory} (ps : List Placement) (p : Placement) (references : List Reference) (call : Handler) (n : ℕ) (unit : List ℕ)
+module _ {declared : Declarations} {G : Image} {untouched kept : Slots} {first : Injection} {start : MachineMemory} (ps : List Placement) (p : Placement) (references : List Reference) (call : Handler) (n : ℕ) (unit : List ℕ)
     (some_level : declared.levels ≡ [] → ⊥) (none_kept : (k : ℕ) → IsTrue (untouched.own k) → ⊥) where
   -- in the activation of a routine
   pub own_binds_follow : BindsFollow declared G untouched (InActivation declared kept first start) ps p references call n unit
@@ -69,7 +69,7 @@ module _ {declared : Declarations} {G : Image} {untouched kept : Slots} {first :
 module _ {declared : Declarations} {G : Image} {untouched : Slots} {Here : Facts} (lasts : Lasts untouched Here) (ps : List Placement) (p : Placement) (references : List Reference) (call : Handler) (n : ℕ) (unit : List ℕ)
     (no_level : declared.levels ≡ []) (x : ImageUnit) (named : x.name ≡ declared.routine_unit) (free : VariablesAreFree declared G untouched x) (distinct : HasDistinctNames G)
     (slots : (k : ℕ) (v : UnitVariable) → declared.variables x.name k ≡ Some v → k < x.slots)
-    (runs : (injection : Injection) (s : meaning.State) (memory : Memory) → Here injection s memory → RunsInUnit G memory.frames x) where
+    (runs : (injection : Injection) (s : meaning.State) (memory : MachineMemory) → Here injection s memory → RunsInUnit G memory.frames x) where
   -- in the frame of a unit
   pub unit_binds_follow : BindsFollow declared G untouched Here ps p references call n unit
   unit_binds_follow (OfRoutine (suc up) k) of q h line at stands injection memory below d home c y spot described = absurd h.unmade

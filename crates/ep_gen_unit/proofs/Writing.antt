@@ -7,7 +7,7 @@ use Rattle.ep_gen_expr.specs.ExprCode.{IsExprCode}
 use Rattle.ep_gen_unit.specs.StmtCode.{plain_code, before_width, wide_code, line_end_code, IsItemCode, AreItemsCode}
 use Rattle.ep_gen_unit.proofs.Parts.{statement_credit, ExpressionsFollow, Moves, Writes, code_stands-parts}
 use Rattle.ep_simulation.specs.Follows.{point, Facts, Lasts, Fragment, Inside, Bare}
-use Rattle.ep_simulation.specs.Matching.{Slots, Memory, Injection, at as at_place}
+use Rattle.ep_simulation.specs.Matching.{Slots, MachineMemory, Injection, at as at_place}
 use Rattle.ep_object.specs.Operands.{Operand, Word, Text}
 use Rattle.ep_object.specs.Operands as operand
 use Rattle.ep_object.specs.Placing.{Placement, CodeStands}
@@ -50,12 +50,12 @@ popping_nothing G place operands pushed n row = λ memory trace. row memory trac
 
 module _ {declared : Declarations} {G : Image} {untouched : Slots} {Here : Facts} (lasts : Lasts untouched Here) (ps : List Placement) (p : Placement) (texts : List (List ℕ)) (references : List Reference) (call : Handler) (steady_call : IsSteadyHandler call) (n : ℕ) (unit : List ℕ) where
   -- `Put` of a text that is on top already
-  put_moves : (line at d e : ℕ) (bytes : List ℕ) → CodeStands G ps p references at (bare line op.PUT ∷ []) → (injection : Injection) (memory : Memory) (below : List Operand) → e ≤ d + 40 → Fragment declared G Here n (point injection memory (p.instructions.before + at) (Text bytes ∷ over_output below)) (write_piece call n unit bytes) (p.instructions.before + at + 1) (λ a. Inside untouched injection memory (Bare below a)) d (λ a. e)
+  put_moves : (line at d e : ℕ) (bytes : List ℕ) → CodeStands G ps p references at (bare line op.PUT ∷ []) → (injection : Injection) (memory : MachineMemory) (below : List Operand) → e ≤ d + 40 → Fragment declared G Here n (point injection memory (p.instructions.before + at) (Text bytes ∷ over_output below)) (write_piece call n unit bytes) (p.instructions.before + at + 1) (λ a. Inside untouched injection memory (Bare below a)) d (λ a. e)
   put_moves line at d e bytes stands injection memory below le =
       fragment_less {n = suc n} (omega arith) (fragment_effect {weight = length bytes} {P = λ a. Inside untouched injection memory (Bare below a)} (length bytes) (meaning.with_events (piece_events bytes)) (λ s matches here. put_does declared G (p.instructions.before + at) line below bytes stands.0 lasts injection memory s matches here) (omega arith) (omega arith) (omega arith))
 
   -- an instruction that makes the text, and then `Put`
-  made_and_put : (line at popped d e : ℕ) (bytes : List ℕ) → CodeStands G ps p references (at + 1) (bare line op.PUT ∷ []) → (injection : Injection) (memory : Memory) (operands below : List Operand) → RowPushes G (p.instructions.before + at) operands (popped + length bytes) (Text bytes ∷ over_output below) → popped + e ≤ d + 40
+  made_and_put : (line at popped d e : ℕ) (bytes : List ℕ) → CodeStands G ps p references (at + 1) (bare line op.PUT ∷ []) → (injection : Injection) (memory : MachineMemory) (operands below : List Operand) → RowPushes G (p.instructions.before + at) operands (popped + length bytes) (Text bytes ∷ over_output below) → popped + e ≤ d + 40
       → Fragment declared G Here n (point injection memory (p.instructions.before + at) operands) (write_piece call n unit bytes) (p.instructions.before + (at + 2)) (λ a. Inside untouched injection memory (Bare below a)) d (λ a. e)
   made_and_put line at popped d e bytes stands injection memory operands below row le =
       let here : p.instructions.before + (at + 1) ≡ p.instructions.before + at + 1 = omega arith in
@@ -63,7 +63,7 @@ module _ {declared : Declarations} {G : Image} {untouched : Slots} {Here : Facts
 
   module _ (expressions : ExpressionsFollow declared G untouched Here ps p texts references call n unit) where
     -- after `output`: the value, as long as it needs to be
-    plain_value : (print : Print) (line at d : ℕ) (x : Expr) (xs : List Instr) → IsItem declared (Plain print x) → IsExprCode texts references line at x xs → at + length xs < p.instructions.own → CodeStands G ps p references at xs → CodeStands G ps p references (at + length xs) (plain_code line print ++ bare line op.PUT ∷ []) → (injection : Injection) (memory : Memory) (below : List Operand) → least_credit ≤ d → unit_in G memory.frames ≡ unit
+    plain_value : (print : Print) (line at d : ℕ) (x : Expr) (xs : List Instr) → IsItem declared (Plain print x) → IsExprCode texts references line at x xs → at + length xs < p.instructions.own → CodeStands G ps p references at xs → CodeStands G ps p references (at + length xs) (plain_code line print ++ bare line op.PUT ∷ []) → (injection : Injection) (memory : MachineMemory) (below : List Operand) → least_credit ≤ d → unit_in G memory.frames ≡ unit
         → Fragment declared G Here n (point injection memory (p.instructions.before + at) (over_output below)) (write_item call n unit line (Plain print x)) (p.instructions.before + (at + length xs + length (plain_code line print ++ bare line op.PUT ∷ []))) (λ a. Inside untouched injection memory (Bare below a)) d (λ a. 2 + d)
     plain_value print.Integer line at d x xs valid code inside at_value at_print injection memory below enough home =
         fragment_bind_number {host = host.Integer} {e = λ r. d + 8 + weight_of r} (λ r. steady_write_piece call steady_call n unit (plain_text print.Integer r)) (expressions (kind.Ordinal host.Integer) x valid line at xs code at_value inside injection memory (over_output below) d enough home) (λ z longer after of_host grown routine.
@@ -81,18 +81,18 @@ module _ {declared : Declarations} {G : Image} {untouched : Slots} {Here : Facts
     -- The value is on top as the instruction for the width takes it: the width, and then the piece or error 21.
     after_value : (print : Print) (r : Result) (shown : Operand) (popped line at d : ℕ) (w : Expr) (ws : List Instr) → IsExpr declared (kind.Ordinal host.Integer) w → IsExprCode texts references line at w ws → at + length ws < p.instructions.own → CodeStands G ps p references at ws → CodeStands G ps p references (at + length ws) (wide_code line print ∷ bare line op.PUT ∷ [])
         → (below : List Operand) → ((width : ℕ) → RowPushes G (p.instructions.before + (at + length ws)) (Word (pos width) ∷ shown ∷ over_output below) (popped + length (wide_text print width r)) (Text (wide_text print width r) ∷ over_output below)) → ((k : ℕ) → RowFails G (p.instructions.before + (at + length ws)) line (Word (negsuc k) ∷ shown ∷ over_output below) popped 21)
-        → (injection : Injection) (memory : Memory) (e : ℕ) → least_credit ≤ d → popped + e ≤ d + 40 → popped ≤ d → unit_in G memory.frames ≡ unit
+        → (injection : Injection) (memory : MachineMemory) (e : ℕ) → least_credit ≤ d → popped + e ≤ d + 40 → popped ≤ d → unit_in G memory.frames ≡ unit
         → Fragment declared G Here n (point injection memory (p.instructions.before + at) (shown ∷ over_output below)) (bind (eval call n unit line w) (λ width. write_wide call n unit line print r (number_of width))) (p.instructions.before + (at + length ws + 2)) (λ a. Inside untouched injection memory (Bare below a)) d (λ a. e)
     after_value print r shown popped line at d w ws valid code inside at_width at_print below pushes fails injection memory e enough le little home =
         fragment_bind_number {host = host.Integer} {e = λ r. d + 8 + weight_of r} (λ width. steady_write_wide call steady_call n unit line print r (number_of width)) (expressions (kind.Ordinal host.Integer) w valid line at ws code at_width inside injection memory (shown ∷ over_output below) d enough home) (λ z longer after of_host grown routine. piece z longer after (unit_in-same G routine ∙ home))
       where
-        piece : (z : ℤ) (longer : Injection) (after : Memory) → unit_in G after.frames ≡ unit → Fragment declared G Here n (point longer after (p.instructions.before + (at + length ws)) (Word z ∷ shown ∷ over_output below)) (write_wide call n unit line print r z) (p.instructions.before + (at + length ws + 2)) (λ a. Inside untouched longer after (Bare below a)) (d + 8 + 0) (λ a. e)
+        piece : (z : ℤ) (longer : Injection) (after : MachineMemory) → unit_in G after.frames ≡ unit → Fragment declared G Here n (point longer after (p.instructions.before + (at + length ws)) (Word z ∷ shown ∷ over_output below)) (write_wide call n unit line print r z) (p.instructions.before + (at + length ws + 2)) (λ a. Inside untouched longer after (Bare below a)) (d + 8 + 0) (λ a. e)
         piece (pos width) longer after told = made_and_put line (at + length ws) popped (d + 8 + 0) e (wide_text print width r) at_print.1 longer after (Word (pos width) ∷ shown ∷ over_output below) below (pushes width) (omega arith)
         piece (negsuc k) longer after told = fragment_stop {weight = popped} (λ s matches. fails k after s.trace ∙ ap (λ u. record { weight = popped; to = Stopped (Error 21 u line) s.trace }) told) (omega arith)
 
     -- after `output`: the value in so many places
     wide_value : (print : Print) (line at d : ℕ) (x w : Expr) (xs ws : List Instr) → IsItem declared (Wide print x w) → IsExprCode texts references line at x xs → IsExprCode texts references line (at + length xs + length (before_width line print)) w ws → at + length xs < p.instructions.own → at + length xs + length (before_width line print) + length ws < p.instructions.own → CodeStands G ps p references at xs → CodeStands G ps p references (at + length xs) (before_width line print) → CodeStands G ps p references (at + length xs + length (before_width line print)) ws → CodeStands G ps p references (at + length xs + length (before_width line print) + length ws) (wide_code line print ∷ bare line op.PUT ∷ [])
-        → (injection : Injection) (memory : Memory) (below : List Operand) → least_credit ≤ d → unit_in G memory.frames ≡ unit
+        → (injection : Injection) (memory : MachineMemory) (below : List Operand) → least_credit ≤ d → unit_in G memory.frames ≡ unit
         → Fragment declared G Here n (point injection memory (p.instructions.before + at) (over_output below)) (write_item call n unit line (Wide print x w)) (p.instructions.before + (at + length xs + length (before_width line print) + length ws + 2)) (λ a. Inside untouched injection memory (Bare below a)) d (λ a. 2 + d)
     wide_value print.Integer line at d x w xs ws valid code wcode inside winside at_value at_before at_width at_print injection memory below enough home =
         fragment_bind_number {host = host.Integer} {e = λ r. d + 8 + weight_of r} (λ r. steady_bind (steady_eval call steady_call n unit line w) (λ width. steady_write_wide call steady_call n unit line print.Integer r (number_of width))) (expressions (kind.Ordinal host.Integer) x valid.0 line at xs code at_value inside injection memory (over_output below) d enough home) (λ z longer after of_host grown routine.
@@ -146,7 +146,7 @@ module _ {declared : Declarations} {G : Image} {untouched : Slots} {Here : Facts
 
   module _ (expressions : ExpressionsFollow declared G untouched Here ps p texts references call n unit) where
     -- items and the line end, and then the step of the statement
-    items_move : (line at : ℕ) (items : List Item) (ends_line : Bool) (is : List Instr) → AreItems declared items → AreItemsCode texts references line at items ends_line is → at + length is < p.instructions.own → CodeStands G ps p references at is → (injection : Injection) (memory : Memory) (below : List Operand) (e : ℕ) → statement_credit ≤ e → unit_in G memory.frames ≡ unit
+    items_move : (line at : ℕ) (items : List Item) (ends_line : Bool) (is : List Instr) → AreItems declared items → AreItemsCode texts references line at items ends_line is → at + length is < p.instructions.own → CodeStands G ps p references at is → (injection : Injection) (memory : MachineMemory) (below : List Operand) (e : ℕ) → statement_credit ≤ e → unit_in G memory.frames ≡ unit
         → Fragment declared G Here n (point injection memory (p.instructions.before + at) below) (write_items call n unit line items ends_line) (p.instructions.before + (at + length is)) (λ a. Inside untouched injection memory (Bare below a)) (1 + e) (λ a. e)
     items_move line at [] false is valid h inside stands injection memory below e enough home =
         fragment_to {to = p.instructions.before + at} (omega (arith, ap length h)) (fragment_less {n = suc n} (omega arith) (fragment_move {d1 = e} (omega arith) (fragment_give (omega arith) (inside_here refl))))

@@ -27,7 +27,7 @@ pub struct Machine<'a> {
     code: Code<'a>,
     state: Configuration,
     ended: Ended,
-    ghost ready: { IsTrue (is_ready code.image.now (routines_of state.memory) ended) },
+    ghost ready: { IsTrue (is_ready code.image.now (routines_of state.environment) ended) },
 }
 
 impl<'a> Machine<'a> {
@@ -123,7 +123,7 @@ impl<'a> Machine<'a> {
         ensures segments { (trace : Trace) → (state_in self.now trace).segments ≡ result.now.segments }
         ensures live { (trace : Trace) → (state_in self.now trace).live ≡ live result.now }
     {
-        &self.state.memory.store
+        &self.state.environment.store
     }
 
     /// The ticks that it has spent.

@@ -6,9 +6,10 @@ ghost use Rattle.ep_memory.specs.Stores.{live};
 ghost use Rattle.ep_object.specs.declared.code.Image.{Image};
 ghost use Rattle.ep_object.specs.State.{first_live, first_state, empty_slots, first_types, first_segments, integer_entry, char_entry, boolean_entry, text_entry, pointer_entry, plain};
 
-use crate::state::{Configuration, Memory};
+use crate::state::{Configuration, Environment};
 use ep_base::List;
 use ep_frames::{Calls, Stack};
+use ep_memory::{Memory, UNDEFINED};
 use ep_object::{ImageUnit, Kind, Place, TEXT_TYPE, TypeEntry};
 use ep_rows::TypeTable;
 use std::alloc::{AllocError, Global};
@@ -50,12 +51,12 @@ fn types(alloc: Global) -> Result<TypeTable, AllocError>
 }
 
 /// The segments from the start, which are `input` and `output`.
-fn store(alloc: Global) -> Result<ep_memory::Memory, AllocError>
+fn store(alloc: Global) -> Result<Memory, AllocError>
     ensures { IfOk result (λ m. (m.segments ≡ first_segments) × (live m ≡ first_live)) }
 {
-    let mut store = ep_memory::Memory::new(alloc);
-    let input = store.make(TEXT_TYPE, &[i64::MIN]);
-    let output = store.make(TEXT_TYPE, &[i64::MIN]);
+    let mut store = Memory::new(alloc);
+    let input = store.make(TEXT_TYPE, &[UNDEFINED]);
+    let output = store.make(TEXT_TYPE, &[UNDEFINED]);
     match (input, output) {
         (Ok(_), Ok(_)) => Ok(store),
         _ => Err(AllocError),
@@ -67,12 +68,12 @@ pub fn state(alloc: Global, units: &[ImageUnit]) -> Result<Configuration, AllocE
     ensures state { (image : Image) → image.units ≡ units.now
         → IfOk result (λ c. state_at c [] ≡ first_state image) }
     ensures ticks { IfOk result (λ c. c.ticks ≡ 0) }
-    ensures calls { IfOk result (λ c. c.memory.calls ≡ []) }
+    ensures calls { IfOk result (λ c. c.environment.calls ≡ []) }
 {
     let units = frames(alloc, units)?;
     let types = types(alloc)?;
     let store = store(alloc)?;
-    let memory = Memory {
+    let environment = Environment {
         turn: 0,
         routine: 0,
         unit: 0,
@@ -85,7 +86,7 @@ pub fn state(alloc: Global, units: &[ImageUnit]) -> Result<Configuration, AllocE
         place: 0,
         ticks: 0,
         stack: Stack::new(alloc),
-        memory,
+        environment,
         alloc,
     })
 }

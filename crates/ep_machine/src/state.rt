@@ -10,13 +10,14 @@ ghost use Rattle.std.specs.Bool.{OnTrue};
 
 use ep_base::List;
 use ep_frames::{Calls, Stack};
+use ep_memory::Memory;
 use ep_object::{FrameNumber, ImageRoutine, Place};
 use ep_rows::{TypeTable, segments};
 use std::alloc::Global;
 
 /// What a machine has besides its place, its ticks and its operands.
 #[derive(Drop)]
-pub struct Memory {
+pub struct Environment {
     /// How many starts and stops are done.
     pub turn: usize,
     /// The routine that runs.
@@ -30,10 +31,10 @@ pub struct Memory {
     /// The types by number.
     pub types: TypeTable,
     /// The segments, and how many words live.
-    pub store: ep_memory::Memory,
+    pub store: Memory,
 }
 
-impl Memory {
+impl Environment {
     /// The routine that runs.
     #[inline(always)]
     pub fn running(&self) -> u32
@@ -213,7 +214,7 @@ pub struct Configuration {
     /// The operands.
     pub stack: Stack,
     /// The frames, the types and the segments.
-    pub memory: Memory,
+    pub environment: Environment,
     /// Where memory comes from.
     pub alloc: Global,
 }

@@ -18,13 +18,13 @@ use crate::types::bare_number;
 use crate::values::words_at;
 use crate::{members, places, sets, words};
 use ep_frames::{Members, Stack};
-use ep_memory::Memory;
+use ep_memory::{Memory, UNDEFINED};
 use ep_object::{Kind, TypeEntry};
 use ep_values::run_error;
 
-/// What a component leaves of the value that it is taken out of.
+/// What a component holds of the value that it is taken out of.
 #[derive(Clone, Copy, Drop)]
-pub(crate) enum Part {
+pub(crate) enum Content {
     /// The word of one of an ordinal type or a pointer, where it has one.
     Word(Option<i64>),
     /// So many of its words, those of an array or a record.
@@ -39,7 +39,7 @@ pub(crate) struct Found {
     type_number: u32,
     /// Where its words begin in those of the value.
     offset: usize,
-    part: Part,
+    content: Content,
 }
 
 /// What is at an index of a value.
@@ -57,20 +57,20 @@ pub(crate) enum AtIndex {
 fn part_of(words: &[i64], offset: usize, type_number: u32, types: &[TypeEntry]) -> Option<Found>
     ensures told { (st : List Operand) → part_at types.now words.now offset type_number st
         ≡ found_told words.now result st }
-    ensures there { IfSome result (λ f. IsThere words.now f.offset f.part) }
+    ensures there { IfSome result (λ f. IsThere words.now f.offset f.content) }
 {
     let entry = types.get(type_number as usize)?;
     let value = words_at(words, offset, entry.size as usize)?;
-    let part = match &entry.kind {
+    let content = match &entry.kind {
         Kind::Text => return None,
-        Kind::Ord(_, _) | Kind::Pointer => Part::Word(value.first().copied()),
-        Kind::Array(_, _, _) | Kind::Record(_) => Part::Words(entry.size),
-        Kind::Set(_, _) => Part::Set(value.first().copied(), members::read(value)),
+        Kind::Ord(_, _) | Kind::Pointer => Content::Word(value.first().copied()),
+        Kind::Array(_, _, _) | Kind::Record(_) => Content::Words(entry.size),
+        Kind::Set(_, _) => Content::Set(value.first().copied(), members::read(value)),
     };
     Some(Found {
         type_number: bare_number(type_number, entry.bare),
         offset,
-        part,
+        content,
     })
 }
 
@@ -78,7 +78,7 @@ fn part_of(words: &[i64], offset: usize, type_number: u32, types: &[TypeEntry]) 
 fn field_found(number: usize, types: &[TypeEntry], whole: u32, words: &[i64]) -> Option<Found>
     ensures told { (st : List Operand) → value_field types.now number whole words.now st
         ≡ found_told words.now result st }
-    ensures there { IfSome result (λ f. IsThere words.now f.offset f.part) }
+    ensures there { IfSome result (λ f. IsThere words.now f.offset f.content) }
 {
     let entry = types.get(whole as usize)?;
     let Kind::Record(parts) = &entry.kind else {
@@ -132,7 +132,7 @@ fn push_defined(word: Option<i64>, stack: &mut Stack) -> Step
     match word {
         None => Step::Broken,
         Some(w) => {
-            if w > i64::MIN {
+            if w > UNDEFINED {
                 words::push_word(stack, w)
             } else {
                 Step::Error(run_error::UNDEFINED_VALUE)
@@ -142,15 +142,15 @@ fn push_defined(word: Option<i64>, stack: &mut Stack) -> Step
 }
 
 /// Spends what a component does that is taken out of a value of so many words, where the limit allows it.
-fn spend_part(part: Part, size: usize, limit: u64, ticks: &mut u64) -> bool
+fn spend_part(content: Content, size: usize, limit: u64, ticks: &mut u64) -> bool
     requires { ticks.old < limit }
-    ensures fits { result ≡ leb (ticks.old + suc (weight_of size part)) limit }
-    ensures spent { ticks.new ≡ (if result then ticks.old + weight_of size part else ticks.old) }
+    ensures fits { result ≡ leb (ticks.old + suc (weight_of size content)) limit }
+    ensures spent { ticks.new ≡ (if result then ticks.old + weight_of size content else ticks.old) }
     ensures within { ticks.new < limit }
 {
-    match part {
-        Part::Word(_) | Part::Set(_, _) => spend(limit, ticks, size as u64),
-        Part::Words(kept) => match (size as u64).checked_add(u64::from(kept)) {
+    match content {
+        Content::Word(_) | Content::Set(_, _) => spend(limit, ticks, size as u64),
+        Content::Words(kept) => match (size as u64).checked_add(u64::from(kept)) {
             Some(weight) => spend(limit, ticks, weight),
             None => false,
         },
@@ -160,19 +160,19 @@ fn spend_part(part: Part, size: usize, limit: u64, ticks: &mut u64) -> bool
 /// The component takes the place of the value on top, which it was found in.
 fn put(found: Found, stack: &mut Stack) -> Step
     ensures { (n : ℕ) (ws : List ℤ) (st : List Operand) → stack.old ≡ Value n ws ∷ st
-        → IsThere ws found.offset found.part
-        → IsStep (part_told ws found.offset found.type_number found.part st).effect result stack.new }
+        → IsThere ws found.offset found.content
+        → IsStep (part_told ws found.offset found.type_number found.content st).effect result stack.new }
 {
-    match found.part {
-        Part::Word(word) => {
+    match found.content {
+        Content::Word(word) => {
             stack.pop();
             push_defined(word, stack)
         }
-        Part::Set(first, set) => {
+        Content::Set(first, set) => {
             stack.pop();
             sets::push_defined(first, set, stack)
         }
-        Part::Words(kept) => {
+        Content::Words(kept) => {
             if stack.keep_part(found.type_number, found.offset, kept) {
                 Step::Next
             } else {
@@ -187,10 +187,10 @@ fn leave(found: Found, size: usize, limit: u64, ticks: &mut u64, stack: &mut Sta
     requires { ticks.old < limit }
     ensures within { ticks.new < limit }
     ensures done { (n : ℕ) (ws : List ℤ) (st : List Operand) → stack.old ≡ Value n ws ∷ st → length ws ≡ size
-        → IsThere ws found.offset found.part
+        → IsThere ws found.offset found.content
         → IsDone limit (found_told ws (Some found) st) result ticks.old ticks.new stack.old stack.new }
 {
-    if !spend_part(found.part, size, limit, ticks) {
+    if !spend_part(found.content, size, limit, ticks) {
         return Step::Full;
     }
     put(found, stack)
@@ -201,10 +201,10 @@ fn leave_indexed(found: Found, size: usize, limit: u64, ticks: &mut u64, stack: 
     requires { ticks.old < limit }
     ensures within { ticks.new < limit }
     ensures done { (z : ℤ) (n : ℕ) (ws : List ℤ) (st : List Operand) → stack.old ≡ Word z ∷ Value n ws ∷ st
-        → length ws ≡ size → IsThere ws found.offset found.part
+        → length ws ≡ size → IsThere ws found.offset found.content
         → IsDone limit (found_told ws (Some found) st) result ticks.old ticks.new stack.old stack.new }
 {
-    if !spend_part(found.part, size, limit, ticks) {
+    if !spend_part(found.content, size, limit, ticks) {
         return Step::Full;
     }
     stack.pop();
@@ -304,7 +304,7 @@ pub fn defined(types: &[TypeEntry], memory: &Memory, stack: &mut Stack) -> Step
         return places::defined(types, memory, stack);
     };
     match one_word(types, type_number, words) {
-        Some(word) => tell(word > i64::MIN, stack),
+        Some(word) => tell(word > UNDEFINED, stack),
         None => Step::Broken,
     }
 }

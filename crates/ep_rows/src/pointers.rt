@@ -10,7 +10,7 @@ use crate::places::{allocate, has_room, index, push_place, size_begun};
 use crate::segments;
 use crate::step::Step;
 use ep_frames::Stack;
-use ep_memory::Memory;
+use ep_memory::{Memory, UNDEFINED};
 use ep_object::{INPUT_SEGMENT, OUTPUT_SEGMENT, Place, TypeEntry};
 use ep_values::run_error;
 
@@ -59,7 +59,7 @@ pub fn dispose(memory: &mut Memory, stack: &mut Stack) -> Step
     let Some(w) = stack.pop_word() else {
         return Step::Broken;
     };
-    if w == i64::MIN {
+    if w == UNDEFINED {
         return Step::Error(run_error::UNDEFINED_VALUE);
     }
     if w == 0 {
@@ -85,7 +85,7 @@ pub fn deref(memory: &Memory, stack: &mut Stack) -> Step
     let Some(w) = stack.pop_word() else {
         return Step::Broken;
     };
-    if w == i64::MIN {
+    if w == UNDEFINED {
         return Step::Error(run_error::UNDEFINED_VALUE);
     }
     if w == 0 {

@@ -13,7 +13,7 @@ use crate::type_table::TypeTable;
 use crate::types::{bare_number, entry_of, intern_over, plain};
 use ep_base::{List, NoMemory};
 use ep_frames::Stack;
-use ep_memory::Memory;
+use ep_memory::{Memory, UNDEFINED};
 use ep_object::{Kind, RecordPart, RecordParts, TypeEntry, Words, limit};
 use ep_values::run_error;
 use std::alloc::{AllocError, Global};
@@ -161,7 +161,7 @@ fn append_undefined(count: u32, words: &mut Vec<i64>) -> Result<(), NoMemory>
     ensures { OnOk result (words.new.items ≡ words.old.items ++ replicate count undefined) }
 {
     for _ in 0..count {
-        words.push(i64::MIN)?;
+        words.push(UNDEFINED)?;
     }
     Ok(())
 }

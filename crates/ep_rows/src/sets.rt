@@ -19,7 +19,7 @@ use crate::values::words_at;
 use crate::{members, segments, words};
 use ep_decode::{Combination, Inclusion};
 use ep_frames::{Members, Stack};
-use ep_memory::{Memory, Stored};
+use ep_memory::{Memory, Stored, UNDEFINED};
 use ep_object::{Kind, Place, SET_MEMBERS, SET_WORDS, TypeEntry};
 use ep_values::run_error;
 
@@ -183,7 +183,7 @@ pub(crate) fn push_defined(first: Option<i64>, set: Members, stack: &mut Stack) 
     match first {
         None => Step::Broken,
         Some(w) => {
-            if w > i64::MIN {
+            if w > UNDEFINED {
                 push_set(set, stack)
             } else {
                 Step::Error(run_error::UNDEFINED_VALUE)

@@ -11,6 +11,7 @@ ghost use Rattle.ep_values.specs.declared.run_error.TheConstants as run_error;
 use crate::step::Step;
 use ep_decode::Comparison;
 use ep_frames::Stack;
+use ep_memory::UNDEFINED;
 use ep_values::run_error;
 
 /// The number that a word is, of so many.
@@ -88,7 +89,7 @@ fn push_integer(stack: &mut Stack, z: Option<i64>) -> Step
 {
     match z {
         Some(w) => {
-            if w > i64::MIN {
+            if w > UNDEFINED {
                 push_word(stack, w)
             } else {
                 Step::Error(run_error::OVERFLOW)

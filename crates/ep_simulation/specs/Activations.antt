@@ -3,7 +3,7 @@
 use Rattle.std.specs.Prelude.{◌≡◌, ℕ, zero, suc, ◌+◌, ◌<◌, List, [], ◌∷◌, length, Option, Some, slice_get, ⊤}
 use Rattle.ep_simulation.specs.Follows.{Facts, StillRuns}
 use Rattle.ep_object.specs.Frames.{level_slots}
-use Rattle.ep_simulation.specs.Matching.{Memory, Injection, IsIn, IsLike, MatchesSlot, own_slot, HasOwnType}
+use Rattle.ep_simulation.specs.Matching.{MachineMemory, Injection, IsIn, IsLike, MatchesSlot, own_slot, HasOwnType}
 use Rattle.ep_simulation.specs.Matching.{HasTypeUnder, Slots, Grown}
 use Rattle.ep_object.specs.State.{Frame}
 use Rattle.ep_object.specs.declared.state.Place.{Place}
@@ -17,8 +17,8 @@ use Rattle.ep_values.specs.TypeValues.{TypeValue}
 -- A variable of the routine has a slot in the frame of its call: it holds a place of the variable once that is made,
 -- of a
 -- type that describes the one of the declaration, and none before.
-pub record OwnSlot (declared : Declarations) (injection : Injection) (s : meaning.State) (memory : Memory) (k : ℕ)
-    (v : UnitVariable) : Type 0 where
+pub record OwnSlot (declared : Declarations) (injection : Injection) (s : meaning.State) (memory : MachineMemory)
+    (k : ℕ) (v : UnitVariable) : Type 0 where
   pub slot : Option Place
   pub is : own_slot memory.frames k ≡ Some slot
   pub matches : MatchesSlot injection memory.types (own_variable 0 k s) slot
@@ -38,7 +38,7 @@ MatchesOwn declared injection s memory =
 -- describes the one of the declaration, but for initial states, and none before.
 pub record LevelSlot (types : List UnitType) (injection : Injection) (variables : Variables)
     (slots : List (Option Place))
-    (memory : Memory) (k : ℕ) (v : UnitVariable) : Type 0 where
+    (memory : MachineMemory) (k : ℕ) (v : UnitVariable) : Type 0 where
   pub slot : Option Place
   pub is : slice_get slots k ≡ Some slot
   pub matches : MatchesSlot injection memory.types (variables k) slot
@@ -49,7 +49,7 @@ pub record LevelSlot (types : List UnitType) (injection : Injection) (variables 
 -- which
 -- the variables of this routine of a unit with these types match.
 pub record LevelMatches (types : List UnitType) (level : Level) (injection : Injection) (calls : List Call)
-    (memory : Memory) (up : ℕ) : Type 0 where
+    (memory : MachineMemory) (up : ℕ) : Type 0 where
   pub slots : List (Option Place)
   pub are : level_slots memory.frames.calls up ≡ Some slots
   pub variables : Variables
@@ -64,7 +64,7 @@ MatchesAround declared injection s memory =
     → LevelMatches declared.routine_types level injection s.calls memory (suc up)
 
 -- a call is under way on both sides
-pub record IsUnderWay (s : meaning.State) (memory : Memory) : Type 0 where
+pub record IsUnderWay (s : meaning.State) (memory : MachineMemory) : Type 0 where
   pub frame : Frame
   pub below : List Frame
   pub frames : memory.frames.calls ≡ frame ∷ below
@@ -75,8 +75,8 @@ pub record IsUnderWay (s : meaning.State) (memory : Memory) : Type 0 where
 -- The variables of the routine in whose block names are declared so and of the routines around it match. Where there
 -- is
 -- such a routine, a call of it is under way.
-pub record MatchesNames (declared : Declarations) (injection : Injection) (s : meaning.State) (memory : Memory) : Type
-    0 where
+pub record MatchesNames (declared : Declarations) (injection : Injection) (s : meaning.State)
+    (memory : MachineMemory) : Type 0 where
   pub own : MatchesOwn declared injection s memory
   pub around : MatchesAround declared injection s memory
   pub under_way : (level : Level) → slice_get declared.levels 0 ≡ Some level → IsUnderWay s memory
@@ -84,13 +84,13 @@ pub record MatchesNames (declared : Declarations) (injection : Injection) (s : m
 -- facts by which they match
 abbrev pub KnowsNames : Declarations → Facts → Type 0
 KnowsNames declared Here =
-    (injection : Injection) (s : meaning.State) (memory : Memory) → Here injection s memory
+    (injection : Injection) (s : meaning.State) (memory : MachineMemory) → Here injection s memory
     → MatchesNames declared injection s memory
 
 -- What a call needs of the activation that makes it, where the routine is declared so many levels up: 0 says that none
 -- is
 -- around it, and other numbers that the ones around it are those of the activations from that level less one on.
-abbrev pub IsCallable : List UnitType → ℕ → List Level → Injection → List Call → Memory → Type 0
+abbrev pub IsCallable : List UnitType → ℕ → List Level → Injection → List Call → MachineMemory → Type 0
 IsCallable types zero around injection calls memory = around ≡ []
 IsCallable types (suc up) around injection calls memory =
     (0 < length around)
@@ -109,8 +109,8 @@ AreMade injection (n ∷ ns) (segment ∷ segments) = IsIn injection n segment �
 -- What code of a routine knows since its call was made, in this memory: the call is under way, its variables match,
 -- and the
 -- allocations that were made in it are those of the segments that were.
-pub record InActivation (declared : Declarations) (untouched : Slots) (injection : Injection) (memory : Memory)
-    (longer : Injection) (s : meaning.State) (after : Memory) : Type 0 where
+pub record InActivation (declared : Declarations) (untouched : Slots) (injection : Injection) (memory : MachineMemory)
+    (longer : Injection) (s : meaning.State) (after : MachineMemory) : Type 0 where
   pub grown : Grown untouched injection memory longer after
   pub runs : StillRuns memory.frames after.frames
   pub frame : Frame

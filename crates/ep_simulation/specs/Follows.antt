@@ -11,8 +11,8 @@ use Rattle.ep_meaning.specs.Valid as kind
 use Rattle.ep_meaning.specs.Valid.{Declarations, Kind}
 use Rattle.ep_typed.specs.Hosts.{Host, is_of_host}
 use Rattle.ep_values.specs.TypeValues.{TypeValue, bare_of, size_of}
-use Rattle.ep_simulation.specs.Matching.{Memory, at, Describes, Injection, Matches, Slots, own_slot, Grown, IsBare}
-use Rattle.ep_simulation.specs.Matching.{IsLike, IsSpot, HasAt}
+use Rattle.ep_simulation.specs.Matching.{MachineMemory, at, Describes, Injection, Matches, Slots, own_slot, Grown}
+use Rattle.ep_simulation.specs.Matching.{IsBare, IsLike, IsSpot, HasAt}
 use Rattle.ep_object.specs.Operands.{Operand, Word, Place, Text, Value, Set}
 use Rattle.ep_object.specs.Sets.{IsSet}
 use Rattle.ep_simulation.specs.Starts.{AreStarts}
@@ -110,11 +110,11 @@ pub record Follows {A : Type 0} (Within : State → Type 0) (G : Image) (n : ℕ
 -- the place in the code, and the operands.
 pub record Point : Type 0 where
   pub injection : Injection
-  pub memory : Memory
+  pub memory : MachineMemory
   pub place : ℕ
   pub operands : List Operand
 
-abbrev pub point : Injection → Memory → ℕ → List Operand → Point
+abbrev pub point : Injection → MachineMemory → ℕ → List Operand → Point
 point injection memory place operands =
     record { injection = injection; memory = memory; place = place; operands = operands }
 
@@ -125,17 +125,17 @@ state_at from trace = at from.place from.operands from.memory trace
 -- What code knows of its own activation: of its frame, its arguments and its allocations, and of the frames that it
 -- sees. Nothing of it stands in `Matches`, so that code of any origin may call any other.
 abbrev pub Facts : Type 1
-Facts = Injection → meaning.State → Memory → Type 0
+Facts = Injection → meaning.State → MachineMemory → Type 0
 
 -- what holds of the injection, the memory and the operands after a fragment of code
 abbrev pub After : Type 1
-After = Injection → Memory → List Operand → Type 0
+After = Injection → MachineMemory → List Operand → Type 0
 
 -- the machine stands at a place of the code and matches, the facts of the activation hold, and this holds
 pub record Lands (declared : Declarations) (G : Image) (Here : Facts) (place : ℕ) (Post : After)
     (s : meaning.State) (k : State) : Type 0 where
   pub injection : Injection
-  pub memory : Memory
+  pub memory : MachineMemory
   pub operands : List Operand
   pub is : k ≡ at place operands memory s.trace
   pub matches : Matches declared G injection s memory
@@ -187,8 +187,8 @@ pub record IsNotLeft (before now : Frames) : Type 0 where
 -- The calls under way are the same on both sides, with the slots of the innermost one, memory has grown and these
 -- slots are
 -- untouched, and the same routine runs.
-pub record HasGrown (untouched : Slots) (injection : Injection) (s : meaning.State) (memory : Memory)
-    (longer : Injection) (t : meaning.State) (after : Memory) : Type 0 where
+pub record HasGrown (untouched : Slots) (injection : Injection) (s : meaning.State) (memory : MachineMemory)
+    (longer : Injection) (t : meaning.State) (after : MachineMemory) : Type 0 where
   pub grown : Grown untouched injection memory longer after
   pub routine : SameRoutine untouched memory.frames after.frames
   pub own : (k : ℕ) → own_slot after.frames k ≡ own_slot memory.frames k
@@ -196,11 +196,11 @@ pub record HasGrown (untouched : Slots) (injection : Injection) (s : meaning.Sta
 
 -- facts that go on holding where memory has grown so
 pub record Lasts (untouched : Slots) (Here : Facts) : Type 0 where
-  pub by : (injection longer : Injection) (s t : meaning.State) (memory after : Memory)
+  pub by : (injection longer : Injection) (s t : meaning.State) (memory after : MachineMemory)
       → HasGrown untouched injection s memory longer t after → Here injection s memory → Here longer t after
 
 -- That memory has grown so since then, which lasts. Whatever facts last and held then hold where this does.
-abbrev pub Since : Slots → Injection → meaning.State → Memory → Facts
+abbrev pub Since : Slots → Injection → meaning.State → MachineMemory → Facts
 Since untouched injection s memory longer t after = HasGrown untouched injection s memory longer t after
 
 -- From a point at which the facts of the activation hold, the machine follows the computation, without leaving the
@@ -217,7 +217,7 @@ pub record Fragment {A : Type 0} (declared : Declarations) (G : Image) (Here : F
 
 -- what the operands are
 abbrev pub Operands : Type 1
-Operands = Injection → Memory → List Operand → Type 0
+Operands = Injection → MachineMemory → List Operand → Type 0
 
 -- nothing more than the operands below
 abbrev pub Bare : List Operand → Unit {0} → Operands
@@ -225,14 +225,14 @@ Bare below a injection memory operands = operands ≡ below
 
 -- a number of the host on top
 pub record NumberOnTop (host : Host) (below : List Operand) (r : Result) (injection : Injection)
-    (memory : Memory) (operands : List Operand) : Type 0 where
+    (memory : MachineMemory) (operands : List Operand) : Type 0 where
   pub number : ℤ
   pub is_number : r ≡ Number number
   pub of_host : IsTrue (is_of_host host number)
   pub is : operands ≡ Word number ∷ below
 
 -- a text on top
-pub record TextOnTop (below : List Operand) (r : Result) (injection : Injection) (memory : Memory)
+pub record TextOnTop (below : List Operand) (r : Result) (injection : Injection) (memory : MachineMemory)
     (operands : List Operand) : Type 0 where
   pub bytes : List ℕ
   pub is_text : r ≡ Bytes bytes
@@ -241,8 +241,8 @@ pub record TextOnTop (below : List Operand) (r : Result) (injection : Injection)
 -- An operand is the value of a result of an array or record type, which has no initial states: its type is the bare
 -- form of that
 -- one, and its words hold the value.
-pub record IsStructure (type : TypeValue) (r : Result) (injection : Injection) (memory : Memory) (operand : Operand) :
-    Type 0 where
+pub record IsStructure (type : TypeValue) (r : Result) (injection : Injection) (memory : MachineMemory)
+    (operand : Operand) : Type 0 where
   pub value : ValueOf
   pub is_structure : r ≡ Structure type value
   pub type_number : ℕ
@@ -255,13 +255,13 @@ pub record IsStructure (type : TypeValue) (r : Result) (injection : Injection) (
 
 -- such an operand on top
 pub record StructureOnTop (type : TypeValue) (below : List Operand) (r : Result) (injection : Injection)
-    (memory : Memory) (operands : List Operand) : Type 0 where
+    (memory : MachineMemory) (operands : List Operand) : Type 0 where
   pub operand : Operand
   pub holds : IsStructure type r injection memory operand
   pub is : operands ≡ operand ∷ below
 
 -- a set on top
-pub record SetOnTop (below : List Operand) (r : Result) (injection : Injection) (memory : Memory)
+pub record SetOnTop (below : List Operand) (r : Result) (injection : Injection) (memory : MachineMemory)
     (operands : List Operand) : Type 0 where
   pub members : List ℕ
   pub is_members : r ≡ Members members
@@ -277,7 +277,7 @@ OnTop (kind.Set host) below r = SetOnTop below r
 
 -- a place of the variable on top, whose type describes the type value, but for initial states
 pub record PlaceOnTop (type : TypeValue) (below : List Operand) (variable : Component) (injection : Injection)
-    (memory : Memory) (operands : List Operand) : Type 0 where
+    (memory : MachineMemory) (operands : List Operand) : Type 0 where
   pub place : PlaceOf
   pub is : operands ≡ Place place ∷ below
   pub spot : IsSpot injection memory.types variable place
@@ -285,8 +285,8 @@ pub record PlaceOnTop (type : TypeValue) (below : List Operand) (variable : Comp
 
 -- inside of a routine: memory has grown and these slots are untouched, the routine is the same, and the operands are
 -- such
-pub record Inside (untouched : Slots) (injection : Injection) (memory : Memory) (Then : Operands)
-    (longer : Injection) (after : Memory) (operands : List Operand) : Type 0 where
+pub record Inside (untouched : Slots) (injection : Injection) (memory : MachineMemory) (Then : Operands)
+    (longer : Injection) (after : MachineMemory) (operands : List Operand) : Type 0 where
   pub grown : Grown untouched injection memory longer after
   pub routine : SameRoutine untouched memory.frames after.frames
   pub operands_are : Then longer after operands
@@ -295,7 +295,7 @@ pub record Inside (untouched : Slots) (injection : Injection) (memory : Memory) 
 -- number of a type
 -- that describes it is on top.
 pub record TypeOnTop (t : TypeValue) (below : List Operand) (given : TypeValue) (injection : Injection)
-    (memory : Memory) (operands : List Operand) : Type 0 where
+    (memory : MachineMemory) (operands : List Operand) : Type 0 where
   pub type_is : bare_of given ≡ t
   pub number : ℕ
   pub is : operands ≡ Word (pos number) ∷ below

@@ -35,14 +35,14 @@ use Rattle.ep_object.specs.declared.state.Segment.{Segment}
 use Rattle.ep_object.specs.declared.state.TypeEntry.{TypeEntry}
 
 -- what a machine has besides its operands, the place in the code and its events
-pub record Memory : Type 0 where
+pub record MachineMemory : Type 0 where
   pub frames : Frames
   pub segments : Segments
   pub types : TypeTable
   pub live : ℕ
 
 -- the state at a place in the code
-abbrev pub at : ℕ → List Operand → Memory → Trace → State
+abbrev pub at : ℕ → List Operand → MachineMemory → Trace → State
 at place operands memory trace =
     record {
       place = place;
@@ -406,7 +406,7 @@ pub record MatchesCounts (injection : Injection) (resources : Resources) (segmen
 
 -- the state of the meaning matches the machine's memory by the injection, where these variables are declared
 pub record Matches (declared : Declarations) (G : Image) (injection : Injection) (s : meaning.State)
-    (memory : Memory) : Type 0 where
+    (memory : MachineMemory) : Type 0 where
   pub injected : MatchesInjection injection s.allocations memory.segments
   pub store : MatchesStore injection s.allocations memory.segments memory.types
   pub types : MatchesTypes s.resources.types memory.types
@@ -454,8 +454,8 @@ kept_slots declared G = record { of_units = is_hidden_slot declared G; own = λ 
 
 -- The injection is a longer one, hidden segments are what they were, those that are new have ended, these slots are
 -- untouched, and no segment changes its type.
-pub record Grown (untouched : Slots) (injection : Injection) (memory : Memory) (longer : Injection)
-    (after : Memory) : Type 0 where
+pub record Grown (untouched : Slots) (injection : Injection) (memory : MachineMemory) (longer : Injection)
+    (after : MachineMemory) : Type 0 where
   pub larger : IsPrefix injection longer
   pub types : IsPrefix memory.types after.types
   pub segments : length memory.segments ≤ length after.segments

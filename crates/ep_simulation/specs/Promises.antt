@@ -12,7 +12,7 @@ use Rattle.ep_values.specs.TypeValues.{TypeValue}
 use Rattle.ep_simulation.specs.Follows.{end_of, IsStructure, Operands, TypeOnTop, point, state_at, Fragment, Since}
 use Rattle.ep_simulation.specs.Follows.{Lands, Inside, GivesUp}
 use Rattle.ep_simulation.specs.Activations.{IsCallable}
-use Rattle.ep_simulation.specs.Matching.{Memory, Injection, Matches, IsLike, IsSpot, kept_slots}
+use Rattle.ep_simulation.specs.Matching.{MachineMemory, Injection, Matches, IsLike, IsSpot, kept_slots}
 use Rattle.ep_object.specs.Operands.{Operand, Place, Set, Text, Word}
 use Rattle.ep_object.specs.Sets.{IsSet}
 use Rattle.ep_object.specs.Runs.{run, unit_in}
@@ -61,7 +61,7 @@ ArePassed types (f ∷ fs) [] = ⊥
 ArePassed types (f ∷ fs) (p ∷ ps) = IsPassed types f.mode f p × ArePassed types fs ps
 
 -- an operand is the value of a result of the kind
-abbrev pub IsValueOf : Injection → Memory → Kind → Result → Operand → Type 0
+abbrev pub IsValueOf : Injection → MachineMemory → Kind → Result → Operand → Type 0
 IsValueOf injection memory (kind.Ordinal host) r o =
     (z : ℤ) × (r ≡ Number z) × IsTrue (is_of_host host z) × (o ≡ Word z)
 IsValueOf injection memory kind.Bytes r o = (bytes : List ℕ) × (r ≡ Bytes bytes) × (o ≡ Text bytes)
@@ -69,7 +69,7 @@ IsValueOf injection memory (kind.Structured t) r o = IsStructure t r injection m
 IsValueOf injection memory (kind.Set host) r o = (ms : List ℕ) × (r ≡ Members ms) × IsSet ms × (o ≡ Set ms)
 
 -- an operand is that of an argument: the value, or a place of the variable
-abbrev pub IsArgument : Injection → Memory → Passing → Argument → Operand → Type 0
+abbrev pub IsArgument : Injection → MachineMemory → Passing → Argument → Operand → Type 0
 IsArgument injection memory (ByValue k) (Value r) o = IsValueOf injection memory k r o
 IsArgument injection memory (ByValue k) (Variable n) o = ⊥
 IsArgument injection memory (ByReference t) (Value r) o = ⊥
@@ -77,7 +77,7 @@ IsArgument injection memory (ByReference t) (Variable n) o =
     (p : PlaceOf) × (o ≡ Place p) × IsSpot injection memory.types n p × IsLike memory.types p.type_number t
 
 -- the operands are those of the arguments, one for each formal and the first lowest, on the ones below
-abbrev pub AreArguments : Injection → Memory → List Passing → List Argument → List Operand → List Operand
+abbrev pub AreArguments : Injection → MachineMemory → List Passing → List Argument → List Operand → List Operand
     → Type 0
 AreArguments injection memory [] [] below operands = operands ≡ below
 AreArguments injection memory [] (x ∷ xs) below operands = ⊥
@@ -126,7 +126,7 @@ pub record CallsAt (G : Image) (place routine levels line : ℕ) : Type 0 where
 pub record Promises (declared : Declarations) (G : Image) (routine n : ℕ) (types : List UnitType) (around : List Level)
     (formals : List Passing) (results : List Kind) (called : Called) : Type 0 where
   pub by : (place levels line : ℕ) → CallsAt G place routine levels line
-      → (injection : Injection) (begun : meaning.State) (memory : Memory)
+      → (injection : Injection) (begun : meaning.State) (memory : MachineMemory)
       → IsCallable types levels around injection begun.calls memory
       → (below operands : List Operand) (arguments : List Argument)
       → AreArguments injection memory formals arguments below operands
@@ -202,7 +202,7 @@ pub record TypeKeeps (declared : Declarations) (G : Image) (ps : List Placement)
             pos routine;
       }
   pub promise : (place line : ℕ) → CallsAt G place routine 0 line
-      → (injection : Injection) (begun : meaning.State) (memory : Memory) (below : List Operand)
+      → (injection : Injection) (begun : meaning.State) (memory : MachineMemory) (below : List Operand)
       → unit_in G memory.frames ≡ unit
       → Fragment declared G (Since (kept_slots declared G) injection begun memory) n
       (point injection memory place below) (call.named_type unit line index) (place + 1)
@@ -365,7 +365,7 @@ pub record CallsAreKept (declared : Declarations) (G : Image) (ps : List Placeme
 -- ticks
 -- keep pace with the steps, and until then the calling routine is not left.
 pub record ComesBackAfter (declared : Declarations) (G : Image) (injection : Injection) (begun : meaning.State)
-    (memory : Memory) (Then : Operands) (to : ℕ) (k : State) (s : meaning.State) (steps : ℕ) : Type 0 where
+    (memory : MachineMemory) (Then : Operands) (to : ℕ) (k : State) (s : meaning.State) (steps : ℕ) : Type 0 where
   pub ticks : ℕ
   pub last : State
   pub runs : run G ticks 0 k ≡ Running 0 last
@@ -375,7 +375,7 @@ pub record ComesBackAfter (declared : Declarations) (G : Image) (injection : Inj
   pub until : (t : ℕ) → t ≤ ticks → StaysIn G k t s.trace
 
 -- what a run from a call does where what the call does comes to this with so many steps
-abbrev pub CallComesTo : Declarations → Image → Injection → meaning.State → Memory → (List Result → Operands)
+abbrev pub CallComesTo : Declarations → Image → Injection → meaning.State → MachineMemory → (List Result → Operands)
     → ℕ → State → ℕ → Outcome (List Result) → Type 0
 CallComesTo declared G injection begun memory Then to k steps (Gives left a s) = (spent : ℕ)
     → left + spent ≡ steps → ComesBackAfter declared G injection begun memory (Then a) to k s spent
@@ -392,7 +392,7 @@ CallsAnswer =
     → (formals : List Passing) (results : List Kind) (called : Called)
     → Promises declared G routine n types around formals results called
     → (place levels line : ℕ) → CallsAt G place routine levels line
-    → (injection : Injection) (memory : Memory) (below operands : List Operand)
+    → (injection : Injection) (memory : MachineMemory) (below operands : List Operand)
     → (arguments : List Argument) → AreArguments injection memory formals arguments below operands
     → (s : meaning.State) → Matches declared G injection s memory
     → IsCallable types levels around injection s.calls memory

@@ -11,7 +11,7 @@ use Rattle.ep_object.specs.Effects.{Returns, light}
 use Rattle.ep_simulation.specs.Follows.{end_of, Follows, GivesUp, Since, Lands, Operands, Bare, OnTop, IsNotLeft}
 use Rattle.ep_simulation.specs.Follows.{Inside}
 use Rattle.ep_object.specs.Laws.{EndsAt}
-use Rattle.ep_simulation.specs.Matching.{Memory, at, Injection, Matches, kept_slots}
+use Rattle.ep_simulation.specs.Matching.{MachineMemory, at, Injection, Matches, kept_slots}
 use Rattle.ep_object.specs.Operands.{Operand}
 use Rattle.ep_object.specs.Routines.{routine_of}
 use Rattle.ep_object.specs.Runs.{run, trace_of}
@@ -29,7 +29,7 @@ routine_credit = 41
 -- The machine stands at the entry of the routine of this number, in the frame of the unit at this place of the image,
 -- with these operands below, and matches the state of the meaning.
 pub record Enters (declared : Declarations) (G : Image) (unit routine : ℕ) (injection : Injection)
-    (memory : Memory) (below : List Operand) (s : meaning.State) (k : State) : Type 0 where
+    (memory : MachineMemory) (below : List Operand) (s : meaning.State) (k : State) : Type 0 where
   pub image_routine : ImageRoutine
   pub there : routine_of G routine ≡ Some image_routine
   pub is : k ≡ at image_routine.entry below memory s.trace
@@ -42,7 +42,7 @@ pub record Enters (declared : Declarations) (G : Image) (unit routine : ℕ) (in
 -- matches again by a longer injection; hidden segments and hidden slots are what they were, and the calls under way
 -- are those from which it began.
 pub record Leaves (declared : Declarations) (G : Image) (injection : Injection) (begun : meaning.State)
-    (memory : Memory) (Then : Operands) (s : meaning.State) (k : State) : Type 0 where
+    (memory : MachineMemory) (Then : Operands) (s : meaning.State) (k : State) : Type 0 where
   pub place : ℕ
   pub instruction : Instr
   pub stands : slice_get G.instructions place ≡ Some instruction
@@ -62,7 +62,7 @@ pub record Simulates {A : Type 0} (declared : Declarations) (G : Image) (unit ro
   pub body : Computation A
   pub called : c ≡ spend 1 body
   pub follows : (m : ℕ) → m < n
-      → (injection : Injection) (memory : Memory) (below : List Operand) (s : meaning.State) (k : State)
+      → (injection : Injection) (memory : MachineMemory) (below : List Operand) (s : meaning.State) (k : State)
       → Enters declared G unit routine injection memory below s k
       → Follows (λ l. IsNotLeft memory.frames l.frames) G m k s body
       (λ a. Leaves declared G injection s memory (Results below a)) routine_credit (λ a. routine_credit)
@@ -85,7 +85,7 @@ pub record StaysIn (G : Image) (k : State) (ticks : ℕ) (trace : Trace) : Type 
 -- A value is given after so many steps: the machine comes to the instruction that leaves the routine, its ticks with
 -- the one of that instruction keep pace with the steps, and until then it stays in the routine.
 pub record LeavesAfter (declared : Declarations) (G : Image) (injection : Injection) (begun : meaning.State)
-    (memory : Memory) (Then : Operands) (k : State) (s : meaning.State) (steps : ℕ) : Type 0 where
+    (memory : MachineMemory) (Then : Operands) (k : State) (s : meaning.State) (steps : ℕ) : Type 0 where
   pub ticks : ℕ
   pub last : State
   pub runs : run G ticks 0 k ≡ Running 0 last
@@ -108,7 +108,7 @@ pub record StaysAfter (G : Image) (k : State) (trace : Trace) (steps : ℕ) : Ty
   pub all : (ticks : ℕ) → 64 * steps ≤ ticks → IsPrefix trace (trace_of (run G ticks 0 k))
 
 -- what a run from the entry does where the computation comes to this with so many steps
-abbrev pub Answers : {A : Type 0} → Declarations → Image → Injection → meaning.State → Memory → (A → Operands)
+abbrev pub Answers : {A : Type 0} → Declarations → Image → Injection → meaning.State → MachineMemory → (A → Operands)
     → State → ℕ → Outcome A → Type 0
 Answers declared G injection begun memory Then k steps (Gives left a s) = (spent : ℕ) → left + spent ≡ steps
     → LeavesAfter declared G injection begun memory (Then a) k s spent
@@ -120,7 +120,7 @@ Answers declared G injection begun memory Then k steps (Cut s) = StaysAfter G k 
 -- so
 -- many steps, the machine may end for want of storage or of depth within 64 ticks for each of them, after a front of
 -- the events.
-abbrev pub AnswersInRoom : {A : Type 0} → Declarations → Image → Injection → meaning.State → Memory
+abbrev pub AnswersInRoom : {A : Type 0} → Declarations → Image → Injection → meaning.State → MachineMemory
     → (A → Operands) → State → ℕ → Outcome A → Type 0
 AnswersInRoom declared G injection begun memory Then k steps o =
     Answers declared G injection begun memory Then k steps o ⊎ GivesUp G k steps 0 (state_of o)
@@ -131,7 +131,7 @@ abbrev pub ProceduresAnswer : Type 0
 ProceduresAnswer =
     (declared : Declarations) (G : Image) (unit routine n : ℕ) (c : Computation (Unit {0}))
     → Simulates declared G unit routine n c Bare
-    → (injection : Injection) (memory : Memory) (below : List Operand) (s : meaning.State) (k : State)
+    → (injection : Injection) (memory : MachineMemory) (below : List Operand) (s : meaning.State) (k : State)
     → Enters declared G unit routine injection memory below s k
     → (steps : ℕ) → steps ≤ n → AnswersInRoom declared G injection s memory (Bare below) k steps (c steps s)
 
@@ -140,7 +140,7 @@ abbrev pub FunctionsAnswer : Type 0
 FunctionsAnswer =
     (declared : Declarations) (G : Image) (unit routine n : ℕ) (kind : Kind) (c : Computation Result)
     → Simulates declared G unit routine n c (OnTop kind)
-    → (injection : Injection) (memory : Memory) (below : List Operand) (s : meaning.State) (k : State)
+    → (injection : Injection) (memory : MachineMemory) (below : List Operand) (s : meaning.State) (k : State)
     → Enters declared G unit routine injection memory below s k
     → (steps : ℕ) → steps ≤ n
     → AnswersInRoom declared G injection s memory (OnTop kind below) k steps (c steps s)

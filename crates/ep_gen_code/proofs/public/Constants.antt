@@ -1,7 +1,7 @@
 -- The machine follows constants: what is given is the constant, and its value is on top.
 use Rattle.std.proofs.Common.{◌≡◌, ℕ, ℤ, pos, zero, suc, ◌+◌, ◌*◌, ◌-◌, ◌≤◌, List, [], ◌∷◌, length, refl, ap, subst, arith}
 use Rattle.ep_simulation.specs.Follows.{After, Facts, Fragment, Inside, IsNotLeft, Lands, Operands, Point, point, state_at}
-use Rattle.ep_simulation.specs.Matching.{Injection, Memory, Slots}
+use Rattle.ep_simulation.specs.Matching.{Injection, MachineMemory, Slots}
 use Rattle.ep_object.specs.Operands.{Operand, Set, Word}
 use Rattle.ep_object.specs.Placing.{Placement, CodeStands}
 use Rattle.ep_object.specs.Sets.{IsSet, member_limit}
@@ -54,7 +54,7 @@ GivenOnTop below r o given injection memory operands = (given ≡ r) × (operand
 module _ {declared : Declarations} {G : Image} {untouched : Slots} {Here : Facts} (ps : List Placement) (p : Placement) (references : List Reference) (call : Handler) (g : ℕ) (unit : List ℕ) (line n : ℕ) where
   -- a constant of an ordinal type, by `Push`
   pub word_follows : (z : ℤ) (at : ℕ) → CodeStands G ps p references at (push line z ∷ [])
-      → (injection : Injection) (memory : Memory) (below : List Operand) (d : ℕ)
+      → (injection : Injection) (memory : MachineMemory) (below : List Operand) (d : ℕ)
       → Fragment declared G Here n (point injection memory (p.instructions.before + at) below) (eval call g unit line (Constant z)) (p.instructions.before + (at + 1)) (λ r. Inside untouched injection memory (GivenOnTop below (result.Number z) (Word z) r)) d (λ r. d + 8 + weight_of r)
   word_follows z at stands injection memory below d =
       fragment_less {n = suc n} (omega arith) (fragment_to (omega arith) (fragment_one {n = n} {d1 = d + 8} (λ s matches. push_pushes G (p.instructions.before + at) line below z stands.0 memory s.trace) (omega arith)
@@ -63,7 +63,7 @@ module _ {declared : Declarations} {G : Image} {untouched : Slots} {Here : Facts
   -- Members that are added one after another. The first ones spend the steps that are left, one with each tick of `Push`,
   -- and what is left of these behind the last member costs credit.
   members_follow : (all ms ns : List ℕ) (steps at : ℕ) → AreOrdinals ms → with_members ms ns ≡ all → CodeStands G ps p references at (members_code line ms)
-      → (injection : Injection) (memory : Memory) (below : List Operand) (c e : ℕ) → e + 2 * length ms ≤ c + 63 * steps → e + steps ≤ c
+      → (injection : Injection) (memory : MachineMemory) (below : List Operand) (c e : ℕ) → e + 2 * length ms ≤ c + 63 * steps → e + steps ≤ c
       → Fragment declared G Here (steps + n) (point injection memory (p.instructions.before + at) (Set ns ∷ below)) (spend steps (give (result.Members all))) (p.instructions.before + (at + length (members_code line ms))) (λ r. Inside untouched injection memory (GivenOnTop below (result.Members all) (Set all) r)) c (λ r. e + weight_of r)
   members_follow all [] ns steps at ordinals is stands injection memory below c e spent left =
       fragment_to {to = p.instructions.before + at} (omega arith)
@@ -85,7 +85,7 @@ module _ {declared : Declarations} {G : Image} {untouched : Slots} {Here : Facts
 
   -- a constant that is a set
   pub set_follows : (ms : List ℕ) → IsSet ms → (at : ℕ) → CodeStands G ps p references at (bare line op.SET_NONE ∷ members_code line ms)
-      → (injection : Injection) (memory : Memory) (below : List Operand) (d : ℕ)
+      → (injection : Injection) (memory : MachineMemory) (below : List Operand) (d : ℕ)
       → Fragment declared G Here n (point injection memory (p.instructions.before + at) below) (eval call g unit line (SetConstant ms)) (p.instructions.before + (at + 1 + length (members_code line ms))) (λ r. Inside untouched injection memory (GivenOnTop below (result.Members ms) (Set ms) r)) d (λ r. d + 8 + weight_of r)
   set_follows ms is_set at stands injection memory below d =
       let second : p.instructions.before + at + 1 ≡ p.instructions.before + (at + 1) = omega arith in

@@ -15,7 +15,7 @@ use Rattle.ep_simulation.proofs.public.matching.Names.{callable}
 use Rattle.ep_simulation.proofs.public.rows.Rows.{jump_jumps}
 use Rattle.ep_simulation.specs.Activations.{KnowsNames}
 use Rattle.ep_simulation.specs.Follows.{Facts, Lasts, Fragment, SameRoutine, Inside, Operands, OnTop, point}
-use Rattle.ep_simulation.specs.Matching.{Memory, Injection, Slots, AreAmong, Grown, kept_slots}
+use Rattle.ep_simulation.specs.Matching.{MachineMemory, Injection, Slots, AreAmong, Grown, kept_slots}
 use Rattle.ep_object.specs.Operands.{Operand}
 use Rattle.ep_object.specs.Placing.{Placement, CodeStands}
 use Rattle.ep_simulation.specs.Promises.{AreArguments, AreResults, CallsAt, ResultsOnTop, RoutineKeeps, credit_of}
@@ -49,13 +49,13 @@ one_kind types kind (Some q) r (k ∷ []) is has are =
     ap (λ x. x ∷ []) (kinds_are_one types (denoter_of r.denoter) k kind (subst (λ x. IsOfKind k types (denoter_of x.denoter)) (same_Some q r is) are) has)
 
 -- one value of a kind that lies on the operands below
-record GivesValue (k : Kind) (below operands : List Operand) (rs : List Result) (injection : Injection) (memory : Memory) : Type 0 where
+record GivesValue (k : Kind) (below operands : List Operand) (rs : List Result) (injection : Injection) (memory : MachineMemory) : Type 0 where
   result : Result
   gives : rs ≡ result ∷ []
   top : OnTop k below result injection memory operands
 
 -- what lies there as the results of a function
-gives_value : (k : Kind) (below operands : List Operand) (rs : List Result) (injection : Injection) (memory : Memory) → ResultsOnTop (k ∷ []) below rs injection memory operands → GivesValue k below operands rs injection memory
+gives_value : (k : Kind) (below operands : List Operand) (rs : List Result) (injection : Injection) (memory : MachineMemory) → ResultsOnTop (k ∷ []) below rs injection memory operands → GivesValue k below operands rs injection memory
 gives_value k below operands [] injection memory top = absurd top
 gives_value k below operands (r ∷ s ∷ rs) injection memory (o, value, more) = absurd more
 gives_value k below operands (r ∷ []) injection memory (o, value, is) =
@@ -71,7 +71,7 @@ module _ {declared : Declarations} {G : Image} {untouched : Slots} {Here : Facts
     (room : p.instructions.before + p.instructions.own ≤ length G.instructions) where
   -- The jump behind a call leads to the next place, and has the tick for the step that is spent when the call is done.
   pub call_ends : {A : Type 0} {Then : A → Operands} {e : A → ℕ} (n : ℕ) (a : A) (line at next : ℕ) → CodeStands G ps p references at (instr op.JUMP (pos next) 0 line ∷ []) → next < p.instructions.own
-      → (injection : Injection) (memory : Memory) (operands : List Operand) (d : ℕ) → e a ≤ d + 63 → Then a injection memory operands
+      → (injection : Injection) (memory : MachineMemory) (operands : List Operand) (d : ℕ) → e a ≤ d + 63 → Then a injection memory operands
       → Fragment declared G Here n (point injection memory (p.instructions.before + at) operands) (spend 1 (give a)) (p.instructions.before + next) (λ b. Inside untouched injection memory (Then b)) d e
   call_ends {e = e} n a line at next stands inside injection memory operands d enough top =
       fragment_less {n = suc n} (omega arith) (fragment_one {d1 = e a}
@@ -79,7 +79,7 @@ module _ {declared : Declarations} {G : Image} {untouched : Slots} {Here : Facts
 
   -- The same behind a function, whose result has a weight.
   result_ends : {Then : Result → Operands} (n : ℕ) (r : Result) (line at next : ℕ) → CodeStands G ps p references at (instr op.JUMP (pos next) 0 line ∷ []) → next < p.instructions.own
-      → (injection : Injection) (memory : Memory) (operands : List Operand) (d : ℕ) → Then r injection memory operands
+      → (injection : Injection) (memory : MachineMemory) (operands : List Operand) (d : ℕ) → Then r injection memory operands
       → Fragment declared G Here n (point injection memory (p.instructions.before + at) operands) (spend (suc (weight_of r)) (give r)) (p.instructions.before + next) (λ b. Inside untouched injection memory (Then b)) (d + 2 * weight_of r) (λ b. d + 8 + weight_of b)
   result_ends n r line at next stands inside injection memory operands d top =
       fragment_less {n = suc n} (omega arith) (fragment_paid {d1 = d + 63 + weight_of r} {weight = 0} {w = weight_of r}
@@ -90,9 +90,9 @@ module _ {declared : Declarations} {G : Image} {untouched : Slots} {Here : Facts
     call_passes : {B : Type 0} {Then : B → Operands} {e : B → ℕ} {to : ℕ} {rest : List Result → Computation B} (line at : ℕ) (callee : Callee) (k : ℕ) (r : RoutineEntry) (keeps : RoutineKeeps declared G ps call n callee.unit callee.number r)
         → IsDeclaredUp declared callee callee.levels → slice_get references k ≡ Some (reference callee.unit callee.number)
         → (is : List Instr) → CodeStands G ps p references at (instr op.CALL (pos k) callee.levels line ∷ is)
-        → (injection : Injection) (memory : Memory) (below operands : List Operand) (xs : List Argument) → AreArguments injection memory keeps.formals xs below operands
+        → (injection : Injection) (memory : MachineMemory) (below operands : List Operand) (xs : List Argument) → AreArguments injection memory keeps.formals xs below operands
         → (d : ℕ) → unit_in G memory.frames ≡ unit → ((rs : List Result) → Steady (rest rs))
-        → ((rs : List Result) (longer : Injection) (after : Memory) (pushed : List Operand) → Grown untouched injection memory longer after → SameRoutine untouched memory.frames after.frames → ResultsOnTop keeps.results below rs longer after pushed → Fragment declared G Here n (point longer after (p.instructions.before + (at + 1)) pushed) (rest rs) to (λ b. Inside untouched longer after (Then b)) (d + credit_of rs) e)
+        → ((rs : List Result) (longer : Injection) (after : MachineMemory) (pushed : List Operand) → Grown untouched injection memory longer after → SameRoutine untouched memory.frames after.frames → ResultsOnTop keeps.results below rs longer after pushed → Fragment declared G Here n (point longer after (p.instructions.before + (at + 1)) pushed) (rest rs) to (λ b. Inside untouched longer after (Then b)) (d + credit_of rs) e)
         → Fragment declared G Here n (point injection memory (p.instructions.before + at) operands) (bind (call.routine unit line callee xs) rest) to (λ b. Inside untouched injection memory (Then b)) d e
     call_passes line at callee k r keeps is_declared named is stands injection memory below operands xs are d home steady behind =
         let place : ℕ = p.instructions.before + at in
@@ -107,9 +107,9 @@ module _ {declared : Declarations} {G : Image} {untouched : Slots} {Here : Facts
     pub passed_then : {B : Type 0} {Then : B → Operands} {e : B → ℕ} {to : ℕ} (line at : ℕ) (callee : Callee) (k : ℕ) (given : Actuals) (xs : List Instr) (r : RoutineEntry) (keeps : RoutineKeeps declared G ps call n callee.unit callee.number r)
         → AreArgumentsFollowed declared G untouched Here p call g unit n keeps.formals given line at xs → IsDeclaredUp declared callee callee.levels → slice_get references k ≡ Some (reference callee.unit callee.number)
         → (is : List Instr) → CodeStands G ps p references at (xs ++ instr op.CALL (pos k) callee.levels line ∷ is)
-        → (injection : Injection) (memory : Memory) (below : List Operand) (d : ℕ) → least_credit ≤ d → unit_in G memory.frames ≡ unit
+        → (injection : Injection) (memory : MachineMemory) (below : List Operand) (d : ℕ) → least_credit ≤ d → unit_in G memory.frames ≡ unit
         → (rest : List Result → Computation B) → ((rs : List Result) → Steady (rest rs))
-        → ((rs : List Result) (longer : Injection) (after : Memory) (pushed : List Operand) → Grown untouched injection memory longer after → SameRoutine untouched memory.frames after.frames → ResultsOnTop keeps.results below rs longer after pushed → Fragment declared G Here n (point longer after (p.instructions.before + (at + length xs + 1)) pushed) (rest rs) to (λ b. Inside untouched longer after (Then b)) (d + credit_of rs) e)
+        → ((rs : List Result) (longer : Injection) (after : MachineMemory) (pushed : List Operand) → Grown untouched injection memory longer after → SameRoutine untouched memory.frames after.frames → ResultsOnTop keeps.results below rs longer after pushed → Fragment declared G Here n (point longer after (p.instructions.before + (at + length xs + 1)) pushed) (rest rs) to (λ b. Inside untouched longer after (Then b)) (d + credit_of rs) e)
         → Fragment declared G Here n (point injection memory (p.instructions.before + at) below) (bind (arguments call g unit line given) (λ vs. bind (call.routine unit line callee vs) rest)) to (λ b. Inside untouched injection memory (Then b)) d e
     passed_then line at callee k given xs r keeps follows is_declared named is stands injection memory below d enough home rest steady behind =
         inside_bind {First = λ values last final operands. AreArguments last final keeps.formals values below operands} {e = λ values. d} (λ values. steady_bind (steady_call.routine unit line callee values) steady)

@@ -10,7 +10,7 @@ use Rattle.ep_gen_expr.proofs.public.Answering.{IsFollowed}
 use Rattle.ep_gen_expr.proofs.public.StructuredValues.{IsElementFollowed}
 use Rattle.ep_gen_expr.specs.ExprCode.{first_code, range_code, ranges_code}
 use Rattle.ep_simulation.specs.Follows.{Bare, Facts, Follows, Fragment, HasGrown, Inside, IsNotLeft, Lands, Lasts, OnTop, PlaceOnTop, point}
-use Rattle.ep_simulation.specs.Matching.{Injection, IsLike, IsSpot, Matches, Memory, Slots, at as standing, every_slot}
+use Rattle.ep_simulation.specs.Matching.{Injection, IsLike, IsSpot, Matches, MachineMemory, Slots, at as standing, every_slot}
 use Rattle.ep_object.specs.Operands.{Operand, Word}
 use Rattle.ep_object.specs.Operands as operand
 use Rattle.ep_object.specs.Placing.{CodeStands, Placement}
@@ -55,7 +55,7 @@ use Rattle.ep_values.specs.declared.run_error.TheConstants as run_error
 use Rattle.ep_typed.specs.declared.tree.CaseRange.{CaseRange}
 
 -- facts that last where memory grows with some slots untouched hold where it has grown with all of them untouched
-pub holds_grown : {untouched : Slots} {Here : Facts} {injection longer : Injection} {s t : meaning.State} {memory after : Memory} → Lasts untouched Here
+pub holds_grown : {untouched : Slots} {Here : Facts} {injection longer : Injection} {s t : meaning.State} {memory after : MachineMemory} → Lasts untouched Here
     → HasGrown every_slot injection s memory longer t after → Here injection s memory → Here longer t after
 holds_grown {injection = injection} {longer = longer} {s = s} {t = t} {memory = memory} {after = after} lasts since here =
     lasts.by injection longer s t memory after (record { grown = grown_fewer among_every since.grown; routine = same_routine-fewer among_every since.routine; own = since.own; calls = since.calls }) here
@@ -66,7 +66,7 @@ module _ (declared : Declarations) (G : Image) (untouched : Slots) (Here : Facts
   -- The components with the indexes of ranges get the value of the one with an index that has it.
   ranges_follow : (from : ℤ) (f : ℕ) → component_at low high from ≡ Some f → (a : Component) (q : PlaceOf) (rest : List Operand) (r : Result) → suits (Some of) r ≡ true → given_by (Some of) (value_of r) ≡ Some r
       → (at : ℕ) (ranges : List CaseRange) → All (IsRangeWithin low high) ranges → CodeStands G ps p references at (ranges_code line from ranges)
-      → (injection : Injection) (memory : Memory) (o : Operand) → IsValueOf injection memory k r o → IsSpot injection memory.types a q → IsLike memory.types q.type_number (type.Array low high of)
+      → (injection : Injection) (memory : MachineMemory) (o : Operand) → IsValueOf injection memory k r o → IsSpot injection memory.types a q → IsLike memory.types q.type_number (type.Array low high of)
       → (s : meaning.State) → Matches declared G injection s memory → Here injection s memory → has_ended a.allocation s ≡ false → value_at (component a f) s ≡ value_of r → (d : ℕ) → 5 ≤ d
       → Follows (λ l. IsNotLeft memory.frames l.frames) G n (standing (p.instructions.before + at) (operand.Place q ∷ rest) memory s.trace) s (fills_all a r ranges) (λ u. Lands declared G Here (p.instructions.before + (at + length (ranges_code line from ranges))) (Inside untouched injection memory (Bare (operand.Place q ∷ rest) u))) d (λ u. d)
   ranges_follow from f at_from a q rest r suited gives at [] valid stands injection memory o value spot described s matches here living has d enough =
@@ -137,11 +137,11 @@ module _ (declared : Declarations) (G : Image) (untouched : Slots) (Here : Facts
   -- ---- the first component
 
   -- the place of the component with the first index is on top
-  abbrev IsFirst : Component → ℕ → List Operand → Component → Injection → Memory → List Operand → Type 0
+  abbrev IsFirst : Component → ℕ → List Operand → Component → Injection → MachineMemory → List Operand → Type 0
   IsFirst a f below c injection memory operands = PlaceOnTop of below c injection memory operands × (c ≡ component a f)
 
   -- what `Store` leads to
-  pub record Stored (injection : Injection) (memory : Memory) (a : Component) (f : ℕ) (r : Result) (below : List Operand) (place : ℕ) (t : meaning.State) (l : State) : Type 0 where
+  pub record Stored (injection : Injection) (memory : MachineMemory) (a : Component) (f : ℕ) (r : Result) (below : List Operand) (place : ℕ) (t : meaning.State) (l : State) : Type 0 where
     pub lands : Lands declared G Here place (Inside untouched injection memory (Bare below tt)) t l
     pub living : has_ended a.allocation t ≡ false
     pub has : value_at (component a f) t ≡ value_of r
@@ -149,7 +149,7 @@ module _ (declared : Declarations) (G : Image) (untouched : Slots) (Here : Facts
 
   -- it is given the value, which suits it then
   pub first_given : (a : Component) (f : ℕ) (q : PlaceOf) (below : List Operand) (r : Result) (o : Operand) (place : ℕ) → slice_get G.instructions place ≡ Some (bare line op.STORE)
-      → (injection : Injection) (memory : Memory) → IsValueOf injection memory k r o → unit_in G memory.frames ≡ unit → IsSpot injection memory.types (component a f) q → IsLike memory.types q.type_number of
+      → (injection : Injection) (memory : MachineMemory) → IsValueOf injection memory k r o → unit_in G memory.frames ≡ unit → IsSpot injection memory.types (component a f) q → IsLike memory.types q.type_number of
       → (s : meaning.State) → Matches declared G injection s memory → Here injection s memory → (d : ℕ)
       → Follows (λ l. IsNotLeft memory.frames l.frames) G n (standing place (o ∷ operand.Place q ∷ below) memory s.trace) s (given call g unit line (component a f) r) (λ u. Stored injection memory a f r below (place + 1)) (d + 1 + weight_of r) (λ u. d)
   first_given a f q below r o place has injection memory value home spot described s matches here d =
@@ -211,7 +211,7 @@ module _ (declared : Declarations) (G : Image) (untouched : Slots) (Here : Facts
     at_first = component_far low high x.low f first.2 (omega (arith, first.4))
 
     -- From `Store` on.
-    stored_follows : (injection : Injection) (memory : Memory) (rest : List Operand) (a : Component) (q r : PlaceOf) (v : Result) (o : Operand) → IsValueOf injection memory k v o → unit_in G memory.frames ≡ unit
+    stored_follows : (injection : Injection) (memory : MachineMemory) (rest : List Operand) (a : Component) (q r : PlaceOf) (v : Result) (o : Operand) → IsValueOf injection memory k v o → unit_in G memory.frames ≡ unit
         → IsSpot injection memory.types a q → IsLike memory.types q.type_number (type.Array low high of) → IsSpot injection memory.types (component a f) r → IsLike memory.types r.type_number of → (d : ℕ) → 5 ≤ d
         → Fragment declared G Here n (point injection memory (p.instructions.before + to_store) (o ∷ operand.Place r ∷ operand.Place q ∷ rest)) (bind (given call g unit line (component a f) v) (λ _. fills_all a v ranges)) end (λ u. Inside untouched injection memory (Bare (operand.Place q ∷ rest) u)) (d + 1 + weight_of v) (λ u. d)
     stored_follows injection memory rest a q r v o value home spot described spot_r described_r d enough =
@@ -231,7 +231,7 @@ module _ (declared : Declarations) (G : Image) (untouched : Slots) (Here : Facts
         }
 
     -- The component with the first index.
-    first_located_follows : (injection : Injection) (memory : Memory) (rest : List Operand) (a : Component) (q : PlaceOf) (d d1 : ℕ) → 1 + d1 ≤ d → unit_in G memory.frames ≡ unit → IsSpot injection memory.types a q → IsLike memory.types q.type_number (type.Array low high of)
+    first_located_follows : (injection : Injection) (memory : MachineMemory) (rest : List Operand) (a : Component) (q : PlaceOf) (d d1 : ℕ) → 1 + d1 ≤ d → unit_in G memory.frames ≡ unit → IsSpot injection memory.types a q → IsLike memory.types q.type_number (type.Array low high of)
         → Fragment declared G Here n (point injection memory (place + 1 + 1) (Word x.low ∷ operand.Place q ∷ operand.Place q ∷ rest)) (located call g unit line a x.low) (place + 1 + 1 + 1) (λ c. Inside untouched injection memory (IsFirst a f (operand.Place q ∷ rest) c)) d (λ c. d1)
     first_located_follows injection memory rest a q d d1 enough home spot described =
         fragment_using {e = λ c. d1} a.allocation

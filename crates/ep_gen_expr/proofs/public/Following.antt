@@ -3,7 +3,7 @@ use Rattle.std.proofs.Common.{◌≡◌, ℕ, ℤ, pos, zero, suc, Option, None,
 use Rattle.std.specs.Bool.{⊤}
 use Rattle.ep_simulation.specs.Activations.{KnowsNames}
 use Rattle.ep_simulation.specs.Follows.{point, Facts, Lasts, Fragment, SameRoutine, Operands, OnTop, PlaceOnTop, Inside}
-use Rattle.ep_simulation.specs.Matching.{Slots, AreAmong, Grown, kept_slots, Memory, at, Injection, IsLike, IsSpot, HasType, HasOwnType, Matches}
+use Rattle.ep_simulation.specs.Matching.{Slots, AreAmong, Grown, kept_slots, MachineMemory, at, Injection, IsLike, IsSpot, HasType, HasOwnType, Matches}
 use Rattle.ep_simulation.specs.Matching.{at as standing}
 use Rattle.ep_object.specs.Operands.{Operand}
 use Rattle.ep_object.specs.Operands as operand
@@ -83,7 +83,7 @@ use Rattle.ep_values.specs.declared.run_error.TheConstants as run_error
 -- `Index` of a variable that has ended, where the routine is one of the unit
 index_ends : (declared : Declarations) (G : Image) (unit : List ℕ) (at_place line : ℕ) (low high : ℤ) (of : TypeValue) (z : ℤ)
     → slice_get G.instructions at_place ≡ Some (instr op.INDEX (pos 0) 0 line)
-    → (injection : Injection) (memory : Memory) (below : List Operand) (a : Component) (q : PlaceOf)
+    → (injection : Injection) (memory : MachineMemory) (below : List Operand) (a : Component) (q : PlaceOf)
     → IsSpot injection memory.types a q → IsLike memory.types q.type_number (type.Array low high of)
     → unit_in G memory.frames ≡ unit → (s : meaning.State) → Matches declared G injection s memory
     → has_ended a.allocation s ≡ true
@@ -93,14 +93,14 @@ index_ends declared G unit at_place line low high of z has injection memory belo
 
 module _ {declared : Declarations} {G : Image} {untouched : Slots} {Here : Facts} (ps : List Placement) (p : Placement) (texts : List (List ℕ)) (references : List Reference) (scene : Scene declared G ps p texts) (knows : KnowsNames declared Here) (call : Handler) (steady_call : IsSteadyHandler call) (g : ℕ) (unit : List ℕ) where
   -- a text, by `Text`, which spends its length
-  text_follows : (n k : ℕ) (bytes : List ℕ) → slice_get texts k ≡ Some bytes → (line at : ℕ) → CodeStands G ps p references at (instr op.TEXT (pos k) 0 line ∷ []) → (injection : Injection) (memory : Memory) (below : List Operand) (d : ℕ) → Fragment declared G Here n (point injection memory (p.instructions.before + at) below) (eval call g unit line (Text bytes)) (p.instructions.before + (at + 1)) (λ r. Inside untouched injection memory (OnTop Bytes below r)) d (λ r. d + 8 + weight_of r)
+  text_follows : (n k : ℕ) (bytes : List ℕ) → slice_get texts k ≡ Some bytes → (line at : ℕ) → CodeStands G ps p references at (instr op.TEXT (pos k) 0 line ∷ []) → (injection : Injection) (memory : MachineMemory) (below : List Operand) (d : ℕ) → Fragment declared G Here n (point injection memory (p.instructions.before + at) below) (eval call g unit line (Text bytes)) (p.instructions.before + (at + 1)) (λ r. Inside untouched injection memory (OnTop Bytes below r)) d (λ r. d + 8 + weight_of r)
   text_follows n k bytes there line at stands injection memory below d =
       let text : TextStands G p k bytes = scene.texts_stand k bytes there in
       fragment_less {n = suc n} (omega arith) (fragment_to (omega arith) (fragment_paid {n = n} {d1 = d + 8 + length bytes} {weight = length bytes} {w = length bytes} (λ s matches. text_pushes G (p.instructions.before + at) line below (p.texts.before + k) bytes text.there (text_at G ps p references line k (p.instructions.before + at) bytes text stands.0) memory s.trace) (omega arith) (omega arith) (omega arith)
       (fragment_give (omega arith) (inside_here (record { bytes = bytes; is_text = refl; is = refl })))))
 
   -- what `Unit` finds of a variable that is declared, where the routine is one of the unit
-  unit_finds : (place line number : ℕ) (of_unit : List ℕ) (v : UnitVariable) (t : TypeValue) → declared.variables of_unit number ≡ Some v → HasType declared of_unit v t → (variable : VariableStands G ps of_unit number) → slice_get G.instructions place ≡ Some (instr op.UNIT (pos variable.number) number line) → (injection : Injection) (memory : Memory) (below : List Operand) → unit_in G memory.frames ≡ unit → (s : meaning.State) → Matches declared G injection s memory → Here injection s memory → Reads declared G Here (at place below memory s.trace) 1 unit line (place + 1) (λ n. Inside untouched injection memory (PlaceOnTop t below n)) s (s.variables of_unit number)
+  unit_finds : (place line number : ℕ) (of_unit : List ℕ) (v : UnitVariable) (t : TypeValue) → declared.variables of_unit number ≡ Some v → HasType declared of_unit v t → (variable : VariableStands G ps of_unit number) → slice_get G.instructions place ≡ Some (instr op.UNIT (pos variable.number) number line) → (injection : Injection) (memory : MachineMemory) (below : List Operand) → unit_in G memory.frames ≡ unit → (s : meaning.State) → Matches declared G injection s memory → Here injection s memory → Reads declared G Here (at place below memory s.trace) 1 unit line (place + 1) (λ n. Inside untouched injection memory (PlaceOnTop t below n)) s (s.variables of_unit number)
   unit_finds place line number of_unit v t is_declared has_type variable has injection memory below unit_is s matches here =
       subst (λ u. Reads declared G Here (at place below memory s.trace) 1 u line (place + 1) (λ n. Inside untouched injection memory (PlaceOnTop t below n)) s (s.variables of_unit number)) unit_is
       (subst (λ u. Reads declared G Here (at place below memory s.trace) 1 (unit_in G memory.frames) line (place + 1) (λ n. Inside untouched injection memory (PlaceOnTop t below n)) s (s.variables u number)) variable.named
@@ -115,7 +115,7 @@ module _ {declared : Declarations} {G : Image} {untouched : Slots} {Here : Facts
 
   -- what `Slot` finds of a variable of the routine or of one around it
   slot_finds : (at_place line : ℕ) (up k : ℕ) (v : UnitVariable) (t : TypeValue) → slice_get (variables_up declared up) k ≡ Some v → HasOwnType declared v t → slice_get G.instructions at_place ≡ Some (instr op.SLOT (pos k) up line)
-      → (injection : Injection) (memory : Memory) (below : List Operand) (s : meaning.State) → Matches declared G injection s memory → Here injection s memory
+      → (injection : Injection) (memory : MachineMemory) (below : List Operand) (s : meaning.State) → Matches declared G injection s memory → Here injection s memory
       → Reads declared G Here (standing at_place below memory s.trace) 1 (unit_in G memory.frames) line (at_place + 1) (λ n. Inside untouched injection memory (PlaceOnTop t below n)) s (own_variable up k s)
   slot_finds at_place line zero k v t is_declared has_type has injection memory below s matches here =
       let names = knows injection s memory here in
@@ -139,7 +139,7 @@ module _ {declared : Declarations} {G : Image} {untouched : Slots} {Here : Facts
 
   -- what `Index` finds of a variable of an array type
   index_finds : (at_place line : ℕ) (low high : ℤ) (of : TypeValue) (z : ℤ) → slice_get G.instructions at_place ≡ Some (instr op.INDEX (pos 0) 0 line)
-      → (injection : Injection) (memory : Memory) (below : List Operand) (a : Component) (q : PlaceOf)
+      → (injection : Injection) (memory : MachineMemory) (below : List Operand) (a : Component) (q : PlaceOf)
       → IsSpot injection memory.types a q → IsLike memory.types q.type_number (type.Array low high of)
       → unit_in G memory.frames ≡ unit → (s : meaning.State) → Matches declared G injection s memory → Here injection s memory → has_ended a.allocation s ≡ false
       → Reads declared G Here (standing at_place (operand.Word z ∷ operand.Place q ∷ below) memory s.trace) run_error.INDEX unit line (at_place + 1) (λ k. Inside untouched injection memory (PlaceOnTop of below (component a k))) s (component_number (type_at a s) z)
@@ -283,7 +283,7 @@ module _ {declared : Declarations} {G : Image} {untouched : Slots} {Here : Facts
             (code_back G ps p references at xs rest all) (omega (arith, ends, inside)))
 
         -- What the machine does from the code of an expression follows the meaning of the expression.
-        pub expression_follows : (kind : Kind) (x : Expr) → IsExpr declared kind x → (line at : ℕ) (code : List Instr) → IsExprCode texts references line at x code → CodeStands G ps p references at code → at + length code < p.instructions.own → (injection : Injection) (memory : Memory) (below : List Operand) (d : ℕ) → least_credit ≤ d → unit_in G memory.frames ≡ unit → Fragment declared G Here n (point injection memory (p.instructions.before + at) below) (eval call g unit line x) (p.instructions.before + (at + length code)) (λ r. Inside untouched injection memory (OnTop kind below r)) d (λ r. d + 8 + weight_of r)
+        pub expression_follows : (kind : Kind) (x : Expr) → IsExpr declared kind x → (line at : ℕ) (code : List Instr) → IsExprCode texts references line at x code → CodeStands G ps p references at code → at + length code < p.instructions.own → (injection : Injection) (memory : MachineMemory) (below : List Operand) (d : ℕ) → least_credit ≤ d → unit_in G memory.frames ≡ unit → Fragment declared G Here n (point injection memory (p.instructions.before + at) below) (eval call g unit line x) (p.instructions.before + (at + length code)) (λ r. Inside untouched injection memory (OnTop kind below r)) d (λ r. d + 8 + weight_of r)
         expression_follows kind (Constant z) (h, is_kind, of_host) line at code is stands inside =
             followed_as n kind (Ordinal h) (Constant z) line at code (push line z ∷ []) is_kind is (λ injection memory below d le unit_is.
             fragment_post (λ r longer after pushed i. record { grown = i.grown; routine = i.routine; operands_are = record { number = z; is_number = (i.operands_are).0; of_host = of_host; is = (i.operands_are).1 } })
@@ -580,9 +580,9 @@ module _ {declared : Declarations} {G : Image} {untouched : Slots} {Here : Facts
       pub call_then : {B : Type 0} {Then : B → Operands} {e : B → ℕ} {to : ℕ} (line at : ℕ) (callee : Callee) (k : ℕ) (given : Actuals) (xs : List Instr) (r : RoutineEntry) (keeps : RoutineKeeps declared G ps call n callee.unit callee.number r)
           → AreGiven declared (declared.types callee.unit) r.formals given → AreActualsCode texts references line at given xs → IsDeclaredUp declared callee callee.levels → slice_get references k ≡ Some (reference callee.unit callee.number)
           → CodeStands G ps p references at (xs ++ instr op.CALL (pos k) callee.levels line ∷ instr op.JUMP (pos (at + length xs + 2)) 0 line ∷ []) → at + length xs + 2 < p.instructions.own
-          → (injection : Injection) (memory : Memory) (below : List Operand) (d : ℕ) → least_credit ≤ d → unit_in G memory.frames ≡ unit
+          → (injection : Injection) (memory : MachineMemory) (below : List Operand) (d : ℕ) → least_credit ≤ d → unit_in G memory.frames ≡ unit
           → (rest : List Result → Computation B) → ((rs : List Result) → Steady (rest rs))
-          → ((rs : List Result) (longer : Injection) (after : Memory) (pushed : List Operand) → Grown untouched injection memory longer after → SameRoutine untouched memory.frames after.frames → ResultsOnTop keeps.results below rs longer after pushed → Fragment declared G Here n (point longer after (p.instructions.before + (at + length xs + 1)) pushed) (rest rs) to (λ b. Inside untouched longer after (Then b)) (d + credit_of rs) e)
+          → ((rs : List Result) (longer : Injection) (after : MachineMemory) (pushed : List Operand) → Grown untouched injection memory longer after → SameRoutine untouched memory.frames after.frames → ResultsOnTop keeps.results below rs longer after pushed → Fragment declared G Here n (point longer after (p.instructions.before + (at + length xs + 1)) pushed) (rest rs) to (λ b. Inside untouched longer after (Then b)) (d + credit_of rs) e)
           → Fragment declared G Here n (point injection memory (p.instructions.before + at) below) (bind (arguments call g unit line given) (λ vs. bind (call.routine unit line callee vs) rest)) to (λ b. Inside untouched injection memory (Then b)) d e
       call_then line at callee k given xs r keeps valid is_code is_declared named stands inside injection memory below d enough home rest steady behind =
           passed_then ps p references room knows scene.own_types_are lasts among call steady_call g unit n line at callee k given xs r keeps

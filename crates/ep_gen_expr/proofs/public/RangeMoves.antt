@@ -2,7 +2,7 @@
 use Rattle.std.proofs.Common.{◌≡◌, ℕ, ℤ, pos, suc, ◌+◌, ◌*◌, ◌-◌, ◌≤◌, ◌<◌, Bool, true, false, List, [], ◌∷◌, length, refl, sym, ap, ◌∙◌, subst, arith}
 use Rattle.std.specs.Prelude.{if◌then◌else◌}
 use Rattle.ep_simulation.specs.Follows.{point, Facts, After, Fragment}
-use Rattle.ep_simulation.specs.Matching.{Memory, Injection, at as standing}
+use Rattle.ep_simulation.specs.Matching.{MachineMemory, Injection, at as standing}
 use Rattle.ep_object.specs.Operands.{Operand, Word}
 use Rattle.ep_object.specs.Placing.{Placement, CodeStands}
 use Rattle.ep_object.specs.State.{Running}
@@ -34,7 +34,7 @@ true_ordinal false = refl
 
 module _ {A : Type 0} {declared : Declarations} {G : Image} {Here : Facts} (ps : List Placement) (p : Placement) (references : List Reference) (call : Handler) (g : ℕ) (unit : List ℕ) (room : p.instructions.before + p.instructions.own ≤ length G.instructions) where
   -- The test of a range spends a step, and leads to the first place where the range has the value.
-  test_follows : (n line body at : ℕ) (r : CaseRange) (z : ℤ) → CodeStands G ps p references at (test_code line body at r) → body < p.instructions.own → at + 6 < p.instructions.own → (injection : Injection) (memory : Memory) (below : List Operand) {to d : ℕ} {x y : Computation A} {P : A → After} {e : A → ℕ} → 8 ≤ d
+  test_follows : (n line body at : ℕ) (r : CaseRange) (z : ℤ) → CodeStands G ps p references at (test_code line body at r) → body < p.instructions.own → at + 6 < p.instructions.own → (injection : Injection) (memory : MachineMemory) (below : List Operand) {to d : ℕ} {x y : Computation A} {P : A → After} {e : A → ℕ} → 8 ≤ d
       → Fragment declared G Here n (point injection memory (p.instructions.before + body) (Word z ∷ below)) x to P (d + 9) e
       → Fragment declared G Here n (point injection memory (p.instructions.before + (at + 6)) (Word z ∷ below)) y to P (d + 9) e
       → Fragment declared G Here (suc n) (point injection memory (p.instructions.before + at) (Word z ∷ below)) (spend 1 (if is_in r z then x else y)) to P d e
@@ -52,7 +52,7 @@ module _ {A : Type 0} {declared : Declarations} {G : Image} {Here : Facts} (ps :
       (λ is. fragment_credit {d = d + 9} (omega arith) (λ a. omega arith) fails)))))
 
   -- ranges, one after another
-  pub tests_follow : (n line body at : ℕ) (r : CaseRange) (rs : List CaseRange) (z : ℤ) → CodeStands G ps p references at (tests_code line body at (r ∷ rs)) → body < p.instructions.own → at + 6 * length (r ∷ rs) < p.instructions.own → (injection : Injection) (memory : Memory) (below : List Operand) {to d : ℕ} {x y : Computation A} {P : A → After} {e : A → ℕ} → 8 ≤ d
+  pub tests_follow : (n line body at : ℕ) (r : CaseRange) (rs : List CaseRange) (z : ℤ) → CodeStands G ps p references at (tests_code line body at (r ∷ rs)) → body < p.instructions.own → at + 6 * length (r ∷ rs) < p.instructions.own → (injection : Injection) (memory : MachineMemory) (below : List Operand) {to d : ℕ} {x y : Computation A} {P : A → After} {e : A → ℕ} → 8 ≤ d
       → Fragment declared G Here n (point injection memory (p.instructions.before + body) (Word z ∷ below)) x to P (d + 9) e
       → Fragment declared G Here n (point injection memory (p.instructions.before + (at + 6 * length (r ∷ rs))) (Word z ∷ below)) y to P (d + 9) e
       → Fragment declared G Here n (point injection memory (p.instructions.before + at) (Word z ∷ below)) (tried call g unit z (r ∷ rs) x y) to P d e
@@ -64,7 +64,7 @@ module _ {A : Type 0} {declared : Declarations} {G : Image} {Here : Facts} (ps :
 
   -- The tests of labels: they lead to the first place with the number of the variant that is asked for, and to the second one
   -- with that of another variant, and on behind them where no label has the value.
-  pub labels_follow : (n line good bad number k at : ℕ) (labels : List (List CaseRange)) (z : ℤ) → CodeStands G ps p references at (labels_code line good bad number k at labels) → good < p.instructions.own → bad < p.instructions.own → at + 6 * labels_count labels < p.instructions.own → (injection : Injection) (memory : Memory) (below : List Operand) {to d : ℕ} {chosen : ℕ → Computation A} {fails : Computation A} {P : A → After} {e : A → ℕ} → 8 ≤ d
+  pub labels_follow : (n line good bad number k at : ℕ) (labels : List (List CaseRange)) (z : ℤ) → CodeStands G ps p references at (labels_code line good bad number k at labels) → good < p.instructions.own → bad < p.instructions.own → at + 6 * labels_count labels < p.instructions.own → (injection : Injection) (memory : MachineMemory) (below : List Operand) {to d : ℕ} {chosen : ℕ → Computation A} {fails : Computation A} {P : A → After} {e : A → ℕ} → 8 ≤ d
       → ((j : ℕ) → Fragment declared G Here n (point injection memory (p.instructions.before + (if is_number j number then good else bad)) (Word z ∷ below)) (chosen j) to P (d + 9) e)
       → Fragment declared G Here n (point injection memory (p.instructions.before + (at + 6 * labels_count labels)) (Word z ∷ below)) fails to P d e
       → Fragment declared G Here n (point injection memory (p.instructions.before + at) (Word z ∷ below)) (selecting call g unit z labels k chosen fails) to P d e

@@ -9,7 +9,7 @@ use Rattle.ep_gen_expr.specs.ExprCode.{reach_code, same_code, steps_code}
 use Rattle.ep_gen_expr.proofs.Components.{loaded_follows, reached_follows}
 use Rattle.ep_gen_expr.proofs.public.StructuredValues.{IsElementFollowed, store_given}
 use Rattle.ep_simulation.specs.Follows.{After, Bare, Facts, Fragment, Inside, Lasts, OnTop, PlaceOnTop, point}
-use Rattle.ep_simulation.specs.Matching.{Injection, IsLike, IsSpot, Memory, Slots}
+use Rattle.ep_simulation.specs.Matching.{Injection, IsLike, IsSpot, MachineMemory, Slots}
 use Rattle.ep_object.specs.Operands.{Operand}
 use Rattle.ep_object.specs.Operands as operand
 use Rattle.ep_object.specs.Placing.{CodeStands, Placement}
@@ -43,7 +43,7 @@ use Rattle.ep_meaning.specs.Valid.{Declarations, IsTypeOfKind, Kind, LeadToKind}
 module _ (declared : Declarations) (G : Image) (untouched : Slots) (Here : Facts) (lasts : Lasts untouched Here) (ps : List Placement) (p : Placement) (references : List Reference) (call : Handler) (steady_call : IsSteadyHandler call) (g : ℕ) (unit : List ℕ) (line n : ℕ)
     (swap : SwapStands G ps unit (length (declared.routines unit))) (swap_referred : IsSwapReferred declared unit references) where
   -- Two operands change places, for which the depth counts.
-  pub swapped_follows : {A : Type 0} {c : Computation A} {to : ℕ} {P : A → After} {e : A → ℕ} (place : ℕ) → CallsAt G place swap.routine 0 line → (injection : Injection) (memory : Memory) (x y : Operand) (below : List Operand) (d : ℕ) → Steady c
+  pub swapped_follows : {A : Type 0} {c : Computation A} {to : ℕ} {P : A → After} {e : A → ℕ} (place : ℕ) → CallsAt G place swap.routine 0 line → (injection : Injection) (memory : MachineMemory) (x y : Operand) (below : List Operand) (d : ℕ) → Steady c
       → Fragment declared G Here n (point injection memory (place + 1) (x ∷ y ∷ below)) c to P d e
       → Fragment declared G Here n (point injection memory place (y ∷ x ∷ below)) (bind (change with_depth) (λ _. c)) to P (swap_ticks x y + d) e
   swapped_follows place calls injection memory x y below d steady then =
@@ -55,7 +55,7 @@ module _ (declared : Declarations) (G : Image) (untouched : Slots) (Here : Facts
 
   -- `Load` and `Store`, where the places of the two components are on top
   copied_follows : (at : ℕ) (k : Kind) (source goal : TypeValue) → IsTypeOfKind k source → IsTypeOfKind k goal → CodeStands G ps p references at (bare line op.LOAD ∷ bare line op.STORE ∷ [])
-      → (injection : Injection) (memory : Memory) (below : List Operand) (a b : Component) (q r : PlaceOf) (d : ℕ) → least_credit ≤ d + 8 → 1 ≤ d → unit_in G memory.frames ≡ unit
+      → (injection : Injection) (memory : MachineMemory) (below : List Operand) (a b : Component) (q r : PlaceOf) (d : ℕ) → least_credit ≤ d + 8 → 1 ≤ d → unit_in G memory.frames ≡ unit
       → IsSpot injection memory.types a q → IsLike memory.types q.type_number source → IsSpot injection memory.types b r → IsLike memory.types r.type_number goal
       → Fragment declared G Here n (point injection memory (p.instructions.before + at) (operand.Place q ∷ operand.Place r ∷ below)) (bind (read call g unit line a) (given call g unit line b)) (p.instructions.before + (at + 1 + 1)) (λ u. Inside untouched injection memory (Bare below u)) d (λ u. d + 8)
   copied_follows at k source goal of_source of_goal stands injection memory below a b q r d enough some home spot_a described_a spot_b described_b =
@@ -92,7 +92,7 @@ module _ (declared : Declarations) (G : Image) (untouched : Slots) (Here : Facts
         record { instruction = instr op.CALL (pos swap.routine) 0 line; stands = tail.0 ∙ ap (λ i. Some i) (rw swap_referred (swap.placed (instr op.CALL (pos routine.SWAP) 0 line))); is_call = refl; names = refl; parent = refl; at_line = refl }
 
     -- with the place of the component that is given on top of that of the record
-    from_goal : (injection : Injection) (memory : Memory) (rest : List Operand) (a b : Component) (q r : PlaceOf) (d : ℕ) → least_credit ≤ d → unit_in G memory.frames ≡ unit
+    from_goal : (injection : Injection) (memory : MachineMemory) (rest : List Operand) (a b : Component) (q r : PlaceOf) (d : ℕ) → least_credit ≤ d → unit_in G memory.frames ≡ unit
         → IsSpot injection memory.types a q → IsLike memory.types q.type_number (type.Record ts) → IsSpot injection memory.types b r → IsLike memory.types r.type_number goal.0
         → Fragment declared G Here n (point injection memory (p.instructions.before + middle) (operand.Place r ∷ operand.Place q ∷ rest)) (bind (change with_depth) (λ _. bind (reached call g unit line a from) (λ c. bind (read call g unit line c) (given call g unit line b)))) end (λ u. Inside untouched injection memory (Bare rest u)) d (λ u. d + 4)
     from_goal injection memory rest a b q r d enough home spot described spot_b described_b =

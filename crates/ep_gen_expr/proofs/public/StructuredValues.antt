@@ -7,7 +7,7 @@ use Rattle.ep_gen_expr.proofs.public.Answering.{IsFollowed}
 use Rattle.ep_gen_expr.proofs.Components.{reached_follows}
 use Rattle.ep_gen_expr.specs.ExprCode.{reach_code, steps_code}
 use Rattle.ep_simulation.specs.Follows.{Bare, Facts, Fragment, Inside, Lasts, PlaceOnTop, point}
-use Rattle.ep_simulation.specs.Matching.{Injection, IsLike, IsSpot, Memory, Slots, at as standing}
+use Rattle.ep_simulation.specs.Matching.{Injection, IsLike, IsSpot, MachineMemory, Slots, at as standing}
 use Rattle.ep_object.specs.Operands.{Operand, Word}
 use Rattle.ep_object.specs.Operands as operand
 use Rattle.ep_object.specs.Placing.{CodeStands, Placement}
@@ -48,19 +48,19 @@ module _ (declared : Declarations) (G : Image) (untouched : Slots) (Here : Facts
   -- component of it is given through this code, and leaves the place on top.
   abbrev pub IsElementFollowed : TypeValue → Element → ℕ → List Instr → Type 0
   IsElementFollowed t e at code =
-      (injection : Injection) (memory : Memory) (rest : List Operand) (a : Component) (q : PlaceOf) (d : ℕ) → element_credit ≤ d → unit_in G memory.frames ≡ unit
+      (injection : Injection) (memory : MachineMemory) (rest : List Operand) (a : Component) (q : PlaceOf) (d : ℕ) → element_credit ≤ d → unit_in G memory.frames ≡ unit
       → IsSpot injection memory.types a q → IsLike memory.types q.type_number t
       → Fragment declared G Here n (point injection memory (p.instructions.before + at) (operand.Place q ∷ rest)) (gives call g unit line a e) (p.instructions.before + (at + length code)) (λ u. Inside untouched injection memory (Bare (operand.Place q ∷ rest) u)) d (λ u. d)
 
   -- the same of all that is given
   abbrev pub AreElementsFollowed : TypeValue → Elements → ℕ → List Instr → Type 0
   AreElementsFollowed t es at code =
-      (injection : Injection) (memory : Memory) (rest : List Operand) (a : Component) (q : PlaceOf) (d : ℕ) → element_credit ≤ d → unit_in G memory.frames ≡ unit
+      (injection : Injection) (memory : MachineMemory) (rest : List Operand) (a : Component) (q : PlaceOf) (d : ℕ) → element_credit ≤ d → unit_in G memory.frames ≡ unit
       → IsSpot injection memory.types a q → IsLike memory.types q.type_number t
       → Fragment declared G Here n (point injection memory (p.instructions.before + at) (operand.Place q ∷ rest)) (gives_all call g unit line a es) (p.instructions.before + (at + length code)) (λ u. Inside untouched injection memory (Bare (operand.Place q ∷ rest) u)) d (λ u. d)
 
   -- `Store`, where the place of a component and the value are on top
-  pub store_given : (k : Kind) (t : TypeValue) (r : Result) (o : Operand) (a : Component) (q : PlaceOf) → MayTake k t → (at : ℕ) → CodeStands G ps p references at (bare line op.STORE ∷ []) → (injection : Injection) (memory : Memory) → IsValueOf injection memory k r o → (below : List Operand) (d : ℕ) → least_credit ≤ d → unit_in G memory.frames ≡ unit → IsSpot injection memory.types a q → IsLike memory.types q.type_number t
+  pub store_given : (k : Kind) (t : TypeValue) (r : Result) (o : Operand) (a : Component) (q : PlaceOf) → MayTake k t → (at : ℕ) → CodeStands G ps p references at (bare line op.STORE ∷ []) → (injection : Injection) (memory : MachineMemory) → IsValueOf injection memory k r o → (below : List Operand) (d : ℕ) → least_credit ≤ d → unit_in G memory.frames ≡ unit → IsSpot injection memory.types a q → IsLike memory.types q.type_number t
       → Fragment declared G Here n (point injection memory (p.instructions.before + at) (o ∷ operand.Place q ∷ below)) (given call g unit line a r) (p.instructions.before + at + 1) (λ b. Inside untouched injection memory (Bare below b)) (d + weight_of r) (λ b. d)
   store_given k t r o a q takes at stands injection memory value below d enough home spot described =
       fragment_less {n = suc n} (omega arith) (fragment_using {n = suc n} {e = λ b. d} a.allocation
@@ -73,7 +73,7 @@ module _ (declared : Declarations) (G : Image) (untouched : Slots) (Here : Facts
 
   -- the value of a component whose place is on top, and `Store`
   value_given : (k : Kind) (t : TypeValue) (x : Expr) → IsTypeOfKind k t → (at : ℕ) (xs : List Instr) → IsFollowed declared G untouched Here p call g unit n k x line at xs → CodeStands G ps p references (at + length xs) (bare line op.STORE ∷ [])
-      → (injection : Injection) (memory : Memory) (below : List Operand) (a : Component) (q : PlaceOf) (d : ℕ) → least_credit ≤ d → unit_in G memory.frames ≡ unit → IsSpot injection memory.types a q → IsLike memory.types q.type_number t
+      → (injection : Injection) (memory : MachineMemory) (below : List Operand) (a : Component) (q : PlaceOf) (d : ℕ) → least_credit ≤ d → unit_in G memory.frames ≡ unit → IsSpot injection memory.types a q → IsLike memory.types q.type_number t
       → Fragment declared G Here n (point injection memory (p.instructions.before + at) (operand.Place q ∷ below)) (bind (eval call g unit line x) (given call g unit line a)) (p.instructions.before + (at + length xs + 1)) (λ u. Inside untouched injection memory (Bare below u)) d (λ u. d + 8)
   value_given k t x of_kind at xs follows stands injection memory below a q d enough home spot described =
       inside_bind {e = λ r. d + 8 + weight_of r} (λ r. steady_given call steady_call g unit line a r) (follows injection memory (operand.Place q ∷ below) d enough home) (λ r longer after pushed grown routine top.

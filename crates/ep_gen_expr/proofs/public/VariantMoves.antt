@@ -2,7 +2,7 @@
 use Rattle.std.proofs.Common.{◌≡◌, ℕ, ℤ, pos, suc, ◌+◌, ◌-◌, ◌≤◌, ◌<◌, false, List, ◌∷◌, length, Option, Some, None, slice_get, refl, sym, ap, ◌∙◌, subst, arith}
 use Rattle.std.specs.Prelude.{if◌then◌else◌, is_some}
 use Rattle.ep_simulation.specs.Follows.{point, Facts, Follows, Fragment, Inside, IsNotLeft, Lands, PlaceOnTop}
-use Rattle.ep_simulation.specs.Matching.{Memory, Injection, IsLike, IsSpot, Matches, Slots, at as standing}
+use Rattle.ep_simulation.specs.Matching.{MachineMemory, Injection, IsLike, IsSpot, Matches, Slots, at as standing}
 use Rattle.ep_object.specs.Operands.{Operand, Word}
 use Rattle.ep_object.specs.Operands as operand
 use Rattle.ep_object.specs.Placing.{Placement, CodeStands}
@@ -62,7 +62,7 @@ module _ (declared : Declarations) (G : Image) (untouched : Slots) (Here : Facts
   within_tests : bad_place (at + 7) s + 3 < p.instructions.own
   within_tests = within G ps p references line (at + 7) number s behind_tag inside_tests
 
-  module _ (n : ℕ) (injection : Injection) (memory : Memory) (below : List Operand) (c : Component) (b : PlaceOf) (spot : IsSpot injection memory.types c b) (described : IsLike memory.types b.type_number (type.Record ts)) (home : unit_in G memory.frames ≡ unit) where
+  module _ (n : ℕ) (injection : Injection) (memory : MachineMemory) (below : List Operand) (c : Component) (b : PlaceOf) (spot : IsSpot injection memory.types c b) (described : IsLike memory.types b.type_number (type.Record ts)) (home : unit_in G memory.frames ≡ unit) where
     -- the variant, where it is selected
     variant_taken : (d : ℕ) → 1 ≤ d
         → Fragment declared G Here n (point injection memory (p.instructions.before + (bad_place (at + 7) s + 2)) (operand.Place b ∷ below)) (selected call g unit line c (variant_number s number)) (p.instructions.before + (bad_place (at + 7) s + 3)) (λ a. Inside untouched injection memory (PlaceOnTop t below a)) d (λ a. d + 16)

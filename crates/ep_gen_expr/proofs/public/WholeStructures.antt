@@ -12,7 +12,7 @@ use Rattle.ep_gen_expr.proofs.public.Answering.{Evaluates, IsFollowed}
 use Rattle.ep_gen_expr.proofs.Nameless.{begins_follows, end_ticks, taken_follows}
 use Rattle.ep_gen_expr.proofs.public.StructuredValues.{AreElementsFollowed}
 use Rattle.ep_simulation.specs.Follows.{Bare, Facts, Fragment, Inside, Lasts, OnTop, TypeOnTop, point}
-use Rattle.ep_simulation.specs.Matching.{AreAmong, Injection, IsLike, IsOf, IsSpot, Memory, Slots, kept_slots}
+use Rattle.ep_simulation.specs.Matching.{AreAmong, Injection, IsLike, IsOf, IsSpot, MachineMemory, Slots, kept_slots}
 use Rattle.ep_object.specs.Operands.{Operand, Word}
 use Rattle.ep_object.specs.Operands as operand
 use Rattle.ep_object.specs.Placing.{CodeStands, Placement}
@@ -102,7 +102,7 @@ module _ (declared : Declarations) (G : Image) (untouched : Slots) (Here : Facts
 
     -- The components are given, and the value is taken, where the number of a variable of the type, but for initial states, is on top.
     -- Some of the steps for its words are left over.
-    filled_follows : (spare : ℕ) → spare ≤ 40 * size_of (bare_of t) → (a : TypeValue) → bare_of a ≡ bare_of t → (injection : Injection) (memory : Memory) (below : List Operand) (d : ℕ) → least_credit ≤ d → unit_in G memory.frames ≡ unit
+    filled_follows : (spare : ℕ) → spare ≤ 40 * size_of (bare_of t) → (a : TypeValue) → bare_of a ≡ bare_of t → (injection : Injection) (memory : MachineMemory) (below : List Operand) (d : ℕ) → least_credit ≤ d → unit_in G memory.frames ≡ unit
         → (m : ℕ) (pushed : List Operand) → NamelessOnTop a below m injection memory pushed
         → Fragment declared G Here n (point injection memory (place + 1 + 1) pushed) (filled es m) (middle + 1 + 1 + 1) (λ r. Inside untouched injection memory (OnTop (kind.Structured (bare_of t)) below r)) (d + 63 + 62 * size_of a) (λ r. d + 8 + spare + weight_of r)
     filled_follows spare left a same injection memory below d enough home m pushed top =
@@ -124,7 +124,7 @@ module _ (declared : Declarations) (G : Image) (untouched : Slots) (Here : Facts
         (taken_follows declared G untouched Here lasts line call g unit swap.routine swap.is middle m u structured tail.0 swaps disposes v3 m3 below q (unit_in-same G routine3 ∙ home) (is_spot-grown grown3 spot) (describes-grown q.type_number u grown3 like) top.numbered top.above n (d + 8 + spare))))))))
 
     -- All of it, with so much credit besides.
-    pub structured_spares : (spare : ℕ) → spare ≤ 40 * size_of (bare_of t) → (injection : Injection) (memory : Memory) (below : List Operand) (d : ℕ) → least_credit ≤ d → unit_in G memory.frames ≡ unit
+    pub structured_spares : (spare : ℕ) → spare ≤ 40 * size_of (bare_of t) → (injection : Injection) (memory : MachineMemory) (below : List Operand) (d : ℕ) → least_credit ≤ d → unit_in G memory.frames ≡ unit
         → Evaluates declared G untouched Here n injection memory place below (eval call g unit line (Structured number es)) (p.instructions.before + (at + length (begin_code line number ++ (xs ++ end_code line)))) (kind.Structured (bare_of t)) below d (d + 8 + spare)
     structured_spares spare left injection memory below d enough home =
         fragment_to {to = middle + 1 + 1 + 1} (omega (arith, length-append xs (end_code line)))

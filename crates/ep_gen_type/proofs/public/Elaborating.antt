@@ -9,7 +9,7 @@ use Rattle.ep_gen_type.specs.TypeCode.{ordinal_code, how_many, start_code, each_
 use Rattle.ep_gen_type.proofs.InitialStates.{start_follows}
 use Rattle.ep_object.specs.declared.code.Instr.{Instr}
 use Rattle.ep_simulation.specs.Follows.{point, Facts, Lasts, Fragment, Inside, TypeOnTop}
-use Rattle.ep_simulation.specs.Matching.{AreAmong, Slots, Memory, Injection, Describes, IsLike, kept_slots}
+use Rattle.ep_simulation.specs.Matching.{AreAmong, Slots, MachineMemory, Injection, Describes, IsLike, kept_slots}
 use Rattle.ep_object.specs.Operands.{Operand, Word}
 use Rattle.ep_object.specs.Placing.{Placement, CodeStands}
 use Rattle.ep_simulation.specs.Promises.{CallsAt, CallsAreKept, TypeKeeps, type_credit}
@@ -53,7 +53,7 @@ over_given a i is u over = sym (bare_twice a) ∙ (ap bare_of is ∙ over)
 
 -- the types of components are given, but for initial states, and the numbers of so many types that describe them are on top
 record TypesOnTop (count : ℕ) (ts : ComponentTypes) (below : List Operand) (given : ComponentTypes) (injection : Injection)
-    (memory : Memory) (operands : List Operand) : Type 0 where
+    (memory : MachineMemory) (operands : List Operand) : Type 0 where
   types_are : bare_each given ≡ ts
   numbers : List ℕ
   many : length numbers ≡ count
@@ -66,7 +66,7 @@ module _ (declared : Declarations) (G : Image) (untouched : Slots) (Here : Facts
   abbrev pub IsElaborated : ℕ → List Instr → TypeValue → Computation TypeValue → Type 0
   IsElaborated at code t c =
       CodeStands G ps p references at code
-      → (injection : Injection) (memory : Memory) (below : List Operand) (d : ℕ) → least_credit ≤ d → unit_in G memory.frames ≡ unit
+      → (injection : Injection) (memory : MachineMemory) (below : List Operand) (d : ℕ) → least_credit ≤ d → unit_in G memory.frames ≡ unit
       → Fragment declared G Here n (point injection memory (p.instructions.before + at) below) c (p.instructions.before + (at + length code)) (λ a. Inside untouched injection memory (TypeOnTop t below a)) d (λ a. d + 4)
 
   -- the bounds of an ordinal type, and `TOrd` over them
@@ -80,7 +80,7 @@ module _ (declared : Declarations) (G : Image) (untouched : Slots) (Here : Facts
       (fragment_from third (fragment_less {n = suc n} (omega arith) (fragment_counted {weight = 0} 0 (with_type (type.Ordinal low high)) (λ s. s) (type.Ordinal low high) (λ s. refl) grows_refl (λ s matches here. ord_does declared G (p.instructions.before + (at + 1 + 1)) line below low high ordered stands.1.1.0 lasts injection memory s matches here) (omega (arith, enough)) (omega (arith, enough)) (omega (arith, enough)) (omega (arith, enough))))))))
 
   -- `TArr`, over the index type and the type of the components
-  array_elaborates : (at : ℕ) (low high : ℤ) (of : TypeValue) (index component : ℕ) → (injection : Injection) (memory : Memory) (below : List Operand) (d : ℕ) → least_credit ≤ d
+  array_elaborates : (at : ℕ) (low high : ℤ) (of : TypeValue) (index component : ℕ) → (injection : Injection) (memory : MachineMemory) (below : List Operand) (d : ℕ) → least_credit ≤ d
       → IsLike memory.types index (type.Ordinal low high) → Describes memory.types component of → AreStarts of
       → CodeStands G ps p references at (bare line op.T_ARR ∷ [])
       → Fragment declared G Here n (point injection memory (p.instructions.before + at) (Word (pos component) ∷ Word (pos index) ∷ below)) (elaborated call g unit (type.Array low high of)) (p.instructions.before + at + 1) (λ a. Inside untouched injection memory (TypeOnTop (type.Array low high (bare_of of)) below a)) d (λ a. d)
@@ -88,7 +88,7 @@ module _ (declared : Declarations) (G : Image) (untouched : Slots) (Here : Facts
       fragment_less {n = suc n} (omega arith) (fragment_counted {weight = 0} 0 (with_type (type.Array low high of)) (λ s. s) (type.Array low high of) (λ s. refl) grows_refl (λ s matches here. arr_does declared G (p.instructions.before + at) line below low high of index component stands.0 lasts injection memory s index_is component_is starts matches here) (omega (arith, enough)) (omega (arith, enough)) (omega (arith, enough)) (omega (arith, enough)))
 
   -- `TSet`, over the base type
-  set_elaborates : (at : ℕ) (low high : ℤ) (base : ℕ) → IsTrue (is_ordinal low) → IsTrue (is_ordinal high) → (injection : Injection) (memory : Memory) (below : List Operand) (d : ℕ) → least_credit ≤ d
+  set_elaborates : (at : ℕ) (low high : ℤ) (base : ℕ) → IsTrue (is_ordinal low) → IsTrue (is_ordinal high) → (injection : Injection) (memory : MachineMemory) (below : List Operand) (d : ℕ) → least_credit ≤ d
       → IsLike memory.types base (type.Ordinal low high)
       → CodeStands G ps p references at (bare line op.T_SET ∷ [])
       → Fragment declared G Here n (point injection memory (p.instructions.before + at) (Word (pos base) ∷ below)) (elaborated call g unit (type.Set low high)) (p.instructions.before + at + 1) (λ a. Inside untouched injection memory (TypeOnTop (type.Set low high) below a)) d (λ a. d)
@@ -96,7 +96,7 @@ module _ (declared : Declarations) (G : Image) (untouched : Slots) (Here : Facts
       fragment_less {n = suc n} (omega arith) (fragment_counted {weight = 0} 0 (with_type (type.Set low high)) (λ s. s) (type.Set low high) (λ s. refl) grows_refl (λ s matches here. set_does declared G (p.instructions.before + at) line below low high base from to stands.0 lasts injection memory s base_is matches here) (omega (arith, enough)) (omega (arith, enough)) (omega (arith, enough)) (omega (arith, enough)))
 
   -- `TRec`, over the types of the components
-  record_elaborates : (at count : ℕ) (ts given : ComponentTypes) (injection : Injection) (memory : Memory) (below pushed : List Operand) (d : ℕ) → least_credit ≤ d
+  record_elaborates : (at count : ℕ) (ts given : ComponentTypes) (injection : Injection) (memory : MachineMemory) (below pushed : List Operand) (d : ℕ) → least_credit ≤ d
       → TypesOnTop count ts below given injection memory pushed → CodeStands G ps p references at (instr op.T_REC (pos count) 0 line ∷ [])
       → Fragment declared G Here n (point injection memory (p.instructions.before + at) pushed) (elaborated call g unit (type.Record given)) (p.instructions.before + at + 1) (λ a. Inside untouched injection memory (TypeOnTop (type.Record ts) below a)) (d + 4 * count) (λ a. d + 4)
   record_elaborates at count ts given injection memory below pushed d enough top stands =
@@ -118,7 +118,7 @@ module _ (declared : Declarations) (G : Image) (untouched : Slots) (Here : Facts
         (type_follows lasts among place injection memory below (λ s. keeps.promise place line calls injection s memory below home)))
 
     -- the components behind the index type, and `TArr`
-    then_component : (at : ℕ) (index component : Denoter) (below : List Operand) (d : ℕ) → least_credit ≤ d → (a : TypeValue) (longer : Injection) (after : Memory) (pushed : List Operand) (i : TypeValue) (low high : ℤ) (of : TypeValue) → bare_of i ≡ type.Ordinal low high
+    then_component : (at : ℕ) (index component : Denoter) (below : List Operand) (d : ℕ) → least_credit ≤ d → (a : TypeValue) (longer : Injection) (after : MachineMemory) (pushed : List Operand) (i : TypeValue) (low high : ℤ) (of : TypeValue) → bare_of i ≡ type.Ordinal low high
         → (top : TypeOnTop i below a longer after pushed)
         → Fragment declared G Here n (point longer after (p.instructions.before + (at + length (type_code line index))) (Word (pos top.number) ∷ below)) (elaborate call g unit line component) (p.instructions.before + (at + length (type_code line index) + length (type_code line component))) (λ u. Inside untouched longer after (TypeOnTop of (Word (pos top.number) ∷ below) u)) (d + 4) (λ u. d + 4 + 4)
         → CodeStands G ps p references (at + length (type_code line index) + length (type_code line component)) (bare line op.T_ARR ∷ [])
@@ -135,7 +135,7 @@ module _ (declared : Declarations) (G : Image) (untouched : Slots) (Here : Facts
         (array_elaborates (at + length (type_code line index) + length (type_code line component)) low high u top.number second.number last final below (d + 4 + 4) (omega (arith, enough)) (a, over_given a i top.type_is (type.Ordinal low high) over, described-longer after.types final.types top.number a grown.types top.described) second.described second.starts stands))))))))
 
     -- the rest behind the first one of them
-    then_rest : (at to : ℕ) (ds : Denoters) (below : List Operand) (d : ℕ) (a : TypeValue) (longer : Injection) (after : Memory) (pushed : List Operand) (t : TypeValue) (ts : ComponentTypes)
+    then_rest : (at to : ℕ) (ds : Denoters) (below : List Operand) (d : ℕ) (a : TypeValue) (longer : Injection) (after : MachineMemory) (pushed : List Operand) (t : TypeValue) (ts : ComponentTypes)
         → (top : TypeOnTop t below a longer after pushed)
         → Fragment declared G Here n (point longer after at (Word (pos top.number) ∷ below)) (elaborate_each call g unit line ds) to (λ us. Inside untouched longer after (TypesOnTop (how_many ds) ts (Word (pos top.number) ∷ below) us)) (d + 4) (λ us. d + 4 + 4 * how_many ds)
         → Fragment declared G Here n (point longer after at pushed) (bind (elaborate_each call g unit line ds) (λ us. give (type.next_component a us))) to (λ b. Inside untouched longer after (TypesOnTop (suc (how_many ds)) (type.next_component t ts) below b)) (d + 4) (λ b. d + 4 * suc (how_many ds))
@@ -156,7 +156,7 @@ module _ (declared : Declarations) (G : Image) (untouched : Slots) (Here : Facts
     abbrev IsElaboratedEach : ℕ → Denoters → ComponentTypes → Type 0
     IsElaboratedEach at ds ts =
         CodeStands G ps p references at (each_code line ds)
-        → (injection : Injection) (memory : Memory) (below : List Operand) (d : ℕ) → least_credit ≤ d → unit_in G memory.frames ≡ unit
+        → (injection : Injection) (memory : MachineMemory) (below : List Operand) (d : ℕ) → least_credit ≤ d → unit_in G memory.frames ≡ unit
         → Fragment declared G Here n (point injection memory (p.instructions.before + at) below) (elaborate_each call g unit line ds) (p.instructions.before + (at + length (each_code line ds))) (λ a. Inside untouched injection memory (TypesOnTop (how_many ds) ts below a)) d (λ a. d + 4 * how_many ds)
 
     none_elaborate : (at : ℕ) → IsElaboratedEach at no_denoter type.no_component

@@ -3,7 +3,7 @@ use Rattle.std.proofs.Common.{◌≡◌, ℕ, suc, ◌+◌, ◌≤◌, inr, Bool
 use Rattle.std.proofs.lemmas.Bool.Decides.{nat_tests}
 use Rattle.ep_object.specs.Calls.{call_limit, top_of}
 use Rattle.ep_simulation.specs.Follows.{Follows, IsNotLeft}
-use Rattle.ep_simulation.specs.Matching.{Memory, at}
+use Rattle.ep_simulation.specs.Matching.{MachineMemory, at}
 use Rattle.ep_object.specs.Operands.{Operand, weights}
 use Rattle.ep_simulation.specs.Promises.{CallsAt, IsShuffle}
 use Rattle.ep_object.specs.Runs.{outcome, outcome_of, unit_in}
@@ -26,7 +26,7 @@ use Rattle.ep_meaning.specs.Steps as meaning
 use Rattle.ep_values.specs.declared.run_error.TheConstants as run_error
 
 module _ (G : Image) (routine operands slots : ℕ) (code : (entry line : ℕ) → List Instr) (shuffle : IsShuffle G routine operands slots code) (place line : ℕ) (calls : CallsAt G place routine 0 line)
-    (arguments over below : List Operand) (taken : top_of operands over ≡ Some (arguments, below)) (memory : Memory) (trace : Trace) where
+    (arguments over below : List Operand) (taken : top_of operands over ≡ Some (arguments, below)) (memory : MachineMemory) (trace : Trace) where
   abbrev pub its : ImageRoutine
   its = shuffle.its
 
@@ -34,7 +34,7 @@ module _ (G : Image) (routine operands slots : ℕ) (code : (entry line : ℕ) �
   abbrev pub its_frame : List (Option Operand) → List (Option PlaceOf) → Frame
   its_frame left slots = record { routine = routine; arguments = left; slots = slots; parent = number.Unit its.unit; back = place + 1; made = [] }
 
-  abbrev pub within : List (Option Operand) → List (Option PlaceOf) → Memory
+  abbrev pub within : List (Option Operand) → List (Option PlaceOf) → MachineMemory
   within left slots = record memory { frames = record memory.frames { calls = its_frame left slots ∷ memory.frames.calls } }
 
   top_taken : top_of its.arguments over ≡ Some (arguments, below)

@@ -1,7 +1,7 @@
 -- The machine goes on matching where a value is assigned or events are added.
 use Rattle.std.proofs.Common.{◌≡◌, ℕ, ℤ, zero, suc, false, ◌<◌, ◌≤◌, ◌⊎◌, inl, inr, List, length, Option, Some, None, slice_get, slice_set, refl, sym, ap, ◌∙◌, subst, arith, option_map}
 use Rattle.std.proofs.lemmas.Option.{same_Some, slice_get_within}
-use Rattle.ep_simulation.specs.Matching.{IsOfType, Memory, Injection, IsIn, MatchesSlot, MatchesInjection, MatchesFrame, MatchesUnits, MatchesCounts, hidden_words, HasAt, Represents, IsRepresented, Matches, Slots, every_slot, Grown}
+use Rattle.ep_simulation.specs.Matching.{IsOfType, MachineMemory, Injection, IsIn, MatchesSlot, MatchesInjection, MatchesFrame, MatchesUnits, MatchesCounts, hidden_words, HasAt, Represents, IsRepresented, Matches, Slots, every_slot, Grown}
 use Rattle.ep_object.specs.declared.code.Image.{Image}
 use Rattle.ep_object.specs.declared.code.ImageUnit.{ImageUnit}
 use Rattle.ep_object.specs.declared.state.Place.{Place}
@@ -29,7 +29,7 @@ same_or_not (suc m) (suc n) = elim (same_or_not m n) [ inl e ↦ inl (ap suc e) 
 -- ---- frames in a memory that grows
 
 -- a slot goes on matching
-pub slot-grown : {untouched : Slots} {injection longer : Injection} {memory after : Memory} (o : Option Component) (slot : Option Place)
+pub slot-grown : {untouched : Slots} {injection longer : Injection} {memory after : MachineMemory} (o : Option Component) (slot : Option Place)
     → Grown untouched injection memory longer after → MatchesSlot injection memory.types o slot
     → MatchesSlot longer after.types o slot
 slot-grown None None g h = tt
@@ -38,7 +38,7 @@ slot-grown (Some n) None g h = h
 slot-grown (Some n) (Some p) g h = is_spot-grown g h
 
 -- a frame that stays what it is goes on matching
-pub matches_frame-grown : {untouched : Slots} {declared : Declarations} {injection longer : Injection} {before later : List ℕ → ℕ → Option Component} {memory after : Memory} (unit : ℕ) (u : ImageUnit)
+pub matches_frame-grown : {untouched : Slots} {declared : Declarations} {injection longer : Injection} {before later : List ℕ → ℕ → Option Component} {memory after : MachineMemory} (unit : ℕ) (u : ImageUnit)
     → Grown untouched injection memory longer after → after.frames ≡ memory.frames
     → ((k : ℕ) → later u.name k ≡ before u.name k)
     → MatchesFrame declared injection before memory.frames.units memory.types unit u
@@ -59,7 +59,7 @@ pub of_type-same : {allocations others : List Allocation} {Holds : TypeValue →
 of_type-same c same h = record { type_value = h.type_value; is = ap (λ o. option_map bare_of (type_along o c.path)) same ∙ h.is; holds = h.holds }
 
 -- the units go on matching where memory grows, frames and variables stay, and no allocation changes its type
-pub matches_units-grown : {untouched : Slots} {declared : Declarations} {G : Image} {injection longer : Injection} {allocations others : List Allocation} {variables : List ℕ → ℕ → Option Component} {memory after : Memory}
+pub matches_units-grown : {untouched : Slots} {declared : Declarations} {G : Image} {injection longer : Injection} {allocations others : List Allocation} {variables : List ℕ → ℕ → Option Component} {memory after : MachineMemory}
     → Grown untouched injection memory longer after → after.frames ≡ memory.frames
     → ((n : ℕ) → type_in (allocation_at others n) ≡ type_in (allocation_at allocations n))
     → MatchesUnits declared G injection allocations variables memory.frames.units memory.types
@@ -73,7 +73,7 @@ matches_units-grown {declared = declared} {variables = variables} g same types h
 -- ---- events
 
 -- events are no part of what is matched
-pub matches_events : {declared : Declarations} {G : Image} {injection : Injection} {s : meaning.State} {memory : Memory} (events : Trace)
+pub matches_events : {declared : Declarations} {G : Image} {injection : Injection} {s : meaning.State} {memory : MachineMemory} (events : Trace)
     → Matches declared G injection s memory → Matches declared G injection (with_events events s) memory
 matches_events events h =
     record { injected = h.injected; store = h.store; types = h.types; units = h.units; outside = h.outside; counts = h.counts; depth = h.depth }
@@ -102,7 +102,7 @@ assigned_length allocations zero path value a h = refl
 assigned_length allocations (suc n) path value a h = rw h (length-set allocations n (record a { value = value_with a.value path value }))
 
 -- the memory with the words of one segment replaced
-abbrev pub storing : Memory → ℕ → ℕ → List ℤ → Memory
+abbrev pub storing : MachineMemory → ℕ → ℕ → List ℤ → MachineMemory
 storing memory segment type_number words = record memory { segments = slice_set memory.segments segment (Some (record { type_number = type_number; words = words })) }
 
 -- one allocation is in one segment
@@ -110,7 +110,7 @@ pub is_in-same : (injection : Injection) (n x y : ℕ) → IsIn injection n x �
 is_in-same injection zero x y p q = absurd p
 is_in-same injection (suc n) x y p q = same_Some x y (sym p ∙ q)
 
-module _ {declared : Declarations} {G : Image} {injection : Injection} {s : meaning.State} {memory : Memory} (h : Matches declared G injection s memory) (n segment : ℕ) (a : Allocation) (is_in : IsIn injection n segment) (is : allocation_at s.allocations n ≡ Some a) (living : a.ended ≡ false) (r : Represents injection memory.segments memory.types segment a) (words : List ℤ) where
+module _ {declared : Declarations} {G : Image} {injection : Injection} {s : meaning.State} {memory : MachineMemory} (h : Matches declared G injection s memory) (n segment : ℕ) (a : Allocation) (is_in : IsIn injection n segment) (is : allocation_at s.allocations n ≡ Some a) (living : a.ended ≡ false) (r : Represents injection memory.segments memory.types segment a) (words : List ℤ) where
   -- no other segment changes, and this one keeps its type
   pub grown_storing : {untouched : Slots}
       → Grown untouched injection memory injection (storing memory segment r.type_number words)
@@ -225,14 +225,14 @@ module _ {declared : Declarations} {G : Image} {injection : Injection} {s : mean
 -- ---- calls
 
 -- a call that is under way is no part of what is matched, and so many words are set aside for it
-pub matches_entered : {declared : Declarations} {G : Image} {injection : Injection} {s : meaning.State} {memory : Memory} (words levels : ℕ) (x : Call)
+pub matches_entered : {declared : Declarations} {G : Image} {injection : Injection} {s : meaning.State} {memory : MachineMemory} (words levels : ℕ) (x : Call)
     → Matches declared G injection s memory → Matches declared G injection (entered words levels x s) memory
 matches_entered words levels x h =
     let counts = h.counts in
     record { injected = h.injected; store = h.store; types = h.types; units = h.units; outside = h.outside; counts = record { words = counts.words; hidden = omega (arith, counts.hidden); number = counts.number }; depth = omega (arith, h.depth) }
 
 -- What was set aside for a call is given back where memory has grown since it began.
-pub matches_left : {untouched : Slots} {declared : Declarations} {G : Image} {injection longer : Injection} {before t : meaning.State} {memory after : Memory}
+pub matches_left : {untouched : Slots} {declared : Declarations} {G : Image} {injection longer : Injection} {before t : meaning.State} {memory after : MachineMemory}
     → Grown untouched injection memory longer after → Matches declared G injection before memory
     → length after.frames.calls ≤ length before.calls
     → Matches declared G longer t after → Matches declared G longer (back_in before t) after

@@ -4,7 +4,7 @@ use Rattle.ep_values.specs.TypeValues.{bare_of}
 use Rattle.std.proofs.lemmas.Option.{same_Some, slice_get_within}
 use Rattle.ep_simulation.specs.Activations.{AreMade}
 use Rattle.ep_object.specs.Calls.{ended, words_in, words_of}
-use Rattle.ep_simulation.specs.Matching.{Memory, Injection, IsIn, MatchesInjection, MatchesCounts, hidden_words, IsRepresentedWhere, IsRepresented, Matches, Slots, every_slot, Grown}
+use Rattle.ep_simulation.specs.Matching.{MachineMemory, Injection, IsIn, MatchesInjection, MatchesCounts, hidden_words, IsRepresentedWhere, IsRepresented, Matches, Slots, every_slot, Grown}
 use Rattle.ep_object.specs.State.{Segments}
 use Rattle.ep_object.specs.declared.code.Image.{Image}
 use Rattle.ep_object.specs.declared.state.Segment.{Segment}
@@ -44,9 +44,9 @@ record Old (segments : Segments) (segment words : ℕ) : Type 0 where
   stands : slice_get segments segment ≡ Some content
   same : words_in (slice_get segments segment) ≡ words
 
-module _ {declared : Declarations} {G : Image} {injection : Injection} {s : meaning.State} {memory : Memory} (h : Matches declared G injection s memory) (n segment : ℕ) (is_in : IsIn injection n segment) where
+module _ {declared : Declarations} {G : Image} {injection : Injection} {s : meaning.State} {memory : MachineMemory} (h : Matches declared G injection s memory) (n segment : ℕ) (is_in : IsIn injection n segment) where
   -- the memory without the segment
-  abbrev pub ended_memory : Memory
+  abbrev pub ended_memory : MachineMemory
   ended_memory = record memory { segments = slice_set memory.segments segment None; live = memory.live - words_in (slice_get memory.segments segment) }
 
   abbrev pub ended_state : meaning.State
@@ -153,16 +153,16 @@ module _ {declared : Declarations} {G : Image} {injection : Injection} {s : mean
 -- ---- all that was made in a call
 
 -- the memory without these segments
-abbrev pub without : List ℕ → Memory → Memory
+abbrev pub without : List ℕ → MachineMemory → MachineMemory
 without segments memory = record memory { segments = ended segments memory.segments; live = memory.live - words_of segments memory.segments }
 
 -- They end on both sides. Memory has grown by it, and the machine matches.
 pub record EndsBoth (declared : Declarations) (G : Image) (injection : Injection) (ns segments : List ℕ) (s : meaning.State)
-    (memory : Memory) : Type 0 where
+    (memory : MachineMemory) : Type 0 where
   pub grown : (untouched : Slots) → Grown untouched injection memory injection (without segments memory)
   pub matches : Matches declared G injection (with_all_ended ns s) (without segments memory)
 
-pub ends_both : {declared : Declarations} {G : Image} {injection : Injection} (ns segments : List ℕ) (s : meaning.State) (memory : Memory)
+pub ends_both : {declared : Declarations} {G : Image} {injection : Injection} (ns segments : List ℕ) (s : meaning.State) (memory : MachineMemory)
     → AreMade injection ns segments → Matches declared G injection s memory → EndsBoth declared G injection ns segments s memory
 ends_both {injection = injection} [] [] s memory made h =
     let c = h.counts in

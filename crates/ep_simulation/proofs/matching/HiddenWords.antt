@@ -4,7 +4,7 @@ use Rattle.std.proofs.Common.{◌≡◌, ℕ, zero, suc, ◌+◌, ◌≤◌, ◌
 use Rattle.std.specs.Prelude.{if◌then◌else◌}
 use Rattle.std.specs.List.{list_any}
 use Rattle.std.proofs.lemmas.Bool.Decides.{nat_tests}
-use Rattle.ep_simulation.specs.Matching.{Memory, Mapped, Injection, is_at, IsIn, IsHidden, Slots, Grown, hidden_from, hidden_words}
+use Rattle.ep_simulation.specs.Matching.{MachineMemory, Mapped, Injection, is_at, IsIn, IsHidden, Slots, Grown, hidden_from, hidden_words}
 use Rattle.ep_simulation.proofs.public.matching.MoreMemory.{before_or_not, is_in-longer}
 use Rattle.ep_object.specs.State.{Segments}
 use Rattle.ep_values.specs.TypeValues.{TypeValue}
@@ -201,7 +201,7 @@ no_more injection longer k (x ∷ before) (Some y ∷ after) h = here (no_more i
         subst (λ o. hidden_from longer k (Some y ∷ after) ≤ hidden_from injection k (o ∷ before)) (first p.0) (omega (arith, words, rest, at_most (list_any (is_at k) longer)))
 
 -- Hidden segments have no more words than before where memory has grown. So what was set aside for them can be given back.
-pub hidden_words-grown : {untouched : Slots} {injection longer : Injection} {memory after : Memory}
+pub hidden_words-grown : {untouched : Slots} {injection longer : Injection} {memory after : MachineMemory}
     → Grown untouched injection memory longer after
     → hidden_words longer after.segments ≤ hidden_words injection memory.segments
 hidden_words-grown {injection = injection} {longer = longer} {memory = memory} {after = after} g = no_more injection longer 0 memory.segments after.segments (λ i y is. subst (λ m. (list_any (is_at m) longer ≡ true) ⊎ ((slice_get memory.segments i ≡ Some (Some y)) × (list_any (is_at m) injection ≡ false))) {x = i} {y = 0 + i} (omega arith) (stays i y is (before_or_not (length memory.segments) i)))

@@ -6,7 +6,7 @@ use Rattle.ep_simulation.specs.Activations.{LevelSlot, LevelMatches, MatchesArou
 use Rattle.ep_object.specs.Calls.{parent_by}
 use Rattle.ep_simulation.specs.Follows.{IsSameCall, HasGrown, Lasts}
 use Rattle.ep_object.specs.Frames.{call_at, parent_of, frame_above, frame_up, found_by, call_slots, level_slots, slots_at, slots_up}
-use Rattle.ep_simulation.specs.Matching.{Memory, Injection, Slots, Grown}
+use Rattle.ep_simulation.specs.Matching.{MachineMemory, Injection, Slots, Grown}
 use Rattle.ep_object.specs.State.{Frame, Frames}
 use Rattle.ep_object.specs.declared.code.ImageRoutine.{ImageRoutine}
 use Rattle.ep_object.specs.declared.state.FrameNumber.{FrameNumber}
@@ -156,7 +156,7 @@ level_called f r up n p first slots new parent is there h =
 -- ---- what is known of the routines around
 
 -- the innermost call may change but for its parent, and so may the call of the meaning but for what is around it
-pub level-same : {untouched : Slots} {types : List UnitType} {level : Level} {injection longer : Injection} {calls later : List Call} {memory after : Memory} (c d : Frame) (below : List Frame) (up : ℕ)
+pub level-same : {untouched : Slots} {types : List UnitType} {level : Level} {injection longer : Injection} {calls later : List Call} {memory after : MachineMemory} (c d : Frame) (below : List Frame) (up : ℕ)
     → memory.frames.calls ≡ c ∷ below → after.frames.calls ≡ d ∷ below → d.parent ≡ c.parent → slice_get (named_in later) (suc up) ≡ slice_get (named_in calls) (suc up)
     → Grown untouched injection memory longer after
     → LevelMatches types level injection calls memory (suc up) → LevelMatches types level longer later after (suc up)
@@ -182,7 +182,7 @@ level-same {types = types} {level = level} {injection = injection} {longer = lon
 pub around-lasts : {untouched : Slots} (declared : Declarations) → Lasts untouched (MatchesAround declared)
 around-lasts {untouched = untouched} declared = record { by = λ injection longer s t memory after g h up level is. go injection longer s t memory after g up level (h up level is) }
   where
-    go : (injection longer : Injection) (s t : meaning.State) (memory after : Memory) → HasGrown untouched injection s memory longer t after
+    go : (injection longer : Injection) (s t : meaning.State) (memory after : MachineMemory) → HasGrown untouched injection s memory longer t after
         → (up : ℕ) (level : Level) → LevelMatches declared.routine_types level injection s.calls memory (suc up) → LevelMatches declared.routine_types level longer t.calls after (suc up)
     go injection longer s t memory after g up level h = let r = g.routine in by_calls memory.frames.calls after.frames.calls refl refl r.calls h.are
       where

@@ -6,7 +6,7 @@ use Rattle.std.proofs.lemmas.Bool.Decides.{nat_tests}
 use Rattle.std.proofs.lemmas.Option.{slice_get_within, same_Some}
 use Rattle.std.proofs.lemmas.Slice.Eq.{bytes_eq-Decides}
 use native.Mathlib.Decide.{ℕ_discrete}
-use Rattle.ep_simulation.specs.Matching.{Memory, Mapped, Injection, IsIn, IsOf, IsSpot, IsOfType, Describes, IsHidden, IsLike, Slots, every_slot, slot_in, MatchesSlot, MatchesInjection, MatchesFrame, MatchesCounts, hidden_words, IsRepresented, HasType, Matches, Grown}
+use Rattle.ep_simulation.specs.Matching.{MachineMemory, Mapped, Injection, IsIn, IsOf, IsSpot, IsOfType, Describes, IsHidden, IsLike, Slots, every_slot, slot_in, MatchesSlot, MatchesInjection, MatchesFrame, MatchesCounts, hidden_words, IsRepresented, HasType, Matches, Grown}
 use Rattle.ep_simulation.specs.Starts.{AreStarts, start_words}
 use Rattle.ep_object.specs.Placing.{HasDistinctNames}
 use Rattle.ep_object.specs.State.{Frames}
@@ -112,36 +112,36 @@ of_type-more {Holds = Holds} allocations a c h = go (type_in (allocation_at allo
 -- ---- the memory with one more variable
 
 -- its place
-abbrev pub new_place : Memory → ℕ → Place
+abbrev pub new_place : MachineMemory → ℕ → Place
 new_place memory number = record { segment = length memory.segments; offset = 0; type_number = number }
 
 -- one more variable of a type, which has this number, with these frames
-abbrev pub with_variable : TypeValue → ℕ → Frames → Memory → Memory
+abbrev pub with_variable : TypeValue → ℕ → Frames → MachineMemory → MachineMemory
 with_variable t number frames memory = record memory { frames = frames; segments = memory.segments ++ Some (new_segment number t) ∷ []; live = memory.live + (size_of t + 1) }
 
 -- the frames with its place in a slot of the unit's frame
-abbrev pub with_place : ℕ → ℕ → List (Option Place) → Memory → Frames
+abbrev pub with_place : ℕ → ℕ → List (Option Place) → MachineMemory → Frames
 with_place number k slots memory = record memory.frames { units = slice_set memory.frames.units memory.frames.unit (slice_set slots k (Some (new_place memory number))) }
 
 -- where an allocation of the type is that is made next
-abbrev pub next_item : TypeValue → Memory → Mapped
+abbrev pub next_item : TypeValue → MachineMemory → Mapped
 next_item t memory = record { segment = length memory.segments; type_value = bare_of t }
 
 -- the injection with it
-abbrev pub with_segment : TypeValue → Injection → Memory → Injection
+abbrev pub with_segment : TypeValue → Injection → MachineMemory → Injection
 with_segment t injection memory = injection ++ next_item t memory ∷ []
 
 -- an allocation is one that was there, or the new one
-abbrev pub IsOldOrNew : Injection → Memory → ℕ → ℕ → Type 0
+abbrev pub IsOldOrNew : Injection → MachineMemory → ℕ → ℕ → Type 0
 IsOldOrNew injection memory n segment = IsIn injection n segment ⊎ ((n ≡ suc (length injection)) × (segment ≡ length memory.segments))
 
-is_in-either : (t : TypeValue) (injection : Injection) (memory : Memory) (n segment : ℕ)
+is_in-either : (t : TypeValue) (injection : Injection) (memory : MachineMemory) (n segment : ℕ)
     → IsIn (with_segment t injection memory) n segment → IsOldOrNew injection memory n segment
 is_in-either t injection memory zero segment h = absurd h
 is_in-either t injection memory (suc n) segment h = elim (mapped-push (λ m. m.segment) injection (next_item t memory) segment n h) [ inl p ↦ inl p | inr p ↦ inr (ap suc p.0, p.1) ]
 
 -- and so is its type
-is_of-either : (t : TypeValue) (injection : Injection) (memory : Memory) (n : ℕ) (u : TypeValue)
+is_of-either : (t : TypeValue) (injection : Injection) (memory : MachineMemory) (n : ℕ) (u : TypeValue)
     → IsOf (with_segment t injection memory) n u → IsOf injection n u ⊎ ((n ≡ suc (length injection)) × (u ≡ bare_of t))
 is_of-either t injection memory zero u h = absurd h
 is_of-either t injection memory (suc n) u h = elim (mapped-push (λ m. m.type_value) injection (next_item t memory) u n h) [ inl p ↦ inl p | inr p ↦ inr (ap suc p.0, p.1) ]
@@ -152,7 +152,7 @@ is_in-within injection zero segment h = absurd h
 is_in-within injection (suc n) segment h = let w : n < length injection = mapped_within (λ m. m.segment) injection n segment h in omega arith
 
 -- memory grows by the new segment
-pub grown_making : {untouched : Slots} (t : TypeValue) (injection : Injection) (memory : Memory) (number : ℕ) (frames : Frames)
+pub grown_making : {untouched : Slots} (t : TypeValue) (injection : Injection) (memory : MachineMemory) (number : ℕ) (frames : Frames)
     → ((unit k : ℕ) → IsTrue (untouched.of_units unit k) → slot_in frames unit k ≡ slot_in memory.frames unit k)
     → Grown untouched injection memory (with_segment t injection memory) (with_variable t number frames memory)
 grown_making t injection memory number frames kept =
@@ -188,11 +188,11 @@ grown_making t injection memory number frames kept =
         let z : y ≡ x = cc in ap (λ (s : Segment). s.type_number) z
 
 -- the same where the frames stay what they are
-pub grown_same_frames : (t : TypeValue) (injection : Injection) (memory : Memory) (number : ℕ)
+pub grown_same_frames : (t : TypeValue) (injection : Injection) (memory : MachineMemory) (number : ℕ)
     → Grown every_slot injection memory (with_segment t injection memory) (with_variable t number memory.frames memory)
 grown_same_frames t injection memory number = grown_making t injection memory number memory.frames (λ unit k kept. refl)
 
-module _ {declared : Declarations} {G : Image} {injection : Injection} {s : meaning.State} {memory : Memory} (h : Matches declared G injection s memory) (t : TypeValue) (number : ℕ) (described : Describes memory.types number t) (valid : IsTypeValue t) (starts : AreStarts t) where
+module _ {declared : Declarations} {G : Image} {injection : Injection} {s : meaning.State} {memory : MachineMemory} (h : Matches declared G injection s memory) (t : TypeValue) (number : ℕ) (described : Describes memory.types number t) (valid : IsTypeValue t) (starts : AreStarts t) where
   -- the allocation of the new variable
   abbrev pub new_allocation : Allocation
   new_allocation = record { type_value = t; value = start_of t; ended = false }
@@ -297,7 +297,7 @@ module _ {declared : Declarations} {G : Image} {injection : Injection} {s : mean
     abbrev pub new_slots : List (Option Place)
     new_slots = slice_set frame_here.slots k (Some (new_place memory number))
 
-    abbrev pub later : Memory
+    abbrev pub later : MachineMemory
     later = with_variable t number (with_place number k frame_here.slots memory) memory
 
     abbrev pub later_state : meaning.State

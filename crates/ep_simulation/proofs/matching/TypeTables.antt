@@ -8,7 +8,7 @@ use Rattle.std.proofs.lemmas.Option.{slice_get-get_or}
 use Rattle.std.proofs.lemmas.List.Quantifiers.{position-Some}
 use Rattle.std.proofs.lemmas.Slice.Eq.{bytes_eq-Decides}
 use Rattle.std.proofs.lemmas.Bool.Decides.{nat_tests}
-use Rattle.ep_simulation.specs.Matching.{Memory, Injection, Describes, HasSize, MatchesSlot, MatchesTypes, IsRepresentedWhere, MatchesStore, MatchesUnits, MatchesCounts, Matches, Slots, Grown, AreBare, AreEntries, IsBare, IsKindOf}
+use Rattle.ep_simulation.specs.Matching.{MachineMemory, Injection, Describes, HasSize, MatchesSlot, MatchesTypes, IsRepresentedWhere, MatchesStore, MatchesUnits, MatchesCounts, Matches, Slots, Grown, AreBare, AreEntries, IsBare, IsKindOf}
 use Rattle.ep_object.specs.Runs.{after}
 use Rattle.ep_object.specs.State.{Segments, TypeTable, integer_entry, char_entry, boolean_entry, text_entry, pointer_entry, first_types, bare_number, plain}
 use Rattle.ep_object.specs.Types.{same_kind, same_entry, entry_number, ordinal_entry, words_of_entry, words_of_kind}
@@ -443,7 +443,7 @@ matches_units-types {injection = injection} {variables = variables} {types = typ
     }
 
 -- Matching with another table of types, where no number changes its type.
-pub matches-types : {declared : Declarations} {G : Image} {injection : Injection} {s : meaning.State} {memory : Memory} (resources : Resources) (types : TypeTable) (live : ℕ)
+pub matches-types : {declared : Declarations} {G : Image} {injection : Injection} {s : meaning.State} {memory : MachineMemory} (resources : Resources) (types : TypeTable) (live : ℕ)
     → IsPrefix memory.types types → MatchesTypes resources.types types
     → MatchesCounts injection resources memory.segments types live
     → Matches declared G injection s memory
@@ -452,7 +452,7 @@ matches-types resources types live longer known counts m =
     record { injected = m.injected; store = matches_store-types longer m.store; types = known; units = matches_units-types longer m.units; outside = m.outside; counts = counts; depth = m.depth }
 
 -- grown by a longer table alone
-pub grown-types : {untouched : Slots} (injection : Injection) (memory : Memory) (types : TypeTable) (live : ℕ)
+pub grown-types : {untouched : Slots} (injection : Injection) (memory : MachineMemory) (types : TypeTable) (live : ℕ)
     → IsPrefix memory.types types
     → Grown untouched injection memory injection (record memory { types = types; live = live })
 grown-types {untouched = untouched} injection memory types live longer =

@@ -2,7 +2,7 @@
 use Rattle.std.proofs.Common.{◌≡◌, ℕ, ℤ, zero, suc, ◌+◌, ◌-◌, ◌*◌, ◌≤◌, Bool, true, false, List, ◌∷◌, Option, Some, None, refl, sym, subst, arith}
 use Rattle.std.specs.Prelude.{if◌then◌else◌}
 use Rattle.ep_simulation.specs.Follows.{Point, state_at, Follows, point, Facts, After, Lands, Fragment, Bare, OnTop, IsNotLeft, SameRoutine, Inside}
-use Rattle.ep_simulation.specs.Matching.{Memory, at, Injection, Matches, Slots, Grown}
+use Rattle.ep_simulation.specs.Matching.{MachineMemory, at, Injection, Matches, Slots, Grown}
 use Rattle.ep_object.specs.Operands.{Operand, Word}
 use Rattle.ep_object.specs.Runs.{outcome}
 use Rattle.ep_object.specs.State.{State, Going, Running, Stopped, Error}
@@ -174,7 +174,7 @@ fragment_using {from = from} a ends le lives =
 -- ---- an answer
 
 -- what an instruction that gives an answer leads to: its number on top, or its error
-abbrev pub going_of : ℕ → List Operand → Memory → List ℕ → ℕ → Trace → Answer → Going
+abbrev pub going_of : ℕ → List Operand → MachineMemory → List ℕ → ℕ → Trace → Answer → Going
 going_of to below memory unit line trace (Number z) = Running 0 (at to (Word z ∷ below) memory trace)
 going_of to below memory unit line trace (Fault error) = Stopped (Error error unit line) trace
 
@@ -274,12 +274,12 @@ fragment_branch_one false does le then_way else_way = fragment_one does le (else
 -- At `place` stands the test and behind it, at `test_end`, the instruction that leads out of the loop; the body is from
 -- `body_place` to `body_end`, where an instruction leads back.
 pub fragment_turns : {untouched : Slots} {declared : Declarations} {G : Image} {Here : Facts} {n : ℕ} {place test_end body_place body_end to : ℕ} {below : List Operand} {test : Computation Result} {body : Computation (Unit {0})} (call : Handler) (h : ℕ) (unit : List ℕ) (d : ℕ)
-    → Steady test → Steady body → (first : Injection) (start : Memory) →
-    ((injection : Injection) (memory : Memory) → Grown untouched first start injection memory → SameRoutine untouched start.frames memory.frames → Fragment declared G Here n (point injection memory place below) test test_end (λ r. Inside untouched injection memory (OnTop (kind.Ordinal host.Boolean) below r)) d (λ r. d + 2)) →
-    ((z : ℤ) (memory : Memory) (trace : Trace) → SameRoutine untouched start.frames memory.frames → outcome G (at test_end (Word z ∷ below) memory trace) ≡ record { weight = 0; to = Running 0 (at (if is_true z then body_place else to) below memory trace) }) →
-    ((injection : Injection) (memory : Memory) → Grown untouched first start injection memory → SameRoutine untouched start.frames memory.frames → Fragment declared G Here n (point injection memory body_place below) body body_end (λ a. Inside untouched injection memory (Bare below a)) (d + 1) (λ a. d + 1)) →
-    ((memory : Memory) (trace : Trace) → SameRoutine untouched start.frames memory.frames → outcome G (at body_end below memory trace) ≡ record { weight = 0; to = Running 0 (at place below memory trace) }) →
-    (k : ℕ) → k ≤ n → (injection : Injection) (memory : Memory) → Grown untouched first start injection memory
+    → Steady test → Steady body → (first : Injection) (start : MachineMemory) →
+    ((injection : Injection) (memory : MachineMemory) → Grown untouched first start injection memory → SameRoutine untouched start.frames memory.frames → Fragment declared G Here n (point injection memory place below) test test_end (λ r. Inside untouched injection memory (OnTop (kind.Ordinal host.Boolean) below r)) d (λ r. d + 2)) →
+    ((z : ℤ) (memory : MachineMemory) (trace : Trace) → SameRoutine untouched start.frames memory.frames → outcome G (at test_end (Word z ∷ below) memory trace) ≡ record { weight = 0; to = Running 0 (at (if is_true z then body_place else to) below memory trace) }) →
+    ((injection : Injection) (memory : MachineMemory) → Grown untouched first start injection memory → SameRoutine untouched start.frames memory.frames → Fragment declared G Here n (point injection memory body_place below) body body_end (λ a. Inside untouched injection memory (Bare below a)) (d + 1) (λ a. d + 1)) →
+    ((memory : MachineMemory) (trace : Trace) → SameRoutine untouched start.frames memory.frames → outcome G (at body_end below memory trace) ≡ record { weight = 0; to = Running 0 (at place below memory trace) }) →
+    (k : ℕ) → k ≤ n → (injection : Injection) (memory : MachineMemory) → Grown untouched first start injection memory
     → SameRoutine untouched start.frames memory.frames
     → Fragment declared G Here k (point injection memory place below) (turns call h unit k test body) to (λ a. Inside untouched injection memory (Bare below a)) d (λ a. d)
 fragment_turns call h unit d steady_test steady_body first start tests leads_out bodies leads_back zero le injection memory grown routine = fragment_cut
@@ -292,11 +292,11 @@ fragment_turns call h unit d steady_test steady_body first start tests leads_out
     (λ is. fragment_move {d1 = d} (omega arith) (fragment_give (omega arith) (inside_here refl))))
 
 -- At `place` stands the body and behind it, at `body_end`, the test; the instruction at `test_end` leads back where the test is false.
-pub fragment_turns_until : {untouched : Slots} {declared : Declarations} {G : Image} {Here : Facts} {n : ℕ} {place body_end test_end to : ℕ} {below : List Operand} {body : Computation (Unit {0})} {test : Computation Result} (call : Handler) (h : ℕ) (unit : List ℕ) (d : ℕ) → Steady body → Steady test → (first : Injection) (start : Memory) →
-    ((injection : Injection) (memory : Memory) → Grown untouched first start injection memory → SameRoutine untouched start.frames memory.frames → Fragment declared G Here n (point injection memory place below) body body_end (λ a. Inside untouched injection memory (Bare below a)) d (λ a. d)) →
-    ((injection : Injection) (memory : Memory) → Grown untouched first start injection memory → SameRoutine untouched start.frames memory.frames → Fragment declared G Here n (point injection memory body_end below) test test_end (λ r. Inside untouched injection memory (OnTop (kind.Ordinal host.Boolean) below r)) d (λ r. d)) →
-    ((z : ℤ) (memory : Memory) (trace : Trace) → SameRoutine untouched start.frames memory.frames → outcome G (at test_end (Word z ∷ below) memory trace) ≡ record { weight = 0; to = Running 0 (at (if is_true z then to else place) below memory trace) }) →
-    (k : ℕ) → k ≤ n → (injection : Injection) (memory : Memory) → Grown untouched first start injection memory → SameRoutine untouched start.frames memory.frames → Fragment declared G Here k (point injection memory place below) (turns_until call h unit k body test) to (λ a. Inside untouched injection memory (Bare below a)) d (λ a. d)
+pub fragment_turns_until : {untouched : Slots} {declared : Declarations} {G : Image} {Here : Facts} {n : ℕ} {place body_end test_end to : ℕ} {below : List Operand} {body : Computation (Unit {0})} {test : Computation Result} (call : Handler) (h : ℕ) (unit : List ℕ) (d : ℕ) → Steady body → Steady test → (first : Injection) (start : MachineMemory) →
+    ((injection : Injection) (memory : MachineMemory) → Grown untouched first start injection memory → SameRoutine untouched start.frames memory.frames → Fragment declared G Here n (point injection memory place below) body body_end (λ a. Inside untouched injection memory (Bare below a)) d (λ a. d)) →
+    ((injection : Injection) (memory : MachineMemory) → Grown untouched first start injection memory → SameRoutine untouched start.frames memory.frames → Fragment declared G Here n (point injection memory body_end below) test test_end (λ r. Inside untouched injection memory (OnTop (kind.Ordinal host.Boolean) below r)) d (λ r. d)) →
+    ((z : ℤ) (memory : MachineMemory) (trace : Trace) → SameRoutine untouched start.frames memory.frames → outcome G (at test_end (Word z ∷ below) memory trace) ≡ record { weight = 0; to = Running 0 (at (if is_true z then to else place) below memory trace) }) →
+    (k : ℕ) → k ≤ n → (injection : Injection) (memory : MachineMemory) → Grown untouched first start injection memory → SameRoutine untouched start.frames memory.frames → Fragment declared G Here k (point injection memory place below) (turns_until call h unit k body test) to (λ a. Inside untouched injection memory (Bare below a)) d (λ a. d)
 fragment_turns_until call h unit d steady_body steady_test first start bodies tests leads zero le injection memory grown routine = fragment_cut
 fragment_turns_until call h unit d steady_body steady_test first start bodies tests leads (suc k) le injection memory grown routine =
     fragment_bind_bare {e = λ a. d} (λ a. steady_bind steady_test (λ r. steady_spend 1 (steady_if (is_true (number_of r)) (steady_spend 1 (steady_give tt)) (steady_turns_until call h k unit steady_body steady_test)))) (fragment_less le (bodies injection memory grown routine)) (λ a v1 m1 grown1 routine1.

@@ -1,7 +1,7 @@
 -- What is matched and followed does not depend on the variables of a routine in whose block names are declared.
 use Rattle.std.proofs.Common.{ℕ, List}
 use Rattle.ep_simulation.specs.Follows.{Point, Facts, After, Fragment}
-use Rattle.ep_simulation.specs.Matching.{Memory, Injection, Matches}
+use Rattle.ep_simulation.specs.Matching.{MachineMemory, Injection, Matches}
 use Rattle.ep_simulation.specs.Promises.{Passing, Called, Promises, CallsAreKept}
 use Rattle.ep_object.specs.Placing.{Placement}
 use Rattle.ep_object.specs.declared.code.Image.{Image}
@@ -17,7 +17,7 @@ module _ (levels : List Level) (declared : Declarations) where
   inner = in_routine levels declared
 
   -- the same machine matches
-  pub matches_inside : {G : Image} {injection : Injection} {s : meaning.State} {memory : Memory} → Matches declared G injection s memory → Matches inner G injection s memory
+  pub matches_inside : {G : Image} {injection : Injection} {s : meaning.State} {memory : MachineMemory} → Matches declared G injection s memory → Matches inner G injection s memory
   matches_inside h =
       let units = h.units in
       record {
@@ -30,7 +30,7 @@ module _ (levels : List Level) (declared : Declarations) where
         depth = h.depth;
       }
 
-  pub matches_outside : {G : Image} {injection : Injection} {s : meaning.State} {memory : Memory} → Matches inner G injection s memory → Matches declared G injection s memory
+  pub matches_outside : {G : Image} {injection : Injection} {s : meaning.State} {memory : MachineMemory} → Matches inner G injection s memory → Matches declared G injection s memory
   matches_outside h =
       let units = h.units in
       record {

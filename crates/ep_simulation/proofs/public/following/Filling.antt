@@ -6,7 +6,7 @@ use Rattle.std.specs.Prelude.{⊤, ◌+ℤ◌, if◌then◌else◌, int_lt}
 use Rattle.ep_object.specs.Calls.{call_limit, top_of}
 use Rattle.ep_simulation.specs.Follows.{Bare, Facts, Follows, HasGrown, Inside, IsNotLeft, IsSameCall, IsStillCall, Lasts, SameRoutine}
 use Rattle.ep_object.specs.Frames.{slots_over}
-use Rattle.ep_simulation.specs.Matching.{AreAmong, Grown, Injection, IsLike, IsSpot, Matches, Memory, Slots, at, every_slot, slot_of_frame}
+use Rattle.ep_simulation.specs.Matching.{AreAmong, Grown, Injection, IsLike, IsSpot, Matches, MachineMemory, Slots, at, every_slot, slot_of_frame}
 use Rattle.ep_object.specs.Operands.{Operand, Word}
 use Rattle.ep_object.specs.Operands as operand
 use Rattle.ep_simulation.specs.Promises.{CallsAt, IsFill, IsShuffle, IsValueOf, StandFrom, filling_code, turning_code}
@@ -68,7 +68,7 @@ follows_both {Within = Within} {G = G} {k = k} {s = s} c {P = P} {d = d} {e = e}
 -- ---- values
 
 -- what a variable has been given it gives
-pub gives_back : (k : Kind) (t : TypeValue) → IsTypeOfKind k t → (injection : Injection) (memory : Memory) (r : Result) (o : Operand) → IsValueOf injection memory k r o → given_by (Some t) (value_of r) ≡ Some r
+pub gives_back : (k : Kind) (t : TypeValue) → IsTypeOfKind k t → (injection : Injection) (memory : MachineMemory) (r : Result) (o : Operand) → IsValueOf injection memory k r o → given_by (Some t) (value_of r) ≡ Some r
 gives_back (kind.Ordinal h) (type.Ordinal low high) of_kind injection memory r o (z, r_is, of_host, o_is) = rw r_is refl
 gives_back (kind.Ordinal h) type.Text of_kind injection memory r o is = absurd of_kind
 gives_back (kind.Ordinal h) (type.Array low high of) of_kind injection memory r o is = absurd of_kind
@@ -123,25 +123,25 @@ not_left-over before now f c turn routine unit frames h = go h.own h.is (let run
         }
 
 -- Components of a variable have got the value that one of them has, and the machine matches in a memory that has grown.
-pub record Filled (declared : Declarations) (G : Image) (v : Component) (f : ℕ) (value : Value) (injection : Injection) (s : meaning.State) (memory : Memory)
-    (t : meaning.State) (longer : Injection) (after : Memory) : Type 0 where
+pub record Filled (declared : Declarations) (G : Image) (v : Component) (f : ℕ) (value : Value) (injection : Injection) (s : meaning.State) (memory : MachineMemory)
+    (t : meaning.State) (longer : Injection) (after : MachineMemory) : Type 0 where
   pub matches : Matches declared G longer t after
   pub since : HasGrown every_slot injection s memory longer t after
   pub living : has_ended v.allocation t ≡ false
   pub has : value_at (component v f) t ≡ value
 
 -- so it does at a place of the code
-pub record FilledAt (declared : Declarations) (G : Image) (v : Component) (f : ℕ) (value : Value) (injection : Injection) (s : meaning.State) (memory : Memory)
+pub record FilledAt (declared : Declarations) (G : Image) (v : Component) (f : ℕ) (value : Value) (injection : Injection) (s : meaning.State) (memory : MachineMemory)
     (place : ℕ) (below : List Operand) (t : meaning.State) (l : State) : Type 0 where
   pub longer : Injection
-  pub after : Memory
+  pub after : MachineMemory
   pub is : l ≡ at place below after t.trace
   pub filled : Filled declared G v f value injection s memory t longer after
 
 module _ (declared : Declarations) (G : Image) (routine : ℕ) (fill : IsFill G routine) (place line : ℕ) (calls : CallsAt G place routine 0 line)
     (low high : ℤ) (of : TypeValue) (k : Kind) (of_kind : IsTypeOfKind k of) (v : Component) (p : PlaceOf) (from first last : ℤ) (f : ℕ) (at_from : component_at low high from ≡ Some f)
     (r : Result) (suited : suits (Some of) r ≡ true) (gives : given_by (Some of) (value_of r) ≡ Some r)
-    (injection : Injection) (memory : Memory) (other : Operand) (value : IsValueOf injection memory k r other)
+    (injection : Injection) (memory : MachineMemory) (other : Operand) (value : IsValueOf injection memory k r other)
     (spot : IsSpot injection memory.types v p) (described : IsLike memory.types p.type_number (type.Array low high of)) (below : List Operand)
     (s : meaning.State) (matches : Matches declared G injection s memory) where
   -- it with its code
@@ -177,7 +177,7 @@ module _ (declared : Declarations) (G : Image) (routine : ℕ) (fill : IsFill G 
 
   -- ---- what stays while it runs
 
-  record Turning (sh : meaning.State) (longer : Injection) (now : Memory) : Type 0 where
+  record Turning (sh : meaning.State) (longer : Injection) (now : MachineMemory) : Type 0 where
     grown : Grown every_slot injection memory longer now
     turn : now.frames.turn ≡ memory.frames.turn
     routine_is : now.frames.routine ≡ memory.frames.routine
@@ -194,7 +194,7 @@ module _ (declared : Declarations) (G : Image) (routine : ℕ) (fill : IsFill G 
     same : sh.trace ≡ s.trace
     has : value_at (component v f) sh ≡ value_of r
 
-  module _ (sh : meaning.State) (longer : Injection) (now : Memory) (t : Turning sh longer now) where
+  module _ (sh : meaning.State) (longer : Injection) (now : MachineMemory) (t : Turning sh longer now) where
     now_spot : IsSpot longer now.types v p
     now_spot = is_spot-grown t.grown spot
 
@@ -226,7 +226,7 @@ module _ (declared : Declarations) (G : Image) (routine : ℕ) (fill : IsFill G 
   -- ---- a turn
 
   -- memory and the state go on so
-  kept : (sh : meaning.State) (longer : Injection) (now : Memory) (t : Turning sh longer now) (i : ℕ) (longest : Injection) (later : Memory)
+  kept : (sh : meaning.State) (longer : Injection) (now : MachineMemory) (t : Turning sh longer now) (i : ℕ) (longest : Injection) (later : MachineMemory)
       → Grown every_slot longer now longest later → SameRoutine every_slot now.frames later.frames → Matches declared G longest (assigned (component v i) (value_of r) (under sh)) later
       → Turning (assigned (component v i) (value_of r) sh) longest later
   kept sh longer now t i longest later more still now_is = go later.frames.calls refl (subst (λ cs. IsSameCall cs later.frames.calls) t.frames still.calls)
@@ -256,7 +256,7 @@ module _ (declared : Declarations) (G : Image) (routine : ℕ) (fill : IsFill G 
   body : StandFrom G head (turning_code its.entry fill.swap shuffle.line)
   body = shuffle.stands.1.1.1
 
-  module _ (sh : meaning.State) (longer : Injection) (now : Memory) (t : Turning sh longer now) (z : ℤ) (i : ℕ) (at_index : component_at low high z ≡ Some i) where
+  module _ (sh : meaning.State) (longer : Injection) (now : MachineMemory) (t : Turning sh longer now) (z : ℤ) (i : ℕ) (at_index : component_at low high z ≡ Some i) where
     -- the place of the component that gets the value
     abbrev target : PlaceOf
     target = component_place declared G (to_swap + 1) shuffle.line (Word z ∷ below) low high of z v p body.1.1.1.0 longer now (now_spot sh longer now t) (now_described sh longer now t) i
@@ -306,8 +306,8 @@ module _ (declared : Declarations) (G : Image) (routine : ℕ) (fill : IsFill G 
 
   -- The value is given to one more component, whose steps are spent.
   turn_follows : {A : Type 0} {P : A → meaning.State → State → Type 0} {e : A → ℕ} (n d : ℕ) (c : Computation A) → Steady c
-      → (sh : meaning.State) (longer : Injection) (now : Memory) (t : Turning sh longer now) (z : ℤ) (i : ℕ) → component_at low high z ≡ Some i
-      → ((longest : Injection) (later : Memory) → Turning (assigned (component v i) (value_of r) sh) longest later → Follows Within G n (at behind (Word z ∷ below) later sh.trace) now_known c P (20 + d) e)
+      → (sh : meaning.State) (longer : Injection) (now : MachineMemory) (t : Turning sh longer now) (z : ℤ) (i : ℕ) → component_at low high z ≡ Some i
+      → ((longest : Injection) (later : MachineMemory) → Turning (assigned (component v i) (value_of r) sh) longest later → Follows Within G n (at behind (Word z ∷ below) later sh.trace) now_known c P (20 + d) e)
       → Follows Within G n (at head (Word z ∷ below) now sh.trace) now_known (spend (suc (weight_of r)) c) P (10 + d) e
   turn_follows {A = A} {P = P} {e = e} n d c steady sh longer now t z i at_index next =
       follows_credit {d = 1 + (1 + (swap_ticks (Word z) (operand.Place p) + (1 + (1 + (1 + (1 + d))))))} {e = e} (omega arith) (λ a. omega arith)
@@ -349,13 +349,13 @@ module _ (declared : Declarations) (G : Image) (routine : ℕ) (fill : IsFill G 
   head_place = omega arith
 
   -- whether the index is below it
-  compared : (sh : meaning.State) (now : Memory) (z : ℤ) (b : Bool) → int_lt z last ≡ b
+  compared : (sh : meaning.State) (now : MachineMemory) (z : ℤ) (b : Bool) → int_lt z last ≡ b
       → outcome G (at (behind + 1 + 1) (Word last ∷ Word z ∷ Word z ∷ below) now sh.trace) ≡ in_one (Running 0 (at to_jump (Word (ordinal_of b) ∷ Word z ∷ below) now sh.trace))
   compared sh now z b is =
       less_answers G (behind + 1 + 1) shuffle.line (Word z ∷ below) z last body.1.1.1.1.1.1.1.1.1.1.1.0 now sh.trace ∙ ap (λ x. in_one (Running 0 (at to_jump (Word (ordinal_of x) ∷ Word z ∷ below) now sh.trace))) is
 
   -- After the last component it returns.
-  leads_out : {A : Type 0} {P : A → meaning.State → State → Type 0} {e : A → ℕ} (n d : ℕ) (c : Computation A) (sh : meaning.State) (longer : Injection) (now : Memory) (t : Turning sh longer now) (z : ℤ) → gap z last ≡ Some 0
+  leads_out : {A : Type 0} {P : A → meaning.State → State → Type 0} {e : A → ℕ} (n d : ℕ) (c : Computation A) (sh : meaning.State) (longer : Injection) (now : MachineMemory) (t : Turning sh longer now) (z : ℤ) → gap z last ≡ Some 0
       → Follows Within G n (at (place + 1) below (left_memory [] memory.frames.calls now) sh.trace) now_known c P d e
       → Follows Within G n (at behind (Word z ∷ below) now sh.trace) now_known c P (20 + d) e
   leads_out {e = e} n d c sh longer now t z is next =
@@ -382,7 +382,7 @@ module _ (declared : Declarations) (G : Image) (routine : ℕ) (fill : IsFill G 
           ∙ ap (λ ns. in_one (Running 0 (at (place + 1) below (left_memory ns memory.frames.calls now) sh.trace))) t.made)
 
   -- Before, it goes on with the next one.
-  leads_on : {A : Type 0} {P : A → meaning.State → State → Type 0} {e : A → ℕ} (n d : ℕ) (c : Computation A) (sh : meaning.State) (longer : Injection) (now : Memory) (t : Turning sh longer now) (z : ℤ) (left : ℕ) → gap z last ≡ Some (suc left) → IsTrue (is_integer z) → IsTrue (is_integer last)
+  leads_on : {A : Type 0} {P : A → meaning.State → State → Type 0} {e : A → ℕ} (n d : ℕ) (c : Computation A) (sh : meaning.State) (longer : Injection) (now : MachineMemory) (t : Turning sh longer now) (z : ℤ) (left : ℕ) → gap z last ≡ Some (suc left) → IsTrue (is_integer z) → IsTrue (is_integer last)
       → Follows Within G n (at head (Word (z +ℤ pos 1) ∷ below) now sh.trace) now_known c P (10 + d) e
       → Follows Within G n (at behind (Word z ∷ below) now sh.trace) now_known c P (20 + d) e
   leads_on {e = e} n d c sh longer now t z left is small large next =
@@ -412,8 +412,8 @@ module _ (declared : Declarations) (G : Image) (routine : ℕ) (fill : IsFill G 
 
   -- So many more components than one get the value, in as many turns.
   turns_follow : {A : Type 0} {P : A → meaning.State → State → Type 0} {e : A → ℕ} (n d : ℕ) (c : Computation A) → Steady c
-      → (left : ℕ) (sh : meaning.State) (longer : Injection) (now : Memory) → Turning sh longer now → (z : ℤ) (i : ℕ) → gap low z ≡ Some i → gap z last ≡ Some left → i + left < count_of low high → IsTrue (is_integer z) → IsTrue (is_integer last)
-      → ((longest : Injection) (later : Memory) → Turning (all_assigned v i (suc left) (value_of r) sh) longest later → Follows Within G n (at (place + 1) below (left_memory [] memory.frames.calls later) (all_assigned v i (suc left) (value_of r) sh).trace) now_known c P d e)
+      → (left : ℕ) (sh : meaning.State) (longer : Injection) (now : MachineMemory) → Turning sh longer now → (z : ℤ) (i : ℕ) → gap low z ≡ Some i → gap z last ≡ Some left → i + left < count_of low high → IsTrue (is_integer z) → IsTrue (is_integer last)
+      → ((longest : Injection) (later : MachineMemory) → Turning (all_assigned v i (suc left) (value_of r) sh) longest later → Follows Within G n (at (place + 1) below (left_memory [] memory.frames.calls later) (all_assigned v i (suc left) (value_of r) sh).trace) now_known c P d e)
       → Follows Within G n (at head (Word z ∷ below) now sh.trace) now_known (spend (suc left * suc (weight_of r)) c) P (10 + d) e
   turns_follow {P = P} {e = e} n d c steady zero sh longer now t z i far near within small large next =
       subst (λ m. Follows Within G n (at head (Word z ∷ below) now sh.trace) now_known (spend m c) P (10 + d) e) {x = suc (weight_of r) + 0} {y = 1 * suc (weight_of r)} (omega arith)
@@ -446,7 +446,7 @@ module _ (declared : Declarations) (G : Image) (routine : ℕ) (fill : IsFill G 
   abbrev its_frame : List (Option Operand) → List (Option PlaceOf) → Frame
   its_frame left slots = shuffling.its_frame G routine 4 1 (λ entry. filling_code entry fill.swap) shuffle place line calls arguments over below taken memory s.trace left slots
 
-  abbrev within : List (Option Operand) → List (Option PlaceOf) → Memory
+  abbrev within : List (Option Operand) → List (Option PlaceOf) → MachineMemory
   within left slots = shuffling.within G routine 4 1 (λ entry. filling_code entry fill.swap) shuffle place line calls arguments over below taken memory s.trace left slots
 
   calls_it : (b : Bool) → ltb (length memory.frames.calls) call_limit ≡ b
@@ -491,7 +491,7 @@ module _ (declared : Declarations) (G : Image) (routine : ℕ) (fill : IsFill G 
         }
 
     -- what it leaves
-    filled : (t : meaning.State) (longer : Injection) (now : Memory) → Turning t longer now → Filled declared G v f (value_of r) injection s memory t longer (left_memory [] memory.frames.calls now)
+    filled : (t : meaning.State) (longer : Injection) (now : MachineMemory) → Turning t longer now → Filled declared G v f (value_of r) injection s memory t longer (left_memory [] memory.frames.calls now)
     filled t longer now x =
         let h = x.is in
         let g = x.grown in
@@ -534,7 +534,7 @@ module _ (declared : Declarations) (G : Image) (routine : ℕ) (fill : IsFill G 
         changes_so : change_it now_known ≡ all_assigned v b (suc left) (value_of r) now_known
         changes_so = ap (λ o. assigned_from v o (range_count range) (value_of r) now_known) number_is ∙ ap (λ m. all_assigned v b m (value_of r) now_known) count_is
 
-        ends_so : (longer : Injection) (now : Memory) → Turning (all_assigned v b (suc left) (value_of r) now_known) longer now
+        ends_so : (longer : Injection) (now : MachineMemory) → Turning (all_assigned v b (suc left) (value_of r) now_known) longer now
             → Follows Within G n (at (place + 1) below (left_memory [] memory.frames.calls now) (all_assigned v b (suc left) (value_of r) now_known).trace) now_known (change change_it) Post (20 + d) (λ u. 20 + d)
         ends_so longer now x =
             follows_changed change_it (omega arith)

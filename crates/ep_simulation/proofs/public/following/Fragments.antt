@@ -1,7 +1,7 @@
 -- How the machine follows computations from place to place of the code.
 use Rattle.std.proofs.Common.{◌≡◌, ℕ, ℤ, suc, ◌+◌, ◌*◌, ◌≤◌, IsTrue, List, ◌∷◌, refl, sym, subst, arith}
 use Rattle.ep_simulation.specs.Follows.{end_of, Point, point, state_at, Facts, After, Lands, Fragment, Operands, Bare, OnTop, PlaceOnTop, StillRuns, SameRoutine, Inside}
-use Rattle.ep_simulation.specs.Matching.{Memory, at, Injection, Matches, Slots, Grown, IsSpot, IsLike}
+use Rattle.ep_simulation.specs.Matching.{MachineMemory, at, Injection, Matches, Slots, Grown, IsSpot, IsLike}
 use Rattle.ep_object.specs.Operands.{Operand, Word, Place, Text}
 use Rattle.ep_object.specs.Runs.{outcome}
 use Rattle.ep_object.specs.State.{State, Running, Stopped, Error}
@@ -24,7 +24,7 @@ use Rattle.ep_values.specs.TypeValues.{TypeValue}
 -- the first part of the code follows the first computation, and the second part, from all that may hold between, the second
 pub fragment_bind : {A B : Type 0} {declared : Declarations} {G : Image} {Here : Facts} {n : ℕ} {from : Point} {middle to : ℕ} {c : Computation A} {f : A → Computation B} {P : A → After} {Q : B → After} {d : ℕ} {e : A → ℕ} {g : B → ℕ}
     → ((a : A) → Steady (f a)) → Fragment declared G Here n from c middle P d e
-    → ((a : A) (longer : Injection) (after : Memory) (pushed : List Operand) → P a longer after pushed → StillRuns from.memory.frames after.frames × Fragment declared G Here n (point longer after middle pushed) (f a) to Q (e a) g)
+    → ((a : A) (longer : Injection) (after : MachineMemory) (pushed : List Operand) → P a longer after pushed → StillRuns from.memory.frames after.frames × Fragment declared G Here n (point longer after middle pushed) (f a) to Q (e a) g)
     → Fragment declared G Here n from (bind c f) to Q d g
 fragment_bind steady first second =
     record {
@@ -38,7 +38,7 @@ module _ {A : Type 0} {declared : Declarations} {G : Image} {Here : Facts} {c : 
   -- of what follows from where it leads, with more credit before and less after
   pub fragment_weaken : {n : ℕ} {from : Point} {to d d2 : ℕ} {P Q : A → After} {e e2 : A → ℕ} → d ≤ d2
       → ((a : A) → d + e2 a ≤ d2 + e a)
-      → ((a : A) (longer : Injection) (after : Memory) (pushed : List Operand) → P a longer after pushed → Q a longer after pushed)
+      → ((a : A) (longer : Injection) (after : MachineMemory) (pushed : List Operand) → P a longer after pushed → Q a longer after pushed)
       → Fragment declared G Here n from c to P d e → Fragment declared G Here n from c to Q d2 e2
   fragment_weaken more less post h =
       record {
@@ -47,7 +47,7 @@ module _ {A : Type 0} {declared : Declarations} {G : Image} {Here : Facts} {c : 
 
   -- of what follows from where it leads
   pub fragment_post : {n : ℕ} {from : Point} {to d : ℕ} {P Q : A → After} {e : A → ℕ}
-      → ((a : A) (longer : Injection) (after : Memory) (pushed : List Operand) → P a longer after pushed → Q a longer after pushed)
+      → ((a : A) (longer : Injection) (after : MachineMemory) (pushed : List Operand) → P a longer after pushed → Q a longer after pushed)
       → Fragment declared G Here n from c to P d e → Fragment declared G Here n from c to Q d e
   fragment_post post h = fragment_weaken (omega arith) (λ a. omega arith) post h
 
@@ -74,7 +74,7 @@ module _ {A : Type 0} {declared : Declarations} {G : Image} {Here : Facts} {c : 
   fragment_to {n = n} {from = from} {d = d} {P = P} {e = e} q h = subst (λ x. Fragment declared G Here n from c x P d e) q h
 
   -- from a place that is the same
-  pub fragment_from : {n : ℕ} {injection : Injection} {memory : Memory} {place place2 to d : ℕ} {operands : List Operand} {P : A → After} {e : A → ℕ}
+  pub fragment_from : {n : ℕ} {injection : Injection} {memory : MachineMemory} {place place2 to d : ℕ} {operands : List Operand} {P : A → After} {e : A → ℕ}
       → place2 ≡ place → Fragment declared G Here n (point injection memory place operands) c to P d e
       → Fragment declared G Here n (point injection memory place2 operands) c to P d e
   fragment_from {n = n} {injection = injection} {memory = memory} {to = to} {d = d} {operands = operands} {P = P} {e = e} q h = subst (λ x. Fragment declared G Here n (point injection memory x operands) c to P d e) (sym q) h
@@ -87,7 +87,7 @@ module _ {untouched : Slots} {B : Type 0} {declared : Declarations} {G : Image} 
   pub inside_bind : {A : Type 0} {c : Computation A} {f : A → Computation B} {First : A → Operands} {e : A → ℕ}
       → ((a : A) → Steady (f a))
       → Fragment declared G Here n from c middle (λ a. Inside untouched from.injection from.memory (First a)) d e
-      → ((a : A) (longer : Injection) (after : Memory) (pushed : List Operand) → Grown untouched from.injection from.memory longer after → SameRoutine untouched from.memory.frames after.frames → First a longer after pushed → Fragment declared G Here n (point longer after middle pushed) (f a) to (λ b. Inside untouched longer after (Then b)) (e a) g)
+      → ((a : A) (longer : Injection) (after : MachineMemory) (pushed : List Operand) → Grown untouched from.injection from.memory longer after → SameRoutine untouched from.memory.frames after.frames → First a longer after pushed → Fragment declared G Here n (point longer after middle pushed) (f a) to (λ b. Inside untouched longer after (Then b)) (e a) g)
       → Fragment declared G Here n from (bind c f) to (λ b. Inside untouched from.injection from.memory (Then b)) d g
   inside_bind steady first second =
       fragment_bind steady first (λ a longer after pushed i. (still_routine i.routine, fragment_post (λ b last final at_end j. inside_later i.grown i.routine j) (second a longer after pushed i.grown i.routine i.operands_are)))
@@ -96,7 +96,7 @@ module _ {untouched : Slots} {B : Type 0} {declared : Declarations} {G : Image} 
   pub fragment_bind_number : {host : Host} {below : List Operand} {c : Computation Result} {f : Result → Computation B} {e : Result → ℕ}
       → ((a : Result) → Steady (f a))
       → Fragment declared G Here n from c middle (λ a. Inside untouched from.injection from.memory (OnTop (kind.Ordinal host) below a)) d e
-      → ((z : ℤ) (longer : Injection) (after : Memory) → IsTrue (is_of_host host z) → Grown untouched from.injection from.memory longer after → SameRoutine untouched from.memory.frames after.frames → Fragment declared G Here n (point longer after middle (Word z ∷ below)) (f (result.Number z)) to (λ b. Inside untouched longer after (Then b)) (e (result.Number z)) g)
+      → ((z : ℤ) (longer : Injection) (after : MachineMemory) → IsTrue (is_of_host host z) → Grown untouched from.injection from.memory longer after → SameRoutine untouched from.memory.frames after.frames → Fragment declared G Here n (point longer after middle (Word z ∷ below)) (f (result.Number z)) to (λ b. Inside untouched longer after (Then b)) (e (result.Number z)) g)
       → Fragment declared G Here n from (bind c f) to (λ b. Inside untouched from.injection from.memory (Then b)) d g
   fragment_bind_number {f = f} {e = e} steady first second =
       inside_bind steady first (λ a longer after pushed grown routine top.
@@ -107,7 +107,7 @@ module _ {untouched : Slots} {B : Type 0} {declared : Declarations} {G : Image} 
   pub fragment_bind_text : {below : List Operand} {c : Computation Result} {f : Result → Computation B} {e : Result → ℕ}
       → ((a : Result) → Steady (f a))
       → Fragment declared G Here n from c middle (λ a. Inside untouched from.injection from.memory (OnTop kind.Bytes below a)) d e
-      → ((bytes : List ℕ) (longer : Injection) (after : Memory) → Grown untouched from.injection from.memory longer after → SameRoutine untouched from.memory.frames after.frames → Fragment declared G Here n (point longer after middle (Text bytes ∷ below)) (f (result.Bytes bytes)) to (λ b. Inside untouched longer after (Then b)) (e (result.Bytes bytes)) g)
+      → ((bytes : List ℕ) (longer : Injection) (after : MachineMemory) → Grown untouched from.injection from.memory longer after → SameRoutine untouched from.memory.frames after.frames → Fragment declared G Here n (point longer after middle (Text bytes ∷ below)) (f (result.Bytes bytes)) to (λ b. Inside untouched longer after (Then b)) (e (result.Bytes bytes)) g)
       → Fragment declared G Here n from (bind c f) to (λ b. Inside untouched from.injection from.memory (Then b)) d g
   fragment_bind_text {f = f} {e = e} steady first second =
       inside_bind steady first (λ a longer after pushed grown routine top.
@@ -118,7 +118,7 @@ module _ {untouched : Slots} {B : Type 0} {declared : Declarations} {G : Image} 
   pub fragment_bind_bare : {below : List Operand} {c : Computation (Unit {0})} {f : Unit {0} → Computation B} {e : Unit {0} → ℕ}
       → ((a : Unit {0}) → Steady (f a))
       → Fragment declared G Here n from c middle (λ a. Inside untouched from.injection from.memory (Bare below a)) d e
-      → ((a : Unit {0}) (longer : Injection) (after : Memory) → Grown untouched from.injection from.memory longer after → SameRoutine untouched from.memory.frames after.frames → Fragment declared G Here n (point longer after middle below) (f a) to (λ b. Inside untouched longer after (Then b)) (e a) g)
+      → ((a : Unit {0}) (longer : Injection) (after : MachineMemory) → Grown untouched from.injection from.memory longer after → SameRoutine untouched from.memory.frames after.frames → Fragment declared G Here n (point longer after middle below) (f a) to (λ b. Inside untouched longer after (Then b)) (e a) g)
       → Fragment declared G Here n from (bind c f) to (λ b. Inside untouched from.injection from.memory (Then b)) d g
   fragment_bind_bare {f = f} {e = e} steady first second =
       inside_bind steady first (λ a longer after pushed grown routine is. subst (λ x. Fragment declared G Here n (point longer after middle x) (f a) to (λ b. Inside untouched longer after (Then b)) (e a) g) (sym is) (second a longer after grown routine))
@@ -127,7 +127,7 @@ module _ {untouched : Slots} {B : Type 0} {declared : Declarations} {G : Image} 
   pub fragment_bind_place : {type : TypeValue} {below : List Operand} {c : Computation Component} {f : Component → Computation B} {e : Component → ℕ}
       → ((a : Component) → Steady (f a))
       → Fragment declared G Here n from c middle (λ a. Inside untouched from.injection from.memory (PlaceOnTop type below a)) d e
-      → ((a : Component) (p : PlaceOf) (longer : Injection) (after : Memory) → Grown untouched from.injection from.memory longer after → SameRoutine untouched from.memory.frames after.frames → IsSpot longer after.types a p → IsLike after.types p.type_number type → Fragment declared G Here n (point longer after middle (Place p ∷ below)) (f a) to (λ b. Inside untouched longer after (Then b)) (e a) g)
+      → ((a : Component) (p : PlaceOf) (longer : Injection) (after : MachineMemory) → Grown untouched from.injection from.memory longer after → SameRoutine untouched from.memory.frames after.frames → IsSpot longer after.types a p → IsLike after.types p.type_number type → Fragment declared G Here n (point longer after middle (Place p ∷ below)) (f a) to (λ b. Inside untouched longer after (Then b)) (e a) g)
       → Fragment declared G Here n from (bind c f) to (λ b. Inside untouched from.injection from.memory (Then b)) d g
   fragment_bind_place {f = f} {e = e} steady first second =
       inside_bind steady first (λ a longer after pushed grown routine top. subst (λ x. Fragment declared G Here n (point longer after middle x) (f a) to (λ b. Inside untouched longer after (Then b)) (e a) g) (sym top.is) (second a top.place longer after grown routine top.spot top.described))
@@ -138,7 +138,7 @@ module _ {untouched : Slots} {B : Type 0} {declared : Declarations} {G : Image} 
 pub record Does (declared : Declarations) (G : Image) (Here : Facts) (k : State) (weight to : ℕ) (Post : After)
     (s : meaning.State) : Type 0 where
   pub injection : Injection
-  pub memory : Memory
+  pub memory : MachineMemory
   pub operands : List Operand
   pub does : outcome G k ≡ record { weight = weight; to = Running 0 (at to operands memory s.trace) }
   pub matches : Matches declared G injection s memory
@@ -167,7 +167,7 @@ module _ {A : Type 0} {declared : Declarations} {G : Image} {Here : Facts} {c : 
       record { by = λ s matches here. follows_credit {d = suc weight + d1} {e = e} le (λ a. omega arith) (follows_waits (not_left-here from.memory.frames) (does s matches) (h.by s matches here)) }
 
   -- an instruction without a step, after which the machine matches the same state of the meaning in another memory
-  pub fragment_goes : {n : ℕ} {from : Point} {place1 d d1 weight : ℕ} {operands1 : List Operand} {memory1 : Memory}
+  pub fragment_goes : {n : ℕ} {from : Point} {place1 d d1 weight : ℕ} {operands1 : List Operand} {memory1 : MachineMemory}
       → ((s : meaning.State) → Matches declared G from.injection s from.memory → Here from.injection s from.memory → (outcome G (state_at from s.trace) ≡ record { weight = weight; to = Running 0 (at place1 operands1 memory1 s.trace) }) × Matches declared G from.injection s memory1 × Here from.injection s memory1)
       → StillRuns from.memory.frames memory1.frames → suc weight + d1 ≤ d
       → Fragment declared G Here n (point from.injection memory1 place1 operands1) c to P d1 e

@@ -3,7 +3,7 @@ use Rattle.std.proofs.Common.{◌≡◌, ℕ, suc, ◌+◌, ◌≤◌, ◌<◌, 
 use Rattle.ep_simulation.specs.Activations.{IsCallable}
 use Rattle.ep_simulation.specs.Follows.{end_of, Facts, HasGrown, Since, Lasts, Fragment, After, Lands, Reaches, EndsToo, RunsOn, GivesUp, IsNotLeft, SameRoutine, Inside, Operands, TypeOnTop, point, state_at}
 use Rattle.ep_object.specs.Laws.{IsRunning}
-use Rattle.ep_simulation.specs.Matching.{Memory, Injection, Slots, AreAmong, Grown, kept_slots}
+use Rattle.ep_simulation.specs.Matching.{MachineMemory, Injection, Slots, AreAmong, Grown, kept_slots}
 use Rattle.ep_object.specs.Operands.{Operand}
 use Rattle.ep_simulation.specs.Promises.{Passing, AreArguments, ResultsOnTop, Called, CallsAt, Promises, ComesBackAfter, CallComesTo, CallsAnswer, credit_of}
 use Rattle.ep_object.specs.Runs.{run, trace_of, unit_in}
@@ -28,7 +28,7 @@ use Rattle.ep_typed.specs.declared.unit.UnitType.{UnitType}
 -- ---- what the caller follows
 
 -- What is followed with the fact that memory has grown since is followed with any facts that last.
-pub fragment_since : {A : Type 0} {declared : Declarations} {G : Image} {untouched : Slots} {Here : Facts} {n : ℕ} {injection : Injection} {memory : Memory} {place to d : ℕ} {operands : List Operand} {c : Computation A} {P : A → After} {e : A → ℕ}
+pub fragment_since : {A : Type 0} {declared : Declarations} {G : Image} {untouched : Slots} {Here : Facts} {n : ℕ} {injection : Injection} {memory : MachineMemory} {place to d : ℕ} {operands : List Operand} {c : Computation A} {P : A → After} {e : A → ℕ}
     → Lasts untouched Here
     → ((s : meaning.State) → Here injection s memory → Fragment declared G (Since untouched injection s memory) n (point injection memory place operands) c to P d e)
     → Fragment declared G Here n (point injection memory place operands) c to P d e
@@ -40,7 +40,7 @@ fragment_since {declared = declared} {G = G} {Here = Here} {injection = injectio
     }
 
 -- Where fewer slots are named, memory has grown with these untouched.
-pub grown_fewer : {untouched fewer : Slots} {injection longer : Injection} {memory after : Memory} → AreAmong fewer untouched
+pub grown_fewer : {untouched fewer : Slots} {injection longer : Injection} {memory after : MachineMemory} → AreAmong fewer untouched
     → Grown untouched injection memory longer after → Grown fewer injection memory longer after
 grown_fewer among g =
     record { larger = g.larger; types = g.types; segments = g.segments; hidden = g.hidden; others = g.others; allocated = g.allocated; slots = λ unit k h. g.slots unit k (among.of_units unit k h); typed = g.typed; ended = g.ended }
@@ -60,7 +60,7 @@ lasts_more among lasts = record { by = λ injection longer s t memory after g he
 pub lasts_own : {untouched : Slots} {Here : Facts} (own : ℕ → Bool) → Lasts untouched Here → Lasts (record untouched { own = own }) Here
 lasts_own {untouched = untouched} own lasts = record { by = λ injection longer s t memory after g held. lasts.by injection longer s t memory after (of g) held }
   where
-    of : {injection longer : Injection} {s t : meaning.State} {memory after : Memory} → HasGrown (record untouched { own = own }) injection s memory longer t after → HasGrown untouched injection s memory longer t after
+    of : {injection longer : Injection} {s t : meaning.State} {memory after : MachineMemory} → HasGrown (record untouched { own = own }) injection s memory longer t after → HasGrown untouched injection s memory longer t after
     of h =
         let g = h.grown in
         let r = h.routine in
@@ -77,7 +77,7 @@ pub call_follows : {declared : Declarations} {G : Image} {untouched : Slots} {He
     → Lasts untouched Here
     → AreAmong untouched (kept_slots declared G)
     → (place levels line : ℕ) → CallsAt G place routine levels line
-    → (injection : Injection) (memory : Memory)
+    → (injection : Injection) (memory : MachineMemory)
     → ((s : meaning.State) → Here injection s memory → IsCallable types levels around injection s.calls memory)
     → (below operands : List Operand) (arguments : List Argument)
     → AreArguments injection memory formals arguments below operands
@@ -90,7 +90,7 @@ call_follows promise lasts among place levels line calls injection memory callab
 pub type_follows : {declared : Declarations} {G : Image} {untouched : Slots} {Here : Facts} {n d : ℕ} {c : Computation TypeValue} {t : TypeValue} {e : TypeValue → ℕ}
     → Lasts untouched Here
     → AreAmong untouched (kept_slots declared G)
-    → (place : ℕ) (injection : Injection) (memory : Memory) (below : List Operand)
+    → (place : ℕ) (injection : Injection) (memory : MachineMemory) (below : List Operand)
     → ((s : meaning.State) → Fragment declared G (Since (kept_slots declared G) injection s memory) n (point injection memory place below) c (place + 1) (λ a. Inside (kept_slots declared G) injection memory (TypeOnTop t below a)) d e)
     → Fragment declared G Here n (point injection memory place below) c (place + 1) (λ a. Inside untouched injection memory (TypeOnTop t below a)) d e
 type_follows lasts among place injection memory below follows =
@@ -99,7 +99,7 @@ type_follows lasts among place injection memory below follows =
 
 -- ---- what runs from a call do
 
-module _ (declared : Declarations) (G : Image) (injection : Injection) (s : meaning.State) (memory : Memory) (place to : ℕ) (operands : List Operand) (Then : List Result → Operands) where
+module _ (declared : Declarations) (G : Image) (injection : Injection) (s : meaning.State) (memory : MachineMemory) (place to : ℕ) (operands : List Operand) (Then : List Result → Operands) where
   abbrev from_call : State
   from_call = state_at (point injection memory place operands) s.trace
 

@@ -3,7 +3,7 @@ use Rattle.std.proofs.Common.{◌≡◌, ℕ, ℤ, pos, suc, ◌+◌, ◌-◌, �
 use Rattle.std.proofs.lemmas.Bool.Decides.{nat_tests}
 use Rattle.ep_object.specs.Calls.{top_of}
 use Rattle.ep_simulation.specs.Follows.{Follows, IsNotLeft}
-use Rattle.ep_simulation.specs.Matching.{Memory, at}
+use Rattle.ep_simulation.specs.Matching.{MachineMemory, at}
 use Rattle.ep_object.specs.Operands.{Operand, Word}
 use Rattle.ep_object.specs.Operands as operand
 use Rattle.ep_simulation.specs.Promises.{CallsAt, IsRange, ranging_code}
@@ -25,7 +25,7 @@ use Rattle.ep_meaning.specs.Steps as meaning
 abbrev pub range_ticks : ℕ
 range_ticks = 11
 
-module _ (G : Image) (routine : ℕ) (range : IsRange G routine) (place line : ℕ) (calls : CallsAt G place routine 0 line) (p : PlaceOf) (low high : ℤ) (below : List Operand) (memory : Memory) (trace : Trace) where
+module _ (G : Image) (routine : ℕ) (range : IsRange G routine) (place line : ℕ) (calls : CallsAt G place routine 0 line) (p : PlaceOf) (low high : ℤ) (below : List Operand) (memory : MachineMemory) (trace : Trace) where
   -- what it takes, and what it leaves
   abbrev pub range_given : List Operand
   range_given = Word high ∷ Word low ∷ operand.Place p ∷ below
@@ -45,11 +45,11 @@ module _ (G : Image) (routine : ℕ) (range : IsRange G routine) (place line : �
   abbrev indexes_left : List (Option Operand)
   indexes_left = Some (Word high) ∷ Some (Word low) ∷ None ∷ []
 
-  abbrev inside : List (Option Operand) → List (Option PlaceOf) → Memory
+  abbrev inside : List (Option Operand) → List (Option PlaceOf) → MachineMemory
   inside left slots = within G routine 3 1 (λ entry. ranging_code) range place line calls arguments range_given below taken memory trace left slots
 
   -- behind the instruction that puts the place into the slot
-  abbrev bound : Memory
+  abbrev bound : MachineMemory
   bound = inside indexes_left (Some p ∷ [])
 
   abbrev e : ℕ

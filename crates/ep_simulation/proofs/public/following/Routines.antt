@@ -9,7 +9,7 @@ use Rattle.ep_object.specs.Calls.{parent_by, top_of, call_limit, new_frame, call
 use Rattle.ep_object.specs.Frames.{level_slots}
 use Rattle.ep_object.specs.Effects.{Jumps, Fails}
 use Rattle.ep_simulation.specs.Follows.{Since, HasGrown, Follows, Fragment, Lands, Inside, IsStillCall, StillRuns, SameRoutine, IsNotLeft, Operands, TypeOnTop, point}
-use Rattle.ep_simulation.specs.Matching.{Memory, Injection, Matches, Slots, every_slot, Grown, at, own_slot, Describes}
+use Rattle.ep_simulation.specs.Matching.{MachineMemory, Injection, Matches, Slots, every_slot, Grown, at, own_slot, Describes}
 use Rattle.ep_object.specs.Operands.{Operand}
 use Rattle.ep_simulation.specs.Promises.{CallsAt, ResultsOnTop, credit_of, type_credit}
 use Rattle.ep_object.specs.Routines.{routine_of}
@@ -69,10 +69,10 @@ not_left-called before f c h = go h.own h.is h.runs
 -- ---- the instruction that leaves the routine
 
 -- memory once the innermost call is left, in which these segments were made
-abbrev pub left_memory : List ℕ → List Frame → Memory → Memory
+abbrev pub left_memory : List ℕ → List Frame → MachineMemory → MachineMemory
 left_memory made below memory = record (without made memory) { frames = record memory.frames { calls = below } }
 
-pub leaves : (G : Image) (ret : ℕ) (i : Instr) (st : List Operand) (memory : Memory) (trace : Trace) (frame : Frame) (below : List Frame)
+pub leaves : (G : Image) (ret : ℕ) (i : Instr) (st : List Operand) (memory : MachineMemory) (trace : Trace) (frame : Frame) (below : List Frame)
     → slice_get G.instructions ret ≡ Some i → op_of i.op ≡ Some table.Return → i.a ≡ pos 0 → i.b ≡ 0
     → memory.frames.calls ≡ frame ∷ below
     → outcome G (at ret st memory trace) ≡ record { weight = 0; to = Running 0 (at frame.back st (left_memory frame.made below memory) trace) }
@@ -80,7 +80,7 @@ leaves G ret i st memory trace frame below has is a b frames =
     ap (λ o. outcome_of G o (at ret st memory trace)) has ∙ rw (is, a, b, frames) refl
 
 -- results lie on the operands in whatever memory has the same types
-results_anywhere : (injection : Injection) (memory later : Memory) → later.types ≡ memory.types → (operands : List Operand) (ks : List Kind) (below : List Operand) (rs : List Result)
+results_anywhere : (injection : Injection) (memory later : MachineMemory) → later.types ≡ memory.types → (operands : List Operand) (ks : List Kind) (below : List Operand) (rs : List Result)
     → ResultsOnTop ks below rs injection memory operands → ResultsOnTop ks below rs injection later operands
 results_anywhere injection memory later same operands [] below [] h = h
 results_anywhere injection memory later same operands [] below (r ∷ rs) h = absurd h
@@ -114,7 +114,7 @@ module _ (declared : Declarations) (G : Image) (routine : ℕ) (r : ImageRoutine
   its_frame parent place = new_frame routine r parent (place + 1) top
 
   -- memory when the routine begins
-  abbrev pub begun_memory : FrameNumber → ℕ → Memory → Memory
+  abbrev pub begun_memory : FrameNumber → ℕ → MachineMemory → MachineMemory
   begun_memory parent place memory = record memory { frames = record memory.frames { calls = its_frame parent place ∷ memory.frames.calls } }
 
   -- the operands of the arguments are taken from those below
@@ -123,7 +123,7 @@ module _ (declared : Declarations) (G : Image) (routine : ℕ) (r : ImageRoutine
       let enough : leb (length top) (length (top ++ below)) ≡ true = grind (arith, nat_tests, length-append top below) in
       ap (λ n. top_of n (top ++ below)) (sym taken) ∙ (rw enough refl ∙ (ap (λ l. Some (l, drop (length top) (top ++ below))) (take-append_seam top below) ∙ ap (λ l. Some (top, l)) (drop-append_seam top below)))
 
-  called_at : (place levels line : ℕ) (parent : FrameNumber) (below : List Operand) (memory : Memory) (trace : Trace) → (calls : CallsAt G place routine levels line)
+  called_at : (place levels line : ℕ) (parent : FrameNumber) (below : List Operand) (memory : MachineMemory) (trace : Trace) → (calls : CallsAt G place routine levels line)
       → parent_by memory.frames r levels ≡ Some parent
       → outcome G (at place (top ++ below) memory trace)
       ≡ record { weight = weight; to = after G calls.instruction (at place (top ++ below) memory trace) (cond (ltb (length memory.frames.calls) call_limit) (Jumps r.entry (called routine r parent top below (at place (top ++ below) memory trace))) (Fails run_error.CALL_DEPTH)) }
@@ -133,21 +133,21 @@ module _ (declared : Declarations) (G : Image) (routine : ℕ) (r : ImageRoutine
       ∙ rw (calls.is_call, calls.names, calls.parent, fits, there, is, top_taken below, weighs) refl
 
   -- memory has not grown by it
-  pub grown_begun : {untouched : Slots} (parent : FrameNumber) (place : ℕ) (injection : Injection) (memory : Memory)
+  pub grown_begun : {untouched : Slots} (parent : FrameNumber) (place : ℕ) (injection : Injection) (memory : MachineMemory)
       → Grown untouched injection memory injection (begun_memory parent place memory)
   grown_begun {untouched = untouched} parent place injection memory =
       let g = grown_refl {untouched = untouched} injection memory in
       record { larger = g.larger; types = g.types; segments = g.segments; hidden = g.hidden; others = g.others; allocated = g.allocated; slots = g.slots; typed = g.typed; ended = g.ended }
 
   -- the call is under way on both sides
-  matches_begun : {injection : Injection} {s : meaning.State} {memory : Memory} (parent : FrameNumber) (place words levels : ℕ) (x : Call)
+  matches_begun : {injection : Injection} {s : meaning.State} {memory : MachineMemory} (parent : FrameNumber) (place words levels : ℕ) (x : Call)
       → Matches declared G injection s memory → Matches declared G injection (entered words levels x s) (begun_memory parent place memory)
   matches_begun parent place words levels x h =
       let m = matches_entered words levels x h in
       record { injected = m.injected; store = m.store; types = m.types; units = m.units; outside = m.outside; counts = m.counts; depth = omega (arith, h.depth) }
 
   -- the machine enters the routine, or ends where as many calls are under way as may be
-  enters : (words place levels line : ℕ) (parent : FrameNumber) (below : List Operand) (memory : Memory) (injection : Injection) (s : meaning.State) (x : Call)
+  enters : (words place levels line : ℕ) (parent : FrameNumber) (below : List Operand) (memory : MachineMemory) (injection : Injection) (s : meaning.State) (x : Call)
       → CallsAt G place routine levels line → parent_by memory.frames r levels ≡ Some parent → Matches declared G injection s memory
       → (outcome G (at place (top ++ below) memory s.trace) ≡ record { weight = weight; to = Running 0 (at r.entry below (begun_memory parent place memory) s.trace) })
       ⊎ EndsForWant G (at place (top ++ below) memory s.trace) weight (entered words levels x s)
@@ -164,7 +164,7 @@ module _ (declared : Declarations) (G : Image) (routine : ℕ) (r : ImageRoutine
           inr (record { lost = lost_calls (suc (length s.calls)) (set_aside words s.resources) (omega (arith, full, h.depth)); number = run_error.CALL_DEPTH; is_limit = inr refl; unit = unit_in G memory.frames; line = calls.instruction.line; trace = s.trace; ends = stops; begins = is_prefix s.trace })
 
   -- the parent that a call finds in the activation that makes it
-  pub parent_of_call : (types : List UnitType) (levels : ℕ) (around : List Level) (injection : Injection) (calls : List Call) (memory : Memory)
+  pub parent_of_call : (types : List UnitType) (levels : ℕ) (around : List Level) (injection : Injection) (calls : List Call) (memory : MachineMemory)
       → IsCallable types levels around injection calls memory → (p : FrameNumber) × (parent_by memory.frames r levels ≡ Some p)
   parent_of_call types zero around injection calls memory h = (number.Unit r.unit, refl)
   parent_of_call types (suc up) around injection calls memory (some, h) =
@@ -173,7 +173,7 @@ module _ (declared : Declarations) (G : Image) (routine : ℕ) (r : ImageRoutine
       parent_there memory.frames r up l.slots (subst (λ n. level_slots memory.frames.calls n ≡ Some l.slots) {x = up + 0} {y = up} (omega arith) l.are)
 
   -- what it then has around it
-  around_begun : (words : ℕ) (types : List UnitType) (levels : ℕ) (around : List Level) (injection : Injection) (s : meaning.State) (memory : Memory) (x : Call) (place : ℕ) (parent : FrameNumber)
+  around_begun : (words : ℕ) (types : List UnitType) (levels : ℕ) (around : List Level) (injection : Injection) (s : meaning.State) (memory : MachineMemory) (x : Call) (place : ℕ) (parent : FrameNumber)
       → parent_by memory.frames r levels ≡ Some parent → IsCallable types levels around injection s.calls memory
       → (n : ℕ) (level : Level) → slice_get around n ≡ Some level → LevelMatches types level injection (entered words levels x s).calls (begun_memory parent place memory) (suc n)
   around_begun words types zero around injection s memory x place parent is h n level at = absurd (let none : slice_get {X = Level} [] n ≡ Some level = ap (λ l. slice_get l n) (sym h) ∙ at in cc)
@@ -191,7 +191,7 @@ module _ (declared : Declarations) (G : Image) (routine : ℕ) (r : ImageRoutine
       }
 
   -- What the routine knows when it begins: nothing is made yet.
-  begins : {untouched : Slots} (words : ℕ) (within : Declarations) → length (variables_up within 0) ≤ r.slots → (place levels : ℕ) (parent : FrameNumber) (injection : Injection) (s : meaning.State) (memory : Memory) (name from : List ℕ) (line : ℕ)
+  begins : {untouched : Slots} (words : ℕ) (within : Declarations) → length (variables_up within 0) ≤ r.slots → (place levels : ℕ) (parent : FrameNumber) (injection : Injection) (s : meaning.State) (memory : MachineMemory) (name from : List ℕ) (line : ℕ)
       → MatchesAround within injection (entered words levels (activation name from line) s) (begun_memory parent place memory)
       → InActivation within untouched injection (begun_memory parent place memory) injection (entered words levels (activation name from line) s) (begun_memory parent place memory)
   begins words within enough place levels parent injection s memory name from line around =
@@ -213,9 +213,9 @@ module _ (declared : Declarations) (G : Image) (routine : ℕ) (r : ImageRoutine
 
   module _ (ret : ℕ) (i : Instr) (stands : slice_get G.instructions ret ≡ Some i) (returns : op_of i.op ≡ Some table.Return) (a_is : i.a ≡ pos 0) (b_is : i.b ≡ 0) where
     -- what the instruction that leaves the routine leads to, which leaves the operands as they are
-    record GoesBack (untouched : Slots) (injection : Injection) (s t : meaning.State) (memory : Memory) (place : ℕ)
-        (operands : List Operand) (longer : Injection) (after : Memory) : Type 0 where
-      later : Memory
+    record GoesBack (untouched : Slots) (injection : Injection) (s t : meaning.State) (memory : MachineMemory) (place : ℕ)
+        (operands : List Operand) (longer : Injection) (after : MachineMemory) : Type 0 where
+      later : MachineMemory
       types : later.types ≡ after.types
       does : outcome G (at ret operands after t.trace) ≡ record { weight = 0; to = Running 0 (at (place + 1) operands later t.trace) }
       grown : Grown untouched injection memory longer later
@@ -224,7 +224,7 @@ module _ (declared : Declarations) (G : Image) (routine : ℕ) (r : ImageRoutine
       matches : Matches declared G longer (left_from s t) later
 
     -- what was made in the call ends on both sides, and the caller goes on
-    goes_back : {untouched : Slots} {injection longer : Injection} {s t : meaning.State} {memory after : Memory} (within : Declarations) (parent : FrameNumber) (place : ℕ) (operands : List Operand)
+    goes_back : {untouched : Slots} {injection longer : Injection} {s t : meaning.State} {memory after : MachineMemory} (within : Declarations) (parent : FrameNumber) (place : ℕ) (operands : List Operand)
         → Matches declared G injection s memory → Matches declared G longer t after
         → InActivation within untouched injection (begun_memory parent place memory) longer t after
         → GoesBack untouched injection s t memory place operands longer after
@@ -232,7 +232,7 @@ module _ (declared : Declarations) (G : Image) (routine : ℕ) (r : ImageRoutine
         let frame = known.frame in
         let runs = known.runs in
         let still : IsStillCall (its_frame parent place ∷ memory.frames.calls) (frame ∷ known.below) = subst (λ cs. IsStillCall (its_frame parent place ∷ memory.frames.calls) cs) known.frames runs.calls in
-        let later : Memory = left_memory frame.made memory.frames.calls after in
+        let later : MachineMemory = left_memory frame.made memory.frames.calls after in
         let ends = ends_both (known.call).made frame.made t after known.made h in
         let m = ends.matches in
         let gone = grown_trans known.grown (ends.grown untouched) in
@@ -256,10 +256,10 @@ module _ (declared : Declarations) (G : Image) (routine : ℕ) (r : ImageRoutine
     pub routine_gives : {A : Type 0} (words : ℕ) (within : Declarations) → length (variables_up within 0) ≤ r.slots
         → (around : List Level) → ((n : ℕ) → slice_get within.levels (suc n) ≡ slice_get around n)
         → (n : ℕ) (place levels line : ℕ) → CallsAt G place routine levels line
-        → (parent : FrameNumber) (injection : Injection) (began : meaning.State) (memory : Memory) (below : List Operand)
+        → (parent : FrameNumber) (injection : Injection) (began : meaning.State) (memory : MachineMemory) (below : List Operand)
         → parent_by memory.frames r levels ≡ Some parent → IsCallable within.routine_types levels around injection began.calls memory
         → (name from : List ℕ) (body : Computation A) → Steady body → (untouched : Slots) (Then : A → Operands) (credit : A → ℕ)
-        → ((a : A) (longer : Injection) (after later : Memory) (operands : List Operand) → later.types ≡ after.types → Then a longer after operands → Then a longer later operands)
+        → ((a : A) (longer : Injection) (after later : MachineMemory) (operands : List Operand) → later.types ≡ after.types → Then a longer after operands → Then a longer later operands)
         → Fragment declared G (InActivation within untouched injection (begun_memory parent place memory)) n (point injection (begun_memory parent place memory) r.entry below) body ret Then 63 (λ a. 1 + credit a)
         → Fragment declared G (Since untouched injection began memory) (suc n) (point injection memory place (top ++ below)) (in_call words levels (activation name from line) (spend (suc weight) body)) (place + 1) (λ a. Inside untouched injection memory (Then a)) 0 credit
     routine_gives {A = A} words within enough around levels_are n place levels line calls parent injection began memory below parent_is callable name from body steady untouched Then credit anywhere inner =
@@ -320,7 +320,7 @@ module _ (declared : Declarations) (G : Image) (routine : ℕ) (r : ImageRoutine
     pub routine_keeps : (within : Declarations) → length (variables_up within 0) ≤ r.slots
         → (around : List Level) → ((n : ℕ) → slice_get within.levels (suc n) ≡ slice_get around n)
         → (n : ℕ) (place levels line : ℕ) → CallsAt G place routine levels line
-        → (parent : FrameNumber) (injection : Injection) (began : meaning.State) (memory : Memory) (below : List Operand)
+        → (parent : FrameNumber) (injection : Injection) (began : meaning.State) (memory : MachineMemory) (below : List Operand)
         → parent_by memory.frames r levels ≡ Some parent → IsCallable within.routine_types levels around injection began.calls memory
         → (name from : List ℕ) (results : List Kind) (body : Computation (List Result)) → Steady body → (untouched : Slots)
         → Fragment declared G (InActivation within untouched injection (begun_memory parent place memory)) n (point injection (begun_memory parent place memory) r.entry below) body ret (λ rs. ResultsOnTop results below rs) 63 (λ rs. 1 + credit_of rs)
@@ -333,7 +333,7 @@ module _ (declared : Declarations) (G : Image) (routine : ℕ) (r : ImageRoutine
     pub type_keeps : (within : Declarations) → length (variables_up within 0) ≤ r.slots
         → ((n : ℕ) → slice_get {X = Level} within.levels (suc n) ≡ slice_get {X = Level} [] n)
         → (n : ℕ) (place line : ℕ) → CallsAt G place routine 0 line
-        → (injection : Injection) (began : meaning.State) (memory : Memory) (below : List Operand)
+        → (injection : Injection) (began : meaning.State) (memory : MachineMemory) (below : List Operand)
         → (name from : List ℕ) (t : TypeValue) (body : Computation TypeValue) → Steady body → (untouched : Slots)
         → Fragment declared G (InActivation within untouched injection (begun_memory (number.Unit r.unit) place memory)) n (point injection (begun_memory (number.Unit r.unit) place memory) r.entry below) body ret (λ a. TypeOnTop t below a) 63 (λ a. 1 + type_credit)
         → Fragment declared G (Since untouched injection began memory) (suc n) (point injection memory place (top ++ below)) (in_call 0 0 (activation name from line) (spend (suc weight) body)) (place + 1) (λ a. Inside untouched injection memory (TypeOnTop t below a)) 0 (λ a. type_credit)

@@ -8,7 +8,7 @@ use Rattle.ep_meaning.specs.Valid.{Declarations}
 use Rattle.ep_object.specs.Effects.{Work}
 use Rattle.ep_simulation.specs.Follows.{end_of, Reaches, EndsToo, RunsOn, Follows, Operands, IsNotLeft, Bare}
 use Rattle.ep_object.specs.Laws.{IsRunning}
-use Rattle.ep_simulation.specs.Matching.{at, Memory, Injection}
+use Rattle.ep_simulation.specs.Matching.{at, MachineMemory, Injection}
 use Rattle.ep_object.specs.Operands.{Operand}
 use Rattle.ep_object.specs.Routines.{routine_of}
 use Rattle.ep_object.specs.Runs.{Activation, activation, entering, entering_next, run, run_from, trace_of, outcome, outcome_of, after, enter}
@@ -40,7 +40,7 @@ module _ (G : Image) (k : State) where
             begins = prefix_then (events_between G k t u (Running v s) (Running wait last) le h runs) begins;
           }
 
-module _ {A : Type 0} {declared : Declarations} {G : Image} {unit routine n : ℕ} {c : Computation A} {Results : List Operand → A → Operands} (sim : Simulates declared G unit routine n c Results) (injection : Injection) (memory : Memory) (below : List Operand) (s : meaning.State) (k : State) (enters : Enters declared G unit routine injection memory below s k) where
+module _ {A : Type 0} {declared : Declarations} {G : Image} {unit routine n : ℕ} {c : Computation A} {Results : List Operand → A → Operands} (sim : Simulates declared G unit routine n c Results) (injection : Injection) (memory : MachineMemory) (below : List Operand) (s : meaning.State) (k : State) (enters : Enters declared G unit routine injection memory below s k) where
   -- in the routine that is entered
   abbrev In : State → Type 0
   In l = IsNotLeft memory.frames l.frames
@@ -181,7 +181,7 @@ module _ {A : Type 0} {declared : Declarations} {G : Image} {unit routine n : �
   simulation_passes {Wider = Wider} {Post = Post} wider then = record { by = λ m le. subst (λ (d : Computation A). Met Wider G k m Post (1 + routine_credit) (λ a. 64 + routine_credit) (d m s)) (sym sim.called) (passes wider then m le) }
 
 -- what the instruction that leaves a routine leads to
-pub leaves_enters : {declared : Declarations} {G : Image} {injection : Injection} {begun : meaning.State} {memory : Memory} {Then : Operands} {s : meaning.State} {k : State}
+pub leaves_enters : {declared : Declarations} {G : Image} {injection : Injection} {begun : meaning.State} {memory : MachineMemory} {Then : Operands} {s : meaning.State} {k : State}
     → Leaves declared G injection begun memory Then s k
     → outcome G k ≡ record { weight = 0; to = enter G (k.frames.turn + 1) k }
 leaves_enters {G = G} {k = k} leaves =
@@ -195,17 +195,17 @@ next_frames turn x frames = record frames { turn = turn; routine = x.routine; un
 
 -- The instruction that leaves a start or a stop, which began without calls, leads to the entry of the next one, and the
 -- machine matches there: nothing of the match reads which of them runs.
-pub enters_next : {declared : Declarations} {G : Image} {injection : Injection} {begun : meaning.State} {memory : Memory} {below : List Operand} {s : meaning.State} {k : State}
+pub enters_next : {declared : Declarations} {G : Image} {injection : Injection} {begun : meaning.State} {memory : MachineMemory} {below : List Operand} {s : meaning.State} {k : State}
     → memory.frames.calls ≡ []
     → (leaves : Leaves declared G injection begun memory (Bare below tt) s k) (x : Activation) (r : ImageRoutine)
     → activation G (k.frames.turn + 1) ≡ Some x → routine_of G x.routine ≡ Some r
-    → (longer : Injection) × ((after : Memory) × ((next : State) × (outcome G k ≡ record { weight = 0; to = Running 0 next }) × Enters declared G x.unit x.routine longer after below s next))
+    → (longer : Injection) × ((after : MachineMemory) × ((next : State) × (outcome G k ≡ record { weight = 0; to = Running 0 next }) × Enters declared G x.unit x.routine longer after below s next))
 enters_next {G = G} {memory = memory} {below = below} {s = s} {k = k} alone leaves x r is_next there =
     let lands = leaves.lands in
     let inside = lands.post in
     let frames : Frames = next_frames (k.frames.turn + 1) x k.frames in
     let next : State = record k { place = r.entry; frames = frames } in
-    let after : Memory = record lands.memory { frames = next_frames (k.frames.turn + 1) x lands.memory.frames } in
+    let after : MachineMemory = record lands.memory { frames = next_frames (k.frames.turn + 1) x lands.memory.frames } in
     let enters : enter G (k.frames.turn + 1) k ≡ Running 0 next = ap (λ o. entering_next G (k.frames.turn + 1) o k) is_next ∙ ap (λ o. entering (k.frames.turn + 1) x o k) there in (
       lands.injection,
       (

@@ -4,7 +4,7 @@ use Rattle.std.proofs.lemmas.Bool.Decides.{nat_tests}
 use Rattle.std.specs.Prelude.{int_le}
 use Rattle.ep_object.specs.Calls.{top_of}
 use Rattle.ep_simulation.specs.Follows.{Follows, IsNotLeft}
-use Rattle.ep_simulation.specs.Matching.{Memory, at}
+use Rattle.ep_simulation.specs.Matching.{MachineMemory, at}
 use Rattle.ep_object.specs.Operands.{Operand, Word, weight}
 use Rattle.ep_object.specs.Operands as operand
 use Rattle.ep_simulation.specs.Promises.{CallsAt, IsSpread, spreading_code}
@@ -27,7 +27,7 @@ use Rattle.ep_meaning.specs.Steps as meaning
 abbrev pub spread_ticks : ℕ → ℕ
 spread_ticks w = 16 + 4 * w
 
-module _ (G : Image) (routine : ℕ) (spread : IsSpread G routine) (place line : ℕ) (calls : CallsAt G place routine 0 line) (low high : ℤ) (p : PlaceOf) (o : Operand) (below : List Operand) (memory : Memory) (trace : Trace) where
+module _ (G : Image) (routine : ℕ) (spread : IsSpread G routine) (place line : ℕ) (calls : CallsAt G place routine 0 line) (low high : ℤ) (p : PlaceOf) (o : Operand) (below : List Operand) (memory : MachineMemory) (trace : Trace) where
   -- what it takes, and what it leaves
   abbrev pub spread_given : List Operand
   spread_given = o ∷ o ∷ operand.Place p ∷ Word high ∷ Word low ∷ below
@@ -45,17 +45,17 @@ module _ (G : Image) (routine : ℕ) (spread : IsSpread G routine) (place line :
   abbrev left_by : Option Operand → Option Operand → Option Operand → List (Option Operand)
   left_by upper lower array = upper ∷ lower ∷ array ∷ Some (Word high) ∷ Some (Word low) ∷ []
 
-  abbrev inside : List (Option Operand) → List (Option PlaceOf) → Memory
+  abbrev inside : List (Option Operand) → List (Option PlaceOf) → MachineMemory
   inside left slots = within G routine 5 1 (λ entry. spreading_code) spread place line calls arguments spread_given below taken memory trace left slots
 
   -- behind the instruction that puts the place into the slot; where the lower value is taken, and where both are
-  abbrev bound : Memory
+  abbrev bound : MachineMemory
   bound = inside (left_by (Some o) (Some o) None) (Some p ∷ [])
 
-  abbrev one_taken : Memory
+  abbrev one_taken : MachineMemory
   one_taken = inside (left_by (Some o) None None) (Some p ∷ [])
 
-  abbrev both_taken : Memory
+  abbrev both_taken : MachineMemory
   both_taken = inside (left_by None None None) (Some p ∷ [])
 
   abbrev e : ℕ

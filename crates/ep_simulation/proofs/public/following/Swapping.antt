@@ -3,7 +3,7 @@ use Rattle.std.proofs.Common.{◌≡◌, ℕ, pos, suc, ◌+◌, ◌-◌, ◌*�
 use Rattle.std.proofs.lemmas.Bool.Decides.{nat_tests}
 use Rattle.ep_object.specs.Calls.{top_of}
 use Rattle.ep_simulation.specs.Follows.{Follows, IsNotLeft}
-use Rattle.ep_simulation.specs.Matching.{Memory, at}
+use Rattle.ep_simulation.specs.Matching.{MachineMemory, at}
 use Rattle.ep_object.specs.Operands.{Operand, weight, weights}
 use Rattle.ep_simulation.specs.Promises.{CallsAt, IsShuffle, IsSwap, swapping_code}
 use Rattle.ep_object.specs.Runs.{outcome}
@@ -23,7 +23,7 @@ use Rattle.ep_meaning.specs.Steps as meaning
 abbrev pub swap_ticks : Operand → Operand → ℕ
 swap_ticks x y = 4 + 2 * (weight x + weight y)
 
-module _ (G : Image) (routine : ℕ) (swap : IsSwap G routine) (place line : ℕ) (calls : CallsAt G place routine 0 line) (x y : Operand) (below : List Operand) (memory : Memory) (trace : Trace) where
+module _ (G : Image) (routine : ℕ) (swap : IsSwap G routine) (place line : ℕ) (calls : CallsAt G place routine 0 line) (x y : Operand) (below : List Operand) (memory : MachineMemory) (trace : Trace) where
   abbrev shuffle : IsShuffle G routine 2 swap.slots (λ entry. swapping_code)
   shuffle = swap.shuffles
 
@@ -34,7 +34,7 @@ module _ (G : Image) (routine : ℕ) (swap : IsSwap G routine) (place line : ℕ
   taken = let enough : leb 2 (length (y ∷ x ∷ below)) ≡ true = grind (arith, nat_tests) in rw enough refl
 
   -- with these arguments left
-  abbrev inside : List (Option Operand) → Memory
+  abbrev inside : List (Option Operand) → MachineMemory
   inside left = within G routine 2 swap.slots (λ entry. swapping_code) shuffle place line calls arguments (y ∷ x ∷ below) below taken memory trace left (replicate swap.slots None)
 
   abbrev e : ℕ

@@ -3,7 +3,7 @@ use Rattle.std.proofs.Common.{◌≡◌, ℕ, suc, ◌+◌, ◌-◌, ◌≤◌, 
 use Rattle.std.proofs.lemmas.List.{length-map}
 use Rattle.std.specs.Prelude.{⊤}
 use Rattle.ep_object.specs.Calls.{argument_at, flat}
-use Rattle.ep_simulation.specs.Matching.{Memory, Injection, Slots, Grown, IsBare}
+use Rattle.ep_simulation.specs.Matching.{MachineMemory, Injection, Slots, Grown, IsBare}
 use Rattle.ep_simulation.specs.Follows.{OnTop}
 use Rattle.ep_object.specs.Operands.{Operand, Set, Text, Word, weight, weights}
 use Rattle.ep_simulation.specs.Promises.{Passing, ByValue, ByReference, IsArgument, AreArguments, IsValueOf}
@@ -24,7 +24,7 @@ arguments_in [] = []
 arguments_in (c ∷ calls) = c.arguments
 
 -- those of these formal parameters are there, of which the first has this number
-abbrev pub AreAwaited : Injection → Memory → List Passing → List Argument → ℕ → List (Option Operand) → Type 0
+abbrev pub AreAwaited : Injection → MachineMemory → List Passing → List Argument → ℕ → List (Option Operand) → Type 0
 AreAwaited injection memory [] [] k inside = ⊤
 AreAwaited injection memory [] (x ∷ xs) k inside = ⊥
 AreAwaited injection memory (f ∷ fs) [] k inside = ⊥
@@ -34,7 +34,7 @@ AreAwaited injection memory (f ∷ fs) (x ∷ xs) k inside =
 -- ---- what lasts
 
 -- a value is one while memory grows
-pub value-grown : {untouched : Slots} {injection longer : Injection} {memory after : Memory} (k : Kind) (r : Result) (o : Operand)
+pub value-grown : {untouched : Slots} {injection longer : Injection} {memory after : MachineMemory} (k : Kind) (r : Result) (o : Operand)
     → Grown untouched injection memory longer after → IsValueOf injection memory k r o → IsValueOf longer after k r o
 value-grown (kind.Ordinal h) r o g v = v
 value-grown kind.Bytes r o g v = v
@@ -43,7 +43,7 @@ value-grown {memory = memory} {after = after} (kind.Structured t) r o g v =
     record { value = v.value; is_structure = v.is_structure; type_number = v.type_number; words = v.words; is = v.is; bare = v.bare; described = bare-longer memory.types after.types v.type_number t g.types v.described; sized = v.sized; holds = has_at-longer g.larger t v.value (slice_get v.words) 0 v.holds }
 
 -- and in whatever memory has the same types
-pub value_anywhere : (injection : Injection) (memory later : Memory) → later.types ≡ memory.types → (k : Kind) (r : Result) (o : Operand)
+pub value_anywhere : (injection : Injection) (memory later : MachineMemory) → later.types ≡ memory.types → (k : Kind) (r : Result) (o : Operand)
     → IsValueOf injection memory k r o → IsValueOf injection later k r o
 value_anywhere injection memory later same (kind.Ordinal h) r o v = v
 value_anywhere injection memory later same kind.Bytes r o v = v
@@ -52,21 +52,21 @@ value_anywhere injection memory later same (kind.Structured t) r o v =
     record { value = v.value; is_structure = v.is_structure; type_number = v.type_number; words = v.words; is = v.is; bare = v.bare; described = subst (λ types. IsBare types v.type_number t) (sym same) v.described; sized = v.sized; holds = v.holds }
 
 -- it has the weight of the result
-pub value_weight : (injection : Injection) (memory : Memory) (k : Kind) (r : Result) (o : Operand) → IsValueOf injection memory k r o → weight o ≡ weight_of r
+pub value_weight : (injection : Injection) (memory : MachineMemory) (k : Kind) (r : Result) (o : Operand) → IsValueOf injection memory k r o → weight o ≡ weight_of r
 value_weight injection memory (kind.Ordinal h) r o (z, r_is, of_host, o_is) = ap (λ x. weight x) o_is ∙ sym (ap weight_of r_is)
 value_weight injection memory kind.Bytes r o (bytes, r_is, o_is) = ap (λ x. weight x) o_is ∙ sym (ap weight_of r_is)
 value_weight injection memory (kind.Set h) r o (ms, r_is, is_set, o_is) = ap (λ x. weight x) o_is ∙ sym (ap weight_of r_is)
 value_weight injection memory (kind.Structured t) r o v = ap (λ x. weight x) v.is ∙ (v.sized ∙ sym (ap weight_of v.is_structure))
 
 -- what lies on top as a result of the kind is its value
-pub value_on_top : (k : Kind) (below : List Operand) (r : Result) (injection : Injection) (memory : Memory) (operands : List Operand)
+pub value_on_top : (k : Kind) (below : List Operand) (r : Result) (injection : Injection) (memory : MachineMemory) (operands : List Operand)
     → OnTop k below r injection memory operands → (o : Operand) × IsValueOf injection memory k r o × (operands ≡ o ∷ below)
 value_on_top (kind.Ordinal h) below r injection memory operands top = (Word top.number, (top.number, top.is_number, top.of_host, refl), top.is)
 value_on_top kind.Bytes below r injection memory operands top = (Text top.bytes, (top.bytes, top.is_text, refl), top.is)
 value_on_top (kind.Set h) below r injection memory operands top = (Set top.members, (top.members, top.is_members, top.is_set, refl), top.is)
 value_on_top (kind.Structured t) below r injection memory operands top = (top.operand, top.holds, top.is)
 
-pub on_top : (k : Kind) (below : List Operand) (r : Result) (o : Operand) (injection : Injection) (memory : Memory) (operands : List Operand)
+pub on_top : (k : Kind) (below : List Operand) (r : Result) (o : Operand) (injection : Injection) (memory : MachineMemory) (operands : List Operand)
     → IsValueOf injection memory k r o → operands ≡ o ∷ below → OnTop k below r injection memory operands
 on_top (kind.Ordinal h) below r o injection memory operands (z, r_is, of_host, o_is) is =
     record { number = z; is_number = r_is; of_host = of_host; is = is ∙ ap (λ x. x ∷ below) o_is }
@@ -76,14 +76,14 @@ on_top (kind.Set h) below r o injection memory operands (ms, r_is, is_set, o_is)
 on_top (kind.Structured t) below r o injection memory operands v is = record { operand = o; holds = v; is = is }
 
 -- an argument is one while memory grows
-pub is_argument-grown : {untouched : Slots} {injection longer : Injection} {memory after : Memory} (f : Passing) (x : Argument) (o : Operand)
+pub is_argument-grown : {untouched : Slots} {injection longer : Injection} {memory after : MachineMemory} (f : Passing) (x : Argument) (o : Operand)
     → Grown untouched injection memory longer after → IsArgument injection memory f x o → IsArgument longer after f x o
 is_argument-grown {injection = injection} {longer = longer} {memory = memory} {after = after} (ByValue k) (Value r) o g h = value-grown k r o g h
 is_argument-grown (ByValue k) (Variable n) o g h = h
 is_argument-grown (ByReference t) (Value r) o g h = h
 is_argument-grown (ByReference t) (Variable n) o g (p, is, spot, described) = (p, is, is_spot-grown g spot, describes-grown p.type_number t g described)
 
-pub awaited-grown : {untouched : Slots} {injection longer : Injection} {memory after : Memory} → Grown untouched injection memory longer after
+pub awaited-grown : {untouched : Slots} {injection longer : Injection} {memory after : MachineMemory} → Grown untouched injection memory longer after
     → (fs : List Passing) (xs : List Argument) (k : ℕ) (inside : List (Option Operand)) → AreAwaited injection memory fs xs k inside → AreAwaited longer after fs xs k inside
 awaited-grown g [] [] k inside h = tt
 awaited-grown g [] (x ∷ xs) k inside h = h
@@ -95,7 +95,7 @@ abbrev pub without_argument : ℕ → List (Option Operand) → List (Option Ope
 without_argument k inside = slice_set inside (length inside - suc k) None
 
 -- the later ones stay where one is taken
-pub awaited-taken : (injection : Injection) (memory : Memory) (k : ℕ) (inside : List (Option Operand)) → suc k ≤ length inside
+pub awaited-taken : (injection : Injection) (memory : MachineMemory) (k : ℕ) (inside : List (Option Operand)) → suc k ≤ length inside
     → (fs : List Passing) (xs : List Argument) (j : ℕ) → k < j → AreAwaited injection memory fs xs j inside → AreAwaited injection memory fs xs j (without_argument k inside)
 awaited-taken injection memory k inside le [] [] j later h = tt
 awaited-taken injection memory k inside le [] (x ∷ xs) j later h = h
@@ -112,7 +112,7 @@ abbrev pub argument_weight : Argument → ℕ
 argument_weight (Value r) = weight_of r
 argument_weight (Variable c) = 0
 
-weighs : (injection : Injection) (memory : Memory) (f : Passing) (x : Argument) (o : Operand) → IsArgument injection memory f x o → weight o ≡ argument_weight x
+weighs : (injection : Injection) (memory : MachineMemory) (f : Passing) (x : Argument) (o : Operand) → IsArgument injection memory f x o → weight o ≡ argument_weight x
 weighs injection memory (ByValue k) (Value r) o is = value_weight injection memory k r o is
 weighs injection memory (ByValue k) (Variable n) o is = absurd is
 weighs injection memory (ByReference t) (Value r) o is = absurd is
@@ -132,14 +132,14 @@ weights-last [] o = omega arith
 weights-last (x ∷ xs) o = let rest = weights-last xs o in omega (arith, rest)
 
 -- the operands of arguments, the last one on top, and that they are awaited once they lie in the frame
-pub record Handed (injection : Injection) (memory : Memory) (formals : List Passing) (xs : List Argument) (below operands : List Operand) : Type 0 where
+pub record Handed (injection : Injection) (memory : MachineMemory) (formals : List Passing) (xs : List Argument) (below operands : List Operand) : Type 0 where
   pub top : List Operand
   pub is : operands ≡ top ++ below
   pub many : length top ≡ length formals
   pub weigh : weights top ≡ weights_of xs
   pub awaited : (k : ℕ) (rest : List Operand) → length rest ≡ k → AreAwaited injection memory formals xs k (map Some (top ++ rest))
 
-pub handed : (injection : Injection) (memory : Memory) (formals : List Passing) (xs : List Argument) (below operands : List Operand)
+pub handed : (injection : Injection) (memory : MachineMemory) (formals : List Passing) (xs : List Argument) (below operands : List Operand)
     → AreArguments injection memory formals xs below operands → Handed injection memory formals xs below operands
 handed injection memory [] [] below operands h = record { top = []; is = h; many = refl; weigh = refl; awaited = λ k rest e. tt }
 handed injection memory [] (x ∷ xs) below operands h = absurd h

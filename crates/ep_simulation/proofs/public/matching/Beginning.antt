@@ -3,7 +3,7 @@ use Rattle.std.proofs.Common.{◌≡◌, ℕ, zero, suc, ◌≤◌, List, [], �
 use Rattle.std.specs.Prelude.{pos, int_le, if◌then◌else◌}
 use Rattle.ep_values.specs.Operations.{last_char}
 use Rattle.ep_object.specs.declared.state.Kind.TheVariants as kind
-use Rattle.ep_simulation.specs.Matching.{Memory, Injection, IsIn, IsOf, HasSize, MatchesSlot, Represents, IsRepresented, Matches, Describes}
+use Rattle.ep_simulation.specs.Matching.{MachineMemory, Injection, IsIn, IsOf, HasSize, MatchesSlot, Represents, IsRepresented, Matches, Describes}
 use Rattle.ep_object.specs.State.{Frames, TypeTable, empty_slots, first_segments, first_types, integer_entry, char_entry, boolean_entry, text_entry, pointer_entry, first_live, undefined}
 use Rattle.ep_object.specs.declared.code.Image.{Image}
 use Rattle.ep_object.specs.declared.state.Place.{Place}
@@ -18,7 +18,7 @@ use Rattle.ep_values.specs.TypeValues.{TypeValue, bare_of}
 use Rattle.ep_values.specs.TypeValues as type
 
 -- before the first start, in these frames
-abbrev pub first_memory : Frames → Memory
+abbrev pub first_memory : Frames → MachineMemory
 first_memory frames = record { frames = frames; segments = first_segments; types = first_types; live = first_live }
 
 -- `input` and `output` have the first two segments

@@ -5,7 +5,7 @@ use Rattle.ep_simulation.specs.Follows.{Facts, IsStillCall, IsSameCall, IsNotLef
 use Rattle.ep_meaning.specs.Steps.{Component}
 use Rattle.ep_meaning.specs.Steps as meaning
 use Rattle.ep_object.specs.Frames.{routine_over}
-use Rattle.ep_simulation.specs.Matching.{Memory, Injection, IsIn, IsOf, IsSpot, AreBare, AreEntries, Describes, IsBare, IsKindOf, IsLike, Slots, every_slot, AreAmong, Grown}
+use Rattle.ep_simulation.specs.Matching.{MachineMemory, Injection, IsIn, IsOf, IsSpot, AreBare, AreEntries, Describes, IsBare, IsKindOf, IsLike, Slots, every_slot, AreAmong, Grown}
 use Rattle.ep_object.specs.Operands.{Operand}
 use Rattle.ep_object.specs.Routines.{unit_of}
 use Rattle.ep_object.specs.Runs.{name_of, unit_in}
@@ -63,7 +63,7 @@ pub before_or_not : (a b : ℕ) → (a ≤ b) ⊎ (b < a)
 before_or_not a b = grind arith
 
 -- memory has grown from itself
-pub grown_refl : {untouched : Slots} (injection : Injection) (memory : Memory)
+pub grown_refl : {untouched : Slots} (injection : Injection) (memory : MachineMemory)
     → Grown untouched injection memory injection memory
 grown_refl injection memory =
     record {
@@ -84,7 +84,7 @@ grown_refl injection memory =
         let e : y ≡ x = cc in ap (λ (z : Segment). z.type_number) e
 
 -- what has grown from what has grown
-pub grown_trans : {untouched : Slots} {injection longer last : Injection} {memory after final : Memory}
+pub grown_trans : {untouched : Slots} {injection longer last : Injection} {memory after final : MachineMemory}
     → Grown untouched injection memory longer after → Grown untouched longer after last final
     → Grown untouched injection memory last final
 grown_trans {longer = longer} {last = last} {memory = memory} {after = after} {final = final} p q =
@@ -173,13 +173,13 @@ pub like-longer : (types longer : TypeTable) (n : ℕ) (t : TypeValue) → IsPre
 like-longer types longer n t p h = (h.0, h.1, described-longer types longer n h.0 p h.2)
 
 -- a type stays what it is
-pub describes-grown : {untouched : Slots} {injection longer : Injection} {memory after : Memory} (n : ℕ) (type_value : TypeValue)
+pub describes-grown : {untouched : Slots} {injection longer : Injection} {memory after : MachineMemory} (n : ℕ) (type_value : TypeValue)
     → Grown untouched injection memory longer after → IsLike memory.types n type_value
     → IsLike after.types n type_value
 describes-grown {memory = memory} {after = after} n t g h = like-longer memory.types after.types n t g.types h
 
 -- the place of a variable stays its place
-pub is_spot-grown : {untouched : Slots} {injection longer : Injection} {memory after : Memory} {v : Component} {place : Place}
+pub is_spot-grown : {untouched : Slots} {injection longer : Injection} {memory after : MachineMemory} {v : Component} {place : Place}
     → Grown untouched injection memory longer after → IsSpot injection memory.types v place
     → IsSpot longer after.types v place
 is_spot-grown {injection = injection} {longer = longer} {v = v} {place = place} g h =
@@ -287,29 +287,29 @@ pub unit_in-same : (G : Image) {untouched : Slots} {before after : Frames} → S
 unit_in-same G h = unit_in-still G (still_routine h)
 
 -- where nothing has grown yet
-pub inside_here : {untouched : Slots} {injection : Injection} {memory : Memory} {Then : Operands} {operands : List Operand}
+pub inside_here : {untouched : Slots} {injection : Injection} {memory : MachineMemory} {Then : Operands} {operands : List Operand}
     → Then injection memory operands → Inside untouched injection memory Then injection memory operands
 inside_here {injection = injection} {memory = memory} h = record { grown = grown_refl injection memory; routine = same_routine-refl memory.frames; operands_are = h }
 
 -- what is inside of a later memory is inside of an earlier one
-pub inside_later : {untouched : Slots} {injection longer last : Injection} {memory after final : Memory} {Then : Operands} {operands : List Operand}
+pub inside_later : {untouched : Slots} {injection longer last : Injection} {memory after final : MachineMemory} {Then : Operands} {operands : List Operand}
     → Grown untouched injection memory longer after → SameRoutine untouched memory.frames after.frames
     → Inside untouched longer after Then last final operands
     → Inside untouched injection memory Then last final operands
 inside_later g r h = record { grown = grown_trans g h.grown; routine = same_routine-trans r h.routine; operands_are = h.operands_are }
 
 -- memory has grown so since now
-pub since_here : {untouched : Slots} (injection : Injection) (s : meaning.State) (memory : Memory)
+pub since_here : {untouched : Slots} (injection : Injection) (s : meaning.State) (memory : MachineMemory)
     → HasGrown untouched injection s memory injection s memory
 since_here injection s memory = record { grown = grown_refl injection memory; routine = same_routine-refl memory.frames; own = λ k. refl; calls = refl }
 
 -- and that lasts
-pub since_lasts : {untouched : Slots} {injection : Injection} {s : meaning.State} {memory : Memory}
+pub since_lasts : {untouched : Slots} {injection : Injection} {s : meaning.State} {memory : MachineMemory}
     → Lasts untouched (Since untouched injection s memory)
 since_lasts = record { by = λ longer last t u after final more h. record { grown = grown_trans h.grown more.grown; routine = same_routine-trans h.routine more.routine; own = λ k. more.own k ∙ h.own k; calls = more.calls ∙ h.calls } }
 
 -- Whatever lasts and held then holds where memory has grown so since.
-pub since_holds : {untouched : Slots} {Here : Facts} {injection longer : Injection} {s t : meaning.State} {memory after : Memory}
+pub since_holds : {untouched : Slots} {Here : Facts} {injection longer : Injection} {s t : meaning.State} {memory after : MachineMemory}
     → Lasts untouched Here → Here injection s memory → Since untouched injection s memory longer t after
     → Here longer t after
 since_holds {injection = injection} {longer = longer} {s = s} {t = t} {memory = memory} {after = after} lasts held since = lasts.by injection longer s t memory after since held

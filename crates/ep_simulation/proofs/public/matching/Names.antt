@@ -3,7 +3,7 @@ use Rattle.std.proofs.Common.{◌≡◌, ℕ, zero, suc, ◌+◌, ◌<◌, List,
 use Rattle.ep_simulation.specs.Activations.{OwnSlot, LevelSlot, LevelMatches, IsUnderWay, MatchesNames, KnowsNames, IsCallable, InActivation}
 use Rattle.ep_simulation.specs.Follows.{IsSameCall, HasGrown, Lasts, Since}
 use Rattle.ep_object.specs.Frames.{slots_over}
-use Rattle.ep_simulation.specs.Matching.{Memory, Injection, Slots, MatchesSlot, slot_of_frame}
+use Rattle.ep_simulation.specs.Matching.{MachineMemory, Injection, Slots, MatchesSlot, slot_of_frame}
 use Rattle.ep_object.specs.State.{Frame}
 use Rattle.ep_object.proofs.public.Elements.{slice_get-drop}
 use Rattle.ep_simulation.proofs.matching.Levels.{around-lasts}
@@ -15,7 +15,7 @@ use Rattle.ep_meaning.specs.Valid.{Declarations, Level, variables_at, IsDeclared
 use Rattle.ep_typed.specs.declared.unit.UnitVariable.{UnitVariable}
 
 -- a call that is under way stays so
-under_way-lasts : {untouched : Slots} {injection longer : Injection} {s t : meaning.State} {memory after : Memory}
+under_way-lasts : {untouched : Slots} {injection longer : Injection} {s t : meaning.State} {memory after : MachineMemory}
     → HasGrown untouched injection s memory longer t after → IsUnderWay s memory → IsUnderWay t after
 under_way-lasts {s = s} {t = t} {memory = memory} {after = after} g h =
     let r = g.routine in
@@ -39,19 +39,19 @@ names-last {untouched = untouched} declared =
     }
 
 -- where memory has grown since they matched, they match
-pub since_knows-names : {untouched : Slots} (declared : Declarations) {injection : Injection} {s : meaning.State} {memory : Memory}
+pub since_knows-names : {untouched : Slots} (declared : Declarations) {injection : Injection} {s : meaning.State} {memory : MachineMemory}
     → MatchesNames declared injection s memory → KnowsNames declared (Since untouched injection s memory)
 since_knows-names {untouched = untouched} declared {injection = injection} {s = s} {memory = memory} names longer t after since =
     let lasts = names-last {untouched = untouched} declared in
     lasts.by injection longer s t memory after since names
 
 -- a routine knows so much in its activation
-pub activation_knows : (declared : Declarations) (untouched : Slots) (first : Injection) (start : Memory) → KnowsNames declared (InActivation declared untouched first start)
+pub activation_knows : (declared : Declarations) (untouched : Slots) (first : Injection) (start : MachineMemory) → KnowsNames declared (InActivation declared untouched first start)
 activation_knows declared untouched first start injection s memory h =
     record { own = h.own; around = h.around; under_way = λ level is. record { frame = h.frame; below = h.below; frames = h.frames; call = h.call; others = h.others; calls = h.calls } }
 
 -- code of no routine names no variable of one
-pub none_named : (declared : Declarations) → declared.levels ≡ [] → (injection : Injection) (s : meaning.State) (memory : Memory) → MatchesNames declared injection s memory
+pub none_named : (declared : Declarations) → declared.levels ≡ [] → (injection : Injection) (s : meaning.State) (memory : MachineMemory) → MatchesNames declared injection s memory
 none_named declared none injection s memory =
     record {
       own = λ k v is. absurd (let at : slice_get {X = UnitVariable} [] k ≡ Some v = sym (ap (λ ls. slice_get (variables_at (slice_get ls 0)) k) none) ∙ is in cc);
@@ -61,7 +61,7 @@ none_named declared none injection s memory =
 
 -- ---- a call
 
-module _ {declared : Declarations} {injection : Injection} {s : meaning.State} {memory : Memory} (names : MatchesNames declared injection s memory) where
+module _ {declared : Declarations} {injection : Injection} {s : meaning.State} {memory : MachineMemory} (names : MatchesNames declared injection s memory) where
   -- the activation that runs is one that a routine in it has around it
   level_here : (level : Level) → slice_get declared.levels 0 ≡ Some level → LevelMatches declared.routine_types level injection s.calls memory 0
   level_here level is =

@@ -8,7 +8,7 @@ use native.Mathlib.Decide.{ℕ_discrete}
 use Rattle.ep_outside.specs.Known.{IsPrefix}
 use Rattle.ep_simulation.specs.Activations.{OwnSlot, MatchesOwn, MatchesAround, AreMade, InActivation}
 use Rattle.ep_simulation.specs.Follows.{IsSameCall, IsStillCall, StillRuns, HasGrown, Lasts}
-use Rattle.ep_simulation.specs.Matching.{Memory, Injection, IsIn, Describes, Slots, own_slot, MatchesSlot, HasOwnType, Matches, Grown, IsLike}
+use Rattle.ep_simulation.specs.Matching.{MachineMemory, Injection, IsIn, Describes, Slots, own_slot, MatchesSlot, HasOwnType, Matches, Grown, IsLike}
 use Rattle.ep_object.specs.State.{Frame, Frames}
 use Rattle.ep_object.specs.declared.code.Image.{Image}
 use Rattle.ep_object.specs.declared.state.Place.{Place}
@@ -30,7 +30,7 @@ use Rattle.ep_values.specs.TypeValues.{TypeValue, bare_of}
 pub matches_own-lasts : {untouched : Slots} {declared : Declarations} → Lasts untouched (MatchesOwn declared)
 matches_own-lasts {untouched = untouched} {declared = declared} = record { by = λ injection longer s t memory after g h k v is. go injection longer s t memory after g k v (h k v is) }
   where
-    go : (injection longer : Injection) (s t : meaning.State) (memory after : Memory) → HasGrown untouched injection s memory longer t after
+    go : (injection longer : Injection) (s t : meaning.State) (memory after : MachineMemory) → HasGrown untouched injection s memory longer t after
         → (k : ℕ) (v : UnitVariable) → OwnSlot declared injection s memory k v → OwnSlot declared longer t after k v
     go injection longer s t memory after g k v h =
         record {
@@ -71,11 +71,11 @@ innermost c below (b ∷ before) (d ∷ later) e h =
     let rest : before ≡ below = cc in
     record { frame = d; is = ap (λ l. d ∷ l) (h.3 ∙ rest); made = h.5 ∙ ap (λ (x : Frame). x.made) same }
 
-pub in_activation-lasts : {untouched : Slots} {declared : Declarations} {injection : Injection} {memory : Memory}
+pub in_activation-lasts : {untouched : Slots} {declared : Declarations} {injection : Injection} {memory : MachineMemory}
     → Lasts untouched (InActivation declared untouched injection memory)
 in_activation-lasts {untouched = untouched} {declared = declared} {injection = injection} {memory = memory} = record { by = λ longer last s t after final more h. go longer last s t after final more h }
   where
-    go : (longer last : Injection) (s t : meaning.State) (after final : Memory) → HasGrown untouched longer s after last t final
+    go : (longer last : Injection) (s t : meaning.State) (after final : MachineMemory) → HasGrown untouched longer s after last t final
         → InActivation declared untouched injection memory longer s after → InActivation declared untouched injection memory last t final
     go longer last s t after final more h =
         let r = more.routine in
@@ -116,12 +116,12 @@ module _ (number : ℕ) (n : Component) (variables : Variables) where
       go false e = refl
 
 -- the frames with its place in a slot of the innermost call, which has made its segment
-abbrev pub with_own_place : ℕ → ℕ → Frame → List Frame → Memory → Frames
+abbrev pub with_own_place : ℕ → ℕ → Frame → List Frame → MachineMemory → Frames
 with_own_place number k frame below memory =
     record memory.frames { calls = record frame { slots = slice_set frame.slots k (Some (new_place memory number)); made = frame.made ++ length memory.segments ∷ [] } ∷ below }
 
-module _ {declared : Declarations} {G : Image} {injection : Injection} {s : meaning.State} {memory : Memory} (h : Matches declared G injection s memory) (t : TypeValue) (number : ℕ) (described : Describes memory.types number t) (valid : IsTypeValue t) (starts : AreStarts t) (k : ℕ) (frame : Frame) (below : List Frame) (frames : memory.frames.calls ≡ frame ∷ below) (call : Call) (others : List Call) (calls : s.calls ≡ call ∷ others) where
-  abbrev pub own_later : Memory
+module _ {declared : Declarations} {G : Image} {injection : Injection} {s : meaning.State} {memory : MachineMemory} (h : Matches declared G injection s memory) (t : TypeValue) (number : ℕ) (described : Describes memory.types number t) (valid : IsTypeValue t) (starts : AreStarts t) (k : ℕ) (frame : Frame) (below : List Frame) (frames : memory.frames.calls ≡ frame ∷ below) (call : Call) (others : List Call) (calls : s.calls ≡ call ∷ others) where
+  abbrev pub own_later : MachineMemory
   own_later = with_variable t number (with_own_place number k frame below memory) memory
 
   abbrev pub own_state : meaning.State
@@ -203,7 +203,7 @@ module _ {declared : Declarations} {G : Image} {injection : Injection} {s : mean
           }
 
   -- what the routine knows holds again
-  pub in_activation_making : {untouched : Slots} {first : Injection} {start : Memory} → MatchesOwn declared longer own_state own_later → MatchesAround declared injection s memory
+  pub in_activation_making : {untouched : Slots} {first : Injection} {start : MachineMemory} → MatchesOwn declared longer own_state own_later → MatchesAround declared injection s memory
       → Grown untouched first start injection memory → StillRuns start.frames memory.frames → AreMade injection call.made frame.made
       → InActivation declared untouched first start longer own_state own_later
   in_activation_making {untouched = untouched} own around grown runs made =

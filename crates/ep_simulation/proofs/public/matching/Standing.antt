@@ -3,7 +3,7 @@ use Rattle.std.proofs.Common.{◌≡◌, ℕ, ℤ, pos, negsuc, zero, suc, ◌<�
 use Rattle.std.proofs.lemmas.Bool.Decides.{nat_tests}
 use Rattle.std.proofs.lemmas.Option.{slice_get_within, same_Some}
 use Rattle.std.specs.Prelude.{int_le, int_lt, neg_ℤ}
-use Rattle.ep_simulation.specs.Matching.{Memory, Injection, part_along, all_of, HasTypeUnder, IsIn, IsLike, IsSpot, OrdinalAt, HasAt, Represents, IsRepresentedWhere, IsRepresented, Matches}
+use Rattle.ep_simulation.specs.Matching.{MachineMemory, Injection, part_along, all_of, HasTypeUnder, IsIn, IsLike, IsSpot, OrdinalAt, HasAt, Represents, IsRepresentedWhere, IsRepresented, Matches}
 use Rattle.ep_object.specs.State.{Segments, TypeTable, undefined}
 use Rattle.ep_object.specs.declared.code.Image.{Image}
 use Rattle.ep_object.specs.declared.state.Place.{Place}
@@ -71,7 +71,7 @@ pub living_represented : (injection : Injection) (segments : Segments) (types : 
 living_represented injection segments types segment a living h = subst (λ b. IsRepresentedWhere b injection segments types segment a) (sym living) h
 
 -- the allocation at a place, which lives, and what the segment has of it
-pub record Stands (injection : Injection) (s : meaning.State) (memory : Memory) (v : Component) (place : Place) : Type 0 where
+pub record Stands (injection : Injection) (s : meaning.State) (memory : MachineMemory) (v : Component) (place : Place) : Type 0 where
   pub allocation : Allocation
   pub is : allocation_at s.allocations v.allocation ≡ Some allocation
   pub lives : allocation.ended ≡ false
@@ -100,7 +100,7 @@ allocated injection s (suc n) segment made h =
     slice_get-some s.allocations n (omega arith)
 
 -- at the place of a variable of an allocation that lives stands that variable
-pub place_stands : {declared : Declarations} {G : Image} {injection : Injection} {s : meaning.State} {memory : Memory} {v : Component} {place : Place}
+pub place_stands : {declared : Declarations} {G : Image} {injection : Injection} {s : meaning.State} {memory : MachineMemory} {v : Component} {place : Place}
     → Matches declared G injection s memory → IsSpot injection memory.types v place
     → meaning.has_ended v.allocation s ≡ false → Stands injection s memory v place
 place_stands {injection = injection} {s = s} {memory = memory} {v = v} {place = place} matches spot living =
@@ -123,7 +123,7 @@ place_stands {injection = injection} {s = s} {memory = memory} {v = v} {place = 
     }
 
 -- the segment at the place of a variable whose allocation has ended has ended
-pub place_ended : {declared : Declarations} {G : Image} {injection : Injection} {s : meaning.State} {memory : Memory} {v : Component} {place : Place}
+pub place_ended : {declared : Declarations} {G : Image} {injection : Injection} {s : meaning.State} {memory : MachineMemory} {v : Component} {place : Place}
     → Matches declared G injection s memory → IsSpot injection memory.types v place
     → meaning.has_ended v.allocation s ≡ true → slice_get memory.segments place.segment ≡ Some None
 place_ended {injection = injection} {s = s} {memory = memory} {v = v} {place = place} matches spot ended =
@@ -141,7 +141,7 @@ type_of_variable t v offset s a is leads =
     ∙ (sym (bare_along (Some a.type_value) v.path) ∙ type_is-along (bare_of a.type_value) v.path (record { offset = offset; type_value = t }) leads)
 
 -- the variable of an ordinal type at a place, whose allocation lives, and the word that is its value
-pub record StandsOrdinal (injection : Injection) (s : meaning.State) (memory : Memory) (v : Component) (place : Place)
+pub record StandsOrdinal (injection : Injection) (s : meaning.State) (memory : MachineMemory) (v : Component) (place : Place)
     (low high : ℤ) : Type 0 where
   pub allocation : Allocation
   pub is : allocation_at s.allocations v.allocation ≡ Some allocation
@@ -150,7 +150,7 @@ pub record StandsOrdinal (injection : Injection) (s : meaning.State) (memory : M
   pub leads : part_along (Some (all_of (bare_of allocation.type_value))) v.path ≡ Some (record { offset = place.offset; type_value = type.Ordinal low high })
   pub word : OrdinalAt low high (value_along allocation.value v.path) (slice_get represents.words place.offset)
 
-pub ordinal_stands : {declared : Declarations} {G : Image} {injection : Injection} {s : meaning.State} {memory : Memory} {v : Component} {place : Place} (low high : ℤ)
+pub ordinal_stands : {declared : Declarations} {G : Image} {injection : Injection} {s : meaning.State} {memory : MachineMemory} {v : Component} {place : Place} (low high : ℤ)
     → Matches declared G injection s memory → IsSpot injection memory.types v place
     → IsLike memory.types place.type_number (type.Ordinal low high)
     → meaning.has_ended v.allocation s ≡ false → StandsOrdinal injection s memory v place low high

@@ -7,7 +7,7 @@ use native.Mathlib.Decide.{ℕ_discrete}
 use Rattle.ep_simulation.specs.Activations.{OwnSlot, AreMade, InActivation}
 use Rattle.ep_object.specs.Calls.{argument_at}
 use Rattle.ep_simulation.specs.Follows.{Facts, After, point, Follows, Fragment, Lasts, IsSameCall, IsStillCall, StillRuns, IsNotLeft, Lands}
-use Rattle.ep_simulation.specs.Matching.{Memory, at, Injection, IsIn, IsRepresentedWhere, IsLike, IsSpot, Slots, own_slot, slot_of_frame, MatchesSlot, HasOwnType, Matches, Grown}
+use Rattle.ep_simulation.specs.Matching.{MachineMemory, at, Injection, IsIn, IsRepresentedWhere, IsLike, IsSpot, Slots, own_slot, slot_of_frame, MatchesSlot, HasOwnType, Matches, Grown}
 use Rattle.ep_simulation.proofs.public.matching.BareValues.{suits_bare}
 use Rattle.ep_simulation.proofs.matching.NewSegments.{new_segment}
 use Rattle.ep_object.specs.Operands.{Operand, weight}
@@ -44,7 +44,7 @@ use Rattle.ep_object.specs.declared.op.TheConstants as op
 -- ---- memory in which the innermost call is another one
 
 -- the frames with this one over these
-abbrev pub with_innermost : Frame → List Frame → Memory → Memory
+abbrev pub with_innermost : Frame → List Frame → MachineMemory → MachineMemory
 with_innermost frame others memory = record memory { frames = record memory.frames { calls = frame ∷ others } }
 
 -- the frame without an argument
@@ -56,7 +56,7 @@ abbrev pub with_slot : ℕ → Place → Frame → Frame
 with_slot k p frame = record frame { slots = slice_set frame.slots k (Some p) }
 
 -- memory has not grown by it
-pub grown_innermost : {untouched : Slots} (injection : Injection) (memory : Memory) (frame : Frame) (others : List Frame)
+pub grown_innermost : {untouched : Slots} (injection : Injection) (memory : MachineMemory) (frame : Frame) (others : List Frame)
     → Grown untouched injection memory injection (with_innermost frame others memory)
 grown_innermost {untouched = untouched} injection memory frame others =
     let g = grown_refl {untouched = untouched} injection memory in
@@ -64,20 +64,20 @@ grown_innermost {untouched = untouched} injection memory frame others =
 
 -- what a step of a routine that takes its arguments leaves: memory has grown, the routine still runs, these arguments are
 -- left, and the operands are these
-pub record Taken (untouched : Slots) (injection : Injection) (before : Memory) (left : List (Option Operand)) (below : List Operand)
-    (longer : Injection) (after : Memory) (operands : List Operand) : Type 0 where
+pub record Taken (untouched : Slots) (injection : Injection) (before : MachineMemory) (left : List (Option Operand)) (below : List Operand)
+    (longer : Injection) (after : MachineMemory) (operands : List Operand) : Type 0 where
   pub grown : Grown untouched injection before longer after
   pub runs : StillRuns before.frames after.frames
   pub left_are : arguments_in after.frames.calls ≡ left
   pub operands_are : operands ≡ below
 
 -- after a later memory and after an earlier one
-pub taken-later : {untouched : Slots} {injection longer : Injection} {before memory : Memory} {left : List (Option Operand)} {below : List Operand}
-    → Grown untouched injection before longer memory → StillRuns before.frames memory.frames → (last : Injection) (after : Memory) (operands : List Operand)
+pub taken-later : {untouched : Slots} {injection longer : Injection} {before memory : MachineMemory} {left : List (Option Operand)} {below : List Operand}
+    → Grown untouched injection before longer memory → StillRuns before.frames memory.frames → (last : Injection) (after : MachineMemory) (operands : List Operand)
     → Taken untouched longer memory left below last after operands → Taken untouched injection before left below last after operands
 taken-later grown runs last after operands h = record { grown = grown_trans grown h.grown; runs = still_runs-trans runs h.runs; left_are = h.left_are; operands_are = h.operands_are }
 
-module _ (declared : Declarations) (G : Image) (untouched : Slots) (first : Injection) (start : Memory) (place line k : ℕ) (below : List Operand) (injection : Injection) (memory : Memory) (frame : Frame) (others : List Frame) (frames : memory.frames.calls ≡ frame ∷ others) where
+module _ (declared : Declarations) (G : Image) (untouched : Slots) (first : Injection) (start : MachineMemory) (place line k : ℕ) (below : List Operand) (injection : Injection) (memory : MachineMemory) (frame : Frame) (others : List Frame) (frames : memory.frames.calls ≡ frame ∷ others) where
   -- the routine still runs
   runs_innermost : (other : Frame) → other.routine ≡ frame.routine → other.parent ≡ frame.parent → other.back ≡ frame.back → StillRuns memory.frames (with_innermost other others memory).frames
   runs_innermost other routine parent back = record { turn = refl; routine = refl; unit = refl; calls = subst (λ cs. IsStillCall cs (other ∷ others)) (sym frames) (routine, parent, back, refl) }
@@ -149,7 +149,7 @@ module _ (declared : Declarations) (G : Image) (untouched : Slots) (first : Inje
         made = subst (λ (f : Frame). AreMade injection (h.call).made f.made) (first_of same) h.made;
       }
     where
-      later : Memory
+      later : MachineMemory
       later = with_innermost (with_slot k p frame) others memory
 
       first_of : {x y : Frame} {xs ys : List Frame} → x ∷ xs ≡ y ∷ ys → x ≡ y
@@ -185,7 +185,7 @@ module _ (declared : Declarations) (G : Image) (untouched : Slots) (first : Inje
 -- ---- what is taken
 
 -- an allocation whose segment lives has not ended
-lives_where : {declared : Declarations} {G : Image} {injection : Injection} {s : meaning.State} {memory : Memory} (n segment : ℕ) (x : Segment)
+lives_where : {declared : Declarations} {G : Image} {injection : Injection} {s : meaning.State} {memory : MachineMemory} (n segment : ℕ) (x : Segment)
     → Matches declared G injection s memory → IsIn injection n segment → slice_get memory.segments segment ≡ Some (Some x) → has_ended n s ≡ false
 lives_where {injection = injection} {s = s} {memory = memory} n segment x h is_in stands =
     let injected = h.injected in
@@ -204,12 +204,12 @@ same_arguments [] (d ∷ after) h = absurd h
 same_arguments (c ∷ before) [] h = absurd h
 same_arguments (c ∷ before) (d ∷ after) h = h.4
 
-module _ (declared : Declarations) (G : Image) (untouched : Slots) (first : Injection) (start : Memory) (lasts : Lasts untouched (InActivation declared untouched first start)) (place line k : ℕ) (unit : List ℕ) (below : List Operand) (injection : Injection) (memory : Memory) (frame : Frame) (others : List Frame) (frames : memory.frames.calls ≡ frame ∷ others) (home : unit_in G memory.frames ≡ unit) (within : k < length frame.arguments) where
+module _ (declared : Declarations) (G : Image) (untouched : Slots) (first : Injection) (start : MachineMemory) (lasts : Lasts untouched (InActivation declared untouched first start)) (place line k : ℕ) (unit : List ℕ) (below : List Operand) (injection : Injection) (memory : MachineMemory) (frame : Frame) (others : List Frame) (frames : memory.frames.calls ≡ frame ∷ others) (home : unit_in G memory.frames ≡ unit) (within : k < length frame.arguments) where
   abbrev Here : Facts
   Here = InActivation declared untouched first start
 
   -- memory without the argument
-  abbrev lighter : Memory
+  abbrev lighter : MachineMemory
   lighter = with_innermost (taken_from k frame) others memory
 
   abbrev left : List (Option Operand)
@@ -242,7 +242,7 @@ module _ (declared : Declarations) (G : Image) (untouched : Slots) (first : Inje
   variable_taken n m d p t v has_arg has_bind there spot described is_declared declared_so enough =
       arg_moves {d1 = d - 1} below (operand.Place p) 0 has_arg there refl (omega (arith, enough)) (record { by = λ s matches here. bound s matches here })
     where
-      final : Memory
+      final : MachineMemory
       final = with_innermost (with_slot k p (taken_from k frame)) others lighter
 
       final_runs : StillRuns lighter.frames final.frames

@@ -8,7 +8,7 @@ use native.Mathlib.Decide.{ℕ_discrete}
 use Rattle.ep_simulation.specs.Activations.{InActivation}
 use Rattle.ep_simulation.specs.Follows.{Facts, Lasts, Bare, Inside, IsSameCall, SameRoutine}
 use Rattle.ep_object.specs.Frames.{slots_over}
-use Rattle.ep_simulation.specs.Matching.{Memory, at, Injection, IsSpot, IsOfType, Slots, own_slot, slot_of_frame, slot_in, MatchesSlot, MatchesFrame, HasType, HasOwnType, Matches, Grown, IsLike}
+use Rattle.ep_simulation.specs.Matching.{MachineMemory, at, Injection, IsSpot, IsOfType, Slots, own_slot, slot_of_frame, slot_in, MatchesSlot, MatchesFrame, HasType, HasOwnType, Matches, Grown, IsLike}
 use Rattle.ep_object.specs.Operands.{Operand}
 use Rattle.ep_object.specs.Operands as operand
 use Rattle.ep_object.specs.Placing.{HasDistinctNames}
@@ -38,12 +38,12 @@ use Rattle.ep_typed.specs.declared.unit.UnitVariable.{UnitVariable}
 -- ---- in the activation of a routine
 
 -- `Bind` in a slot of the innermost call, which is not among those that are untouched
-pub own_binds : {untouched kept : Slots} {first : Injection} {start : Memory} (declared : Declarations) (G : Image) (place line k : ℕ) (below : List Operand) (v : UnitVariable) (t : TypeValue)
+pub own_binds : {untouched kept : Slots} {first : Injection} {start : MachineMemory} (declared : Declarations) (G : Image) (place line k : ℕ) (below : List Operand) (v : UnitVariable) (t : TypeValue)
     → slice_get G.instructions place ≡ Some (instr op.BIND (pos k) 0 line)
     → slice_get (variables_up declared 0) k ≡ Some v
     → ((w : UnitVariable) → slice_get (variables_up declared 0) k ≡ Some w → HasOwnType declared w t)
     → (IsTrue (untouched.own k) → ⊥)
-    → (injection : Injection) (memory : Memory) (s : meaning.State) → Matches declared G injection s memory → InActivation declared kept first start injection s memory
+    → (injection : Injection) (memory : MachineMemory) (s : meaning.State) → Matches declared G injection s memory → InActivation declared kept first start injection s memory
     → (c : Component) (p : Place) → IsSpot injection memory.types c p → IsLike memory.types p.type_number t
     → Does declared G (InActivation declared kept first start) (at place (operand.Place p ∷ below) memory s.trace) 0 (place + 1) (Inside untouched injection memory (Bare below tt)) (with_own_bound k c s)
 own_binds {untouched = untouched} {kept = kept} {first = first} {start = start} declared G place line k below v t has is_declared declared_so free injection memory s matches known c p spot described =
@@ -63,7 +63,7 @@ own_binds {untouched = untouched} {kept = kept} {first = first} {start = start} 
     others : List Frame
     others = known.below
 
-    later : Memory
+    later : MachineMemory
     later = with_innermost (with_slot k p frame) others memory
 
     -- the variable has a slot in the frame
@@ -83,7 +83,7 @@ own_binds {untouched = untouched} {kept = kept} {first = first} {start = start} 
 
 -- ---- in the frame of a unit
 
-module _ {declared : Declarations} {G : Image} {injection : Injection} {s : meaning.State} {memory : Memory} (h : Matches declared G injection s memory) (c : Component) (p : Place) (spot : IsSpot injection memory.types c p) (t : TypeValue) (described : IsLike memory.types p.type_number t) (x : ImageUnit) (k : ℕ) (is_unit : slice_get G.units memory.frames.unit ≡ Some x) (within : k < x.slots) (declared_so : (v : UnitVariable) → declared.variables x.name k ≡ Some v → HasType declared x.name v t) where
+module _ {declared : Declarations} {G : Image} {injection : Injection} {s : meaning.State} {memory : MachineMemory} (h : Matches declared G injection s memory) (c : Component) (p : Place) (spot : IsSpot injection memory.types c p) (t : TypeValue) (described : IsLike memory.types p.type_number t) (x : ImageUnit) (k : ℕ) (is_unit : slice_get G.units memory.frames.unit ≡ Some x) (within : k < x.slots) (declared_so : (v : UnitVariable) → declared.variables x.name k ≡ Some v → HasType declared x.name v t) where
   -- the frame of the unit
   frame : MatchesFrame declared injection s.variables memory.frames.units memory.types memory.frames.unit x
   frame = let units = h.units in units.frames memory.frames.unit x is_unit
@@ -91,7 +91,7 @@ module _ {declared : Declarations} {G : Image} {injection : Injection} {s : mean
   abbrev new_slots : List (Option Place)
   new_slots = slice_set frame.slots k (Some p)
 
-  abbrev later : Memory
+  abbrev later : MachineMemory
   later = record memory { frames = record memory.frames { units = slice_set memory.frames.units memory.frames.unit new_slots } }
 
   abbrev later_state : meaning.State
@@ -198,7 +198,7 @@ module _ {declared : Declarations} {G : Image} {injection : Injection} {s : mean
         }
 
 -- `Bind` of a place in a slot of the unit's frame
-bind_in_unit : (G : Image) (place line k : ℕ) (below : List Operand) (slots : List (Option Place)) (memory : Memory) (trace : Trace) (p : Place)
+bind_in_unit : (G : Image) (place line k : ℕ) (below : List Operand) (slots : List (Option Place)) (memory : MachineMemory) (trace : Trace) (p : Place)
     → slice_get G.instructions place ≡ Some (instr op.BIND (pos k) 0 line)
     → memory.frames.calls ≡ [] → slice_get memory.frames.units memory.frames.unit ≡ Some slots → k < length slots
     → outcome G (at place (operand.Place p ∷ below) memory trace) ≡ record { weight = 0; to = Running 0 (at (place + 1) below (record memory { frames = record memory.frames { units = slice_set memory.frames.units memory.frames.unit (slice_set slots k (Some p)) } }) trace) }
@@ -210,7 +210,7 @@ pub unit_binds : {untouched : Slots} {Here : Facts} (declared : Declarations) (G
     → slice_get G.instructions place ≡ Some (instr op.BIND (pos k) 0 line)
     → HasDistinctNames G
     → ((v : UnitVariable) → declared.variables x.name k ≡ Some v → HasType declared x.name v t)
-    → (injection : Injection) (memory : Memory) (s : meaning.State)
+    → (injection : Injection) (memory : MachineMemory) (s : meaning.State)
     → RunsInUnit G memory.frames x → k < x.slots → (IsTrue (untouched.of_units memory.frames.unit k) → ⊥) → Lasts untouched Here
     → Matches declared G injection s memory → Here injection s memory
     → (c : Component) (p : Place) → IsSpot injection memory.types c p → IsLike memory.types p.type_number t
@@ -229,7 +229,7 @@ unit_binds {untouched = untouched} declared G place line k below t x has distinc
     its : MatchesFrame declared injection s.variables memory.frames.units memory.types memory.frames.unit x
     its = frame matches c p spot t described x k home.unit within declared_so
 
-    after : Memory
+    after : MachineMemory
     after = later matches c p spot t described x k home.unit within declared_so
 
     -- the slots that are kept are what they were

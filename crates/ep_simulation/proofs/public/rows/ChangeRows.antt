@@ -4,7 +4,7 @@ use Rattle.std.proofs.lemmas.Bool.Decides.{nat_tests}
 use Rattle.std.proofs.lemmas.List.{length-replicate}
 use Rattle.std.proofs.lemmas.Option.{same_Some}
 use Rattle.ep_simulation.specs.Follows.{Facts, Lasts, Bare, Inside}
-use Rattle.ep_simulation.specs.Matching.{Memory, at, Injection, IsBare, IsLike, IsSpot, HasAt, part_along, all_of, Represents, Matches, Slots}
+use Rattle.ep_simulation.specs.Matching.{MachineMemory, at, Injection, IsBare, IsLike, IsSpot, HasAt, part_along, all_of, Represents, Matches, Slots}
 use Rattle.ep_object.specs.Places.{words_replaced}
 use Rattle.ep_simulation.specs.Promises.{IsValueOf}
 use Rattle.ep_object.specs.Sets.{IsSet, set_size, words_of_set}
@@ -113,7 +113,7 @@ module _ (declared : Declarations) (G : Image) (place line : ℕ) (below : List 
   -- `Put` of a text to `output`
   pub put_does : {untouched : Slots} {Here : Facts} (bytes : List ℕ)
       → slice_get G.instructions place ≡ Some (instr op.PUT (pos 0) 0 line) → Lasts untouched Here
-      → (injection : Injection) (memory : Memory) (s : meaning.State) → Matches declared G injection s memory
+      → (injection : Injection) (memory : MachineMemory) (s : meaning.State) → Matches declared G injection s memory
       → Here injection s memory
       → Does declared G Here (at place (Text bytes ∷ operand.Place output_place ∷ below) memory s.trace) (length bytes) (place + 1) (Inside untouched injection memory (Bare below tt)) (with_events (piece_events bytes) s)
   put_does bytes has lasts injection memory s matches here =
@@ -142,7 +142,7 @@ module _ (declared : Declarations) (G : Image) (place line : ℕ) (below : List 
       go type_number words w typed stands there = outcome_at G (instr op.PUT (pos 0) 0 line) place (Text bytes ∷ operand.Place output_place ∷ below) memory s.trace has ∙ rw (typed, stands, there) refl
 
   -- `Store` of a word, which is checked as the assignment is
-  store_outcome : (memory : Memory) (trace : Trace) (p : Place) (low high z : ℤ) (type_number : ℕ) (words : List ℤ) (w : ℤ) (b : Bool)
+  store_outcome : (memory : MachineMemory) (trace : Trace) (p : Place) (low high z : ℤ) (type_number : ℕ) (words : List ℤ) (w : ℤ) (b : Bool)
       → slice_get G.instructions place ≡ Some (instr op.STORE (pos 0) 0 line)
       → IsLike memory.types p.type_number (type.Ordinal low high)
       → slice_get memory.segments p.segment ≡ Some (Some (record { type_number = type_number; words = words }))
@@ -158,7 +158,7 @@ module _ (declared : Declarations) (G : Image) (place line : ℕ) (below : List 
   -- `Store` of a word in a variable that has ended
   pub store_fails_ended : (low high z : ℤ) (v : Component) (p : Place)
       → slice_get G.instructions place ≡ Some (instr op.STORE (pos 0) 0 line)
-      → (injection : Injection) (memory : Memory) → IsSpot injection memory.types v p
+      → (injection : Injection) (memory : MachineMemory) → IsSpot injection memory.types v p
       → IsLike memory.types p.type_number (type.Ordinal low high) → (s : meaning.State)
       → Matches declared G injection s memory → has_ended v.allocation s ≡ true
       → FailsWith G (at place (Word z ∷ operand.Place p ∷ below) memory s.trace) 0 11 (unit_in G memory.frames) line s
@@ -166,7 +166,7 @@ module _ (declared : Declarations) (G : Image) (place line : ℕ) (below : List 
       let e = like_ordinal memory.types p.type_number low high described in
       record { fails = outcome_at G (instr op.STORE (pos 0) 0 line) place (Word z ∷ operand.Place p ∷ below) memory s.trace has ∙ rw (e.2, place_ended matches spot ended) refl }
 
-  module _ (low high z : ℤ) (v : Component) (p : Place) (has : slice_get G.instructions place ≡ Some (instr op.STORE (pos 0) 0 line)) (injection : Injection) (memory : Memory) (spot : IsSpot injection memory.types v p) (described : IsLike memory.types p.type_number (type.Ordinal low high)) (s : meaning.State) (matches : Matches declared G injection s memory) (living : has_ended v.allocation s ≡ false) where
+  module _ (low high z : ℤ) (v : Component) (p : Place) (has : slice_get G.instructions place ≡ Some (instr op.STORE (pos 0) 0 line)) (injection : Injection) (memory : MachineMemory) (spot : IsSpot injection memory.types v p) (described : IsLike memory.types p.type_number (type.Ordinal low high)) (s : meaning.State) (matches : Matches declared G injection s memory) (living : has_ended v.allocation s ≡ false) where
     here : StandsOrdinal injection s memory v p low high
     here = ordinal_stands low high matches spot described living
 
@@ -206,7 +206,7 @@ module _ (declared : Declarations) (G : Image) (place line : ℕ) (below : List 
         record { fails = store_outcome memory s.trace p low high z r.type_number r.words old.0 false has described r.stands old.1 outside }
 
   -- the type of a variable that lives is the one that its place is described by, but for initial states
-  pub variable_type : (t : TypeValue) (v : Component) (p : Place) (injection : Injection) (memory : Memory) → IsSpot injection memory.types v p
+  pub variable_type : (t : TypeValue) (v : Component) (p : Place) (injection : Injection) (memory : MachineMemory) → IsSpot injection memory.types v p
       → IsLike memory.types p.type_number t → (s : meaning.State) → Matches declared G injection s memory → has_ended v.allocation s ≡ false
       → option_map bare_of (type_at v s) ≡ Some t
   variable_type t v p injection memory spot described s matches living =
@@ -220,7 +220,7 @@ module _ (declared : Declarations) (G : Image) (place line : ℕ) (below : List 
   same_number : (m n : ℕ) → m ≡ n → (m == n) ≡ true
   same_number m n same = grind (arith, nat_tests, same)
 
-  structure_outcome : (memory : Memory) (trace : Trace) (p : Place) (t : TypeValue) (n : ℕ) (ws : List ℤ) (type_number : ℕ) (words : List ℤ) → IsStructured t
+  structure_outcome : (memory : MachineMemory) (trace : Trace) (p : Place) (t : TypeValue) (n : ℕ) (ws : List ℤ) (type_number : ℕ) (words : List ℤ) → IsStructured t
       → slice_get G.instructions place ≡ Some (instr op.STORE (pos 0) 0 line)
       → IsLike memory.types p.type_number t → ((b : ℕ) → IsBare memory.types b t → n ≡ b)
       → slice_get memory.segments p.segment ≡ Some (Some (record { type_number = type_number; words = words }))
@@ -239,7 +239,7 @@ module _ (declared : Declarations) (G : Image) (place line : ℕ) (below : List 
       let equal : (n == bare_number p.type_number e.bare) ≡ true = same_number n (bare_number p.type_number e.bare) (one (bare_number p.type_number e.bare) e.form) in
       outcome_at G (instr op.STORE (pos 0) 0 line) place (operand.Value n ws ∷ operand.Place p ∷ below) memory trace has ∙ rw (e.stands, stands, equal, taken_there words p.offset (length ws) fits) refl
 
-  structure_ended : (memory : Memory) (trace : Trace) (p : Place) (t : TypeValue) (n : ℕ) (ws : List ℤ) → IsStructured t
+  structure_ended : (memory : MachineMemory) (trace : Trace) (p : Place) (t : TypeValue) (n : ℕ) (ws : List ℤ) → IsStructured t
       → slice_get G.instructions place ≡ Some (instr op.STORE (pos 0) 0 line)
       → IsLike memory.types p.type_number t → slice_get memory.segments p.segment ≡ Some None
       → outcome G (at place (operand.Value n ws ∷ operand.Place p ∷ below) memory trace) ≡ record { weight = length ws; to = Stopped (Error run_error.DISPOSED (unit_in G memory.frames) line) trace }
@@ -256,7 +256,7 @@ module _ (declared : Declarations) (G : Image) (place line : ℕ) (below : List 
 
   -- ---- `Undefine` of many words
 
-  many_undefined : (memory : Memory) (trace : Trace) (p : Place) (t : TypeValue) (type_number : ℕ) (words : List ℤ) → HasManyWords t
+  many_undefined : (memory : MachineMemory) (trace : Trace) (p : Place) (t : TypeValue) (type_number : ℕ) (words : List ℤ) → HasManyWords t
       → slice_get G.instructions place ≡ Some (instr op.UNDEFINE (pos 0) 0 line)
       → IsLike memory.types p.type_number t
       → slice_get memory.segments p.segment ≡ Some (Some (record { type_number = type_number; words = words }))
@@ -277,7 +277,7 @@ module _ (declared : Declarations) (G : Image) (place line : ℕ) (below : List 
 
   -- ---- `Store` of a set
 
-  set_outcome : (memory : Memory) (trace : Trace) (p : Place) (low high : ℤ) (ms : List ℕ) (type_number : ℕ) (words : List ℤ) (b : Bool)
+  set_outcome : (memory : MachineMemory) (trace : Trace) (p : Place) (low high : ℤ) (ms : List ℕ) (type_number : ℕ) (words : List ℤ) (b : Bool)
       → slice_get G.instructions place ≡ Some (instr op.STORE (pos 0) 0 line)
       → IsLike memory.types p.type_number (type.Set low high)
       → slice_get memory.segments p.segment ≡ Some (Some (record { type_number = type_number; words = words }))
@@ -292,7 +292,7 @@ module _ (declared : Declarations) (G : Image) (place line : ℕ) (below : List 
 
   -- ---- variables of many words
 
-  module _ (t : TypeValue) (v : Component) (p : Place) (injection : Injection) (memory : Memory) (spot : IsSpot injection memory.types v p) (described : IsLike memory.types p.type_number t) (s : meaning.State) (matches : Matches declared G injection s memory) (living : has_ended v.allocation s ≡ false) where
+  module _ (t : TypeValue) (v : Component) (p : Place) (injection : Injection) (memory : MachineMemory) (spot : IsSpot injection memory.types v p) (described : IsLike memory.types p.type_number t) (s : meaning.State) (matches : Matches declared G injection s memory) (living : has_ended v.allocation s ≡ false) where
     there : Stands injection s memory v p
     there = place_stands matches spot living
 
@@ -353,7 +353,7 @@ module _ (declared : Declarations) (G : Image) (place line : ℕ) (below : List 
         let r : Represents injection memory.segments memory.types p.segment there.allocation = there.represents in
         puts_value lasts known Undefined (operand.Place p ∷ below) (size_of t) (replicate (size_of t) undefined) (length-replicate (size_of t) undefined) (undefined_hold injection t valid) (many_undefined memory s.trace p t r.type_number r.words many has described r.stands fits_there)
 
-  module _ (low high : ℤ) (ms : List ℕ) (v : Component) (p : Place) (has : slice_get G.instructions place ≡ Some (instr op.STORE (pos 0) 0 line)) (injection : Injection) (memory : Memory) (spot : IsSpot injection memory.types v p) (described : IsLike memory.types p.type_number (type.Set low high)) (s : meaning.State) (matches : Matches declared G injection s memory) (living : has_ended v.allocation s ≡ false) where
+  module _ (low high : ℤ) (ms : List ℕ) (v : Component) (p : Place) (has : slice_get G.instructions place ≡ Some (instr op.STORE (pos 0) 0 line)) (injection : Injection) (memory : MachineMemory) (spot : IsSpot injection memory.types v p) (described : IsLike memory.types p.type_number (type.Set low high)) (s : meaning.State) (matches : Matches declared G injection s memory) (living : has_ended v.allocation s ≡ false) where
     set_type : option_map bare_of (type_at v s) ≡ Some (type.Set low high)
     set_type = structure_type (type.Set low high) v p injection memory spot described s matches living
 
@@ -385,7 +385,7 @@ module _ (declared : Declarations) (G : Image) (place line : ℕ) (below : List 
   -- in a variable that has ended
   pub value_ended : (k : Kind) (t : TypeValue) (r : Result) (o : Operand) (v : Component) (p : Place) → MayTake k t
       → slice_get G.instructions place ≡ Some (instr op.STORE (pos 0) 0 line)
-      → (injection : Injection) (memory : Memory) → IsValueOf injection memory k r o → IsSpot injection memory.types v p
+      → (injection : Injection) (memory : MachineMemory) → IsValueOf injection memory k r o → IsSpot injection memory.types v p
       → IsLike memory.types p.type_number t → (s : meaning.State)
       → Matches declared G injection s memory → has_ended v.allocation s ≡ true
       → FailsWith G (at place (o ∷ operand.Place p ∷ below) memory s.trace) (weight_of r) 11 (unit_in G memory.frames) line s
@@ -414,7 +414,7 @@ module _ (declared : Declarations) (G : Image) (place line : ℕ) (below : List 
   -- a value that the variable may have
   pub value_does : {untouched : Slots} {Here : Facts} (k : Kind) (t : TypeValue) (r : Result) (o : Operand) (v : Component) (p : Place) → MayTake k t
       → slice_get G.instructions place ≡ Some (instr op.STORE (pos 0) 0 line)
-      → (injection : Injection) (memory : Memory) → IsValueOf injection memory k r o → IsSpot injection memory.types v p
+      → (injection : Injection) (memory : MachineMemory) → IsValueOf injection memory k r o → IsSpot injection memory.types v p
       → IsLike memory.types p.type_number t → (s : meaning.State)
       → Matches declared G injection s memory → has_ended v.allocation s ≡ false
       → Lasts untouched Here → Here injection s memory → suits (type_at v s) r ≡ true
@@ -445,7 +445,7 @@ module _ (declared : Declarations) (G : Image) (place line : ℕ) (below : List 
   -- one that it may not have
   pub value_fails : (k : Kind) (t : TypeValue) (r : Result) (o : Operand) (v : Component) (p : Place) → MayTake k t
       → slice_get G.instructions place ≡ Some (instr op.STORE (pos 0) 0 line)
-      → (injection : Injection) (memory : Memory) → IsValueOf injection memory k r o → IsSpot injection memory.types v p
+      → (injection : Injection) (memory : MachineMemory) → IsValueOf injection memory k r o → IsSpot injection memory.types v p
       → IsLike memory.types p.type_number t → (s : meaning.State)
       → Matches declared G injection s memory → has_ended v.allocation s ≡ false → suits (type_at v s) r ≡ false
       → FailsWith G (at place (o ∷ operand.Place p ∷ below) memory s.trace) (weight_of r) (misfit r) (unit_in G memory.frames) line s
@@ -474,7 +474,7 @@ module _ (declared : Declarations) (G : Image) (place line : ℕ) (below : List 
       absurd (let e : true ≡ false = sym yes ∙ fits in cc)
 
   -- `Undefine` of a variable of an ordinal type
-  undefine_outcome : (memory : Memory) (trace : Trace) (p : Place) (low high : ℤ) (type_number : ℕ) (words : List ℤ) (w : ℤ)
+  undefine_outcome : (memory : MachineMemory) (trace : Trace) (p : Place) (low high : ℤ) (type_number : ℕ) (words : List ℤ) (w : ℤ)
       → slice_get G.instructions place ≡ Some (instr op.UNDEFINE (pos 0) 0 line)
       → IsLike memory.types p.type_number (type.Ordinal low high)
       → slice_get memory.segments p.segment ≡ Some (Some (record { type_number = type_number; words = words }))
@@ -487,7 +487,7 @@ module _ (declared : Declarations) (G : Image) (place line : ℕ) (below : List 
   -- `Undefine` of a variable that has ended
   pub undefine_fails_ended : (low high : ℤ) (v : Component) (p : Place)
       → slice_get G.instructions place ≡ Some (instr op.UNDEFINE (pos 0) 0 line)
-      → (injection : Injection) (memory : Memory) → IsSpot injection memory.types v p
+      → (injection : Injection) (memory : MachineMemory) → IsSpot injection memory.types v p
       → IsLike memory.types p.type_number (type.Ordinal low high) → (s : meaning.State)
       → Matches declared G injection s memory → has_ended v.allocation s ≡ true
       → FailsWith G (at place (operand.Place p ∷ below) memory s.trace) 1 11 (unit_in G memory.frames) line s
@@ -498,7 +498,7 @@ module _ (declared : Declarations) (G : Image) (place line : ℕ) (below : List 
   -- it is undefined then on both sides
   pub undefine_does : {untouched : Slots} {Here : Facts} (low high : ℤ) (v : Component) (p : Place)
       → slice_get G.instructions place ≡ Some (instr op.UNDEFINE (pos 0) 0 line)
-      → (injection : Injection) (memory : Memory) → IsSpot injection memory.types v p
+      → (injection : Injection) (memory : MachineMemory) → IsSpot injection memory.types v p
       → IsLike memory.types p.type_number (type.Ordinal low high) → (s : meaning.State)
       → Matches declared G injection s memory → has_ended v.allocation s ≡ false
       → Lasts untouched Here → Here injection s memory
@@ -523,7 +523,7 @@ module _ (declared : Declarations) (G : Image) (place line : ℕ) (below : List 
   -- so is one of any type that is none of a file
   pub undefine_does_any : {untouched : Slots} {Here : Facts} (t : TypeValue) (v : Component) (p : Place) → IsTypeValue t
       → slice_get G.instructions place ≡ Some (instr op.UNDEFINE (pos 0) 0 line)
-      → (injection : Injection) (memory : Memory) → IsSpot injection memory.types v p
+      → (injection : Injection) (memory : MachineMemory) → IsSpot injection memory.types v p
       → IsLike memory.types p.type_number t → (s : meaning.State)
       → Matches declared G injection s memory → has_ended v.allocation s ≡ false
       → Lasts untouched Here → Here injection s memory

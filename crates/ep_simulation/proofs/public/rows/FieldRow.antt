@@ -5,7 +5,7 @@ use Rattle.std.proofs.lemmas.Bool.Decides.{nat_tests}
 use Rattle.std.proofs.lemmas.Option.{same_Some}
 use Rattle.ep_object.specs.Effects.{provided, Continues}
 use Rattle.ep_simulation.specs.Follows.{Facts, PlaceOnTop, Inside}
-use Rattle.ep_simulation.specs.Matching.{Memory, at, Injection, Part, part_along, part_among, part_behind, all_of, IsSpot, IsLike, Represents, Matches, Slots}
+use Rattle.ep_simulation.specs.Matching.{MachineMemory, at, Injection, Part, part_along, part_among, part_behind, all_of, IsSpot, IsLike, Represents, Matches, Slots}
 use Rattle.ep_object.specs.Operands.{Operand}
 use Rattle.ep_object.specs.Operands as operand
 use Rattle.ep_object.specs.Places as row
@@ -59,14 +59,14 @@ part_entered types before (p ∷ ps) (type.next_component t ts) (suc k) part h i
     let x = part_entered types (before + size_of t) ps ts k part h.2 is in record { entered = x.entered; is = x.is; offset = x.offset; described = x.described }
 
 -- the place of a component of a variable, to which an instruction leads that pops the place of the variable, where that lives
-pub record LeadsTo (declared : Declarations) (G : Image) (place : ℕ) (below : List Operand) (k : ℕ) (of : TypeValue) (v : Component) (p : Place) (injection : Injection) (memory : Memory) : Type 0 where
+pub record LeadsTo (declared : Declarations) (G : Image) (place : ℕ) (below : List Operand) (k : ℕ) (of : TypeValue) (v : Component) (p : Place) (injection : Injection) (memory : MachineMemory) : Type 0 where
   pub its_place : Place
   pub spot : IsSpot injection memory.types (component v k) its_place
   pub described : IsLike memory.types its_place.type_number of
   pub leads : (s : meaning.State) → Matches declared G injection s memory → has_ended v.allocation s ≡ false
       → outcome G (at place (operand.Place p ∷ below) memory s.trace) ≡ record { weight = 0; to = Running 0 (at (place + 1) (operand.Place its_place ∷ below) memory s.trace) }
 
-module _ (declared : Declarations) (G : Image) (place line : ℕ) (below : List Operand) (ts : ComponentTypes) (k : ℕ) (of : TypeValue) (v : Component) (p : Place) (has : slice_get G.instructions place ≡ Some (instr op.FIELD (pos k) 0 line)) (injection : Injection) (memory : Memory) (spot : IsSpot injection memory.types v p) (described : IsLike memory.types p.type_number (type.Record ts)) (among : IsAmong 0 ts k of) where
+module _ (declared : Declarations) (G : Image) (place line : ℕ) (below : List Operand) (ts : ComponentTypes) (k : ℕ) (of : TypeValue) (v : Component) (p : Place) (has : slice_get G.instructions place ≡ Some (instr op.FIELD (pos k) 0 line)) (injection : Injection) (memory : MachineMemory) (spot : IsSpot injection memory.types v p) (described : IsLike memory.types p.type_number (type.Record ts)) (among : IsAmong 0 ts k of) where
   -- the entry of its type
   pub fields : LikeRecord memory.types p.type_number ts
   fields = like_record memory.types p.type_number ts described

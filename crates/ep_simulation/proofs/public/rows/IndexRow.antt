@@ -4,7 +4,7 @@ use Rattle.ep_simulation.proofs.matching.Likes.{LikeArray, like_array, like_one,
 use Rattle.std.proofs.lemmas.Bool.Decides.{nat_tests}
 use Rattle.ep_object.specs.Effects.{provided, Continues}
 use Rattle.ep_simulation.specs.Follows.{Facts, PlaceOnTop, Inside}
-use Rattle.ep_simulation.specs.Matching.{Memory, at, Injection, part_along, part_behind, all_of, IsSpot, Represents, Matches, Slots, IsLike}
+use Rattle.ep_simulation.specs.Matching.{MachineMemory, at, Injection, part_along, part_behind, all_of, IsSpot, Represents, Matches, Slots, IsLike}
 use Rattle.ep_object.specs.Operands.{Operand, Word}
 use Rattle.ep_object.specs.Operands as operand
 use Rattle.ep_object.specs.Places.{component_of}
@@ -40,7 +40,7 @@ is_within_count n (Some j) k h = go (ltb j n) refl h
     go true e found = let less : j < n = grind (arith, nat_tests) in let same : j ≡ k = cc in subst (λ i. i < n) same less
     go false e found = cc
 
-module _ (declared : Declarations) (G : Image) (place line : ℕ) (below : List Operand) (low high : ℤ) (of : TypeValue) (z : ℤ) (v : Component) (p : Place) (has : slice_get G.instructions place ≡ Some (instr op.INDEX (pos 0) 0 line)) (injection : Injection) (memory : Memory) (spot : IsSpot injection memory.types v p) (described : IsLike memory.types p.type_number (type.Array low high of)) where
+module _ (declared : Declarations) (G : Image) (place line : ℕ) (below : List Operand) (low high : ℤ) (of : TypeValue) (z : ℤ) (v : Component) (p : Place) (has : slice_get G.instructions place ≡ Some (instr op.INDEX (pos 0) 0 line)) (injection : Injection) (memory : MachineMemory) (spot : IsSpot injection memory.types v p) (described : IsLike memory.types p.type_number (type.Array low high of)) where
   -- the entry of its type
   pub array : LikeArray memory.types p.type_number low high of
   array = like_array memory.types p.type_number low high of described

@@ -4,7 +4,7 @@ use Rattle.std.specs.Prelude.{◌==◌, if◌then◌else◌}
 use Rattle.std.proofs.lemmas.Bool.Decides.{nat_tests}
 use Rattle.ep_object.specs.Effects.{Continues, Effect, Fails, Work, having_weighed, mapped}
 use Rattle.ep_simulation.specs.Follows.{Facts, Fragment, Inside, IsStructure, Lasts, point, TypeOnTop}
-use Rattle.ep_simulation.specs.Matching.{Describes, Injection, IsBare, Matches, MatchesTypes, Memory, Slots, at}
+use Rattle.ep_simulation.specs.Matching.{Describes, Injection, IsBare, Matches, MatchesTypes, MachineMemory, Slots, at}
 use Rattle.ep_object.specs.Operands.{Operand, Word, weight}
 use Rattle.ep_object.specs.Operands as operand
 use Rattle.ep_object.specs.Runs.{Outcome, after, outcome, outcome_of, unit_in}
@@ -110,7 +110,7 @@ module _ (types : TypeTable) (number : ℕ) (of : TypeValue) where
       (λ i. words_for (k_is i) bare (operand.Value own words)) ∙ ap (λ b. cond b (Continues words) (Fails run_error.TUPLES_DIFFER)) equal
 
   -- an array or a record, of that type
-  pub value_begins : {elaborated : List TypeValue} (injection : Injection) (memory : Memory) (t : TypeValue) (r : Result) (x : Operand) → memory.types ≡ types → MatchesTypes elaborated types
+  pub value_begins : {elaborated : List TypeValue} (injection : Injection) (memory : MachineMemory) (t : TypeValue) (r : Result) (x : Operand) → memory.types ≡ types → MatchesTypes elaborated types
       → bare_of of ≡ t → IsStructured t → IsTypeValue t → IsStructure t r injection memory x → MayBegin types number of r x
   value_begins injection memory t r x table matches over structured valid v d =
       let words = value_words injection t v.value v.words valid v.sized v.holds in
@@ -139,7 +139,7 @@ module _ (declared : Declarations) (G : Image) (place line : ℕ) (below : List 
   operands = x ∷ Word (pos number) ∷ below
 
   -- `TInit`, over the number of a type and a value that no variable of it may have
-  pub init_fails : (memory : Memory) (s : meaning.State) → (d : Describes memory.types number of) → IsTried memory.types number of d.kind d.bare r x → suits (Some of) r ≡ false
+  pub init_fails : (memory : MachineMemory) (s : meaning.State) → (d : Describes memory.types number of) → IsTried memory.types number of d.kind d.bare r x → suits (Some of) r ≡ false
       → FailsWith G (at place operands memory s.trace) (weight x) (misfit r) (unit_in G memory.frames) line s
   init_fails memory s d tried outside =
       record {
@@ -165,7 +165,7 @@ module _ (declared : Declarations) (G : Image) (place line : ℕ) (below : List 
       words_to w = led (initial_as (record { number = number; entry = entry_as of d.kind d.bare }) (weight x) w below (typing k))
 
   -- It follows what gives a type its initial state: the type with that, where a variable could be assigned it, and else the error.
-  pub init_follows : {untouched : Slots} {Here : Facts} (call : Handler) (g : ℕ) (unit : List ℕ) → Lasts untouched Here → (injection : Injection) (memory : Memory) → unit_in G memory.frames ≡ unit
+  pub init_follows : {untouched : Slots} {Here : Facts} (call : Handler) (g : ℕ) (unit : List ℕ) → Lasts untouched Here → (injection : Injection) (memory : MachineMemory) → unit_in G memory.frames ≡ unit
       → (d : Describes memory.types number of) → AreStarts of → (start : Start) → start_from r ≡ Some start
       → ((s : meaning.State) → Matches declared G injection s memory → IsTried memory.types number of d.kind d.bare r x) → (n credit : ℕ) → suc (weight x + size_of of) ≤ credit
       → Fragment declared G Here n (point injection memory place operands) (begins_where call g unit line of r (start_from r)) (place + 1)

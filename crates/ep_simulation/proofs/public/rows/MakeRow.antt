@@ -4,7 +4,7 @@ use Rattle.std.proofs.lemmas.Bool.Decides.{nat_tests}
 use Rattle.std.proofs.lemmas.Bool.{lt-ltb}
 use native.Mathlib.Decide.{ℕ_discrete}
 use Rattle.ep_simulation.specs.Follows.{GivesUp, Facts, Lasts, Bare, Inside}
-use Rattle.ep_simulation.specs.Matching.{Memory, at, Injection, Describes, Slots, slot_of_frame, slot_in, MatchesFrame, HasType, Matches}
+use Rattle.ep_simulation.specs.Matching.{MachineMemory, at, Injection, Describes, Slots, slot_of_frame, slot_in, MatchesFrame, HasType, Matches}
 use Rattle.ep_object.specs.Operands.{Operand, Word}
 use Rattle.ep_object.specs.Placing.{HasDistinctNames}
 use Rattle.ep_object.specs.Runs.{outcome, unit_in}
@@ -40,7 +40,7 @@ pub record RunsInUnit (G : Image) (frames : Frames) (x : ImageUnit) : Type 0 whe
   pub unit : slice_get G.units frames.unit ≡ Some x
 
 -- what `Make` leads to: one more variable, or an error where too many words would live
-make_outcome : (G : Image) (place line : ℕ) (below : List Operand) (t : TypeValue) (number k : ℕ) (slots : List (Option Place)) (memory : Memory) (trace : Trace) (b : Bool)
+make_outcome : (G : Image) (place line : ℕ) (below : List Operand) (t : TypeValue) (number k : ℕ) (slots : List (Option Place)) (memory : MachineMemory) (trace : Trace) (b : Bool)
     → slice_get G.instructions place ≡ Some (instr op.MAKE (pos k) 0 line)
     → memory.frames.calls ≡ [] → slice_get memory.frames.units memory.frames.unit ≡ Some slots
     → Describes memory.types number t → AreStarts t → k < length slots
@@ -58,7 +58,7 @@ pub make_does : {untouched : Slots} {Here : Facts} (declared : Declarations) (G 
     → slice_get G.instructions place ≡ Some (instr op.MAKE (pos k) 0 line)
     → HasDistinctNames G → IsTypeValue t → AreStarts t
     → ((v : UnitVariable) → declared.variables x.name k ≡ Some v → HasType declared x.name v (bare_of t))
-    → (injection : Injection) (memory : Memory) (s : meaning.State)
+    → (injection : Injection) (memory : MachineMemory) (s : meaning.State)
     → RunsInUnit G memory.frames x → k < x.slots
     → (IsTrue (untouched.of_units memory.frames.unit k) → ⊥)
     → Describes memory.types number t → Lasts untouched Here

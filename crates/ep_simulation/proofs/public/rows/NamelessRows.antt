@@ -6,7 +6,7 @@ use Rattle.std.proofs.lemmas.Bool.{lt-ltb}
 use Rattle.std.proofs.lemmas.Option.{slice_get_within}
 use Rattle.ep_object.specs.Calls.{words_in, words_of}
 use Rattle.ep_simulation.specs.Follows.{Facts, GivesUp, Inside, Lasts}
-use Rattle.ep_simulation.specs.Matching.{Describes, Injection, IsIn, IsOf, Mapped, Matches, Memory, Slots, at}
+use Rattle.ep_simulation.specs.Matching.{Describes, Injection, IsIn, IsOf, Mapped, Matches, MachineMemory, Slots, at}
 use Rattle.ep_object.specs.Operands.{Operand, Word}
 use Rattle.ep_object.specs.Operands as operand
 use Rattle.ep_object.specs.Pointers.{is_standard, whole as place_of_whole}
@@ -39,7 +39,7 @@ use Rattle.ep_meaning.specs.Valid.{Declarations, IsTypeValue}
 use Rattle.ep_values.specs.declared.run_error.TheConstants as run_error
 
 -- the number of a segment is on top, in which the variable without a name with this number is, of the type; it is no file
-pub record NamelessOnTop (t : TypeValue) (below : List Operand) (n : ℕ) (injection : Injection) (memory : Memory)
+pub record NamelessOnTop (t : TypeValue) (below : List Operand) (n : ℕ) (injection : Injection) (memory : MachineMemory)
     (operands : List Operand) : Type 0 where
   pub segment : ℕ
   pub is : operands ≡ Word (pos segment) ∷ below
@@ -54,7 +54,7 @@ pub record NamelessOnTop (t : TypeValue) (below : List Operand) (n : ℕ) (injec
 -- ---- `New`
 
 -- what it leads to: one more variable, or an error where too many words would live
-new_outcome : (G : Image) (place line : ℕ) (below : List Operand) (t : TypeValue) (number : ℕ) (memory : Memory) (trace : Trace) (b : Bool)
+new_outcome : (G : Image) (place line : ℕ) (below : List Operand) (t : TypeValue) (number : ℕ) (memory : MachineMemory) (trace : Trace) (b : Bool)
     → slice_get G.instructions place ≡ Some (instr op.NEW (pos 0) 0 line)
     → Describes memory.types number t → AreStarts t
     → leb (memory.live + (size_of t + 1)) live_limit ≡ b
@@ -66,11 +66,11 @@ new_outcome G place line below t number memory trace false has described starts 
     let entry = has_entry memory.types number t described in
     outcome_at G (instr op.NEW (pos 0) 0 line) place (Word (pos number) ∷ below) memory trace has ∙ rw (lt-ltb number (length memory.types) (described_within memory.types number t described), entry.is, begun_words t, size_is t starts, fits) refl
 
-module _ {declared : Declarations} {G : Image} {injection : Injection} {s : meaning.State} {memory : Memory} (h : Matches declared G injection s memory) (t : TypeValue) (number : ℕ) (described : Describes memory.types number t) (valid : IsTypeValue t) (starts : AreStarts t) where
+module _ {declared : Declarations} {G : Image} {injection : Injection} {s : meaning.State} {memory : MachineMemory} (h : Matches declared G injection s memory) (t : TypeValue) (number : ℕ) (described : Describes memory.types number t) (valid : IsTypeValue t) (starts : AreStarts t) where
   abbrev longer : Injection
   longer = with_segment t injection memory
 
-  abbrev later : Memory
+  abbrev later : MachineMemory
   later = with_variable t number memory.frames memory
 
   -- the machine goes on matching
@@ -158,7 +158,7 @@ defined n = refl
 
 -- the place of all of a segment that lives
 pub deref_pushes : (G : Image) (place line : ℕ) (below : List Operand) (segment : ℕ) (x : Segment) → slice_get G.instructions place ≡ Some (instr op.DEREF (pos 0) 0 line) → 2 < segment
-    → (memory : Memory) (trace : Trace) → slice_get memory.segments segment ≡ Some (Some x)
+    → (memory : MachineMemory) (trace : Trace) → slice_get memory.segments segment ≡ Some (Some x)
     → outcome G (at place (Word (pos segment) ∷ below) memory trace) ≡ in_one (Running 0 (at (place + 1) (operand.Place (place_of_whole segment x) ∷ below) memory trace))
 deref_pushes G place line below zero x has above memory trace lives = absurd (omega (arith, above))
 deref_pushes G place line below (suc segment) x has above memory trace lives =
@@ -172,7 +172,7 @@ not_standard : (segment : ℕ) → 2 < segment → not (is_standard segment) ≡
 not_standard segment above = grind (arith, nat_tests, above)
 
 pub dispose_outcome : (G : Image) (place line : ℕ) (below : List Operand) (segment : ℕ) (x : Segment) → slice_get G.instructions place ≡ Some (instr op.DISPOSE (pos 0) 0 line) → 2 < segment
-    → (memory : Memory) (trace : Trace) → slice_get memory.segments segment ≡ Some (Some x)
+    → (memory : MachineMemory) (trace : Trace) → slice_get memory.segments segment ≡ Some (Some x)
     → outcome G (at place (Word (pos segment) ∷ below) memory trace) ≡ in_one (Running 0 (at (place + 1) below (record memory { segments = slice_set memory.segments segment None; live = memory.live - (length x.words + 1) }) trace))
 dispose_outcome G place line below zero x has above memory trace lives = absurd (omega (arith, above))
 dispose_outcome G place line below (suc segment) x has above memory trace lives =
@@ -180,7 +180,7 @@ dispose_outcome G place line below (suc segment) x has above memory trace lives 
     outcome_at G (instr op.DISPOSE (pos 0) 0 line) place (Word (pos (suc segment)) ∷ below) memory trace has ∙ rw (lt-ltb (suc segment) (length memory.segments) within, lives, not_standard (suc segment) above) refl
 
 -- whether room is lost by the depth plays no part in matching
-pub matches_depth : {declared : Declarations} {G : Image} {injection : Injection} {s : meaning.State} {memory : Memory} → Matches declared G injection s memory → Matches declared G injection (with_depth s) memory
+pub matches_depth : {declared : Declarations} {G : Image} {injection : Injection} {s : meaning.State} {memory : MachineMemory} → Matches declared G injection s memory → Matches declared G injection (with_depth s) memory
 matches_depth h =
     let c = h.counts in
     record { injected = h.injected; store = h.store; types = h.types; units = h.units; outside = h.outside; counts = record { words = c.words; hidden = c.hidden; number = c.number }; depth = h.depth }
@@ -188,7 +188,7 @@ matches_depth h =
 -- The variable ends, whose segment lives and is on top.
 pub dispose_does : {untouched : Slots} {Here : Facts} (declared : Declarations) (G : Image) (place line : ℕ) (below : List Operand) (n segment : ℕ) (x : Segment)
     → slice_get G.instructions place ≡ Some (instr op.DISPOSE (pos 0) 0 line) → 2 < n → 2 < segment
-    → (injection : Injection) (memory : Memory) (s : meaning.State) → IsIn injection n segment → slice_get memory.segments segment ≡ Some (Some x)
+    → (injection : Injection) (memory : MachineMemory) (s : meaning.State) → IsIn injection n segment → slice_get memory.segments segment ≡ Some (Some x)
     → Lasts untouched Here → Matches declared G injection s memory → Here injection s memory
     → Does declared G Here (at place (Word (pos segment) ∷ below) memory s.trace) 0 (place + 1) (Inside untouched injection memory (λ longer after operands. operands ≡ below)) (with_all_ended (n ∷ []) s)
 dispose_does {untouched = untouched} declared G place line below n segment x has numbered above injection memory s is_in lives lasts matches known =

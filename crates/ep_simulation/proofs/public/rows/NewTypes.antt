@@ -10,7 +10,7 @@ use Rattle.std.specs.Prelude.{int_le, ⊤, is_some, option_map, ◌||◌}
 use Rattle.std.proofs.lemmas.Bool.{lt-ltb}
 use Rattle.std.proofs.lemmas.Bool.Decides.{nat_tests}
 use Rattle.std.proofs.lemmas.Option.{slice_get_within, same_Some}
-use Rattle.ep_simulation.specs.Matching.{Memory, at, Injection, AreBare, AreEntries, Describes, MatchesCounts, Matches, Slots, own_slot, Grown, HasSize, IsBare, IsKindOf, IsLike, HaveSize}
+use Rattle.ep_simulation.specs.Matching.{MachineMemory, at, Injection, AreBare, AreEntries, Describes, MatchesCounts, Matches, Slots, own_slot, Grown, HasSize, IsBare, IsKindOf, IsLike, HaveSize}
 use Rattle.ep_simulation.specs.Follows.{GivesUp, SameRoutine, Facts, Lasts, Inside, TypeOnTop}
 use Rattle.ep_object.specs.Operands.{Operand, Word, weight}
 use Rattle.ep_object.specs.Runs.{Outcome, outcome, outcome_of, after}
@@ -41,10 +41,10 @@ use Rattle.ep_simulation.proofs.matching.Counts.{met_large, live_bounded}
 
 -- what a row on types leads to: the type's number on top, and the state that has met the type
 pub record Elaborates (untouched : Slots) (declared : Declarations) (G : Image) (injection : Injection)
-    (memory : Memory) (weight place : ℕ) (below : List Operand) (t : TypeValue) (k : State)
+    (memory : MachineMemory) (weight place : ℕ) (below : List Operand) (t : TypeValue) (k : State)
     (s : meaning.State) : Type 0 where
   pub number : ℕ
-  pub final : Memory
+  pub final : MachineMemory
   pub does : outcome G k ≡ record { weight = weight; to = Running 0 (at (place + 1) (Word (pos number) ∷ below) final s.trace) }
   pub matches : Matches declared G injection (meaning.with_type t s) final
   pub described : Describes final.types number t
@@ -53,7 +53,7 @@ pub record Elaborates (untouched : Slots) (declared : Declarations) (G : Image) 
   pub own : (k : ℕ) → own_slot final.frames k ≡ own_slot memory.frames k
 
 -- an instruction whose effect this is, which makes a type or has no room for it
-elaborates : {untouched : Slots} {declared : Declarations} {G : Image} {injection : Injection} {memory : Memory} (weight place : ℕ) (i : Instr) (operands below : List Operand) (t : TypeValue) (effect : Effect Typing) (s : meaning.State)
+elaborates : {untouched : Slots} {declared : Declarations} {G : Image} {injection : Injection} {memory : MachineMemory} (weight place : ℕ) (i : Instr) (operands below : List Operand) (t : TypeValue) (effect : Effect Typing) (s : meaning.State)
     → outcome G (at place operands memory s.trace) ≡ record { weight = weight; to = after G i (at place operands memory s.trace) (mapped (with_typing (at place operands memory s.trace)) effect) }
     → Matches declared G injection s memory
     → Interns t s.resources below (typing (at place operands memory s.trace)) effect ⊎ IsFull t s.resources effect
@@ -81,17 +81,17 @@ module _ {injection : Injection} {r : Resources} {segments : Segments} {types : 
   bounded = live_bounded c
 
 -- what an instruction of a weight does that makes the type, or ends for want of storage
-abbrev pub MakesBy : ℕ → Slots → Declarations → Image → Facts → ℕ → List Operand → List Operand → TypeValue → Injection → Memory → meaning.State → Type 0
+abbrev pub MakesBy : ℕ → Slots → Declarations → Image → Facts → ℕ → List Operand → List Operand → TypeValue → Injection → MachineMemory → meaning.State → Type 0
 MakesBy weight untouched declared G Here place operands below t injection memory s =
     Does declared G Here (at place operands memory s.trace) weight (place + 1) (Inside untouched injection memory (TypeOnTop (bare_of t) below t)) (with_type t s)
     ⊎ GivesUp G (at place operands memory s.trace) 0 (suc weight) (with_type t s)
 
 -- one without weight
-abbrev pub Makes : Slots → Declarations → Image → Facts → ℕ → List Operand → List Operand → TypeValue → Injection → Memory → meaning.State → Type 0
+abbrev pub Makes : Slots → Declarations → Image → Facts → ℕ → List Operand → List Operand → TypeValue → Injection → MachineMemory → meaning.State → Type 0
 Makes = MakesBy 0
 
 elaborated : {untouched : Slots} {Here : Facts} {declared : Declarations} {G : Image} {weight place : ℕ} {operands below : List Operand} {t : TypeValue}
-    → AreStarts t → Lasts untouched Here → (injection : Injection) (memory : Memory) (s : meaning.State) → Here injection s memory
+    → AreStarts t → Lasts untouched Here → (injection : Injection) (memory : MachineMemory) (s : meaning.State) → Here injection s memory
     → Elaborates untouched declared G injection memory weight place below t (at place operands memory s.trace) s ⊎ GivesUp G (at place operands memory s.trace) 0 (suc weight) (with_type t s)
     → MakesBy weight untouched declared G Here place operands below t injection memory s
 elaborated {below = below} {t = t} starts lasts injection memory s known (inl x) =
@@ -109,7 +109,7 @@ elaborated starts lasts injection memory s known (inr x) = inr x
 -- `TOrd`, over its bounds
 pub ord_does : {untouched : Slots} {Here : Facts} (declared : Declarations) (G : Image) (place line : ℕ) (below : List Operand) (low high : ℤ)
     → IsTrue (int_le low high) → slice_get G.instructions place ≡ Some (instr op.T_ORD (pos 0) 0 line)
-    → Lasts untouched Here → (injection : Injection) (memory : Memory) (s : meaning.State)
+    → Lasts untouched Here → (injection : Injection) (memory : MachineMemory) (s : meaning.State)
     → Matches declared G injection s memory → Here injection s memory
     → Makes untouched declared G Here place (Word high ∷ Word low ∷ below) below (type.Ordinal low high) injection memory s
 ord_does declared G place line below low high ordered has lasts injection memory s matches known =
@@ -138,7 +138,7 @@ array_begins low high of = go (is_started of)
 -- `TArr`, over the numbers of its index type, whatever that begins with, and the type of its components
 pub arr_does : {untouched : Slots} {Here : Facts} (declared : Declarations) (G : Image) (place line : ℕ) (below : List Operand) (low high : ℤ) (of : TypeValue) (index component : ℕ)
     → slice_get G.instructions place ≡ Some (instr op.T_ARR (pos 0) 0 line)
-    → Lasts untouched Here → (injection : Injection) (memory : Memory) (s : meaning.State)
+    → Lasts untouched Here → (injection : Injection) (memory : MachineMemory) (s : meaning.State)
     → IsLike memory.types index (type.Ordinal low high) → Describes memory.types component of → AreStarts of
     → Matches declared G injection s memory → Here injection s memory
     → Makes untouched declared G Here place (Word (pos component) ∷ Word (pos index) ∷ below) below (type.Array low high of) injection memory s
@@ -208,7 +208,7 @@ arr_does {untouched = untouched} {Here = Here} declared G place line below low h
 pub set_does : {untouched : Slots} {Here : Facts} (declared : Declarations) (G : Image) (place line : ℕ) (below : List Operand) (low high : ℤ) (base : ℕ)
     → IsTrue (is_ordinal low) → IsTrue (is_ordinal high)
     → slice_get G.instructions place ≡ Some (instr op.T_SET (pos 0) 0 line)
-    → Lasts untouched Here → (injection : Injection) (memory : Memory) (s : meaning.State)
+    → Lasts untouched Here → (injection : Injection) (memory : MachineMemory) (s : meaning.State)
     → IsLike memory.types base (type.Ordinal low high)
     → Matches declared G injection s memory → Here injection s memory
     → Makes untouched declared G Here place (Word (pos base) ∷ below) below (type.Set low high) injection memory s
@@ -303,7 +303,7 @@ entered types before (n ∷ ns) (type.next_component t ts) h =
 -- `TRec`, over the numbers of the types of its components
 pub rec_does : {untouched : Slots} {Here : Facts} (declared : Declarations) (G : Image) (place line : ℕ) (below : List Operand) (ns : List ℕ) (ts : ComponentTypes)
     → slice_get G.instructions place ≡ Some (instr op.T_REC (pos (length ns)) 0 line)
-    → Lasts untouched Here → (injection : Injection) (memory : Memory) (s : meaning.State)
+    → Lasts untouched Here → (injection : Injection) (memory : MachineMemory) (s : meaning.State)
     → AreDescribed memory.types ns ts → AreStartsOfEach ts → Matches declared G injection s memory → Here injection s memory
     → MakesBy (length ns) untouched declared G Here place (stacked ns below) below (type.Record ts) injection memory s
 rec_does {untouched = untouched} {Here = Here} declared G place line below ns ts has lasts injection memory s described starts matches known =
@@ -392,7 +392,7 @@ rec_does {untouched = untouched} {Here = Here} declared G place line below ns ts
 -- `TInit`, over the number of a type and a value whose words a variable of it may begin with
 pub init_does : {untouched : Slots} {Here : Facts} (declared : Declarations) (G : Image) (place line : ℕ) (below : List Operand) (of : TypeValue) (start : Start) (number : ℕ) (x : Operand)
     → slice_get G.instructions place ≡ Some (instr op.T_INIT (pos 0) 0 line)
-    → Lasts untouched Here → (injection : Injection) (memory : Memory) (s : meaning.State)
+    → Lasts untouched Here → (injection : Injection) (memory : MachineMemory) (s : meaning.State)
     → (d : Describes memory.types number of) → AreStarts of → IsStartOf of start → words_for d.kind (bare_number number d.bare) x ≡ Continues (words_of_start start)
     → Matches declared G injection s memory → Here injection s memory
     → MakesBy (weight x + size_of of) untouched declared G Here place (x ∷ Word (pos number) ∷ below) below (type.Initial of start) injection memory s

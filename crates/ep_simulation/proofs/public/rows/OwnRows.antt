@@ -7,7 +7,7 @@ use Rattle.std.proofs.lemmas.Bool.{lt-ltb}
 use Rattle.std.proofs.lemmas.Option.{slice_get_within}
 use Rattle.ep_simulation.specs.Activations.{OwnSlot, LevelMatches, InActivation}
 use Rattle.ep_simulation.specs.Follows.{GivesUp, Facts, IsStillCall, StillRuns, Inside, PlaceOnTop}
-use Rattle.ep_simulation.specs.Matching.{Memory, at, Injection, IsSpot, Grown, Describes, Slots, own_slot, slot_of_frame, MatchesSlot, HasOwnType, Matches, IsLike}
+use Rattle.ep_simulation.specs.Matching.{MachineMemory, at, Injection, IsSpot, Grown, Describes, Slots, own_slot, slot_of_frame, MatchesSlot, HasOwnType, Matches, IsLike}
 use Rattle.ep_object.specs.Operands.{Operand, Word}
 use Rattle.ep_object.specs.Operands as operand
 use Rattle.ep_object.specs.Frames.{slots_over, slots_up}
@@ -40,13 +40,13 @@ use Rattle.ep_object.specs.declared.op.TheConstants as op
 use Rattle.ep_values.specs.declared.run_error.TheConstants as run_error
 
 -- a slot of the innermost call is one of its frame
-pub record InFrame (memory : Memory) (k : ℕ) (slot : Option Place) : Type 0 where
+pub record InFrame (memory : MachineMemory) (k : ℕ) (slot : Option Place) : Type 0 where
   pub frame : Frame
   pub below : List Frame
   pub frames : memory.frames.calls ≡ frame ∷ below
   pub holds : slice_get frame.slots k ≡ Some slot
 
-pub in_frame : (memory : Memory) (k : ℕ) (slot : Option Place) → own_slot memory.frames k ≡ Some slot → InFrame memory k slot
+pub in_frame : (memory : MachineMemory) (k : ℕ) (slot : Option Place) → own_slot memory.frames k ≡ Some slot → InFrame memory k slot
 in_frame memory k slot h = go memory.frames.calls refl h
   where
     go : (calls : List Frame) → memory.frames.calls ≡ calls → slot_of_frame (slots_over calls None) k ≡ Some slot → InFrame memory k slot
@@ -58,7 +58,7 @@ in_frame memory k slot h = go memory.frames.calls refl h
 -- `Slot` of a variable of the routine
 pub own_reads : {untouched : Slots} {Here : Facts} (declared : Declarations) (G : Image) (place line : ℕ) (below : List Operand) (k : ℕ) (v : UnitVariable) (t : TypeValue)
     → slice_get G.instructions place ≡ Some (instr op.SLOT (pos k) 0 line) → HasOwnType declared v t
-    → (injection : Injection) (memory : Memory) (s : meaning.State) → Matches declared G injection s memory
+    → (injection : Injection) (memory : MachineMemory) (s : meaning.State) → Matches declared G injection s memory
     → OwnSlot declared injection s memory k v → Here injection s memory
     → Reads declared G Here (at place below memory s.trace) 1 (unit_in G memory.frames) line (place + 1) (λ n. Inside untouched injection memory (PlaceOnTop t below n)) s (own_variable 0 k s)
 own_reads {untouched = untouched} {Here = Here} declared G place line below k v t has has_type injection memory s matches own known =
@@ -87,7 +87,7 @@ own_reads {untouched = untouched} {Here = Here} declared G place line below k v 
 -- `Slot` of a variable of a routine around
 pub level_reads : {untouched : Slots} {Here : Facts} (declared : Declarations) (G : Image) (place line : ℕ) (below : List Operand) (up k : ℕ) (level : Level) (v : UnitVariable) (t : TypeValue)
     → slice_get G.instructions place ≡ Some (instr op.SLOT (pos k) up line) → HasOwnType declared v t → slice_get level.variables k ≡ Some v
-    → (injection : Injection) (memory : Memory) (s : meaning.State) → Matches declared G injection s memory
+    → (injection : Injection) (memory : MachineMemory) (s : meaning.State) → Matches declared G injection s memory
     → LevelMatches declared.routine_types level injection s.calls memory up → Here injection s memory
     → Reads declared G Here (at place below memory s.trace) 1 (unit_in G memory.frames) line (place + 1) (λ n. Inside untouched injection memory (PlaceOnTop t below n)) s (own_variable up k s)
 level_reads {untouched = untouched} {Here = Here} declared G place line below up k level v t has has_type its injection memory s matches l known =
@@ -117,13 +117,13 @@ level_reads {untouched = untouched} {Here = Here} declared G place line below up
 -- ---- `Make`
 
 -- the routine still runs since then, and the operands are these
-pub record StillBare (before : Memory) (below : List Operand) (injection : Injection) (memory : Memory) (operands : List Operand) : Type 0 where
+pub record StillBare (before : MachineMemory) (below : List Operand) (injection : Injection) (memory : MachineMemory) (operands : List Operand) : Type 0 where
   pub runs : StillRuns before.frames memory.frames
   pub operands_are : operands ≡ below
 
 -- a variable of the routine of a type has been made, as the newest allocation, and its place is in its slot
-pub record MadeOwn (untouched : Slots) (k : ℕ) (t : TypeValue) (injection : Injection) (before : Memory) (below : List Operand)
-    (longer : Injection) (after : Memory) (operands : List Operand) : Type 0 where
+pub record MadeOwn (untouched : Slots) (k : ℕ) (t : TypeValue) (injection : Injection) (before : MachineMemory) (below : List Operand)
+    (longer : Injection) (after : MachineMemory) (operands : List Operand) : Type 0 where
   pub grown : Grown untouched injection before longer after
   pub runs : StillRuns before.frames after.frames
   pub left_are : arguments_in after.frames.calls ≡ arguments_in before.frames.calls
@@ -136,7 +136,7 @@ pub record MadeOwn (untouched : Slots) (k : ℕ) (t : TypeValue) (injection : In
   pub operands_are : operands ≡ below
 
 -- what `Make` leads to: one more variable, or an error where too many words would live
-make_own_outcome : (G : Image) (place line : ℕ) (below : List Operand) (t : TypeValue) (number k : ℕ) (frame : Frame) (others : List Frame) (memory : Memory) (trace : Trace) (b : Bool)
+make_own_outcome : (G : Image) (place line : ℕ) (below : List Operand) (t : TypeValue) (number k : ℕ) (frame : Frame) (others : List Frame) (memory : MachineMemory) (trace : Trace) (b : Bool)
     → slice_get G.instructions place ≡ Some (instr op.MAKE (pos k) 0 line)
     → memory.frames.calls ≡ frame ∷ others
     → Describes memory.types number t → AreStarts t → k < length frame.slots
@@ -150,12 +150,12 @@ make_own_outcome G place line below t number k frame others memory trace false h
     outcome_at G (instr op.MAKE (pos k) 0 line) place (Word (pos number) ∷ below) memory trace has ∙ rw (frames, lt-ltb number (length memory.types) (described_within memory.types number t described), entry.is, lt-ltb k (length frame.slots) within, begun_words t, size_is t starts, fits) refl
 
 -- `Make` of a type in a slot of the routine's activation, over the number of the type
-pub make_own_does : {untouched : Slots} {first : Injection} {start : Memory} (declared : Declarations) (G : Image) (place line : ℕ) (below : List Operand) (t : TypeValue) (number k : ℕ) (v : UnitVariable)
+pub make_own_does : {untouched : Slots} {first : Injection} {start : MachineMemory} (declared : Declarations) (G : Image) (place line : ℕ) (below : List Operand) (t : TypeValue) (number k : ℕ) (v : UnitVariable)
     → slice_get G.instructions place ≡ Some (instr op.MAKE (pos k) 0 line)
     → IsTypeValue t → AreStarts t
     → slice_get (variables_up declared 0) k ≡ Some v
     → ((w : UnitVariable) → slice_get (variables_up declared 0) k ≡ Some w → HasOwnType declared w (bare_of t))
-    → (injection : Injection) (memory : Memory) (s : meaning.State)
+    → (injection : Injection) (memory : MachineMemory) (s : meaning.State)
     → Describes memory.types number t
     → Matches declared G injection s memory → InActivation declared untouched first start injection s memory
     → Does declared G (InActivation declared untouched first start) (at place (Word (pos number) ∷ below) memory s.trace) (size_of t) (place + 1) (MadeOwn untouched k t injection memory below) (made_own k t (counted t s)) ⊎ GivesUp G (at place (Word (pos number) ∷ below) memory s.trace) 0 1 (counted t s)
@@ -179,7 +179,7 @@ make_own_does {untouched = untouched} {first = first} {start = start} declared G
     newest : suc (length s.allocations) ≡ length (with_segment t injection memory)
     newest = let injected = matches.injected in omega (arith, injected.made, length-append injection (next_item t memory ∷ []))
 
-    later : Memory
+    later : MachineMemory
     later = with_variable t number (with_own_place number k frame others memory) memory
 
     again : InActivation declared untouched first start (with_segment t injection memory) (made_own k t (counted t s)) later

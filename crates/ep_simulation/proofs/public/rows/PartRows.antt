@@ -4,7 +4,7 @@ use Rattle.std.proofs.lemmas.Option.{same_Some}
 use Rattle.std.specs.Prelude.{cond, int_lt, is_some}
 use Rattle.ep_object.specs.Effects.{Work}
 use Rattle.ep_simulation.specs.Follows.{Facts, Inside, IsStructure, OnTop}
-use Rattle.ep_simulation.specs.Matching.{AreBare, HasAt, Injection, IsBare, Matches, Memory, OrdinalAt, SetAt, Part, Slots, at, part_among, part_of}
+use Rattle.ep_simulation.specs.Matching.{AreBare, HasAt, Injection, IsBare, Matches, MachineMemory, OrdinalAt, SetAt, Part, Slots, at, part_among, part_of}
 use Rattle.ep_object.specs.Operands.{Operand}
 use Rattle.ep_object.specs.Operands as operand
 use Rattle.ep_object.specs.Parts as row
@@ -51,7 +51,7 @@ working G i s w = record { weight = w.weight; to = after G i s (on_operands s w.
 
 -- ---- a component whose words are found
 
-module _ (declared : Declarations) (G : Image) (i : Instr) (place : ℕ) (operands below : List Operand) (injection : Injection) (memory : Memory) where
+module _ (declared : Declarations) (G : Image) (i : Instr) (place : ℕ) (operands below : List Operand) (injection : Injection) (memory : MachineMemory) where
   -- the state before it
   abbrev before : Trace → State
   before trace = at place operands memory trace
@@ -208,7 +208,7 @@ bare_there types before (p ∷ ps) (type.next_component t ts) (suc k) part h is 
 
 -- The component of this number of the value on an operand: the machine leaves it and spends the words of the value besides,
 -- or both end with the error.
-part_left : {untouched : Slots} {Here : Facts} (declared : Declarations) (G : Image) (i : Instr) (place : ℕ) (operands below : List Operand) (injection : Injection) (memory : Memory)
+part_left : {untouched : Slots} {Here : Facts} (declared : Declarations) (G : Image) (i : Instr) (place : ℕ) (operands below : List Operand) (injection : Injection) (memory : MachineMemory)
     → (t : TypeValue) (r : Result) (o : Operand) (v : IsStructure t r injection memory o) (number : ℕ) (p : Part) → part_of t number ≡ Some p
     → (k : Kind) → IsTypeOfKind k p.type_value → (c : ℕ) → IsBare memory.types c p.type_value
     → ((trace : Trace) → outcome G (at place operands memory trace) ≡ working G i (at place operands memory trace) (row.part_at memory.types v.words p.offset c below))
@@ -226,7 +226,7 @@ part_left {untouched = untouched} {Here = Here} declared G i place operands belo
     (subst (λ x. ReadsResult declared G Here (at place operands memory s.trace) (length v.words) run_error.UNDEFINED_VALUE (unit_in G memory.frames) i.line (place + 1) (λ x. Inside untouched injection memory (OnTop k below x)) s x) given
     (found_left declared G i place operands below injection memory k p.type_value of_kind (part_bare t number p v.bare is) c described v.words p.offset fits leaves (component_of v.value number) holds s matches known))
 
-module _ (declared : Declarations) (G : Image) (place line : ℕ) (below : List Operand) (injection : Injection) (memory : Memory) where
+module _ (declared : Declarations) (G : Image) (place line : ℕ) (below : List Operand) (injection : Injection) (memory : MachineMemory) where
   -- `Field`, of a record
   pub field_part : {untouched : Slots} {Here : Facts} (ts : ComponentTypes) (r : Result) (o : Operand) → IsStructure (type.Record ts) r injection memory o
       → (number : ℕ) (of : TypeValue) → type_among ts number ≡ Some of → (k : Kind) → IsTypeOfKind k of

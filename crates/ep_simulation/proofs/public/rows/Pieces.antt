@@ -1,7 +1,7 @@
 -- One piece of text is written.
 use Rattle.std.proofs.Common.{◌≡◌, ℕ, pos, suc, ◌+◌, ◌≤◌, List, ◌∷◌, length, Some, slice_get, arith}
 use Rattle.ep_simulation.specs.Follows.{point, Facts, Lasts, Fragment, Bare, Inside}
-use Rattle.ep_simulation.specs.Matching.{Memory, Injection, Slots}
+use Rattle.ep_simulation.specs.Matching.{MachineMemory, Injection, Slots}
 use Rattle.ep_object.specs.Operands.{Operand, Word, Text}
 use Rattle.ep_object.specs.Operands as operand
 use Rattle.ep_object.specs.State.{output_place}
@@ -18,7 +18,7 @@ use Rattle.ep_meaning.specs.Valid.{Declarations}
 use Rattle.ep_object.specs.declared.op.TheConstants as op
 
 -- one piece, which an instruction makes of what is on top and another one writes
-pub piece_form : {untouched : Slots} {declared : Declarations} {G : Image} {Here : Facts} {n : ℕ} {injection : Injection} {memory : Memory} {start line : ℕ} {operands below : List Operand} (call : Handler) (d e g popped : ℕ) (unit bytes : List ℕ)
+pub piece_form : {untouched : Slots} {declared : Declarations} {G : Image} {Here : Facts} {n : ℕ} {injection : Injection} {memory : MachineMemory} {start line : ℕ} {operands below : List Operand} (call : Handler) (d e g popped : ℕ) (unit bytes : List ℕ)
     → Lasts untouched Here
     → RowPushes G start operands (popped + length bytes) (Text bytes ∷ operand.Place output_place ∷ below)
     → slice_get G.instructions (start + 1) ≡ Some (instr op.PUT (pos 0) 0 line) → popped + e ≤ d + 40

@@ -3,7 +3,7 @@ use Rattle.std.proofs.Common.{◌≡◌, ℕ, ℤ, pos, negsuc, ◌+◌, ◌≤�
 use Rattle.std.proofs.lemmas.Option.{same_Some}
 use Rattle.std.specs.Prelude.{int_lt, is_some}
 use Rattle.ep_simulation.specs.Follows.{IsStructure, Facts, OnTop, PlaceOnTop, Inside}
-use Rattle.ep_simulation.specs.Matching.{Memory, at, Injection, MatchesSlot, MatchesFrame, IsBare, IsLike, IsSpot, HasAt, OrdinalAt, SetAt, part_along, all_of, Represents, HasType, Matches, Slots}
+use Rattle.ep_simulation.specs.Matching.{MachineMemory, at, Injection, MatchesSlot, MatchesFrame, IsBare, IsLike, IsSpot, HasAt, OrdinalAt, SetAt, part_along, all_of, Represents, HasType, Matches, Slots}
 use Rattle.ep_object.specs.Operands.{Operand, Word, Text}
 use Rattle.ep_object.specs.Operands as operand
 use Rattle.ep_object.specs.Places.{loaded, set_loaded}
@@ -73,7 +73,7 @@ module _ (declared : Declarations) (G : Image) (place line : ℕ) (below : List 
   pub unit_reads : {untouched : Slots} {Here : Facts} (u k : ℕ) (unit : ImageUnit) (v : UnitVariable) (t : TypeValue)
       → slice_get G.instructions place ≡ Some (instr op.UNIT (pos u) k line) → slice_get G.units u ≡ Some unit
       → k < unit.slots → declared.variables unit.name k ≡ Some v → HasType declared unit.name v t
-      → (injection : Injection) (memory : Memory) (s : meaning.State) → Matches declared G injection s memory
+      → (injection : Injection) (memory : MachineMemory) (s : meaning.State) → Matches declared G injection s memory
       → Here injection s memory
       → Reads declared G Here (at place below memory s.trace) 1 (unit_in G memory.frames) line (place + 1) (λ n. Inside untouched injection memory (PlaceOnTop t below n)) s (s.variables unit.name k)
   unit_reads {untouched = untouched} {Here = Here} u k unit v t has there inside is_declared has_type injection memory s matches known =
@@ -103,7 +103,7 @@ module _ (declared : Declarations) (G : Image) (place line : ℕ) (below : List 
           })
 
   -- what `Load` finds
-  load_outcome : (memory : Memory) (trace : Trace) (p : Place) (low high : ℤ) (type_number : ℕ) (words : List ℤ) (w : ℤ)
+  load_outcome : (memory : MachineMemory) (trace : Trace) (p : Place) (low high : ℤ) (type_number : ℕ) (words : List ℤ) (w : ℤ)
       → slice_get G.instructions place ≡ Some (instr op.LOAD (pos 0) 0 line)
       → IsLike memory.types p.type_number (type.Ordinal low high)
       → slice_get memory.segments p.segment ≡ Some (Some (record { type_number = type_number; words = words }))
@@ -114,7 +114,7 @@ module _ (declared : Declarations) (G : Image) (place line : ℕ) (below : List 
       outcome_at G (instr op.LOAD (pos 0) 0 line) place (operand.Place p ∷ below) memory trace has ∙ rw (e.2, stands, there) refl
 
   -- what it finds of an array or a record: its words, with the number of its bare form
-  structure_outcome : (memory : Memory) (trace : Trace) (p : Place) (t : TypeValue) (type_number : ℕ) (words : List ℤ) → IsStructured t
+  structure_outcome : (memory : MachineMemory) (trace : Trace) (p : Place) (t : TypeValue) (type_number : ℕ) (words : List ℤ) → IsStructured t
       → slice_get G.instructions place ≡ Some (instr op.LOAD (pos 0) 0 line)
       → IsLike memory.types p.type_number t
       → slice_get memory.segments p.segment ≡ Some (Some (record { type_number = type_number; words = words }))
@@ -146,7 +146,7 @@ module _ (declared : Declarations) (G : Image) (place line : ℕ) (below : List 
   -- `Load`, of a variable that has ended
   pub load_fails : (k : Kind) (t : TypeValue) (v : Component) (p : Place) → IsTypeOfKind k t
       → slice_get G.instructions place ≡ Some (instr op.LOAD (pos 0) 0 line)
-      → (injection : Injection) (memory : Memory) → IsSpot injection memory.types v p
+      → (injection : Injection) (memory : MachineMemory) → IsSpot injection memory.types v p
       → IsLike memory.types p.type_number t → (s : meaning.State)
       → Matches declared G injection s memory → has_ended v.allocation s ≡ true
       → FailsWith G (at place (operand.Place p ∷ below) memory s.trace) 0 11 (unit_in G memory.frames) line s
@@ -175,7 +175,7 @@ module _ (declared : Declarations) (G : Image) (place line : ℕ) (below : List 
   word_reads : {untouched : Slots} {Here : Facts} (host : Host) (low high : ℤ) (v : Component) (p : Place)
       → IsTypeOf host (type.Ordinal low high)
       → slice_get G.instructions place ≡ Some (instr op.LOAD (pos 0) 0 line)
-      → (injection : Injection) (memory : Memory) → IsSpot injection memory.types v p
+      → (injection : Injection) (memory : MachineMemory) → IsSpot injection memory.types v p
       → IsLike memory.types p.type_number (type.Ordinal low high) → (s : meaning.State)
       → Matches declared G injection s memory → Here injection s memory → has_ended v.allocation s ≡ false
       → ReadsResult declared G Here (at place (operand.Place p ∷ below) memory s.trace) 0 1 (unit_in G memory.frames) line (place + 1) (λ r. Inside untouched injection memory (OnTop (kind.Ordinal host) below r)) s (result_of v s)
@@ -209,7 +209,7 @@ module _ (declared : Declarations) (G : Image) (place line : ℕ) (below : List 
   -- Of one of an array or record type, which lives: all of it is there, and memory stays as it is.
   pub structure_loads : (t : TypeValue) (v : Component) (p : Place) → IsStructured t
       → slice_get G.instructions place ≡ Some (instr op.LOAD (pos 0) 0 line)
-      → (injection : Injection) (memory : Memory) → IsSpot injection memory.types v p
+      → (injection : Injection) (memory : MachineMemory) → IsSpot injection memory.types v p
       → IsLike memory.types p.type_number t → (s : meaning.State)
       → Matches declared G injection s memory → has_ended v.allocation s ≡ false
       → (value : Value) × (result_of v s ≡ Some (Structure t value)) × (o : Operand) × IsStructure t (Structure t value) injection memory o
@@ -243,7 +243,7 @@ module _ (declared : Declarations) (G : Image) (place line : ℕ) (below : List 
   -- the same with what is known of memory
   pub structure_found : {untouched : Slots} {Here : Facts} (t : TypeValue) (v : Component) (p : Place) → IsStructured t
       → slice_get G.instructions place ≡ Some (instr op.LOAD (pos 0) 0 line)
-      → (injection : Injection) (memory : Memory) → IsSpot injection memory.types v p
+      → (injection : Injection) (memory : MachineMemory) → IsSpot injection memory.types v p
       → IsLike memory.types p.type_number t → (s : meaning.State)
       → Matches declared G injection s memory → Here injection s memory → has_ended v.allocation s ≡ false
       → (value : Value) × (result_of v s ≡ Some (Structure t value)) × Does declared G Here (at place (operand.Place p ∷ below) memory s.trace) (size_of t) (place + 1) (Inside untouched injection memory (OnTop (kind.Structured t) below (Structure t value))) s
@@ -263,7 +263,7 @@ module _ (declared : Declarations) (G : Image) (place line : ℕ) (below : List 
       )
 
   -- what it finds of a set
-  set_outcome : (memory : Memory) (trace : Trace) (p : Place) (low high : ℤ) (type_number : ℕ) (words : List ℤ)
+  set_outcome : (memory : MachineMemory) (trace : Trace) (p : Place) (low high : ℤ) (type_number : ℕ) (words : List ℤ)
       → slice_get G.instructions place ≡ Some (instr op.LOAD (pos 0) 0 line)
       → IsLike memory.types p.type_number (type.Set low high)
       → slice_get memory.segments p.segment ≡ Some (Some (record { type_number = type_number; words = words }))
@@ -276,7 +276,7 @@ module _ (declared : Declarations) (G : Image) (place line : ℕ) (below : List 
   -- of one of a set type, which lives
   set_reads : {untouched : Slots} {Here : Facts} (host : Host) (low high : ℤ) (v : Component) (p : Place)
       → slice_get G.instructions place ≡ Some (instr op.LOAD (pos 0) 0 line)
-      → (injection : Injection) (memory : Memory) → IsSpot injection memory.types v p
+      → (injection : Injection) (memory : MachineMemory) → IsSpot injection memory.types v p
       → IsLike memory.types p.type_number (type.Set low high) → (s : meaning.State)
       → Matches declared G injection s memory → Here injection s memory → has_ended v.allocation s ≡ false
       → ReadsResult declared G Here (at place (operand.Place p ∷ below) memory s.trace) 0 1 (unit_in G memory.frames) line (place + 1) (λ r. Inside untouched injection memory (OnTop (kind.Set host) below r)) s (result_of v s)
@@ -313,7 +313,7 @@ module _ (declared : Declarations) (G : Image) (place line : ℕ) (below : List 
   -- of one of a type whose values are of the kind
   pub load_reads : {untouched : Slots} {Here : Facts} (k : Kind) (t : TypeValue) (v : Component) (p : Place) → IsTypeOfKind k t
       → slice_get G.instructions place ≡ Some (instr op.LOAD (pos 0) 0 line)
-      → (injection : Injection) (memory : Memory) → IsSpot injection memory.types v p
+      → (injection : Injection) (memory : MachineMemory) → IsSpot injection memory.types v p
       → IsLike memory.types p.type_number t → (s : meaning.State)
       → Matches declared G injection s memory → Here injection s memory → has_ended v.allocation s ≡ false
       → ReadsResult declared G Here (at place (operand.Place p ∷ below) memory s.trace) 0 1 (unit_in G memory.frames) line (place + 1) (λ r. Inside untouched injection memory (OnTop k below r)) s (result_of v s)
@@ -335,7 +335,7 @@ module _ (declared : Declarations) (G : Image) (place line : ℕ) (below : List 
       Result_of (Structure u x.0) x.1 (size_of u) (omega arith) x.2
 
   -- what `Defined` finds
-  defined_outcome : (memory : Memory) (trace : Trace) (p : Place) (low high : ℤ) (type_number : ℕ) (words : List ℤ) (w : ℤ)
+  defined_outcome : (memory : MachineMemory) (trace : Trace) (p : Place) (low high : ℤ) (type_number : ℕ) (words : List ℤ) (w : ℤ)
       → slice_get G.instructions place ≡ Some (instr op.DEFINED (pos 0) 0 line)
       → IsLike memory.types p.type_number (type.Ordinal low high)
       → slice_get memory.segments p.segment ≡ Some (Some (record { type_number = type_number; words = words }))
@@ -348,7 +348,7 @@ module _ (declared : Declarations) (G : Image) (place line : ℕ) (below : List 
   -- `Defined`, of a variable that has ended
   pub defined_fails : (low high : ℤ) (v : Component) (p : Place)
       → slice_get G.instructions place ≡ Some (instr op.DEFINED (pos 0) 0 line)
-      → (injection : Injection) (memory : Memory) → IsSpot injection memory.types v p
+      → (injection : Injection) (memory : MachineMemory) → IsSpot injection memory.types v p
       → IsLike memory.types p.type_number (type.Ordinal low high) → (s : meaning.State)
       → Matches declared G injection s memory → has_ended v.allocation s ≡ true
       → FailsWith G (at place (operand.Place p ∷ below) memory s.trace) 0 11 (unit_in G memory.frames) line s
@@ -359,7 +359,7 @@ module _ (declared : Declarations) (G : Image) (place line : ℕ) (below : List 
   -- `Defined`, of a variable of an ordinal type that lives: whether it has a value
   pub defined_tells : (low high : ℤ) (v : Component) (p : Place)
       → slice_get G.instructions place ≡ Some (instr op.DEFINED (pos 0) 0 line)
-      → (injection : Injection) (memory : Memory) → IsSpot injection memory.types v p
+      → (injection : Injection) (memory : MachineMemory) → IsSpot injection memory.types v p
       → IsLike memory.types p.type_number (type.Ordinal low high) → (s : meaning.State)
       → Matches declared G injection s memory → has_ended v.allocation s ≡ false
       → outcome G (at place (operand.Place p ∷ below) memory s.trace) ≡ record { weight = 0; to = Running 0 (at (place + 1) (Word (bit (is_some (result_of v s))) ∷ below) memory s.trace) }
@@ -388,7 +388,7 @@ module _ (declared : Declarations) (G : Image) (place line : ℕ) (below : List 
   -- `Load`, of a variable of an ordinal type that lives and has a value: its number
   pub load_leads : (low high : ℤ) (v : Component) (p : Place)
       → slice_get G.instructions place ≡ Some (instr op.LOAD (pos 0) 0 line)
-      → (injection : Injection) (memory : Memory) → IsSpot injection memory.types v p
+      → (injection : Injection) (memory : MachineMemory) → IsSpot injection memory.types v p
       → IsLike memory.types p.type_number (type.Ordinal low high) → (s : meaning.State)
       → Matches declared G injection s memory → has_ended v.allocation s ≡ false → (r : Result) → result_of v s ≡ Some r
       → (z : ℤ) × (r ≡ Number z) × (outcome G (at place (operand.Place p ∷ below) memory s.trace) ≡ record { weight = 0; to = Running 0 (at (place + 1) (Word z ∷ below) memory s.trace) })
@@ -416,7 +416,7 @@ module _ (declared : Declarations) (G : Image) (place line : ℕ) (below : List 
   -- Of one that is defined: its members, and memory stays as it is.
   set_leads : (low high : ℤ) (v : Component) (p : Place)
       → slice_get G.instructions place ≡ Some (instr op.LOAD (pos 0) 0 line)
-      → (injection : Injection) (memory : Memory) → IsSpot injection memory.types v p
+      → (injection : Injection) (memory : MachineMemory) → IsSpot injection memory.types v p
       → IsLike memory.types p.type_number (type.Set low high) → (s : meaning.State)
       → Matches declared G injection s memory → has_ended v.allocation s ≡ false → (ns : List ℕ) → result_of v s ≡ Some (Members ns)
       → outcome G (at place (operand.Place p ∷ below) memory s.trace) ≡ record { weight = 0; to = Running 0 (at (place + 1) (operand.Set ns ∷ below) memory s.trace) }
@@ -446,10 +446,10 @@ module _ (declared : Declarations) (G : Image) (place line : ℕ) (below : List 
   -- Of one that gives a result of a kind, which other operands have too: an operand of it, and memory stays as it is.
   pub value_loads : (k : Kind) (t : TypeValue) (v : Component) (p : Place) → IsTypeOfKind k t
       → slice_get G.instructions place ≡ Some (instr op.LOAD (pos 0) 0 line)
-      → (injection : Injection) (memory : Memory) → IsSpot injection memory.types v p
+      → (injection : Injection) (memory : MachineMemory) → IsSpot injection memory.types v p
       → IsLike memory.types p.type_number t → (s : meaning.State)
       → Matches declared G injection s memory → has_ended v.allocation s ≡ false
-      → (r : Result) (earlier : Injection) (before : Memory) (other : Operand) → IsValueOf earlier before k r other → result_of v s ≡ Some r
+      → (r : Result) (earlier : Injection) (before : MachineMemory) (other : Operand) → IsValueOf earlier before k r other → result_of v s ≡ Some r
       → (o : Operand) × IsValueOf injection memory k r o × (outcome G (at place (operand.Place p ∷ below) memory s.trace) ≡ record { weight = weight_of r; to = Running 0 (at (place + 1) (o ∷ below) memory s.trace) })
   value_loads (kind.Ordinal h) (type.Ordinal low high) v p of_kind has injection memory spot described s matches living r earlier before other (z, r_is, of_host, o_is) result =
       let x = load_leads low high v p has injection memory spot described s matches living r result in

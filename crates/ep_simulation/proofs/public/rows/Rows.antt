@@ -4,7 +4,7 @@ use Rattle.std.proofs.lemmas.Bool.{lt-ltb}
 use Rattle.std.specs.Prelude.{if◌then◌else◌, ◌+ℤ◌, ◌-ℤ◌, ◌*ℤ◌, neg_ℤ, int_le, int_lt, int_div, unsigned_abs}
 use Rattle.ep_object.specs.Control.{jump_where}
 use Rattle.ep_object.specs.Effects.{Continues, Fails, is_zero}
-use Rattle.ep_simulation.specs.Matching.{Memory, at}
+use Rattle.ep_simulation.specs.Matching.{MachineMemory, at}
 use Rattle.ep_object.specs.Operands.{Operand, Word}
 use Rattle.ep_object.specs.Runs.{Outcome, outcome, outcome_of, after, enter, unit_in}
 use Rattle.ep_object.specs.State.{Going, Running, Stopped, Halt, Error}
@@ -30,20 +30,20 @@ abbrev pub in_one : Going → Outcome
 in_one g = record { weight = 0; to = g }
 
 -- the instruction at a place is the one in hand there
-pub outcome_at : (G : Image) (i : Instr) (place : ℕ) (operands : List Operand) (memory : Memory) (trace : Trace) → slice_get G.instructions place ≡ Some i → outcome G (at place operands memory trace) ≡ outcome_of G (Some i) (at place operands memory trace)
+pub outcome_at : (G : Image) (i : Instr) (place : ℕ) (operands : List Operand) (memory : MachineMemory) (trace : Trace) → slice_get G.instructions place ≡ Some i → outcome G (at place operands memory trace) ≡ outcome_of G (Some i) (at place operands memory trace)
 outcome_at G i place operands memory trace has = ap (λ o. outcome_of G o (at place operands memory trace)) has
 
 -- the instruction at the place, with these operands, gives this answer over those below
 abbrev pub RowAnswers : Image → ℕ → ℕ → List Operand → List Operand → Answer → Type 0
 RowAnswers G place line operands below a =
-    (memory : Memory) (trace : Trace) → outcome G (at place operands memory trace) ≡ record { weight = 0; to = going_of (place + 1) below memory (unit_in G memory.frames) line trace a }
+    (memory : MachineMemory) (trace : Trace) → outcome G (at place operands memory trace) ≡ record { weight = 0; to = going_of (place + 1) below memory (unit_in G memory.frames) line trace a }
 
 -- the instruction at the place leads to the next one with these operands
 abbrev pub RowPushes : Image → ℕ → List Operand → ℕ → List Operand → Type 0
 RowPushes G place operands weight then_operands =
-    (memory : Memory) (trace : Trace) → outcome G (at place operands memory trace) ≡ record { weight = weight; to = Running 0 (at (place + 1) then_operands memory trace) }
+    (memory : MachineMemory) (trace : Trace) → outcome G (at place operands memory trace) ≡ record { weight = weight; to = Running 0 (at (place + 1) then_operands memory trace) }
 
-module _ (G : Image) (i : Instr) (place : ℕ) (operands below : List Operand) (memory : Memory) (trace : Trace) where
+module _ (G : Image) (i : Instr) (place : ℕ) (operands below : List Operand) (memory : MachineMemory) (trace : Trace) where
   -- what is pushed where a test holds, and else is an error
   checked : (b : Bool) (z : ℤ) (error : ℕ) → after G i (at place operands memory trace) (on_operands (at place operands memory trace) (cond b (Continues (Word z ∷ below)) (Fails error))) ≡ going_of (place + 1) below memory (unit_in G memory.frames) i.line trace (if b then Number z else Fault error)
   checked true z error = refl
@@ -143,7 +143,7 @@ module _ (G : Image) (place line : ℕ) (below : List Operand) where
       outcome_at G (instr op.OR (pos 0) 0 line) place (Word y ∷ Word x ∷ below) memory trace has ∙ rw (ex, ey, is_zero-same x, is_zero-same y, bit-same (is_true x || is_true y)) refl
 
   -- what `Cmp` pushes
-  compared : (memory : Memory) (trace : Trace) (b : Bool) → in_one (Running 0 (at (place + 1) (Word (rows.bit b) ∷ below) memory trace)) ≡ in_one (Running 0 (at (place + 1) (Word (ordinal_of b) ∷ below) memory trace))
+  compared : (memory : MachineMemory) (trace : Trace) (b : Bool) → in_one (Running 0 (at (place + 1) (Word (rows.bit b) ∷ below) memory trace)) ≡ in_one (Running 0 (at (place + 1) (Word (ordinal_of b) ∷ below) memory trace))
   compared memory trace b = ap (λ z. in_one (Running 0 (at (place + 1) (Word z ∷ below) memory trace))) (bit-same b)
 
   -- `Cmp` for =
@@ -185,12 +185,12 @@ module _ (G : Image) (place line : ℕ) (below : List Operand) where
   -- ---- jumps
 
   -- `Jump`
-  pub jump_jumps : (target : ℕ) → target < length G.instructions → slice_get G.instructions place ≡ Some (instr op.JUMP (pos target) 0 line) → (memory : Memory) (trace : Trace) → outcome G (at place below memory trace) ≡ record { weight = 0; to = Running 0 (at target below memory trace) }
+  pub jump_jumps : (target : ℕ) → target < length G.instructions → slice_get G.instructions place ≡ Some (instr op.JUMP (pos target) 0 line) → (memory : MachineMemory) (trace : Trace) → outcome G (at place below memory trace) ≡ record { weight = 0; to = Running 0 (at target below memory trace) }
   jump_jumps target inside has memory trace =
       outcome_at G (instr op.JUMP (pos target) 0 line) place below memory trace has ∙ rw (lt-ltb target (length G.instructions) inside) refl
 
   -- `JumpFalse`, which goes on where the word is true
-  pub jump_false_jumps : (z : ℤ) (target : ℕ) → target < length G.instructions → slice_get G.instructions place ≡ Some (instr op.JUMP_FALSE (pos target) 0 line) → (memory : Memory) (trace : Trace) → outcome G (at place (Word z ∷ below) memory trace) ≡ record { weight = 0; to = Running 0 (at (if is_true z then place + 1 else target) below memory trace) }
+  pub jump_false_jumps : (z : ℤ) (target : ℕ) → target < length G.instructions → slice_get G.instructions place ≡ Some (instr op.JUMP_FALSE (pos target) 0 line) → (memory : MachineMemory) (trace : Trace) → outcome G (at place (Word z ∷ below) memory trace) ≡ record { weight = 0; to = Running 0 (at (if is_true z then place + 1 else target) below memory trace) }
   jump_false_jumps z target inside has memory trace =
       outcome_at G (instr op.JUMP_FALSE (pos target) 0 line) place (Word z ∷ below) memory trace has ∙ (rw (lt-ltb target (length G.instructions) inside, is_zero-true z) (either (is_true z)))
     where
@@ -201,14 +201,14 @@ module _ (G : Image) (place line : ℕ) (below : List Operand) where
   -- ---- ends
 
   -- `Fail`, by an error that there is
-  pub fail_fails : (error : ℕ) → rows.is_error (pos error) ≡ true → slice_get G.instructions place ≡ Some (instr op.FAIL (pos error) 0 line) → (memory : Memory) (trace : Trace) → outcome G (at place below memory trace) ≡ record { weight = 0; to = Stopped (Error error (unit_in G memory.frames) line) trace }
+  pub fail_fails : (error : ℕ) → rows.is_error (pos error) ≡ true → slice_get G.instructions place ≡ Some (instr op.FAIL (pos error) 0 line) → (memory : MachineMemory) (trace : Trace) → outcome G (at place below memory trace) ≡ record { weight = 0; to = Stopped (Error error (unit_in G memory.frames) line) trace }
   fail_fails error is has memory trace =
       outcome_at G (instr op.FAIL (pos error) 0 line) place below memory trace has ∙ rw is refl
 
   -- `Halt`
-  pub halt_halts : slice_get G.instructions place ≡ Some (instr op.HALT (pos 0) 0 line) → (memory : Memory) (trace : Trace) → outcome G (at place below memory trace) ≡ record { weight = 0; to = Stopped Halt trace }
+  pub halt_halts : slice_get G.instructions place ≡ Some (instr op.HALT (pos 0) 0 line) → (memory : MachineMemory) (trace : Trace) → outcome G (at place below memory trace) ≡ record { weight = 0; to = Stopped Halt trace }
   halt_halts has memory trace = outcome_at G (instr op.HALT (pos 0) 0 line) place below memory trace has
 
   -- `Return`, after which the next start or stop begins
-  pub return_enters : slice_get G.instructions place ≡ Some (instr op.RETURN (pos 0) 0 line) → (memory : Memory) (trace : Trace) → memory.frames.calls ≡ [] → outcome G (at place below memory trace) ≡ record { weight = 0; to = enter G (memory.frames.turn + 1) (at place below memory trace) }
+  pub return_enters : slice_get G.instructions place ≡ Some (instr op.RETURN (pos 0) 0 line) → (memory : MachineMemory) (trace : Trace) → memory.frames.calls ≡ [] → outcome G (at place below memory trace) ≡ record { weight = 0; to = enter G (memory.frames.turn + 1) (at place below memory trace) }
   return_enters has memory trace alone = outcome_at G (instr op.RETURN (pos 0) 0 line) place below memory trace has ∙ rw alone refl

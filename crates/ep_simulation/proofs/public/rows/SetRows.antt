@@ -4,7 +4,7 @@ use Rattle.std.specs.Prelude.{int_lt, int_le, IsTrue}
 use Rattle.std.proofs.lemmas.Bool.Decides.{nat_tests}
 use Rattle.std.proofs.lemmas.Bool.{lt-ltb}
 use Rattle.ep_simulation.specs.Follows.{Facts, Inside}
-use Rattle.ep_simulation.specs.Matching.{Memory, at, Injection, Matches, Slots}
+use Rattle.ep_simulation.specs.Matching.{MachineMemory, at, Injection, Matches, Slots}
 use Rattle.ep_object.specs.Operands.{Operand, Word, Set}
 use Rattle.ep_object.specs.Runs.{unit_in}
 use Rattle.ep_object.specs.Sets.{IsSet, member_limit}
@@ -27,7 +27,7 @@ use Rattle.ep_object.specs.declared.op.TheConstants as op
 use Rattle.ep_values.specs.declared.run_error.TheConstants as run_error
 
 -- the set of these members on top
-pub record MembersOnTop (below : List Operand) (ms : List ℕ) (injection : Injection) (memory : Memory)
+pub record MembersOnTop (below : List Operand) (ms : List ℕ) (injection : Injection) (memory : MachineMemory)
     (operands : List Operand) : Type 0 where
   pub is_set : IsSet ms
   pub is : operands ≡ Set ms ∷ below
@@ -58,7 +58,7 @@ module _ (G : Image) (place line : ℕ) (below : List Operand) where
   -- ---- comparisons
 
   -- what a comparison pushes
-  compared : (memory : Memory) (trace : Trace) (b : Bool) → in_one (Running 0 (at (place + 1) (Word (rows.bit b) ∷ below) memory trace)) ≡ in_one (Running 0 (at (place + 1) (Word (ordinal_of b) ∷ below) memory trace))
+  compared : (memory : MachineMemory) (trace : Trace) (b : Bool) → in_one (Running 0 (at (place + 1) (Word (rows.bit b) ∷ below) memory trace)) ≡ in_one (Running 0 (at (place + 1) (Word (ordinal_of b) ∷ below) memory trace))
   compared memory trace b = ap (λ z. in_one (Running 0 (at (place + 1) (Word z ∷ below) memory trace))) (bit-same b)
 
   -- `SetCmp` for =
@@ -103,7 +103,7 @@ pub add_pushes : (G : Image) (place line : ℕ) (below : List Operand) (m : ℕ)
 add_pushes G place line below m ms less has memory trace =
     outcome_at G (instr op.SET_ADD (pos 0) 0 line) place (Word (pos m) ∷ Set ms ∷ below) memory trace has ∙ rw (lt-ltb m member_limit less) refl
 
-module _ {untouched : Slots} {Here : Facts} (declared : Declarations) (G : Image) (place line : ℕ) (below : List Operand) (injection : Injection) (memory : Memory) (s : meaning.State) (matches : Matches declared G injection s memory) (known : Here injection s memory) (ms : List ℕ) where
+module _ {untouched : Slots} {Here : Facts} (declared : Declarations) (G : Image) (place line : ℕ) (below : List Operand) (injection : Injection) (memory : MachineMemory) (s : meaning.State) (matches : Matches declared G injection s memory) (known : Here injection s memory) (ms : List ℕ) where
   -- `SetAdd`
   pub add_reads : (z : ℤ) → slice_get G.instructions place ≡ Some (instr op.SET_ADD (pos 0) 0 line)
       → Reads declared G Here (at place (Word z ∷ Set ms ∷ below) memory s.trace) run_error.SET_MEMBER (unit_in G memory.frames) line (place + 1) (λ ns. Inside untouched injection memory (MembersOnTop below ns)) s (with_number z ms)

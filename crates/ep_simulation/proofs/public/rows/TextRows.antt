@@ -6,7 +6,7 @@ use Rattle.std.proofs.lemmas.Bool.Decides.{nat_tests}
 use Rattle.std.proofs.lemmas.Option.{slice_get_within}
 use Rattle.std.specs.Fmt.{signed_decimal}
 use Rattle.std.specs.Prelude.{unsigned_abs}
-use Rattle.ep_simulation.specs.Matching.{Memory, at}
+use Rattle.ep_simulation.specs.Matching.{MachineMemory, at}
 use Rattle.ep_object.specs.Operands.{Operand, Word, Text, weight}
 use Rattle.ep_object.specs.Operands as operand
 use Rattle.ep_object.specs.declared.state.Place.{Place}
@@ -40,10 +40,10 @@ written-same (byte ∷ bytes) = refl
 -- the instruction at the place fails so, after these ticks besides one
 abbrev pub RowFails : Image → ℕ → ℕ → List Operand → ℕ → ℕ → Type 0
 RowFails G place line operands weight number =
-    (memory : Memory) (trace : Trace) → outcome G (at place operands memory trace) ≡ record { weight = weight; to = Stopped (Error number (unit_in G memory.frames) line) trace }
+    (memory : MachineMemory) (trace : Trace) → outcome G (at place operands memory trace) ≡ record { weight = weight; to = Stopped (Error number (unit_in G memory.frames) line) trace }
 
 -- an outcome that pushes a text
-abbrev pub text_on : ℕ → List Operand → Memory → Trace → ℕ → List ℕ → Outcome
+abbrev pub text_on : ℕ → List Operand → MachineMemory → Trace → ℕ → List ℕ → Outcome
 text_on place below memory trace weight bytes = record { weight = weight; to = Running 0 (at (place + 1) (Text bytes ∷ below) memory trace) }
 
 module _ (G : Image) (place line : ℕ) (below : List Operand) where
