@@ -1,6 +1,6 @@
 -- The declarations of a unit, in the blocks that are under way, hold what the scopes of a block declare, where the unit holds the block.
-use Rattle.std.proofs.Common.{◌≡◌, ℕ, zero, suc, ◌<◌, ◌≤◌, ◌-◌, Bool, true, false, List, [], ◌∷◌, ◌++◌, map, length, Option, Some, None, option_map, slice_get, bytes_eq, refl, sym, ap, ◌∙◌, subst, arith}
-use Rattle.std.proofs.lemmas.List.Elements.{All-cons, All-head, All-nil, All-tail, All-weaker}
+use Rattle.std.proofs.Common.{◌≡◌, ℕ, zero, suc, ◌<◌, ◌≤◌, ◌-◌, Bool, true, false, List, [], ◌∷◌, map, length, Option, Some, None, option_map, slice_get, bytes_eq, refl, sym, ap, ◌∙◌, subst, arith}
+use Rattle.std.proofs.lemmas.List.Elements.{All-append, All-cons, All-head, All-nil, All-tail, All-weaker}
 use Rattle.std.proofs.lemmas.Slice.Eq.{bytes_eq-Decides}
 use Rattle.std.specs.Prelude.{All, drop, if◌then◌else◌}
 use Rattle.ep_typed.specs.Denoters.{host_of, bare_type_of}
@@ -45,16 +45,11 @@ use Rattle.ep_check_unit.specs.declared.block.Enclosing.{Enclosing}
 use Rattle.ep_check_unit.specs.declared.block.OwnResult.{OwnResult}
 use Rattle.ep_unit_laws.proofs.Open.{IsOpen, around_length}
 use Rattle.ep_unit_laws.proofs.Denoting.{DenotesKind, kind_had, kind_type, set_of_kind}
+use Rattle.ep_unit_laws.proofs.Prefixes.{front_get}
 use Rattle.ep_unit_laws.proofs.Holds.{HasTypeHere, Head, Holds, HoldsComposition, HoldsStructuredType, HoldsDeclaration, HoldsOwn, HoldsParameter, HoldsResultOf, HoldsResults, HoldsScopes, HoldsThing, HoldsThings, HoldsVariable, ListsKind, head_of, holds_scopes, levels_at, lists_kind_small, lists_small, name_denotes, named_tree, type_values}
 
 name_same : (a b : List ℕ) → a ≡ b → bytes_eq a b ≡ true
 name_same a b h = grind (arith, bytes_eq-Decides)
-
--- what a list has, a longer one has
-slice_get-front : {A : Type 0} (xs ys : List A) (n : ℕ) (x : A) → slice_get xs n ≡ Some x → slice_get (xs ++ ys) n ≡ Some x
-slice_get-front [] ys n x e = cc
-slice_get-front (y ∷ xs) ys zero x e = e
-slice_get-front (y ∷ xs) ys (suc n) x e = slice_get-front xs ys n x e
 
 -- the heading alone
 heading_there : (rs : List UnitRoutine) (n : ℕ) (e : RoutineEntry) (around : List ℕ) → slice_get (map head_of rs) n ≡ Some (e, around) → slice_get (map heading_of rs) n ≡ Some e
@@ -149,7 +144,7 @@ module _ (u : TypedUnit) where
   declared_own : (unit : List ℕ) (number : ℕ) (v : UnitVariable) → unit ≡ u.name → slice_get u.variables number ≡ Some v → (own u).variables unit number ≡ Some v
   declared_own unit number v e at =
       variables_own unit number e
-      ∙ slice_get-front (made_by_unit u) (with_variables (stmt_of u.start)) number v (slice_get-front u.variables (block_auxiliaries (stmt_of u.start)) number v at)
+      ∙ front_get (made_by_unit u) (with_variables (stmt_of u.start)) number v (front_get u.variables (block_auxiliaries (stmt_of u.start)) number v at)
 
   own_place : (es : List Enclosing) (i level number : ℕ) (of : TypeName) (h : Host) → i ≤ length u.types → HoldsOwn u es i level number of (kind.Ordinal h) → IsPlace (in_routine (levels_at u.routines es) (own u)) (typed_host h) (tree.Own (length es - level) number)
   own_place es i level number of h le x = (x.variable, x.at, x.denotes.1.has_host (suc (length u.types)) (omega (arith, le)))
@@ -255,15 +250,11 @@ module _ (u : TypedUnit) where
 
 -- ---- declarations hold what the scopes declare
 
-all_append : {A : Type 0} (P : A → Type 0) (xs ys : List A) → All P xs → All P ys → All P (xs ++ ys)
-all_append P [] ys x y = y
-all_append P (z ∷ zs) ys x y = All-cons P z (zs ++ ys) (All-head P z zs x) (all_append P zs ys (All-tail P z zs x) y)
-
 module _ (u : TypedUnit) (es : List Enclosing) where
   -- the structured types in view
   pub structures_in_view : (i : ℕ) (rs : List Region) → i ≤ length u.types → HoldsScopes u es i rs → All (HoldsStructure (type_values u) u.types) (structures_of rs)
   structures_in_view i [] le x = All-nil (HoldsStructure (type_values u) u.types)
-  structures_in_view i (r ∷ rs) le x = all_append (HoldsStructure (type_values u) u.types) r.structures (structures_of rs) (structures_hold u i r.structures le x.2) (structures_in_view i rs le x.3)
+  structures_in_view i (r ∷ rs) le x = All-append (HoldsStructure (type_values u) u.types) r.structures (structures_of rs) (structures_hold u i r.structures le x.2) (structures_in_view i rs le x.3)
 
   -- in the blocks of these
   abbrev pub within : Declarations

@@ -22,7 +22,8 @@ use Rattle.ep_check_unit.specs.Blocks.{Block}
 use Rattle.ep_check_unit.specs.Declarations.{Part, Written, array_over, array_written, index_values, settled_part, value_of}
 use Rattle.ep_unit_laws.proofs.Denoting.{Denotes, DenotesStructured, array_there, denotes_array, denotes_hosted, kind_bare, kind_more, kind_valued, kind_valid}
 use Rattle.ep_unit_laws.proofs.Holds.{HasTypeHere, Holds, HoldsElements, HoldsStructuredType, ListsKind, has_type_more, holds_more, lists_more, lists_kind_more, lists_kind_small, type_values}
-use Rattle.ep_unit_laws.proofs.Leading.{Extends, Grows, extends_before, grows_trans, prefix_length}
+use Rattle.ep_unit_laws.proofs.Leading.{Extends, Grows, extends_before, grows_trans}
+use Rattle.ep_unit_laws.proofs.Prefixes.{prefix_length}
 use Rattle.ep_unit_laws.proofs.Open.{IsOpen}
 use Rattle.ep_unit_laws.proofs.Ordinals.{IsValued, index_valued, value_is}
 use Rattle.ep_unit_laws.proofs.Types.{IsNext, Settles, Stood, Wrote, Writes, next_denotes}

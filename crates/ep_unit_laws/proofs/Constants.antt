@@ -44,19 +44,16 @@ use Rattle.ep_rules.specs.Judgements.{Judged, Accepts, Breaks}
 use Rattle.ep_expr_laws.specs.Laws.{ConstantsAreSound, ConstantsAreKnown}
 use Rattle.ep_check_expr.specs.declared.constants.ConstantForm.{ConstantForm}
 use Rattle.ep_check_stmt.proofs.public.judged.Fits.{Any, Fits, fits_any, fits_both, fits_is, fits_then}
-use Rattle.ep_check_unit.specs.Declarations.{are_all_members, constant_definition, constant_entered, constant_fitting, entry_denoter, enumerated, host_denoter, members_denoter, own_thing, scopes_of, set_denoter, unused, with_constant, with_entry, with_name}
+use Rattle.ep_check_unit.specs.Declarations.{are_all_members, constant_definition, constant_entered, constant_fitting, entry_denoter, enumerated, host_denoter, members_denoter, own_thing, scopes_of, set_denoter, unused, with_constant, with_entry}
 use Rattle.ep_check_unit.specs.FittingConstants.{fits, unless_outside}
 use Rattle.ep_check_unit.specs.Blocks.{Block}
 use Rattle.ep_unit_laws.proofs.Agreeing.{block_agrees, holds_agrees, within}
 use Rattle.ep_unit_laws.proofs.Denoting.{Denotes, DenotesSet, bare_takes, denotes_set, denotes_subrange, full_type, kind_bare, kind_has_values}
 use Rattle.ep_unit_laws.proofs.Fitting.{value_lies}
-use Rattle.ep_unit_laws.proofs.Holds.{Holds, Lists, ListsKind, constant_valid, host_denotes, known_listed, lists_small, things_push, type_values}
-use Rattle.ep_unit_laws.proofs.Open.{IsOpen, open_push}
-use Rattle.ep_unit_laws.proofs.Leading.{Grows, Leads, Enters, bodies_refl, enters_refl, enters_then, head_in, length_push, noted_leads, prefix_length, prefix_more, prefix_refl}
-
--- a constant is no routine
-constant_opens : (b : Block) (name : List ℕ) (k : Kind) (v : Value) (deep : ℕ) → IsOpen b → IsOpen (with_name name (own_thing b (length b.constants) (declaration.Constant k v deep)) b)
-constant_opens b name k v deep x = open_push b.scopes.inner.entries b.scopes.outer b.own.enclosing (length b.routines) b.bodies name (own_thing b (length b.constants) (declaration.Constant k v deep)) tt x
+use Rattle.ep_unit_laws.proofs.Holds.{Holds, Lists, ListsKind, constant_valid, host_denotes, known_listed, lists_small, type_values}
+use Rattle.ep_unit_laws.proofs.Open.{IsOpen}
+use Rattle.ep_unit_laws.proofs.Leading.{Grows, Leads, Enters, enters_refl, enters_then, grown, grows_trans, named_grows, named_holds, noted_leads, stays}
+use Rattle.ep_unit_laws.proofs.Prefixes.{length_push, prefix_length, prefix_more, prefix_refl}
 
 -- the list of constants grows
 entry_prefix : (name : List ℕ) (d : Option Denoter) (v : Value) (all : List ConstantEntry) → IsPrefix all (with_entry name d v all)
@@ -64,21 +61,10 @@ entry_prefix name None v all = prefix_refl all
 entry_prefix name (Some d) v all = prefix_more all (record { name = name; denoter = d; value = v } ∷ [])
 
 constant_grows : (name : List ℕ) (k : Kind) (v : Value) (deep : ℕ) (b : Block) → Grows b (with_constant name k v deep b)
-constant_grows name k v deep b = record {
-  types = prefix_refl b.types;
-  constants = entry_prefix name (entry_denoter k v) v b.constants;
-  variables = prefix_refl b.variables;
-  own = prefix_refl b.own.variables;
-  parameters = refl;
-  result = refl;
-  enclosing = refl;
-  outer = refl;
-  alone = λ e. refl;
-  headings = prefix_refl (map head_in b.routines);
-  waits = λ w. w;
-  opens = λ x. constant_opens b name k v deep x;
-  bodies = λ x. bodies_refl b;
-}
+constant_grows name k v deep b =
+    let c : Block = record b { constants = with_entry name (entry_denoter k v) v b.constants } in
+    grows_trans b c (with_constant name k v deep b) (grown b (record (stays b) { to = c; constants = entry_prefix name (entry_denoter k v) v b.constants }))
+    (named_grows name (own_thing b (length b.constants) (declaration.Constant k v deep)) c (λ x. tt))
 
 -- ---- the values of a host that may be members
 
@@ -217,22 +203,14 @@ module _ (u : TypedUnit) where
 
   -- so the block with it is held
   constant_holds : (i : ℕ) (name : List ℕ) (k : Kind) (v : Value) (deep : ℕ) (b : Block) → i ≤ length u.types → IsConstantOf (type_values u) u.types k v → Lies v → ListsKind u i k → Holds u i b → Holds u i (with_constant name k v deep b)
-  constant_holds i name k v deep b le s lies l x = record {
-    unit = x.unit;
-    things = things_push u b.own.enclosing i b.scopes.inner.entries name (own_thing b (length b.constants) (declaration.Constant k v deep)) x.things (x.unit, (s, l));
-    plain = x.plain;
-    structures = x.structures;
-    outer = x.outer;
-    routines = x.routines;
-    types = x.types;
-    constants = entry_holds i name k v b.constants le s lies l x.constants;
-    variables = x.variables;
-    parameters = x.parameters;
-    result = x.result;
-    owned = x.owned;
-    headed = x.headed;
-    results = x.results;
-  }
+  constant_holds i name k v deep b le s lies l x =
+      named_holds u i name (own_thing b (length b.constants) (declaration.Constant k v deep)) (record b { constants = with_entry name (entry_denoter k v) v b.constants }) (x.unit, (s, l)) (record {
+        unit = x.unit;
+        names = x.names;
+        lists = record { types = x.types; constants = entry_holds i name k v b.constants le s lies l x.constants; variables = x.variables };
+        under_way = x.under_way;
+        routines = x.routines;
+      })
 
   -- ---- constant definitions
 

@@ -1,5 +1,6 @@
 -- What is found to fit lies in its type: a constant array or record whose components lie in the types that the scopes give them is a value of its type.
 use Rattle.std.proofs.Common.{◌≡◌, ◌∙◌, ℕ, ℤ, zero, suc, Bool, true, false, List, [], ◌∷◌, ◌++◌, length, map, Option, Some, None, slice_get, option_map, inl, inr, refl, sym, ap, subst}
+use Rattle.std.proofs.lemmas.Bool.{and_parts}
 use Rattle.std.proofs.lemmas.List.Elements.{All-head, All-tail, All-weaker}
 use Rattle.std.proofs.lemmas.Option.{same_Some}
 use Rattle.std.proofs.lemmas.Slice.Eq.{bytes_eq-Decides}
@@ -38,7 +39,8 @@ use Rattle.ep_expr_laws.proofs.public.Listed.{structure_in-listed}
 use Rattle.ep_check_unit.specs.FittingConstants.{are_in, are_members_in, base_value, element_type, field_type, is_in, is_number_in, is_plain_in, members_of, type_among as field_among}
 use Rattle.ep_check_unit.specs.OrdinalTypes.{value_of}
 use Rattle.ep_unit_laws.proofs.Holds.{named_tree}
-use Rattle.ep_unit_laws.proofs.Ordinals.{both_true, definition_is, front_there, value_is}
+use Rattle.ep_unit_laws.proofs.Prefixes.{prefix_get}
+use Rattle.ep_unit_laws.proofs.Ordinals.{definition_is, value_is}
 
 -- ---- the values of set types by their own denoters
 
@@ -84,7 +86,7 @@ module _ (types : List UnitType) where
   members_are : (n : ℕ) (few : List UnitType) (of : TypeName) (v : TypeValue) (low high : ℤ) → IsPrefix few types → type_within types (suc n) (named_tree of) ≡ Some v → members_of few of ≡ Some (type.Ordinal low high) → bare_of v ≡ type.Set low high
   members_are n few (type_name.Required r) v low high p e f = cc
   members_are n few (type_name.Entry number) v low high p e f =
-      entry_based n number few v low high (slice_get few number) p (λ t at. ap (λ l. slice_get l number) p.is ∙ front_there few p.rest number t at) e f
+      entry_based n number few v low high (slice_get few number) p (λ t at. prefix_get few types number t p at) e f
 
   -- ---- numbers and sets
 
@@ -269,13 +271,13 @@ module _ (types : List UnitType) where
       all_lie : (c : Option Composition) (t : TypeValue) (all es : Elements) → Suits types c t → AreStartsFor types t es → are_in few scopes c all es ≡ true → AllLieIn t all es
       all_lie c t all es s (none_given u) e = tt
       all_lie c t all es s (ranges_given low high h of ranges x more is_type has_range within start rest) e =
-          let both = both_true (is_in few scopes (element_type c) x) (are_in few scopes c all more) e in
+          let both = and_parts (is_in few scopes (element_type c) x) (are_in few scopes c all more) e in
           (constant_lies (element_type c) of x (element_named c low high of s) start both.0, all_lie c t all more s rest both.1)
       all_lie c t all es s (field_given ts steps of x more lead start rest) e =
-          let both = both_true (is_in few scopes (field_type c steps) x) (are_in few scopes c all more) e in
+          let both = and_parts (is_in few scopes (field_type c steps) x) (are_in few scopes c all more) e in
           ((of, lead, constant_lies (field_type c steps) of x (field_named c ts steps of s lead) start both.0), all_lie c t all more s rest both.1)
       all_lie c t all es s (same_given ts from to k more lead-from lead-to rest) e =
-          let both = both_true (is_plain_in few (field_type c to) (value_of_field all from)) (are_in few scopes c all more) e in
+          let both = and_parts (is_plain_in few (field_type c to) (value_of_field all from)) (are_in few scopes c all more) e in
           ((lead-to.0, lead-to.1, second_lies c ts all from to lead-to.0 (value_of_field all from) s lead-to.1 refl both.0), all_lie c t all more s rest both.1)
 
 -- The scopes of code of a unit whose list of types has these in front: what they say of a structured type suits its type value.

@@ -1,5 +1,6 @@
 -- The headings of routines lead from one block to the next.
-use Rattle.std.proofs.Common.{◌≡◌, ℕ, zero, suc, ◌<◌, ◌≤◌, Bool, true, false, not, ◌||◌, List, [], ◌∷◌, ◌++◌, map, length, Option, Some, None, slice_get, bytes_eq, refl, sym, ap, ◌∙◌, subst, arith}
+use Rattle.std.proofs.Common.{◌≡◌, ℕ, suc, ◌<◌, ◌≤◌, Bool, true, false, not, ◌||◌, List, [], ◌∷◌, ◌++◌, map, length, Option, Some, None, slice_get, bytes_eq, refl, sym, ap, ◌∙◌, subst, arith}
+use Rattle.std.proofs.lemmas.List.{length-map, map-append}
 use Rattle.std.proofs.lemmas.List.Elements.{All-nil, All-push}
 use Rattle.std.specs.Prelude.{All, ⊤, is_none, if◌then◌else◌}
 use Rattle.ep_tree.specs.declared.declaration.FormalSection.{FormalSection}
@@ -37,25 +38,11 @@ use Rattle.ep_check_unit.proofs.public.Forms.{each_push}
 use Rattle.ep_unit_laws.proofs.Denoting.{DenotesKind, kind_has_values}
 use Rattle.ep_unit_laws.proofs.Holds.{HasTypeHere, Holds, HoldsDeclaration, HoldsParameter, HoldsResult, HoldsRoutine, HoldsThings, HoldsThing, ListsKind, around_innermost, formals_valid, head_of, headed_around, name_denotes, named_tree}
 use Rattle.ep_unit_laws.proofs.Items.{LeadsOn}
-use Rattle.ep_unit_laws.proofs.Leading.{Extends, Grows, Leads, bodies_refl, head_in, leads_refl, length_push, named_holds, prefix_last, prefix_length, prefix_more, prefix_refl}
+use Rattle.ep_unit_laws.proofs.Leading.{Extends, Grows, Leads, counted_leads, grown, head_in, leads_refl, named_holds, stays}
+use Rattle.ep_unit_laws.proofs.Prefixes.{front_get, length_push, prefix_last, prefix_length, prefix_more}
 use Rattle.ep_unit_laws.proofs.Meant.{HoldsIf, look_up_holds}
 use Rattle.ep_unit_laws.proofs.Open.{IsNumbered, IsNumberedAs, IsOpen, IsThingIf, IsThingOf, floor_below, look_up_numbered, not_below, open_more, open_push}
 use Rattle.ep_unit_laws.proofs.Types.{Names, type_named-names}
-
--- ---- places of lists
-
-pub front_get : {A : Type 0} (xs rest : List A) (n : ℕ) (x : A) → slice_get xs n ≡ Some x → slice_get (xs ++ rest) n ≡ Some x
-front_get [] rest n x e = cc
-front_get (z ∷ zs) rest zero x e = e
-front_get (z ∷ zs) rest (suc n) x e = front_get zs rest n x e
-
-headings_push : (rs : List RoutineForm) (r : RoutineForm) → map head_in (rs ++ r ∷ []) ≡ map head_in rs ++ head_in r ∷ []
-headings_push [] r = refl
-headings_push (x ∷ xs) r = ap (λ hs. head_in x ∷ hs) (headings_push xs r)
-
-headings_length : (rs : List RoutineForm) → length (map head_in rs) ≡ length rs
-headings_length [] = refl
-headings_length (r ∷ rs) = ap suc (headings_length rs)
 
 -- a typed result is that of a heading, whatever its name
 abbrev pub IsResultOf : Option HeadingResult → Option RoutineResult → Type 0
@@ -166,8 +153,8 @@ module _ (u : TypedUnit) where
       → slice_get (map head_of u.routines) (length b.routines) ≡ Some (head_in (headed_form name line ps r b.own.enclosing))
   routine_at name line ps r b p =
       let f = headed_form name line ps r b.own.enclosing in
-      subst (λ n. slice_get (map head_of u.routines) n ≡ Some (head_in f)) (headings_length b.routines)
-      (prefix_last (map head_in b.routines) (head_in f) (map head_of u.routines) (subst (λ hs. IsPrefix hs (map head_of u.routines)) (headings_push b.routines f) p))
+      subst (λ n. slice_get (map head_of u.routines) n ≡ Some (head_in f)) (length-map b.routines head_in)
+      (prefix_last (map head_in b.routines) (head_in f) (map head_of u.routines) (subst (λ hs. IsPrefix hs (map head_of u.routines)) (map-append head_in b.routines (f ∷ [])) p))
 
   -- a result that has a type is valid
   typed_valid : (i : ℕ) (r : Option HeadingResult) → i ≤ length u.types → HoldsTyped i r → IsResult u.types (typed_result r)
@@ -178,39 +165,21 @@ module _ (u : TypedUnit) where
   routine_grows : (name : List ℕ) (line : ℕ) (ps : List FormalParameter) (r : Option HeadingResult) (b : Block) → Grows b (with_routine name line ps r b)
   routine_grows name line ps r b =
       let f = headed_form name line ps r b.own.enclosing in
-      record {
-        types = prefix_refl b.types;
-        constants = prefix_refl b.constants;
-        variables = prefix_refl b.variables;
-        own = prefix_refl b.own.variables;
-        parameters = refl;
-        result = refl;
-        enclosing = refl;
-        outer = refl;
-        alone = λ e. refl;
-        headings = subst (IsPrefix (map head_in b.routines)) (sym (headings_push b.routines f)) (prefix_more (map head_in b.routines) (head_in f ∷ []));
-        waits = λ w. w;
+      grown b (record (stays b) {
+        to = with_routine name line ps r b;
+        headings = subst (IsPrefix (map head_in b.routines)) (sym (map-append head_in b.routines (f ∷ []))) (prefix_more (map head_in b.routines) (head_in f ∷ []));
         opens = λ x. open_more b.scopes.inner.entries b.scopes.outer b.own.enclosing (length b.routines) (length (b.routines ++ f ∷ [])) b.bodies (omega (arith, length_push b.routines f)) x;
         bodies = λ x n g has at. (has, front_get b.routines (f ∷ []) n g at);
-      }
+      })
 
   routine_leads : (name : List ℕ) (line : ℕ) (ps : List FormalParameter) (r : Option HeadingResult) (b : Block) → ParametersHeld b ps → ResultHeld b r → Leads u b (with_routine name line ps r b)
   routine_leads name line ps r b held typed = record {
     grows = routine_grows name line ps r b;
     holds = λ under e w x. record {
       unit = x.unit;
-      things = x.things;
-      plain = x.plain;
-      structures = x.structures;
-      outer = x.outer;
-      types = x.types;
-      constants = x.constants;
-      variables = x.variables;
-      parameters = x.parameters;
-      result = x.result;
-      owned = x.owned;
-      headed = x.headed;
-      results = x.results;
+      names = x.names;
+      lists = x.lists;
+      under_way = x.under_way;
       routines = each_push (HoldsRoutine u) b.routines (headed_form name line ps r b.own.enclosing) x.routines (record {
         result = typed_valid (length b.types) r (prefix_length b.types u.types e.types) (typed (length b.types) x);
         around = headed_around u b.own.enclosing (length b.routines) b.bodies under.under_way x.headed;
@@ -225,18 +194,9 @@ module _ (u : TypedUnit) where
   before_routine : (i : ℕ) (name : List ℕ) (line : ℕ) (ps : List FormalParameter) (r : Option HeadingResult) (b : Block) → Holds u i (with_routine name line ps r b) → Holds u i b
   before_routine i name line ps r b x = record {
     unit = x.unit;
-    things = x.things;
-    plain = x.plain;
-    structures = x.structures;
-    outer = x.outer;
-    types = x.types;
-    constants = x.constants;
-    variables = x.variables;
-    parameters = x.parameters;
-    result = x.result;
-    owned = x.owned;
-    headed = x.headed;
-    results = x.results;
+    names = x.names;
+    lists = x.lists;
+    under_way = x.under_way;
     routines = λ n f at. x.routines n f (front_get b.routines (headed_form name line ps r b.own.enclosing ∷ []) n f at);
   }
 
@@ -289,21 +249,12 @@ module _ (u : TypedUnit) where
     first_grows : Grows b First.block
     first_grows =
         let g = routine_grows name line ps r b in
-        record {
-          types = g.types;
-          constants = g.constants;
-          variables = g.variables;
-          own = g.own;
-          parameters = g.parameters;
-          result = g.result;
-          enclosing = refl;
-          outer = g.outer;
-          alone = g.alone;
+        grown b (record (stays b) {
+          to = First.block;
           headings = g.headings;
-          waits = g.waits;
           opens = λ x. open_push b.scopes.inner.entries b.scopes.outer b.own.enclosing (length (b.routines ++ Form ∷ [])) b.bodies name Own (first_numbered b ps r (length (b.routines ++ Form ∷ [])) one_more x) (g.opens x);
           bodies = g.bodies;
-        }
+        })
 
     abbrev Declares : Declared
     Declares = record { unit = b.unit; number = length b.routines; level = length b.own.enclosing; what = routine_declaration ps r }
@@ -416,36 +367,4 @@ module _ (u : TypedUnit) where
   after_heading b line rest (Breaks rules) p g = tt
 
   pub forward_leads : (line : ℕ) (h : Headed) → Leads u h.block (forwarded line h)
-  forward_leads line h = record {
-    grows = record {
-      types = prefix_refl h.block.types;
-      constants = prefix_refl h.block.constants;
-      variables = prefix_refl h.block.variables;
-      own = prefix_refl h.block.own.variables;
-      parameters = refl;
-      result = refl;
-      enclosing = refl;
-      outer = refl;
-      alone = λ e. refl;
-      headings = prefix_refl (map head_in h.block.routines);
-      waits = λ w. w;
-      opens = λ x. x;
-      bodies = λ x. bodies_refl h.block;
-    };
-    holds = λ under e w x. record {
-      unit = x.unit;
-      things = x.things;
-      plain = x.plain;
-      structures = x.structures;
-      outer = x.outer;
-      types = x.types;
-      constants = x.constants;
-      variables = x.variables;
-      parameters = x.parameters;
-      result = x.result;
-      owned = x.owned;
-      headed = x.headed;
-      results = x.results;
-      routines = x.routines;
-    };
-  }
+  forward_leads line h = counted_leads u h.block.declarations (h.block.forwards ++ record { number = h.number; line = line } ∷ []) h.block

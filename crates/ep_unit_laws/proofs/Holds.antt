@@ -15,13 +15,15 @@ use Rattle.ep_typed.specs.declared.denoter.RequiredType.{RequiredType}
 use Rattle.ep_typed.specs.declared.denoter.RequiredType.TheVariants as simple
 use Rattle.ep_typed.specs.declared.interface.FormalMode.{FormalMode}
 use Rattle.ep_typed.specs.declared.interface.FormalMode.TheVariants as mode
+use Rattle.ep_typed.specs.declared.interface.ConstantEntry.{ConstantEntry}
 use Rattle.ep_typed.specs.declared.interface.RoutineEntry.{RoutineEntry}
 use Rattle.ep_typed.specs.declared.unit.Unit.{Unit as TypedUnit}
 use Rattle.ep_typed.specs.declared.unit.UnitRoutine.{UnitRoutine}
+use Rattle.ep_typed.specs.declared.unit.UnitType.{UnitType}
 use Rattle.ep_typed.specs.declared.unit.UnitVariable.{UnitVariable}
 use Rattle.ep_values.specs.TypeValues.{TypeValue}
 use Rattle.ep_typed.specs.declared.value.Value.TheVariants as value
-use Rattle.ep_scope.specs.Scopes.{Entries, Region}
+use Rattle.ep_scope.specs.Scopes.{Entries, Region, Row}
 use Rattle.ep_scope.specs.declared.structure.ArrayType.{ArrayType}
 use Rattle.ep_scope.specs.declared.structure.Composition.{Composition}
 use Rattle.ep_scope.specs.declared.structure.Composition.TheVariants as composition
@@ -49,6 +51,7 @@ use Rattle.ep_check_unit.specs.Routines.{formal_of}
 use Rattle.ep_check_unit.specs.Blocks.{Block, RoutineForm, around_of}
 use Rattle.ep_check_unit.specs.declared.block.Enclosing.{Enclosing}
 use Rattle.ep_check_unit.specs.declared.block.OwnResult.{OwnResult}
+use Rattle.ep_check_unit.specs.declared.block.OwnVariables.{OwnVariables}
 use Rattle.ep_unit_laws.proofs.Open.{AreUnderWay}
 use Rattle.ep_unit_laws.proofs.Denoting.{Denotes, DenotesKind, IsSmall, bare_takes, full_type, denotes_more, denotes_required, kind_bare, kind_has_values, kind_more, kind_valid}
 
@@ -585,38 +588,55 @@ module _ (u : TypedUnit) (e : Enclosing) (es : List Enclosing) where
 -- ---- blocks
 
 module _ (u : TypedUnit) where
+  -- the names in view and the structured types, in code of these blocks, where the first i types of the unit are there
+  pub record HoldsNames (es : List Enclosing) (i : ℕ) (s : Row) : Type 0 where
+    pub things : HoldsThings u es i s.inner.entries
+    pub plain : IsPlain s.inner
+    pub structures : All (HoldsStructuredType u i) s.inner.structures
+    pub outer : HoldsScopes u es i s.outer
+
+  -- the lists of a block
+  pub record HoldsLists (ts : List UnitType) (cs : List ConstantEntry) (vs : List UnitVariable) : Type 0 where
+    pub types : All (IsType u.types) ts
+    pub constants : All (IsConstant u.types) cs
+    pub variables : All (IsVariable u.types) vs
+
+  -- the routine whose block is under way, and those around it
+  pub record HoldsUnderWay (i : ℕ) (r : OwnVariables) : Type 0 where
+    pub parameters : All (HoldsParameter u i) r.parameters
+    pub result : HoldsResult u i r.parameters r.result
+    pub owned : All (IsVariable u.types) r.variables
+    pub headed : AreHeaded u r.enclosing
+    pub results : HoldsResults u r.enclosing i r.enclosing
+
   -- The block's names and lists, where its types are the first i ones of the unit.
   pub record Holds (i : ℕ) (b : Block) : Type 0 where
     pub unit : b.unit ≡ u.name
-    pub things : HoldsThings u b.own.enclosing i b.scopes.inner.entries
-    pub plain : IsPlain b.scopes.inner
-    pub structures : All (HoldsStructuredType u i) b.scopes.inner.structures
-    pub outer : HoldsScopes u b.own.enclosing i b.scopes.outer
-    pub types : All (IsType u.types) b.types
-    pub constants : All (IsConstant u.types) b.constants
-    pub variables : All (IsVariable u.types) b.variables
-    pub parameters : All (HoldsParameter u i) b.own.parameters
-    pub result : HoldsResult u i b.own.parameters b.own.result
-    pub owned : All (IsVariable u.types) b.own.variables
-    pub headed : AreHeaded u b.own.enclosing
-    pub results : HoldsResults u b.own.enclosing i b.own.enclosing
+    pub names : HoldsNames b.own.enclosing i b.scopes
+    pub open names use *
+    pub lists : HoldsLists b.types b.constants b.variables
+    pub open lists use *
+    pub under_way : HoldsUnderWay i b.own
+    pub open under_way use *
     pub routines : HoldsRoutines u b.routines
 
   pub holds_more : (i j : ℕ) (b : Block) → i ≤ j → Holds i b → Holds j b
   holds_more i j b le x = record {
     unit = x.unit;
-    things = things_more u b.own.enclosing i j b.scopes.inner.entries le x.things;
-    plain = x.plain;
-    structures = structures_more u i j b.scopes.inner.structures le x.structures;
-    outer = scopes_more u b.own.enclosing i j b.scopes.outer le x.outer;
-    types = x.types;
-    constants = x.constants;
-    variables = x.variables;
-    parameters = parameters_more u i j b.own.parameters le x.parameters;
-    result = result_more u i j b.own.parameters b.own.result le x.result;
-    owned = x.owned;
-    headed = x.headed;
-    results = results_more u b.own.enclosing i j b.own.enclosing le x.results;
+    names = record {
+      things = things_more u b.own.enclosing i j b.scopes.inner.entries le x.things;
+      plain = x.plain;
+      structures = structures_more u i j b.scopes.inner.structures le x.structures;
+      outer = scopes_more u b.own.enclosing i j b.scopes.outer le x.outer;
+    };
+    lists = x.lists;
+    under_way = record {
+      parameters = parameters_more u i j b.own.parameters le x.parameters;
+      result = result_more u i j b.own.parameters b.own.result le x.result;
+      owned = x.owned;
+      headed = x.headed;
+      results = results_more u b.own.enclosing i j b.own.enclosing le x.results;
+    };
     routines = x.routines;
   }
 

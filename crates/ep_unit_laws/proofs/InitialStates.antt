@@ -1,5 +1,5 @@
 -- Types with initial states that are written in a block: the unit that has the block's lists has them as valid types.
-use Rattle.std.proofs.Common.{◌≡◌, ℕ, ℤ, zero, suc, ◌<◌, ◌≤◌, Bool, true, false, IsTrue, List, [], ◌∷◌, length, map, Some, refl, sym, ap, ◌∙◌, subst, arith}
+use Rattle.std.proofs.Common.{◌≡◌, ℕ, ℤ, zero, suc, ◌<◌, ◌≤◌, Bool, true, false, IsTrue, List, [], ◌∷◌, length, Some, refl, sym, ap, ◌∙◌, subst, arith}
 use Rattle.std.proofs.lemmas.Bool.Decides.{nat_tests}
 use Rattle.std.proofs.lemmas.Option.{same_Some}
 use Rattle.std.specs.Prelude.{if◌then◌else◌, nat_eq}
@@ -37,7 +37,8 @@ use Rattle.ep_check_unit.specs.Declarations.{Part, Written, begun_with, fitting_
 use Rattle.ep_unit_laws.proofs.Agreeing.{holds_agrees, within}
 use Rattle.ep_unit_laws.proofs.Denoting.{Denotes, DenotesKind, DenotesSet, HasBare, IsMadeWithin, kind_more}
 use Rattle.ep_unit_laws.proofs.Holds.{holds_more, lists_kind_more, named_tree, type_values}
-use Rattle.ep_unit_laws.proofs.Leading.{Grows, bodies_refl, grows_trans, head_in, prefix_length, prefix_refl, waits_some}
+use Rattle.ep_unit_laws.proofs.Leading.{grows_trans, noted_grows, waits_some}
+use Rattle.ep_unit_laws.proofs.Prefixes.{prefix_length}
 use Rattle.ep_unit_laws.proofs.Structures.{IsKnown, part_settles}
 use Rattle.ep_unit_laws.proofs.Types.{Settles, Writes}
 
@@ -180,28 +181,11 @@ module _ (u : TypedUnit) where
         };
   }
 
-  noted_grows : (line : ℕ) (b : Block) → Grows b (noted false line b)
-  noted_grows line b = record {
-    types = prefix_refl b.types;
-    constants = prefix_refl b.constants;
-    variables = prefix_refl b.variables;
-    own = prefix_refl b.own.variables;
-    parameters = refl;
-    result = refl;
-    enclosing = refl;
-    outer = refl;
-    alone = λ e. refl;
-    headings = prefix_refl (map head_in b.routines);
-    waits = λ w. absurd (waits_some b.waits line w);
-    opens = λ x. x;
-    bodies = λ x. bodies_refl b;
-  }
-
   begun_writes : InitialStatesAreSound → (built : Bool) (line : ℕ) (b : Block) (w : Written) (v : ComponentValue) (c : ConstantForm) → c.built ≡ built → Settles u b w → initial_state_judged (scopes_of w.block) (asked_by w.kind) v ≡ Accepts c → may_begin c.kind w.kind ≡ true
       → Writes u b (record { denoter = denoter.Initial w.denoter c.value; of = w.of; kind = w.kind; nodes = (with_initial_state line w c).nodes; block = noted built line w.block })
   begun_writes sound true line b w v c built s e m = begun_wrote sound line b w v c built s e m
   begun_writes sound false line b w v c built s e m = record {
-    grows = grows_trans b w.block (noted false line w.block) s.grows (noted_grows line w.block);
+    grows = grows_trans b w.block (noted false line w.block) s.grows (noted_grows false line w.block);
     holds = λ under ext free next x. absurd (waits_some w.block.waits line free);
   }
 

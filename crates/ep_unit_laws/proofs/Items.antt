@@ -36,9 +36,9 @@ use Rattle.ep_unit_laws.proofs.Constants.{constant_definition-leads}
 use Rattle.ep_unit_laws.proofs.Denoters.{settled_type-settles, type_written-writes}
 use Rattle.ep_unit_laws.proofs.Denoting.{DenotesKind, kind_valid}
 use Rattle.ep_typed.proofs.public.Forms.{named_is}
-use Rattle.ep_unit_laws.proofs.Holds.{HasTypeHere, Holds, ListsKind, innermost, levels_at, own_innermost, things_push}
-use Rattle.ep_unit_laws.proofs.Open.{open_push}
-use Rattle.ep_unit_laws.proofs.Leading.{Enters, Extends, Leads, bodies_refl, enters_refl, enters_then, entered_leads, extends_before, grows_trans, head_in, leads_refl, leads_then, leads_trans, length_push, named_grows, named_holds, prefix_last, prefix_length, prefix_more, prefix_refl, result_in, variables_in}
+use Rattle.ep_unit_laws.proofs.Holds.{HasTypeHere, Holds, ListsKind, innermost, levels_at, own_innermost}
+use Rattle.ep_unit_laws.proofs.Leading.{Enters, Extends, Leads, counted_leads, enters_refl, enters_then, enters_trans, entered_leads, extends_before, grown, grows_trans, leads_refl, leads_then, leads_trans, named_enters, named_grows, named_holds, result_in, stays, variables_in}
+use Rattle.ep_unit_laws.proofs.Prefixes.{length_push, prefix_last, prefix_length, prefix_more}
 use Rattle.ep_unit_laws.proofs.Types.{Settles, Writes, new_entry, written_settles}
 
 pub own_length : (line : ℕ) (name : List ℕ) (ps : List FormalParameter) (r : Option OwnResult) (vs : List UnitVariable)
@@ -84,9 +84,9 @@ module _ (u : TypedUnit) where
       let t = own_thing w.block (length w.block.types) (declaration.«Type» w.of w.kind w.nodes) in
       fits_then Any (Leads u b) (λ _. Accepts (with_name d.name t c)) (unused d.name c) (fits_any (unused d.name c))
       (λ a k. record {
-        grows = grows_trans b c (with_name d.name t c) s.grows (named_grows u d.name t c (λ x. tt));
+        grows = grows_trans b c (with_name d.name t c) s.grows (named_grows d.name t c (λ x. tt));
         holds = λ under ext free x.
-            let y = s.holds under (extends_before u c (with_name d.name t c) (named_grows u d.name t c (λ x. tt)) (s.grows.opens under) ext) free x in
+            let y = s.holds under (extends_before u c (with_name d.name t c) (named_grows d.name t c (λ x. tt)) (s.grows.opens under) ext) free x in
             named_holds u (length c.types) d.name t c (
               y.block.unit,
               record {
@@ -134,82 +134,52 @@ module _ (u : TypedUnit) where
     -- a variable of the unit
     unit_variable_enters : (i line : ℕ) (d : Denoter) (of : TypeName) (k : Kind) (name : List ℕ) (b : Block) → Enters u (IsStanding i d of k) i b (with_unit_variable line d of k name b)
     unit_variable_enters i line d of k name b =
-        let t = own_thing b (length b.variables) (declaration.Variable of k) in
         let v = new_variable line d name b in
-        record {
-          grows = record {
-            types = prefix_refl b.types;
-            constants = prefix_refl b.constants;
-            variables = prefix_more b.variables (v ∷ []);
-            own = prefix_refl b.own.variables;
-            parameters = refl;
-            result = refl;
-            enclosing = refl;
-            outer = refl;
-            alone = λ e. refl;
-            headings = prefix_refl (map head_in b.routines);
-            waits = λ free. free;
-            opens = λ y. open_push b.scopes.inner.entries b.scopes.outer b.own.enclosing (length b.routines) b.bodies name t tt y;
-            bodies = λ y. bodies_refl b;
-          };
+        let c : Block = record b { variables = b.variables ++ v ∷ [] } in
+        enters_trans u (IsStanding i d of k) i b c (with_unit_variable line d of k name b)
+        (record {
+          grows = grown b (record (stays b) { to = c; variables = prefix_more b.variables (v ∷ []) });
           same = refl;
           holds = λ p under ext x. record {
             unit = x.unit;
-            things = things_push u b.own.enclosing i b.scopes.inner.entries name t x.things (x.unit, record { lists = p.2; variable = v; at = prefix_last b.variables v u.variables ext.variables; denotes = p.1 });
-            plain = x.plain;
-            structures = x.structures;
-            outer = x.outer;
+            names = x.names;
+            lists = record {
+              types = x.types;
+              constants = x.constants;
+              variables = All-push (IsVariable u.types) b.variables v x.variables (record { denoter = kind_valid u.types i (denoter_of d) k p.1.0 p.0 p.1.1; tuple = refl });
+            };
+            under_way = x.under_way;
             routines = x.routines;
-            types = x.types;
-            constants = x.constants;
-            variables = All-push (IsVariable u.types) b.variables v x.variables (record { denoter = kind_valid u.types i (denoter_of d) k p.1.0 p.0 p.1.1; tuple = refl });
-            parameters = x.parameters;
-            result = x.result;
-            owned = x.owned;
-            headed = x.headed;
-            results = x.results;
           };
-        }
+        })
+        (named_enters u (IsStanding i d of k) i name (own_thing b (length b.variables) (declaration.Variable of k)) c (λ under. tt)
+        (λ p ext x. (x.unit, record { lists = p.2; variable = v; at = prefix_last b.variables v u.variables ext.variables; denotes = p.1 })))
 
     -- a variable of the routine
     own_variable_enters : (i line : ℕ) (d : Denoter) (of : TypeName) (k : Kind) (name : List ℕ) (b : Block) → is_outermost b.own.enclosing ≡ false → Enters u (IsStanding i d of k) i b (with_own_variable line d of k name b)
     own_variable_enters i line d of k name b inside =
-        let t = own_thing b (own_count b.own) (declaration.Own of k protection.Unprotected) in
         let v = new_variable line d name b in
-        record {
-          grows = record {
-            types = prefix_refl b.types;
-            constants = prefix_refl b.constants;
-            variables = prefix_refl b.variables;
-            own = prefix_more b.own.variables (v ∷ []);
-            parameters = refl;
-            result = refl;
-            enclosing = refl;
-            outer = refl;
-            alone = λ e. absurd (inner_has_outer b.own.enclosing inside e);
-            headings = prefix_refl (map head_in b.routines);
-            waits = λ free. free;
-            opens = λ y. open_push b.scopes.inner.entries b.scopes.outer b.own.enclosing (length b.routines) b.bodies name t tt y;
-            bodies = λ y. bodies_refl b;
-          };
+        let c : Block = record b { own = record b.own { variables = b.own.variables ++ v ∷ [] } } in
+        enters_trans u (IsStanding i d of k) i b c (with_own_variable line d of k name b)
+        (record {
+          grows = grown b (record (stays b) { to = c; own = prefix_more b.own.variables (v ∷ []); alone = λ e. absurd (inner_has_outer b.own.enclosing inside e) });
           same = refl;
           holds = λ p under ext x. record {
             unit = x.unit;
-            things = things_push u b.own.enclosing i b.scopes.inner.entries name t x.things (x.unit, own_innermost u b.own.enclosing i (own_count b.own) of k v p.2 (own_last b.own v ext.line ext.name (innermost (levels_at u.routines b.own.enclosing)) ext.own) p.1);
-            plain = x.plain;
-            structures = x.structures;
-            outer = x.outer;
+            names = x.names;
+            lists = x.lists;
+            under_way = record {
+              parameters = x.parameters;
+              result = x.result;
+              owned = All-push (IsVariable u.types) b.own.variables v x.owned (record { denoter = kind_valid u.types i (denoter_of d) k p.1.0 p.0 p.1.1; tuple = refl });
+              headed = x.headed;
+              results = x.results;
+            };
             routines = x.routines;
-            types = x.types;
-            constants = x.constants;
-            variables = x.variables;
-            parameters = x.parameters;
-            result = x.result;
-            owned = All-push (IsVariable u.types) b.own.variables v x.owned (record { denoter = kind_valid u.types i (denoter_of d) k p.1.0 p.0 p.1.1; tuple = refl });
-            headed = x.headed;
-            results = x.results;
           };
-        }
+        })
+        (named_enters u (IsStanding i d of k) i name (own_thing b (own_count b.own) (declaration.Own of k protection.Unprotected)) c (λ under. tt)
+        (λ p ext x. (x.unit, own_innermost u b.own.enclosing i (own_count b.own) of k v p.2 (own_last b.own v ext.line ext.name (innermost (levels_at u.routines b.own.enclosing)) ext.own) p.1)))
 
     -- whichever it is
     placed_enters : (i line : ℕ) (d : Denoter) (of : TypeName) (k : Kind) (name : List ℕ) (b : Block) (outermost : Bool) → is_outermost b.own.enclosing ≡ outermost → Enters u (IsStanding i d of k) i b (if outermost then with_unit_variable line d of k name b else with_own_variable line d of k name b)
@@ -227,45 +197,17 @@ module _ (u : TypedUnit) where
         enters_then u (IsStanding i d of k) i b (variables_entered line d of k names) (variable_entered line d of k name b) (variable_enters i line d of k name b) (λ c. variables_enter i line d of k names c)
 
     ended_leads : (b c : Block) (w : Written) → Settles u b w → Enters u (IsStanding (length w.block.types) w.denoter w.of w.kind) (length w.block.types) w.block c → Leads u b (declaration_ended c)
-    ended_leads b c w s e = record {
-      grows = grows_trans b w.block (declaration_ended c) s.grows (record {
-        types = e.grows.types;
-        constants = e.grows.constants;
-        variables = e.grows.variables;
-        own = e.grows.own;
-        parameters = e.grows.parameters;
-        result = e.grows.result;
-        enclosing = e.grows.enclosing;
-        outer = e.grows.outer;
-        alone = e.grows.alone;
-        headings = e.grows.headings;
-        waits = e.grows.waits;
-        opens = e.grows.opens;
-        bodies = e.grows.bodies;
-      });
-      holds = λ under ext free x.
-          let there : Extends u c = record { types = ext.types; constants = ext.constants; variables = ext.variables; line = ext.line; name = ext.name; own = ext.own; headings = ext.headings; bodies = ext.bodies } in
-          let before : Extends u w.block = extends_before u w.block c e.grows (s.grows.opens under) there in
-          let y = s.holds under before (e.grows.waits free) x in
-          let z : Holds u (length w.block.types) c = e.holds (prefix_length w.block.types u.types before.types, y.denotes, y.lists) (s.grows.opens under) there y.block in
-          let count : length c.types ≡ length w.block.types = ap length e.same in
-          subst (λ n. Holds u n (declaration_ended c)) (sym count) (record {
-            unit = z.unit;
-            things = z.things;
-            plain = z.plain;
-            structures = z.structures;
-            outer = z.outer;
-            routines = z.routines;
-            types = z.types;
-            constants = z.constants;
-            variables = z.variables;
-            parameters = z.parameters;
-            result = z.result;
-            owned = z.owned;
-            headed = z.headed;
-            results = z.results;
-          });
-    }
+    ended_leads b c w s e =
+        leads_trans u b c (declaration_ended c)
+        (record {
+          grows = grows_trans b w.block c s.grows e.grows;
+          holds = λ under ext free x.
+              let before : Extends u w.block = extends_before u w.block c e.grows (s.grows.opens under) ext in
+              let y = s.holds under before (e.grows.waits free) x in
+              let count : length c.types ≡ length w.block.types = ap length e.same in
+              subst (λ n. Holds u n c) (sym count) (e.holds (prefix_length w.block.types u.types before.types, y.denotes, y.lists) (s.grows.opens under) ext y.block);
+        })
+        (counted_leads u (suc c.declarations) c.forwards c)
 
     variable_declaration-leads : (d : VariableDeclaration) (b : Block) → Fits (Leads u b) (variable_declaration d b)
     variable_declaration-leads d b =

@@ -1,6 +1,5 @@
 -- How a declaration leads from one block to the next: the lists grow, and where the unit has what is in the later block, it holds the later block if it holds the earlier one.
-use Rattle.std.proofs.Common.{◌≡◌, ℕ, suc, ◌≤◌, Bool, true, false, List, [], ◌∷◌, ◌++◌, map, length, Option, Some, None, slice_get, refl, sym, ap, ◌∙◌, subst, arith, append_assoc}
-use Rattle.std.proofs.lemmas.List.{length-append}
+use Rattle.std.proofs.Common.{◌≡◌, ℕ, Bool, true, false, List, [], ◌∷◌, ◌++◌, map, length, Option, Some, None, slice_get, refl, sym, ◌∙◌, subst}
 use Rattle.std.specs.Option.{option_or}
 use Rattle.ep_outside.specs.Known.{IsPrefix}
 use Rattle.ep_typed.specs.Routines.{formal_variable}
@@ -12,42 +11,12 @@ use Rattle.ep_check_stmt.proofs.public.judged.Fits.{Any, Fits, fits_any, fits_th
 use Rattle.ep_check_unit.specs.Declarations.{entered, noted, type_denoter, unused, with_name}
 use Rattle.ep_check_unit.specs.Routines.{formal_of, has_number}
 use Rattle.ep_check_unit.specs.Blocks.{Block, RoutineForm, routine_form}
+use Rattle.ep_check_unit.specs.declared.block.Forward.{Forward}
 use Rattle.ep_check_unit.specs.declared.block.OwnResult.{OwnResult}
 use Rattle.ep_check_unit.specs.declared.block.OwnVariables.{OwnVariables}
 use Rattle.ep_unit_laws.proofs.Holds.{Head, Holds, HoldsThing, head_of, innermost, levels_at, things_push}
+use Rattle.ep_unit_laws.proofs.Prefixes.{prefix_front, prefix_refl, prefix_trans}
 use Rattle.ep_unit_laws.proofs.Open.{IsOpen, IsThingOf, KeepsBodies, open_push}
-
--- ---- lists that grow
-
-append_nil : {A : Type 0} (xs : List A) → xs ++ [] ≡ xs
-append_nil [] = refl
-append_nil (x ∷ xs) = ap (λ ys. x ∷ ys) (append_nil xs)
-
-pub prefix_refl : {A : Type 0} (xs : List A) → IsPrefix xs xs
-prefix_refl xs = record { rest = []; is = sym (append_nil xs) }
-
-pub prefix_more : {A : Type 0} (xs ys : List A) → IsPrefix xs (xs ++ ys)
-prefix_more xs ys = record { rest = ys; is = refl }
-
-pub prefix_trans : {A : Type 0} (xs ys zs : List A) → IsPrefix xs ys → IsPrefix ys zs → IsPrefix xs zs
-prefix_trans xs ys zs p q = record { rest = p.rest ++ q.rest; is = q.is ∙ (ap (λ l. l ++ q.rest) p.is ∙ append_assoc xs p.rest q.rest) }
-
-pub prefix_length : {A : Type 0} (xs ys : List A) → IsPrefix xs ys → length xs ≤ length ys
-prefix_length xs ys p = omega (arith, ap length p.is, length-append xs p.rest)
-
-seam : {A : Type 0} (xs : List A) (y : A) (rest : List A) → slice_get ((xs ++ y ∷ []) ++ rest) (length xs) ≡ Some y
-seam [] y rest = refl
-seam (x ∷ xs) y rest = seam xs y rest
-
--- what was added last is there, by its place
-pub prefix_last : {A : Type 0} (xs : List A) (y : A) (zs : List A) → IsPrefix (xs ++ y ∷ []) zs → slice_get zs (length xs) ≡ Some y
-prefix_last xs y zs p = ap (λ l. slice_get l (length xs)) p.is ∙ seam xs y p.rest
-
-pub length_push : {A : Type 0} (xs : List A) (y : A) → length (xs ++ y ∷ []) ≡ suc (length xs)
-length_push xs y = omega (arith, length-append xs (y ∷ []))
-
-prefix_front : {A : Type 0} (front xs ys : List A) → IsPrefix xs ys → IsPrefix (front ++ xs) (front ++ ys)
-prefix_front front xs ys p = record { rest = p.rest; is = ap (λ l. front ++ l) p.is ∙ sym (append_assoc front xs p.rest) }
 
 -- the heading of a routine, and the routines around it
 abbrev pub head_in : RoutineForm → Head
@@ -89,11 +58,27 @@ pub record Grows (b c : Block) : Type 0 where
   pub opens : IsOpen b → IsOpen c
   pub bodies : IsOpen b → KeepsBodies b c
 
-pub bodies_refl : (b : Block) → KeepsBodies b b
-bodies_refl b = λ n r has at. (has, at)
+-- A block that this one grows into, with why it does: `record (stays b) { to = c; .. }` tells what differs.
+pub record Growth (b : Block) : Type 0 where
+  pub to : Block
+  pub types : IsPrefix b.types to.types
+  pub constants : IsPrefix b.constants to.constants
+  pub variables : IsPrefix b.variables to.variables
+  pub own : IsPrefix b.own.variables to.own.variables
+  pub parameters : to.own.parameters ≡ b.own.parameters
+  pub result : to.own.result ≡ b.own.result
+  pub enclosing : to.own.enclosing ≡ b.own.enclosing
+  pub outer : to.scopes.outer ≡ b.scopes.outer
+  pub alone : b.own.enclosing ≡ [] → to.own ≡ b.own
+  pub headings : IsPrefix (map head_in b.routines) (map head_in to.routines)
+  pub waits : to.waits ≡ None → b.waits ≡ None
+  pub opens : IsOpen b → IsOpen to
+  pub bodies : IsOpen b → KeepsBodies b to
 
-pub grows_refl : (b : Block) → Grows b b
-grows_refl b = record {
+-- a block that stays as it is
+abbrev pub stays : (b : Block) → Growth b
+stays b = record {
+  to = b;
   types = prefix_refl b.types;
   constants = prefix_refl b.constants;
   variables = prefix_refl b.variables;
@@ -106,8 +91,28 @@ grows_refl b = record {
   headings = prefix_refl (map head_in b.routines);
   waits = λ w. w;
   opens = λ x. x;
-  bodies = λ x. bodies_refl b;
+  bodies = λ x n r has at. (has, at);
 }
+
+pub grown : (b : Block) (g : Growth b) → Grows b g.to
+grown b g = record {
+  types = g.types;
+  constants = g.constants;
+  variables = g.variables;
+  own = g.own;
+  parameters = g.parameters;
+  result = g.result;
+  enclosing = g.enclosing;
+  outer = g.outer;
+  alone = g.alone;
+  headings = g.headings;
+  waits = g.waits;
+  opens = g.opens;
+  bodies = g.bodies;
+}
+
+pub grows_refl : (b : Block) → Grows b b
+grows_refl b = grown b (stays b)
 
 bodies_trans : (b c d : Block) → KeepsBodies b c → KeepsBodies c d → KeepsBodies b d
 bodies_trans b c d p q = λ n r has at. let k = p n r has at in q n r k.0 k.1
@@ -133,6 +138,15 @@ grows_trans b c d p q = record {
 pub waits_some : (o : Option ℕ) (line : ℕ) → option_or o (Some line) ≡ None → ⊥
 waits_some None line e = cc
 waits_some (Some other) line e = cc
+
+pub noted_grows : (built : Bool) (line : ℕ) (b : Block) → Grows b (noted built line b)
+noted_grows true line b = grows_refl b
+noted_grows false line b = grown b (record (stays b) { to = noted false line b; waits = λ w. absurd (waits_some b.waits line w) })
+
+-- one name more
+pub named_grows : (name : List ℕ) (t : Thing) (b : Block) → (IsOpen b → IsThingOf b.own.enclosing (length b.routines) t) → Grows b (with_name name t b)
+named_grows name t b numbered =
+    grown b (record (stays b) { to = with_name name t b; opens = λ x. open_push b.scopes.inner.entries b.scopes.outer b.own.enclosing (length b.routines) b.bodies name t (numbered x) x })
 
 module _ (u : TypedUnit) where
   -- the unit has what is in the block's lists, and the routine under way its variables
@@ -190,57 +204,29 @@ module _ (u : TypedUnit) where
   pub noted_leads : (built : Bool) (line : ℕ) (b c : Block) → (built ≡ true → Leads b c) → Grows b c → Leads b (noted built line c)
   noted_leads true line b c h g = h refl
   noted_leads false line b c h g = record {
-    grows = record {
-      types = g.types;
-      constants = g.constants;
-      variables = g.variables;
-      own = g.own;
-      parameters = g.parameters;
-      result = g.result;
-      enclosing = g.enclosing;
-      outer = g.outer;
-      alone = g.alone;
-      headings = g.headings;
-      waits = λ w. absurd (waits_some c.waits line w);
-      opens = g.opens;
-      bodies = g.bodies;
-    };
+    grows = grows_trans b c (noted false line c) g (noted_grows false line c);
     holds = λ under e w x. absurd (waits_some c.waits line w);
   }
 
-  pub named_grows : (name : List ℕ) (t : Thing) (b : Block) → (IsOpen b → IsThingOf b.own.enclosing (length b.routines) t) → Grows b (with_name name t b)
-  named_grows name t b numbered = record {
-    types = prefix_refl b.types;
-    constants = prefix_refl b.constants;
-    variables = prefix_refl b.variables;
-    own = prefix_refl b.own.variables;
-    parameters = refl;
-    result = refl;
-    enclosing = refl;
-    outer = refl;
-    alone = λ e. refl;
-    headings = prefix_refl (map head_in b.routines);
-    waits = λ w. w;
-    opens = λ x. open_push b.scopes.inner.entries b.scopes.outer b.own.enclosing (length b.routines) b.bodies name t (numbered x) x;
-    bodies = λ x. bodies_refl b;
+  -- a block that differs in what it counts, and in which routines are to come
+  pub counted_leads : (declarations : ℕ) (forwards : List Forward) (b : Block) → Leads b (record b { declarations = declarations; forwards = forwards })
+  counted_leads declarations forwards b = record {
+    grows = grown b (record (stays b) { to = record b { declarations = declarations; forwards = forwards } });
+    holds = λ under e w x. record { unit = x.unit; names = x.names; lists = x.lists; under_way = x.under_way; routines = x.routines };
   }
 
   -- a name for something that the unit holds
   pub named_holds : (i : ℕ) (name : List ℕ) (t : Thing) (b : Block) → HoldsThing u b.own.enclosing i t → Holds u i b → Holds u i (with_name name t b)
   named_holds i name t b h x = record {
     unit = x.unit;
-    things = things_push u b.own.enclosing i b.scopes.inner.entries name t x.things h;
-    plain = x.plain;
-    structures = x.structures;
-    outer = x.outer;
-    types = x.types;
-    constants = x.constants;
-    variables = x.variables;
-    parameters = x.parameters;
-    result = x.result;
-    owned = x.owned;
-    headed = x.headed;
-    results = x.results;
+    names = record {
+      things = things_push u b.own.enclosing i b.scopes.inner.entries name t x.things h;
+      plain = x.plain;
+      structures = x.structures;
+      outer = x.outer;
+    };
+    lists = x.lists;
+    under_way = x.under_way;
     routines = x.routines;
   }
 
@@ -268,6 +254,14 @@ module _ (u : TypedUnit) where
     grows = grows_trans b c d p.grows q.grows;
     same = q.same ∙ p.same;
     holds = λ h under e x. q.holds h (p.grows.opens under) e (p.holds h under (extends_before c d q.grows (p.grows.opens under) e) x);
+  }
+
+  -- a name for something that the unit holds
+  pub named_enters : (P : Type 0) (i : ℕ) (name : List ℕ) (t : Thing) (b : Block) → (IsOpen b → IsThingOf b.own.enclosing (length b.routines) t) → (P → Extends b → Holds u i b → HoldsThing u b.own.enclosing i t) → Enters P i b (with_name name t b)
+  named_enters P i name t b numbered h = record {
+    grows = named_grows name t b numbered;
+    same = refl;
+    holds = λ p under e x. named_holds i name t b (h p (extends_before b (with_name name t b) (named_grows name t b numbered) under e) x) x;
   }
 
   enters_on : (P : Type 0) (i : ℕ) (b c : Block) (j : Judged Block) → Enters P i b c → Fits (Enters P i c) j → Fits (Enters P i b) j

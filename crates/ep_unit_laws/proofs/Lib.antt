@@ -13,6 +13,7 @@ mod Leading
 mod Meant
 mod Open
 mod Ordinals
+mod Prefixes
 mod Ranges
 mod Records
 mod Routines

@@ -1,5 +1,5 @@
 -- Ordinal types that are written in a block: the values that the rules take of a type's own denoter are those of its type value in the unit that has the block's types.
-use Rattle.std.proofs.Common.{◌≡◌, ℕ, ℤ, pos, zero, suc, Bool, true, false, ◌&&◌, List, [], ◌∷◌, ◌++◌, length, Option, Some, None, slice_get, refl, sym, ap, ◌∙◌}
+use Rattle.std.proofs.Common.{◌≡◌, ℕ, ℤ, pos, zero, suc, List, [], ◌∷◌, length, Option, Some, None, slice_get, refl, sym, ap, ◌∙◌}
 use Rattle.std.proofs.lemmas.Option.{same_Some}
 use Rattle.ep_outside.specs.Known.{IsPrefix}
 use Rattle.ep_typed.specs.Denoters.{definition_of, found_of, required_type, type_within}
@@ -19,6 +19,7 @@ use Rattle.ep_check_stmt.proofs.public.judged.Fits.{Fits}
 use Rattle.ep_check_unit.specs.Declarations.{Written, index_host, index_values, ordinal_value, value_of}
 use Rattle.ep_check_unit.specs.Labels.{tag_values}
 use Rattle.ep_unit_laws.proofs.Holds.{named_tree}
+use Rattle.ep_unit_laws.proofs.Prefixes.{prefix_get}
 
 -- ---- hosts
 
@@ -61,18 +62,6 @@ index_valued w = host_valued w.kind (value_of w.block.types w.of)
 
 -- ---- type values
 
--- where two tests say yes together, each of them does
-pub both_true : (a b : Bool) → (a && b) ≡ true → (a ≡ true) × (b ≡ true)
-both_true true true e = (refl, refl)
-both_true true false e = cc
-both_true false b e = cc
-
--- what a list has, a longer one has
-pub front_there : {A : Type 0} (xs ys : List A) (n : ℕ) (x : A) → slice_get xs n ≡ Some x → slice_get (xs ++ ys) n ≡ Some x
-front_there [] ys n x e = cc
-front_there (y ∷ xs) ys zero x e = e
-front_there (y ∷ xs) ys (suc n) x e = front_there xs ys n x e
-
 module _ (types : List UnitType) where
   -- by its own denoter
   pub definition_is : (n : ℕ) (d : tree.Denoter) (v x : TypeValue) → type_within types n d ≡ Some v → ordinal_value d ≡ Some x → bare_of v ≡ x
@@ -103,4 +92,4 @@ module _ (types : List UnitType) where
   pub value_is : (n : ℕ) (few : List UnitType) (of : TypeName) (v x : TypeValue) → IsPrefix few types → type_within types (suc n) (named_tree of) ≡ Some v → value_of few of ≡ Some x → bare_of v ≡ x
   value_is n few (type_name.Required r) v x p e f = required_is r v x e f
   value_is n few (type_name.Entry number) v x p e f =
-      entry_is n number v x (slice_get few number) (λ t at. ap (λ l. slice_get l number) p.is ∙ front_there few p.rest number t at) e f
+      entry_is n number v x (slice_get few number) (λ t at. prefix_get few types number t p at) e f

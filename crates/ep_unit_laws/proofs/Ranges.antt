@@ -1,5 +1,6 @@
 -- The labels of variants that the rules accept are values of the tag's type, and no value is in two of them.
 use Rattle.std.proofs.Common.{◌≡◌, ℤ, suc, Bool, true, false, not, ◌&&◌, ◌||◌, List, [], ◌∷◌, ◌++◌, length, Option, Some, None, IsTrue, refl, sym, ap, ◌∙◌, subst, append_assoc, append-nil, arith}
+use Rattle.std.proofs.lemmas.Bool.{and_parts}
 use Rattle.std.proofs.lemmas.Bool.Decides.{nat_tests}
 use Rattle.std.proofs.lemmas.List.{length-append}
 use Rattle.std.proofs.lemmas.List.Elements.{All-cons, All-head, All-nil, All-push, All-tail}
@@ -25,29 +26,24 @@ use Rattle.ep_check_unit.specs.Declarations.{Tag}
 use Rattle.ep_check_unit.specs.Labels.{added, behind, end_judged, fitting, has_label, is_apart_from, label_taken, labels_taken, mislabelled, no_labels, range_judged, ranging, valued, variant_ended, variant_labelled}
 use Rattle.ep_check_unit.specs.declared.labels.Labels.{Labels}
 
-pub both_true : (a b : Bool) → (a && b) ≡ true → (a ≡ true) × (b ≡ true)
-both_true true true e = (refl, refl)
-both_true true false e = cc
-both_true false b e = cc
-
 -- ---- ranges that are apart
 
 all_front : (p : CaseRange → Bool) (xs ys : List CaseRange) → list_all p xs ≡ true → list_all p ys ≡ true → list_all p (xs ++ ys) ≡ true
 all_front p [] ys e f = f
-all_front p (x ∷ xs) ys e f = let q = both_true (p x) (list_all p xs) e in ap (λ b. b && list_all p (xs ++ ys)) q.0 ∙ all_front p xs ys q.1 f
+all_front p (x ∷ xs) ys e f = let q = and_parts (p x) (list_all p xs) e in ap (λ b. b && list_all p (xs ++ ys)) q.0 ∙ all_front p xs ys q.1 f
 
 -- a range that is apart from those of each variant and from these
 apart_joined : (r : CaseRange) (all : List (List CaseRange)) (own : List CaseRange) → list_all (is_apart_from r) all ≡ true → is_apart_from r own ≡ true → list_all (λ s. is_apart s r) (labels_joined all ++ own) ≡ true
 apart_joined r [] own e f = f
 apart_joined r (rs ∷ all) own e f =
-    let p = both_true (is_apart_from r rs) (list_all (is_apart_from r) all) e in
+    let p = and_parts (is_apart_from r rs) (list_all (is_apart_from r) all) e in
     ap (list_all (λ s. is_apart s r)) (append_assoc rs (labels_joined all) own) ∙ all_front (λ s. is_apart s r) rs (labels_joined all ++ own) p.0 (apart_joined r all own p.1 f)
 
 -- one range more, which is apart from each of those before it
 apart_push : (rs : List CaseRange) (r : CaseRange) → AreApart rs → list_all (λ s. is_apart s r) rs ≡ true → AreApart (rs ++ r ∷ [])
 apart_push [] r h t = (All-nil (λ s. IsTrue (is_apart r s)), tt)
 apart_push (x ∷ rs) r h t =
-    let p = both_true (is_apart x r) (list_all (λ s. is_apart s r) rs) t in
+    let p = and_parts (is_apart x r) (list_all (λ s. is_apart s r) rs) t in
     (All-push (λ s. IsTrue (is_apart x s)) rs r h.0 p.0, apart_push rs r h.1 p.1)
 
 -- the ranges of one variant more
@@ -114,7 +110,7 @@ module _ (t : Tag) where
       → Fits (Taken old) (if b then Accepts (record old { own = old.own ++ r ∷ [] }) else mislabelled)
   added_by old r false e x y = tt
   added_by old r true e x y =
-      let p = both_true (list_all (is_apart_from r) old.before) (is_apart_from r old.own) e in
+      let p = and_parts (list_all (is_apart_from r) old.before) (is_apart_from r old.own) e in
       let all = labels_joined old.before in (
         record {
           each = x.each;

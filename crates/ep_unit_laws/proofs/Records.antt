@@ -26,7 +26,8 @@ use Rattle.ep_check_unit.proofs.public.Denoters.{AreKept}
 use Rattle.ep_unit_laws.proofs.Denoting.{AreDenoted, DenotesStructured, bare_more, denotes_record, kind_bare, kind_valid, kind_valued, record_there}
 use Rattle.ep_unit_laws.proofs.Agreeing.{denoter_holds}
 use Rattle.ep_unit_laws.proofs.Holds.{HasTypeHere, Holds, HoldsStructuredType, ListsKind, all_lists_more, has_type_more, holds_more, lists_kind_more, lists_kind_small, type_values}
-use Rattle.ep_unit_laws.proofs.Leading.{Extends, Grows, extends_before, grows_refl, grows_trans, prefix_length}
+use Rattle.ep_unit_laws.proofs.Leading.{Extends, Grows, extends_before, grows_refl, grows_trans}
+use Rattle.ep_unit_laws.proofs.Prefixes.{prefix_length}
 use Rattle.ep_unit_laws.proofs.Open.{IsOpen}
 use Rattle.ep_unit_laws.proofs.Structures.{IsKnown, part_settles, structure_grows, structure_held}
 use Rattle.ep_unit_laws.proofs.Types.{IsNext, Settles, Wrote, Writes, next_denotes}

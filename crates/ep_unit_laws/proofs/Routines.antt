@@ -1,7 +1,8 @@
 -- Blocks of routines lead from one block to the next, and so do all parts of a block.
-use Rattle.std.proofs.Common.{◌≡◌, ℕ, ◌+◌, zero, suc, ◌<◌, ◌≤◌, Bool, true, false, List, [], ◌∷◌, ◌++◌, map, length, Option, Some, None, slice_get, refl, sym, ap, ◌∙◌, subst, append_assoc, arith}
+use Rattle.std.proofs.Common.{◌≡◌, ℕ, ◌+◌, zero, suc, ◌<◌, ◌≤◌, Bool, true, false, List, [], ◌∷◌, ◌++◌, map, length, Option, Some, None, option_map, slice_get, refl, sym, ap, ◌∙◌, subst, append_assoc, arith}
 use Rattle.std.proofs.lemmas.List.{length-append, length-map}
 use Rattle.std.proofs.lemmas.List.Elements.{All-head, All-nil, All-tail}
+use Rattle.std.proofs.lemmas.Option.{slice_get-map}
 use Rattle.std.specs.Option.{option_or}
 use Rattle.std.specs.Prelude.{All, slice_set}
 use Rattle.ep_tree.specs.declared.routine.Part.TheFolds.{fold-roll-Part, fold-roll-Routine, fold-roll-RoutineBody, ind-Part}
@@ -46,19 +47,16 @@ use Rattle.ep_check_unit.specs.declared.functions.HeadingResult.{HeadingResult}
 use Rattle.ep_check_unit.proofs.public.Forms.{each_set}
 use Rattle.ep_unit_laws.proofs.Auxiliaries.{AreBehind, IsUnmadeFrom, auxiliaries_of, for_auxiliaries, for_in_auxiliaries, own_behind, own_unmade, with_auxiliaries}
 use Rattle.ep_unit_laws.proofs.Denoting.{DenotesKind}
-use Rattle.ep_unit_laws.proofs.Headings.{HeadsOn, HoldsHeaded, IsResultOf, after_heading, forward_leads, front_get, headed_leads}
+use Rattle.ep_unit_laws.proofs.Headings.{HeadsOn, HoldsHeaded, IsResultOf, after_heading, forward_leads, headed_leads}
 use Rattle.ep_unit_laws.proofs.Agreeing.{holds_agrees, holds_results, structures_in_view, within}
-use Rattle.ep_unit_laws.proofs.Holds.{Head, Holds, HoldsStructuredType, HoldsOwn, HoldsOwnResult, HoldsParameter, HoldsResult, HoldsResultOf, HoldsRoutine, HoldsRoutines, HoldsScopes, HoldsThings, IsPlain, head_of, holds_more, holds_scopes, innermost, levels_at, name_denotes, own_innermost, results_deeper, scopes_deeper, type_values}
+use Rattle.ep_unit_laws.proofs.Holds.{Head, Holds, HoldsStructuredType, HoldsOwn, HoldsOwnResult, HoldsParameter, HoldsResult, HoldsResultOf, HoldsRoutine, HoldsNames, HoldsRoutines, head_of, holds_more, holds_scopes, innermost, levels_at, name_denotes, own_innermost, results_deeper, scopes_deeper, type_values}
 use Rattle.ep_unit_laws.proofs.Items.{LeadsOn, constants_lead, further, line_leads, then_leads, type_definitions-leads, variables_lead}
-use Rattle.ep_unit_laws.proofs.Leading.{Extends, Grows, Leads, entered_leads, extends_before, head_in, leads_on, leads_refl, length_push, prefix_length, prefix_trans, result_in, variables_in, waits_some}
+use Rattle.ep_unit_laws.proofs.Leading.{Extends, Grows, Leads, entered_leads, extends_before, head_in, leads_on, leads_refl, result_in, variables_in, waits_some}
+use Rattle.ep_unit_laws.proofs.Prefixes.{length_push, prefix_get, prefix_length, prefix_trans}
 use Rattle.ep_unit_laws.proofs.Open as around
 use Rattle.ep_unit_laws.proofs.Open.{IsNumbered, IsOpen, IsOpenBy, KeepsBodies, pushed_kept, pushed_there}
 
 -- ---- places of lists
-
--- what a list has at a place, one that begins with it has there too
-prefix_get : {A : Type 0} (xs ys : List A) (n : ℕ) (x : A) → IsPrefix xs ys → slice_get xs n ≡ Some x → slice_get ys n ≡ Some x
-prefix_get xs ys n x p e = ap (λ l. slice_get l n) p.is ∙ front_get xs p.rest n x e
 
 same_there : {A : Type 0} (o : Option A) (x y : A) → o ≡ Some x → o ≡ Some y → x ≡ y
 same_there o x y e f = cc
@@ -105,9 +103,7 @@ all_between P (x ∷ xs) y ys h = all_between P xs y ys (All-tail P x (xs ++ y �
 
 -- a form at a place, and its heading there
 heading_at : (rs : List RoutineForm) (n : ℕ) (r : RoutineForm) → slice_get rs n ≡ Some r → slice_get (map head_in rs) n ≡ Some (head_in r)
-heading_at [] n r e = cc
-heading_at (x ∷ xs) zero r e = cc
-heading_at (x ∷ xs) (suc n) r e = heading_at xs n r e
+heading_at rs n r e = slice_get-map head_in rs n ∙ ap (option_map head_in) e
 
 -- headings stay where a routine gets its block
 set_headings : (line : ℕ) (vs : List UnitVariable) (s : Stmt) (rs : List RoutineForm) (n : ℕ) → map head_in (set_to rs n (with_its_block line vs s) (slice_get rs n)) ≡ map head_in rs
@@ -259,18 +255,15 @@ module _ (u : TypedUnit) (few : length u.constants ≤ maxint) (statements : Sta
     opened_held : (i : ℕ) → HoldsHeaded u Around i h.number h.parameters h.result → Extends u Opened → Holds u i h.block → Holds u i Opened
     opened_held i held ext x = record {
       unit = x.unit;
-      things = tt;
-      plain = (refl, refl);
-      structures = All-nil (HoldsStructuredType u i);
-      outer = scopes_deeper u Inner Around i (scopes_of h.block) (x.things, x.plain, x.structures, x.outer);
-      types = x.types;
-      constants = x.constants;
-      variables = x.variables;
-      parameters = held.parameters;
-      result = held.owned;
-      owned = All-nil (IsVariable u.types);
-      headed = ((held.heading, held.at), x.headed);
-      results = (opened_result i (own_result h.number (length h.parameters) h.result) refl ext held.owned, results_deeper u Inner Around i Around x.results);
+      names = record { things = tt; plain = (refl, refl); structures = All-nil (HoldsStructuredType u i); outer = scopes_deeper u Inner Around i (scopes_of h.block) (holds_scopes u i h.block x) };
+      lists = x.lists;
+      under_way = record {
+        parameters = held.parameters;
+        result = held.owned;
+        owned = All-nil (IsVariable u.types);
+        headed = ((held.heading, held.at), x.headed);
+        results = (opened_result i (own_result h.number (length h.parameters) h.result) refl ext held.owned, results_deeper u Inner Around i Around x.results);
+      };
       routines = x.routines;
     }
 
@@ -465,18 +458,9 @@ module _ (u : TypedUnit) (few : length u.constants ≤ maxint) (statements : Sta
               let z : Holds u (length c.types) h.block = holds_more u (length h.block.types) (length c.types) h.block (prefix_length h.block.types c.types inside.grows.types) heading_held in
               record {
                 unit = c_held.unit;
-                things = subst (λ s. HoldsThings u Around (length c.types) s.inner.entries) (sym scopes_again) z.things;
-                plain = subst (λ s. IsPlain s.inner) (sym scopes_again) z.plain;
-                structures = subst (λ s. All (HoldsStructuredType u (length c.types)) s.inner.structures) (sym scopes_again) z.structures;
-                outer = subst (λ s. HoldsScopes u Around (length c.types) s.outer) (sym scopes_again) z.outer;
-                types = c_held.types;
-                constants = c_held.constants;
-                variables = c_held.variables;
-                parameters = z.parameters;
-                result = z.result;
-                owned = z.owned;
-                headed = z.headed;
-                results = z.results;
+                names = subst (HoldsNames u Around (length c.types)) (sym scopes_again) z.names;
+                lists = c_held.lists;
+                under_way = z.under_way;
                 routines = routine_valid (slice_get c.routines h.number) refl;
               }
 

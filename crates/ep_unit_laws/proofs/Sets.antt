@@ -1,5 +1,6 @@
 -- Set types that are written in a block: the unit that has the block's lists has them as valid types.
 use Rattle.std.proofs.Common.{◌≡◌, ℕ, ℤ, zero, suc, ◌<◌, Bool, true, false, List, [], ◌∷◌, length, Option, Some, None, option_map, slice_get, refl, sym, ap, ◌∙◌, subst, arith}
+use Rattle.std.proofs.lemmas.Bool.{and_parts}
 use Rattle.std.proofs.lemmas.Option.{slice_get_within}
 use Rattle.std.specs.Prelude.{if◌then◌else◌}
 use Rattle.ep_typed.specs.Denoters.{definition_of, found_of, required_type, type_within}
@@ -27,8 +28,9 @@ use Rattle.ep_check_unit.specs.Declarations.{Part, Written, are_members, index_h
 use Rattle.ep_unit_laws.proofs.Denoting.{Denotes, DenotesSet, denotes_bounds, denotes_set}
 use Rattle.ep_unit_laws.proofs.Holds.{HasTypeHere, Holds, ListsKind, holds_more, lists_kind_more, named_tree}
 use Rattle.ep_unit_laws.proofs.Leading.{Extends}
+use Rattle.ep_unit_laws.proofs.Prefixes.{prefix_get}
 use Rattle.ep_unit_laws.proofs.Open.{IsOpen}
-use Rattle.ep_unit_laws.proofs.Ordinals.{both_true, front_there, index_ordinal}
+use Rattle.ep_unit_laws.proofs.Ordinals.{index_ordinal}
 use Rattle.ep_unit_laws.proofs.Structures.{IsKnown, part_settles}
 use Rattle.ep_unit_laws.proofs.Types.{IsNext, Settles, Stood, Wrote, Writes, next_denotes}
 
@@ -63,7 +65,7 @@ module _ (types : List UnitType) where
   pub value_members : (n : ℕ) (few : List UnitType) (of : TypeName) (v : TypeValue) → IsPrefix few types → type_within types (suc n) (named_tree of) ≡ Some v → are_members (value_of few of) ≡ true → are_members (Some (bare_of v)) ≡ true
   value_members n few (type_name.Required r) v p e m = required_members r v e m
   value_members n few (type_name.Entry number) v p e m =
-      entry_members n number v (slice_get few number) (λ t at. ap (λ l. slice_get l number) p.is ∙ front_there few p.rest number t at) e m
+      entry_members n number v (slice_get few number) (λ t at. prefix_get few types number t p at) e m
 
 module _ (u : TypedUnit) where
   -- ---- a set of a base type that stands
@@ -92,7 +94,7 @@ module _ (u : TypedUnit) where
       may_be : (is_ordinal bounds.0 ≡ true) × (is_ordinal bounds.1 ≡ true)
       may_be =
           let of = typed_here.2.has_bare in
-          both_true (is_ordinal bounds.0) (is_ordinal bounds.1)
+          and_parts (is_ordinal bounds.0) (is_ordinal bounds.1)
           (subst (λ v. are_members (Some v) ≡ true) (of.bare ∙ bounds.2)
           (value_members u.types Number base.block.types base.of of.type_value ext.types (of.has_type (suc Number) (omega arith)) members))
 

@@ -1,5 +1,5 @@
 -- Structured types and parts of denoters that are written in a block.
-use Rattle.std.proofs.Common.{ℕ, Bool, true, false, map, None, refl}
+use Rattle.std.proofs.Common.{ℕ, Bool, true, false, None}
 use Rattle.std.proofs.lemmas.List.Elements.{All-push}
 use Rattle.std.specs.Prelude.{if◌then◌else◌}
 use Rattle.ep_typed.specs.declared.unit.Unit.{Unit as TypedUnit}
@@ -9,43 +9,25 @@ use Rattle.ep_check_stmt.proofs.public.judged.Fits.{Fits, fits_then, fits_weaker
 use Rattle.ep_check_unit.specs.Blocks.{Block}
 use Rattle.ep_check_unit.specs.Declarations.{Part, Written, settled, settled_part, with_structure}
 use Rattle.ep_unit_laws.proofs.Holds.{Holds, HoldsStructuredType}
-use Rattle.ep_unit_laws.proofs.Leading.{Grows, bodies_refl, head_in, prefix_refl}
+use Rattle.ep_unit_laws.proofs.Leading.{Grows, grown, stays}
 use Rattle.ep_unit_laws.proofs.Types.{Names, Settles, Writes, named_settles, named_writes, written_settles}
 
 pub structure_grows : (s : StructuredType) (b : Block) → Grows b (with_structure s b)
-structure_grows s b = record {
-  types = prefix_refl b.types;
-  constants = prefix_refl b.constants;
-  variables = prefix_refl b.variables;
-  own = prefix_refl b.own.variables;
-  parameters = refl;
-  result = refl;
-  enclosing = refl;
-  outer = refl;
-  alone = λ e. refl;
-  headings = prefix_refl (map head_in b.routines);
-  waits = λ w. w;
-  opens = λ x. x;
-  bodies = λ x. bodies_refl b;
-}
+structure_grows s b = grown b (record (stays b) { to = with_structure s b })
 
 module _ (u : TypedUnit) where
   -- one structured type more in the innermost scope
   pub structure_held : (i : ℕ) (s : StructuredType) (b : Block) → HoldsStructuredType u i s → Holds u i b → Holds u i (with_structure s b)
   structure_held i s b h x = record {
     unit = x.unit;
-    things = x.things;
-    plain = x.plain;
-    structures = All-push (HoldsStructuredType u i) b.scopes.inner.structures s x.structures h;
-    outer = x.outer;
-    types = x.types;
-    constants = x.constants;
-    variables = x.variables;
-    parameters = x.parameters;
-    result = x.result;
-    owned = x.owned;
-    headed = x.headed;
-    results = x.results;
+    names = record {
+      things = x.things;
+      plain = x.plain;
+      structures = All-push (HoldsStructuredType u i) b.scopes.inner.structures s x.structures h;
+      outer = x.outer;
+    };
+    lists = x.lists;
+    under_way = x.under_way;
     routines = x.routines;
   }
 

@@ -1,5 +1,5 @@
 -- Types that are written in a block have denoters that are valid in the unit that has its lists.
-use Rattle.std.proofs.Common.{◌≡◌, ℕ, suc, ◌≤◌, ◌+◌, Bool, true, false, ◌&&◌, List, [], ◌∷◌, ◌++◌, map, length, Option, Some, None, slice_get, IsTrue, refl, sym, ap, subst, arith}
+use Rattle.std.proofs.Common.{◌≡◌, ℕ, suc, ◌≤◌, ◌+◌, Bool, true, false, ◌&&◌, List, [], ◌∷◌, ◌++◌, length, Option, Some, None, slice_get, IsTrue, refl, sym, ap, subst, arith}
 use Rattle.std.proofs.lemmas.Bool.Decides.{nat_tests}
 use Rattle.std.proofs.lemmas.List.Elements.{All-push}
 use Rattle.std.proofs.lemmas.Option.{slice_get_within}
@@ -53,7 +53,8 @@ use Rattle.ep_unit_laws.proofs.Agreeing.{holds_agrees, within}
 use Rattle.ep_typed.proofs.public.Forms.{enumeration_is, named_is, subrange_is}
 use Rattle.ep_unit_laws.proofs.Holds.{HasKindHere, HasTypeHere, Holds, HoldsDeclaration, Lists, ListsEnumeration, ListsKind, holds_more, host_denotes, known_listed, lists_kind_more, lists_more, lists_small, named_tree, required_lists, type_values}
 use Rattle.ep_unit_laws.proofs.Open.{IsOpen}
-use Rattle.ep_unit_laws.proofs.Leading.{Extends, Enters, Grows, bodies_refl, extends_before, grows_refl, grows_trans, head_in, length_push, prefix_last, prefix_length, prefix_more, prefix_refl, waits_some}
+use Rattle.ep_unit_laws.proofs.Leading.{Extends, Enters, Grows, extends_before, grown, grows_refl, grows_trans, noted_grows, stays, waits_some}
+use Rattle.ep_unit_laws.proofs.Prefixes.{length_push, prefix_last, prefix_length, prefix_more}
 use Rattle.ep_unit_laws.proofs.Meant.{HoldsMeant, meant_holds, meant_in_holds}
 
 -- the entry of a type that is added
@@ -179,21 +180,7 @@ module _ (u : TypedUnit) where
   with_entry_of name line w = record { denoter = denoter.Named (length w.block.types) []; of = w.of; kind = w.kind; nodes = w.nodes; block = with_type name line w.denoter w.block }
 
   type_grows : (name : Option (List ℕ)) (line : ℕ) (d : Denoter) (b : Block) → Grows b (with_type name line d b)
-  type_grows name line d b = record {
-    types = prefix_more b.types _;
-    constants = prefix_refl b.constants;
-    variables = prefix_refl b.variables;
-    own = prefix_refl b.own.variables;
-    parameters = refl;
-    result = refl;
-    enclosing = refl;
-    outer = refl;
-    alone = λ e. refl;
-    headings = prefix_refl (map head_in b.routines);
-    waits = λ w. w;
-    opens = λ x. x;
-    bodies = λ x. bodies_refl b;
-  }
+  type_grows name line d b = grown b (record (stays b) { to = with_type name line d b; types = prefix_more b.types _ })
 
   pub written_settles : (name : Option (List ℕ)) (line : ℕ) (b : Block) (w : Written) → Writes b w → Settles b (with_entry_of name line w)
   written_settles name line b w wr = record {
@@ -208,19 +195,14 @@ module _ (u : TypedUnit) where
         let y = wr.holds under (extends_before u w.block (with_type name line w.denoter w.block) (type_grows name line w.denoter w.block) (wr.grows.opens under) ext) free next x in
         let held : Holds u (suc i) (with_type name line w.denoter w.block) = record {
           unit = y.block.unit;
-          things = y.block.things;
-          plain = y.block.plain;
-          structures = y.block.structures;
-          outer = y.block.outer;
+          names = y.block.names;
+          lists = record {
+            types = All-push (IsType u.types) w.block.types entry y.block.types (record { formals = refl; denoter = kind_valid u.types i (denoter_of w.denoter) w.kind y.denotes.0 (omega (arith, le)) y.denotes.1 });
+            constants = y.block.constants;
+            variables = y.block.variables;
+          };
+          under_way = y.block.under_way;
           routines = y.block.routines;
-          types = All-push (IsType u.types) w.block.types entry y.block.types (record { formals = refl; denoter = kind_valid u.types i (denoter_of w.denoter) w.kind y.denotes.0 (omega (arith, le)) y.denotes.1 });
-          constants = y.block.constants;
-          variables = y.block.variables;
-          parameters = y.block.parameters;
-          result = y.block.result;
-          owned = y.block.owned;
-          headed = y.block.headed;
-          results = y.block.results;
         } in
         let named : DenotesKind u.types (suc i) (denoter_of (denoter.Named i [])) w.kind y.denotes.0 =
         subst (λ d. DenotesKind u.types (suc i) d w.kind y.denotes.0) (sym (named_is i [])) (kind_named u.types i i entry w.kind y.denotes.0 at y.denotes.1) in
@@ -305,7 +287,7 @@ module _ (u : TypedUnit) where
         };
   }
   subrange_writes false line h low high b e k = record {
-    grows = record { types = prefix_refl b.types; constants = prefix_refl b.constants; variables = prefix_refl b.variables; own = prefix_refl b.own.variables; parameters = refl; result = refl; enclosing = refl; outer = refl; alone = λ e. refl; headings = prefix_refl (map head_in b.routines); waits = λ w. absurd (waits_some b.waits line w); opens = λ x. x; bodies = λ x. bodies_refl b };
+    grows = noted_grows false line b;
     holds = λ under ext free next x. absurd (waits_some b.waits line free);
   }
 

@@ -1,6 +1,7 @@
 -- A typed unit that the rules give is valid.
-use Rattle.std.proofs.Common.{◌≡◌, ◌∙◌, ℕ, zero, suc, ◌≤◌, List, [], ◌∷◌, map, length, Option, Some, None, slice_get, refl, sym, ap, subst, arith}
+use Rattle.std.proofs.Common.{◌≡◌, ◌∙◌, ℕ, ◌≤◌, List, [], ◌∷◌, map, length, Option, Some, None, option_map, slice_get, refl, sym, ap, subst, arith}
 use Rattle.std.proofs.lemmas.List.Elements.{All-nil, All-same}
+use Rattle.std.proofs.lemmas.Option.{slice_get-map}
 use Rattle.ep_outside.specs.Known.{IsPrefix}
 use Rattle.ep_tree.specs.declared.component.Component.TheVariants as component_is
 use Rattle.ep_tree.specs.declared.component.Program.{Program}
@@ -30,7 +31,8 @@ use Rattle.ep_unit_laws.proofs.Agreeing.{block_agrees, structures_in_view, withi
 use Rattle.ep_unit_laws.proofs.Holds.{Holds, HoldsStructuredType, HoldsParameter, HoldsRoutine, HoldsRoutines, head_of, holds_scopes, innermost, levels_at, type_values}
 use Rattle.ep_unit_laws.proofs.Open.{IsOpen}
 use Rattle.ep_unit_laws.proofs.Items.{LeadsOn, parameters_lead}
-use Rattle.ep_unit_laws.proofs.Leading.{Leads, head_in, leads_trans, prefix_refl, variables_in}
+use Rattle.ep_unit_laws.proofs.Leading.{Leads, head_in, leads_trans, variables_in}
+use Rattle.ep_unit_laws.proofs.Prefixes.{prefix_refl}
 use Rattle.ep_unit_laws.proofs.Routines.{parts_lead}
 
 -- a program that passes, by its parts
@@ -85,9 +87,7 @@ forms_headings (r ∷ rs) = ap (λ hs. head_of r ∷ hs) (forms_headings rs)
 
 -- a routine at its place, by its form
 form_there : (rs : List UnitRoutine) (n : ℕ) (r : UnitRoutine) → slice_get rs n ≡ Some r → slice_get (map routine_form rs) n ≡ Some (routine_form r)
-form_there [] n r at = cc
-form_there (x ∷ rs) zero r at = cc
-form_there (x ∷ rs) (suc n) r at = form_there rs n r at
+form_there rs n r at = slice_get-map routine_form rs n ∙ ap (option_map routine_form) at
 
 routine_valid : (u : TypedUnit) (number : ℕ) (r : UnitRoutine) → slice_get u.routines number ≡ Some r → HoldsRoutine u number (routine_form r) → IsRoutine u number r
 routine_valid u number r at held = record {
@@ -136,7 +136,13 @@ module _ (statements : StatementsAreSound) (constants : ConstantsAreSound) (boun
         bodies = λ n r has at. subst (λ rs. slice_get rs n ≡ Some r) (sym is.routines) at;
       })
       made.waits
-      (record { unit = sym is.name; things = tt; plain = (refl, refl); structures = All-nil (HoldsStructuredType u 0); outer = tt; types = All-nil (IsType u.types); constants = All-nil (IsConstant u.types); variables = All-nil (IsVariable u.types); parameters = All-nil (HoldsParameter u 0); result = tt; owned = All-nil (IsVariable u.types); headed = tt; results = tt; routines = λ n r at. cc })
+      (record {
+        unit = sym is.name;
+        names = record { things = tt; plain = (refl, refl); structures = All-nil (HoldsStructuredType u 0); outer = tt };
+        lists = record { types = All-nil (IsType u.types); constants = All-nil (IsConstant u.types); variables = All-nil (IsVariable u.types) };
+        under_way = record { parameters = All-nil (HoldsParameter u 0); result = tt; owned = All-nil (IsVariable u.types); headed = tt; results = tt };
+        routines = λ n r at. cc;
+      })
 
   program_valid : (p : Program) (u : TypedUnit) → IsTypedProgram p u → length u.constants ≤ maxint → IsValid u
   program_valid p u t few =

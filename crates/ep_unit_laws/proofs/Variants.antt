@@ -1,6 +1,6 @@
 -- Lists of fields with a variant part that are written in a block: the unit that has the block's lists has the components that they give, and the fields of its variants.
 use Rattle.std.proofs.Common.{◌≡◌, ℕ, ℤ, zero, suc, ◌+◌, ◌≤◌, Bool, true, false, List, [], ◌∷◌, ◌++◌, map, length, Option, Some, None, slice_get, refl, sym, ap, ◌∙◌, subst, arith, append-nil, append_assoc}
-use Rattle.std.proofs.lemmas.List.{length-append}
+use Rattle.std.proofs.lemmas.List.{length-append, length-map}
 use Rattle.std.proofs.lemmas.List.Elements.{All-append, All-cons, All-head, All-nil, All-push, All-tail}
 use Rattle.std.specs.Prelude.{All, ⊤, is_some, if◌then◌else◌}
 use Rattle.ep_outside.specs.Known.{IsPrefix}
@@ -43,7 +43,8 @@ use Rattle.ep_check_unit.proofs.public.Forms.{map_push}
 use Rattle.ep_unit_laws.proofs.Agreeing.{denoter_holds}
 use Rattle.ep_unit_laws.proofs.Denoting.{AreDenoted, HasBare, bare_record, denotes_hosted, kind_more, kind_type, kind_valued}
 use Rattle.ep_unit_laws.proofs.Holds.{HasTypeHere, Holds, ListsKind, Lists as ListsHost, lists_kind_more, lists_kind_small, named_tree, type_values}
-use Rattle.ep_unit_laws.proofs.Leading.{Extends, Grows, bodies_refl, extends_before, grows_refl, grows_trans, head_in, length_push, prefix_length, prefix_refl, waits_some}
+use Rattle.ep_unit_laws.proofs.Leading.{Extends, Grows, extends_before, grows_refl, grows_trans, noted_grows, waits_some}
+use Rattle.ep_unit_laws.proofs.Prefixes.{length_push, prefix_length}
 use Rattle.ep_unit_laws.proofs.Open.{IsOpen}
 use Rattle.ep_unit_laws.proofs.Ordinals.{IsValued, index_valued, value_is}
 use Rattle.ep_unit_laws.proofs.Ranges.{AreLabels, IsRangeOf, OneMore, all_labelled, none_yet, ranges_hosted, variant_fits}
@@ -109,10 +110,6 @@ denoters_counted : (ds : List tree.Denoter) → denoters_count (tree.denoters ds
 denoters_counted [] = refl
 denoters_counted (d ∷ ds) = ap suc (denoters_counted ds)
 
-map_counted : {X Y : Type 0} (f : X → Y) (xs : List X) → length (map f xs) ≡ length xs
-map_counted f [] = refl
-map_counted f (x ∷ xs) = ap suc (map_counted f xs)
-
 completing_counted : (o : Option FieldPart) → length (completing_of o) ≡ (if is_some o then 1 else 0)
 completing_counted None = refl
 completing_counted (Some part) = refl
@@ -175,24 +172,6 @@ each_all P s t fs lists all are own tag h =
     (each_inside P s 0 lists (λ k gs e. subst (λ n. All P (map (inside s n) gs)) {x = k} {y = 0 + k} (omega arith) (h k gs e))))
 
 -- ---- blocks
-
-noted_grows : (built : Bool) (line : ℕ) (b : Block) → Grows b (noted built line b)
-noted_grows true line b = grows_refl b
-noted_grows false line b = record {
-  types = prefix_refl b.types;
-  constants = prefix_refl b.constants;
-  variables = prefix_refl b.variables;
-  own = prefix_refl b.own.variables;
-  parameters = refl;
-  result = refl;
-  enclosing = refl;
-  outer = refl;
-  alone = λ e. refl;
-  headings = prefix_refl (map head_in b.routines);
-  waits = λ w. absurd (waits_some b.waits line w);
-  opens = λ x. x;
-  bodies = λ x. bodies_refl b;
-}
 
 -- where nothing waits, all is built
 noted_built : (built : Bool) (line : ℕ) (b : Block) → (noted built line b).waits ≡ None → (built ≡ true) × (noted built line b ≡ b)
@@ -473,7 +452,7 @@ module _ (u : TypedUnit) where
         let first = length-append (denoters_of f.fields) Behind in
         let second = length-append (map viewed.variant_of g.variants) (completing_of g.completing) in
         denoters_counted (denoters_of f.fields ++ Behind)
-        ∙ omega (arith, first, second, map_counted (λ (x : Field). denoter_of x.denoter) f.fields, map_counted viewed.variant_of g.variants, completing_counted g.completing, counted)
+        ∙ omega (arith, first, second, length-map f.fields (λ (x : Field). denoter_of x.denoter), length-map g.variants viewed.variant_of, completing_counted g.completing, counted)
 
     -- the bounds of its type are of its host
     of_host : IsTypeOf TagHost (type.Ordinal t.values.low t.values.high)
