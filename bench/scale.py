@@ -1,23 +1,25 @@
 #!/usr/bin/env python3
 """How the time and the memory of `epc go` grow with a source, shape by shape, as a table for docs/BENCHMARKS.md.
 
-    python3 bench/scale.py [PROGRAM [SHAPE..]] [--sizes 128,256,512,1024] [--runs 3]
+    python3 bench/scale.py [PROGRAM [SHAPE..]] [--sizes 128,256,512,1024] [--runs 3] [--seconds 20]
 
-PROGRAM is crates/epc/out/epc where none is given (`rt run` in crates/epc builds it), and the shapes are all of them where
-none is named. A text of each shape is made of each size, in KiB, and told are: the least processor time of some runs (of one
-run where that takes over a second), the greatest memory at the last size that was tried, and the exponent of growth, which is
-that of the last two sizes that ended alike: 1 where twice the text takes twice the time. Bold are times above 2 s at 1 MiB
-and exponents above 1.2. Memory below some 30 MB is that of this script, which the run began in.
+PROGRAM is crates/epc/out/epc where none is given (`rt run` in crates/epc builds it). The shapes are those of SHAPES below, or
+those alone that have one of the given texts in their names. A text of each shape is made of each size, in KiB, and told are:
+the least processor time of some runs (of one run where that takes over a second), the greatest memory at the last size that
+was tried, and the exponent of growth, which is that of the last two sizes that ended alike, or else of the last two that
+ended: 1 where twice the text takes twice the time. Bold are times above 2 s at the last size, and exponents above 1.2. Memory
+below some 30 MB is that of this script, in which the run began.
 
 Each text is valid, so its answer is 0, or 'too large' where it has more than 65,536 typed nodes, which is known when it was
-read, typed and counted. A shape for which another answer is right says so. Any other answer is told in the table and on
-standard error, and the script ends with status 1; so is an end by a signal. A run of more than 20 s is cut, and no larger text
+read, typed and counted. Any other answer is told in the table and on standard error, and the script ends with status 1; so is
+an end by a signal. A run of more than 20 s of the processor, or of as many as are given, is cut. Behind either no larger text
 of the shape is tried. `--sizes 2` tries the shapes themselves.
 """
 import argparse
 import math
 import os
 import resource
+import signal
 import subprocess
 import sys
 import tempfile
@@ -29,7 +31,7 @@ KIB = 1024
 SIZES = "128,256,512,1024"
 RUNS = 3
 SHORT = 1.0
-MOST_SECONDS = 20
+SECONDS = 20
 MOST_MEMORY = 4 * KIB**3
 # what is told as bold: a time at the last of the sizes, and an exponent
 SLOW = 2.0
@@ -116,20 +118,20 @@ SHAPES = {
     "nested routines": lambda n: unit(groups(n, "procedure q%;", "\n", "begin end; ")),
     "results in the innermost": lambda n: unit(results_in_the_innermost(n)),
     "variables of routines": lambda n: unit(row("procedure q%; var a, b: integer; begin a := 1; b := a end;", n)),
-    "`forward` declarations": lambda n: unit(
+    "forward declarations": lambda n: unit(
         row("procedure q%; forward;", n) + "\n" + row("procedure q%; begin end;", n)
     ),
-    "parameters of a `forward` declaration": lambda n: unit(
+    "parameters of a forward declaration": lambda n: unit(
         f"procedure q({row('a%: integer', n, '; ')}); forward;\n"
         f"procedure q({row('a%: integer', n, '; ')}); begin end;"
     ),
     "parameters of one section": lambda n: unit(f"procedure q({row('a%', n, ', ')}: integer); begin end;"),
     "parameters of many": lambda n: unit(f"procedure q({row('a%: integer', n, '; ')}); begin end;"),
-    "`var` parameters": lambda n: unit(f"procedure q({row('var a%: integer', n, '; ')}); begin end;"),
+    "var parameters": lambda n: unit(f"procedure q({row('var a%: integer', n, '; ')}); begin end;"),
     "arguments of a call": lambda n: unit(
         f"procedure q({row('a%', n, ', ')}: integer); begin end;", f"q({row('1', n, ', ')})"
     ),
-    "arguments for `var` parameters": lambda n: unit(
+    "arguments for var parameters": lambda n: unit(
         f"{INT}procedure q(var {row('a%', n, ', ')}: integer); begin end;", f"q({row('i', n, ', ')})"
     ),
     "nested calls": lambda n: unit(
@@ -141,12 +143,12 @@ SHAPES = {
     "uses of the last field": lambda n: unit(
         f"var v: record {row('a%', n, ', ')}, z: integer end;", row("v.z := 1;", n)
     ),
-    "uses of the last field in `with`": lambda n: unit(
+    "uses of the last field in with": lambda n: unit(
         f"var v: record {row('a%', n, ', ')}, z: integer end;", f"with v do begin {row('z := 1;', n)} end"
     ),
     "field chains": lambda n: unit(f"{CHAIN} var v: t{DEEP:06};", row(f"v{'.x' * (DEEP + 1)} := 1;", n)),
-    "`with` lists": lambda n: unit(INT + "v: record x: integer end;", f"with {row('v', n, ', ')} do x := 1"),
-    "`with` lists and uses": lambda n: unit(
+    "with lists": lambda n: unit(INT + "v: record x: integer end;", f"with {row('v', n, ', ')} do x := 1"),
+    "with lists and uses": lambda n: unit(
         INT + "v: record x: integer end;", f"with {row('v', n, ', ')} do begin {row('i := 1;', n)} end"
     ),
     "variants": lambda n: unit("type t = " + VARIANTS.format(row("%: (a%: integer);", n))),
@@ -190,7 +192,7 @@ SHAPES = {
     ),
     "structured constants in a chain": lambda n: unit(
         "type t = array [1..2] of integer;\nconst c000000 = t[1: 4; 2: 5];\n"
-        + row("c% = t[1: c@[2]; 2: c@[1]];", n, begin=1)
+        + row("d% = c@[2]; c% = t[1: d%; 2: d%];", n, begin=1)
     ),
     "a structured constant by elements": lambda n: unit(
         f"type t = {array(n)}; const c = t[{row('%: 1', n, '; ')}];"
@@ -208,10 +210,10 @@ SHAPES = {
         f"var a: {array(n)} value [{row('%: 1', n, '; ')}];"
     ),
     # statements
-    "`case` labels": lambda n: unit(INT, f"i := 0; case i of {row('%', n, ', ')}: end"),
-    "`case` labels, greatest first": lambda n: unit(INT, f"i := 0; case i of {downward('%', n, ', ')}: end"),
-    "`case` arms": lambda n: unit(INT, f"i := 0; case i of {row('%: ;', n)} end"),
-    "`case` ranges": lambda n: unit(INT, f"i := 0; case i of {row('%0..%5', n, ', ')}: end"),
+    "case labels": lambda n: unit(INT, f"i := 0; case i of {row('%', n, ', ')}: end"),
+    "case labels, greatest first": lambda n: unit(INT, f"i := 0; case i of {downward('%', n, ', ')}: end"),
+    "case arms": lambda n: unit(INT, f"i := 0; case i of {row('%: ;', n)} end"),
+    "case ranges": lambda n: unit(INT, f"i := 0; case i of {row('%0..%5', n, ', ')}: end"),
     "assignments": lambda n: unit(INT, "i := 0;\n" + row("i := i + 1;", n)),
     "conditions": lambda n: unit(INT, "i := 0;\n" + row("if i = 0 then i := 1 else i := 0;", n)),
     "loops": lambda n: unit(INT, row("for i := 1 to 1 do;", n)),
@@ -225,7 +227,7 @@ SHAPES = {
     "nested loops": lambda n: unit(
         f"var {row('i%', DEEP, ', ')}: integer;", row(row("for i% := 1 to 1 do", DEEP, " ") + ";", n)
     ),
-    "`;`": lambda n: unit("", row(";", n, "")),
+    "empty statements": lambda n: unit("", row(";", n, "")),
     # expressions
     "a long expression": lambda n: unit(INT, "i := 0; j := " + balanced("i", " + ", n)),
     "expressions of 400 operands": lambda n: unit(INT, "i := 0;\n" + row(f"j := i{' + i' * 399};", n)),
@@ -263,7 +265,7 @@ def text(shape, size):
 
 
 def answered(status, told):
-    """The status of a run, and of one that failed what was told. A run may end by a signal, by its limit of time among others."""
+    """The status of a run, with what was told where that is no answer of a valid text."""
     if status < 0:
         return f"signal {-status}"
     if status == 3 and f" {LARGE} " in told:
@@ -271,35 +273,36 @@ def answered(status, told):
     return str(status) if status == 0 else f"{status}: {told.strip()[:80]}"
 
 
-def once(command, folder):
+def once(words, command, folder):
     with open(os.path.join(folder, "told"), "w+") as told:
         child = subprocess.Popen([command, "go", "x.pas"], cwd=folder, stdout=subprocess.DEVNULL, stderr=told)
-        resource.prlimit(child.pid, resource.RLIMIT_CPU, (MOST_SECONDS, MOST_SECONDS + 1))
+        resource.prlimit(child.pid, resource.RLIMIT_CPU, (words.seconds, words.seconds + 1))
         resource.prlimit(child.pid, resource.RLIMIT_AS, (MOST_MEMORY, MOST_MEMORY))
         _, status, used = os.wait4(child.pid, 0)
         child.returncode = os.waitstatus_to_exitcode(status)
         told.seek(0)
         answer = answered(child.returncode, told.read())
     seconds = used.ru_utime + used.ru_stime
-    return Run(seconds, used.ru_maxrss / KIB, "cut" if child.returncode < 0 and seconds >= MOST_SECONDS else answer)
+    return Run(seconds, used.ru_maxrss / KIB, "cut" if child.returncode == -signal.SIGXCPU else answer)
 
 
-def measured(command, folder, shape, size, most):
+def measured(words, command, folder, shape, size):
     """The run of the least time of some on one text."""
     with open(os.path.join(folder, "x.pas"), "w") as file:
         file.write(text(shape, size * KIB))
-    runs = [once(command, folder)]
-    while runs[0].seconds < SHORT and len(runs) < most:
-        runs.append(once(command, folder))
+    runs = [once(words, command, folder)]
+    while runs[0].seconds < SHORT and len(runs) < words.runs:
+        runs.append(once(words, command, folder))
     return min(runs, key=lambda run: run.seconds)
 
 
 def exponent(runs):
-    """That of the last two sizes with one and the same answer, or nothing."""
+    """That of the last two sizes with one and the same answer, or else of the last two."""
     ended = [(size, run) for size, run in runs if run.answer != "cut" and run.seconds >= LEAST]
-    for (size, run), (larger, last) in reversed(list(zip(ended, ended[1:]))):
-        if run.answer == last.answer:
-            return math.log(last.seconds / run.seconds) / math.log(larger / size)
+    pairs = list(zip(ended, ended[1:]))
+    alike = [pair for pair in pairs if pair[0][1].answer == pair[1][1].answer]
+    for (size, run), (larger, last) in (alike or pairs)[-1:]:
+        return math.log(last.seconds / run.seconds) / math.log(larger / size)
     return None
 
 
@@ -311,7 +314,7 @@ def line(shape, runs, sizes):
     """The line of the table for a shape."""
     cells = []
     for size, run in runs:
-        seconds = f"> {MOST_SECONDS} s" if run.answer == "cut" else f"{run.seconds:.2f} s"
+        seconds = f"over {run.seconds:.0f} s" if run.answer == "cut" else f"{run.seconds:.2f} s"
         cells.append(bold(seconds, size == sizes[-1] and run.seconds > SLOW or run.answer == "cut"))
     cells += [""] * (len(sizes) - len(runs))
     grows = exponent(runs)
@@ -322,34 +325,33 @@ def line(shape, runs, sizes):
     return f"| {shape} | {' | '.join(cells)} |"
 
 
-def tried(command, folder, shape, sizes, most):
+def tried(words, command, folder, shape, sizes):
     """The runs of a shape, up to the first one that is cut or ends by a signal."""
     runs = []
     for size in sizes:
-        runs.append((size, measured(command, folder, shape, size, most)))
+        runs.append((size, measured(words, command, folder, shape, size)))
         if runs[-1][1].answer not in RIGHT:
             break
     return runs
 
 
 def main():
-    parser = argparse.ArgumentParser(usage="scale.py [PROGRAM [SHAPE..]] [--sizes 128,256,512,1024] [--runs 3]")
+    parser = argparse.ArgumentParser(usage="scale.py [PROGRAM [SHAPE..]] [--sizes 128,256,512,1024] [--runs 3] [--seconds 20]")
     parser.add_argument("program", nargs="?")
     parser.add_argument("shapes", nargs="*")
     parser.add_argument("--sizes", default=SIZES)
     parser.add_argument("--runs", type=int, default=RUNS)
-    words = parser.parse_args()
-    for shape in words.shapes:
-        if shape not in SHAPES:
-            sys.exit(f"{shape} is none of the shapes: {', '.join(SHAPES)}")
+    parser.add_argument("--seconds", type=int, default=SECONDS)
+    words = parser.parse_intermixed_args()
+    shapes = [shape for shape in SHAPES if not words.shapes or any(word in shape for word in words.shapes)]
     sizes = [int(size) for size in words.sizes.split(",")]
     command = program.path(words.program)
     wrong = []
     print(f"| Shape | {' | '.join(f'{size} KiB' for size in sizes)} | Memory | Exponent | Answer |")
     print("|---" * (len(sizes) + 4) + "|")
     with tempfile.TemporaryDirectory() as folder:
-        for shape in words.shapes or SHAPES:
-            runs = tried(command, folder, shape, sizes, words.runs)
+        for shape in shapes:
+            runs = tried(words, command, folder, shape, sizes)
             print(line(shape, runs, sizes), flush=True)
             wrong += [f"{shape}, {size} KiB: {run.answer}" for size, run in runs if run.answer not in (*RIGHT, "cut")]
     for told in wrong:
