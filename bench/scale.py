@@ -37,7 +37,7 @@ MOST_MEMORY = 4 * KIB**3
 SLOW = 2.0
 STEEP = 1.2
 # a text that runs for less has no exponent: what is measured then is the start of the process
-LEAST = 0.04
+LEAST = 0.02
 LARGE = "too large"
 RIGHT = ("0", LARGE)
 # as deep as a group of statements or routines is nested here; a text nests at most 100 deep
