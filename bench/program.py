@@ -3,10 +3,10 @@ import os
 import sys
 
 
-def path():
+def path(named=None):
     """The one that is named, or else crates/epc/out/epc."""
     root = os.path.dirname(os.path.dirname(os.path.abspath(__file__)))
-    program = os.path.abspath(sys.argv[1]) if len(sys.argv) > 1 else os.path.join(root, "crates/epc/out/epc")
+    program = os.path.abspath(named) if named else os.path.join(root, "crates/epc/out/epc")
     if not os.path.exists(program):
         sys.exit(f"{program} is not there: build it first")
     return program

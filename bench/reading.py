@@ -9,6 +9,7 @@ too, so that a wrong answer is seen.
 """
 import os
 import subprocess
+import sys
 import tempfile
 import time
 
@@ -57,7 +58,7 @@ def cell(command, folder, text):
 
 
 def main():
-    found = program.path()
+    found = program.path(*sys.argv[1:2])
     print("| Source | 64 KiB | 256 KiB | 1 MiB | Status |")
     print("|---|---|---|---|---|")
     with tempfile.TemporaryDirectory() as folder:

@@ -543,7 +543,7 @@ def row(command, folder, name, pascal, python):
 
 
 def main():
-    found = program.path()
+    found = program.path(*sys.argv[1:2])
     print("| Program | epc | Python | epc to Python | fpc -O2 | epc to fpc |")
     print("|---|---|---|---|---|---|")
     with tempfile.TemporaryDirectory() as folder:
