@@ -33,7 +33,7 @@ use Rattle.ep_check_stmt.specs.Threats.{assigns, in_arm, in_compound, in_otherwi
 use Rattle.ep_check_unit.specs.Blocks.{Block, own_count}
 use Rattle.ep_check_unit.specs.Declarations.{own_thing, set_on, with_constant, with_own_variable}
 use Rattle.ep_check_unit.specs.Functions.{is_assigned, is_in_view, is_threatened}
-use Rattle.ep_check_unit.specs.Routines.{Headed, PartJudged, assigns_among, context_of, function_identified, headed_first, headed_over, heading_entered, locals_of, of_body, of_part, of_routine, result_judged, scope_opened, with_body}
+use Rattle.ep_check_unit.specs.Routines.{Headed, PartJudged, context_of, function_identified, given_among, headed_first, headed_over, heading_entered, locals_of, of_body, of_part, of_routine, result_judged, scope_opened, with_body}
 use Rattle.ep_check_unit.specs.Units.{first_block}
 use Rattle.ep_check_unit.specs.declared.functions.HeadingResult.{HeadingResult}
 
@@ -228,7 +228,7 @@ inner c =
 
 -- f, where only the text of q may assign to its name
 abbrev given_in : Compound → Bool
-given_in c = is_assigned inside_f.own.result (codes "f") (assigns_among (codes "f") (inner c ∷ [])) no_statements
+given_in c = is_assigned inside_f.own.result (codes "f") (given_among false (codes "f") (inner c ∷ [])) no_statements
 
 given_inside : (c : Compound) → assigns (codes "f") c ≡ true → given_in c ≡ true
 given_inside c h = rw (nothing_assigned (codes "f"), h) refl

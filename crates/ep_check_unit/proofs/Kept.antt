@@ -47,8 +47,8 @@ use Rattle.ep_check_expr.specs.declared.constants.ConstantForm.{ConstantForm}
 use Rattle.ep_check_stmt.proofs.public.judged.Fits.{Any, Fits, fits_then, fits_both, fits_any}
 use Rattle.ep_check_stmt.specs.Statements.{Judgement, Passes, Waits, Fails}
 use Rattle.ep_check_unit.specs.Declarations.{constant_fitting, unless_large, Fielded, Gathered, Labelled, ListJudged, Listed, Part as DenoterPart, PartJudged as VariantsJudged, Section, Tag, VariantJudged, all_fields, completing_added, completing_written, field_of, fields_named, labels_noted, list_ended, list_written, record_over, selection_of, tag_written, unless_left_out, variant_added, variant_list, variant_listing, variant_part_written, variant_written, variants_after, variants_written, none_gathered, section_written, sections_written, set_on, set_over, unless_wide, all_variables_declared, and_then, array_over, at_line, common_host, constant_definition, constant_entered, begun, begun_with, constants_declared, denoter_part, fitting_state, may_begin, with_initial_state, declaration_ended, declared_type, entered, enumerated, enumeration, index_host, index_values, next_enumeration, noted, ordered, range, scopes_of, settled, settled_part, settled_type, Standing, Stands, Falls, subrange, type_definition, type_definitions, type_entered, type_meant, type_named, type_written, unused, variable_declaration, variable_entered, variables_declared, variables_entered, with_constant, with_name, with_type, is_outermost, with_own_variable, with_unit_variable, with_variable, own_thing, Written}
-use Rattle.ep_check_unit.specs.Functions.{if_given, in_block, is_assigned, is_in_view, own_name_entered, result_entered, routine_declaration, row_gives, same_result}
-use Rattle.ep_check_unit.specs.Routines.{BodyJudged, Headed, PartJudged, all_declared, assigns_among, block_declared, body_closed, body_declared, body_ended, declared_routine, formals_entered, forwarded, has_body, headed_again, headed_first, headed_over, headed_then, heading_entered, identified_again, identified_over, inside_declared, is_repeated, of_body, of_part, of_routine, part_judged, parts_declared, result_headed, result_judged, routine_body_judged, routine_judged, routine_there, scope_opened, sections_judged, start_headed, start_name, statements_judged, with_routine}
+use Rattle.ep_check_unit.specs.Functions.{if_given, in_block, is_assigned, is_in_view, is_named, own_name_entered, result_entered, result_name, routine_declaration, row_gives, same_result}
+use Rattle.ep_check_unit.specs.Routines.{BodyJudged, Headed, PartJudged, all_declared, block_declared, body_closed, body_declared, body_ended, declared_routine, formals_entered, given_among, forwarded, has_body, headed_again, headed_first, headed_over, headed_then, heading_entered, identified_again, identified_over, inside_declared, is_repeated, of_body, of_part, of_routine, part_judged, parts_declared, result_headed, result_judged, routine_body_judged, routine_judged, routine_there, scope_opened, sections_judged, start_headed, start_name, statements_judged, with_routine}
 use Rattle.ep_check_unit.specs.declared.functions.HeadingResult.{HeadingResult}
 use Rattle.ep_check_unit.specs.Labels.{completed, variant_labelled}
 use Rattle.ep_check_unit.specs.declared.labels.Labels.{Labels}
@@ -401,17 +401,17 @@ module _ (n : List ℕ) where
   abbrev Keeps : (Block → Standing) → Type 0
   Keeps declares = (b : Block) → IsOf b → Remains (declares b)
 
-  inside-kept : (line : ℕ) (name : List ℕ) (number : ℕ) (before : OwnVariables) (ps : List PartJudged) (c : Compound) → Keeps (all_declared ps) → Keeps (inside_declared line name number before ps c)
-  inside-kept line name number before ps c h b i =
-      if_given-kept line (is_assigned b.own.result name (assigns_among name ps) c) (and_then (body_declared line name number before c) (all_declared ps b))
+  inside-kept : (line : ℕ) (name own : List ℕ) (number : ℕ) (before : OwnVariables) (ps : List PartJudged) (c : Compound) → Keeps (all_declared ps) → Keeps (inside_declared line name own number before ps c)
+  inside-kept line name own number before ps c h b i =
+      if_given-kept line (is_assigned b.own.result own (given_among (is_named b.own.result) own ps) c) (and_then (body_declared line name number before c) (all_declared ps b))
       (then-kept (body_declared line name number before c) (all_declared ps b) (h b i) (λ d k. body-kept line name number before c d k))
 
   block-kept : (line : ℕ) (name : List ℕ) (ps : List PartJudged) (c : Compound) → Keeps (all_declared ps) → (h : Headed) → IsHeaded h → Remains (block_declared line name ps c h)
   block-kept line name ps c inner h i =
       let b : Block = scope_opened h h.block in
-      then-kept (inside_declared line name h.number h.block.own ps c) (at_line line (heading_entered h b))
+      then-kept (inside_declared line name (result_name name h.result) h.number h.block.own ps c) (at_line line (heading_entered h b))
       (line-kept line (heading_entered h b) (fits_then IsOf IsOf (result_entered h.number (length h.parameters) h.result) (formals_entered 0 h.parameters b) (formals-kept 0 h.parameters b i) (λ d k. result-kept h.number (length h.parameters) h.result d k)))
-      (λ d k. inside-kept line name h.number h.block.own ps c inner d k)
+      (λ d k. inside-kept line name (result_name name h.result) h.number h.block.own ps c inner d k)
 
   -- ---- all parts, with those inside of them
 

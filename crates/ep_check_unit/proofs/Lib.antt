@@ -2,6 +2,9 @@ mod Bodies
 mod Defined
 mod Examples
 mod FieldSections
+mod Following
+mod GivenLoops
+mod GivenParts
 mod Indexes
 mod InitialStates
 mod Kept

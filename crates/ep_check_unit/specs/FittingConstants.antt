@@ -25,7 +25,8 @@ use Rattle.ep_rules.specs.ConstantAccesses.{value_of_field}
 use Rattle.ep_rules.specs.Judgements.{Judged, Accepts, Breaks}
 use Rattle.ep_rules.specs.VariantSteps.{field_steps}
 use Rattle.ep_check_expr.specs.declared.constants.ConstantForm.{ConstantForm}
-use Rattle.ep_check_unit.specs.OrdinalTypes.{ordinal_value, value_of}
+use Rattle.ep_check_unit.specs.Definitions.{followed}
+use Rattle.ep_check_unit.specs.OrdinalTypes.{ordinal_of, value_of}
 
 -- ---- types of components
 
@@ -43,18 +44,15 @@ abbrev pub field_type : Option Composition → List ℕ → Option TypeName
 field_type (Some (composition.Record fs)) steps = type_among fs steps
 field_type _ steps = None
 
--- the type of the members of a set type, by its own denoter, whatever it begins with
-abbrev pub base_value : List UnitType → tree.Denoter → Option TypeValue
-base_value types (tree.Set (tree.Required r)) = value_of types (type_name.Required r)
-base_value types (tree.Set (tree.Named number bounds)) = value_of types (type_name.Entry number)
-base_value types (tree.Set base) = ordinal_value base
-base_value types (tree.Initial of start) = base_value types of
-base_value types _ = None
+-- the type of the members of a set type, by its denoter without names and initial states
+abbrev pub base_value : List UnitType → Option tree.Denoter → Option TypeValue
+base_value types (Some (tree.Set base)) = ordinal_of types base
+base_value types d = None
 
 -- that of a set type of the list
 abbrev pub members_of : List UnitType → TypeName → Option TypeValue
 members_of types (type_name.Required r) = None
-members_of types (type_name.Entry number) = found_of (base_value types) (slice_get types number)
+members_of types (type_name.Entry number) = base_value types (found_of (followed types) (slice_get types number))
 
 -- ---- constants in them
 

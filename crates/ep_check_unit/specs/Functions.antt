@@ -20,6 +20,7 @@ use Rattle.ep_check_stmt.specs.Statements.{FunctionResult, Judgement, Passes, Wa
 use Rattle.ep_check_stmt.specs.Threats.{assigns, inner_threatens, stmts_threaten}
 use Rattle.ep_check_unit.specs.Blocks.{Block, RoutineForm, has_number}
 use Rattle.ep_check_unit.specs.Declarations.{Standing, Falls, entered, own_thing, scopes_of, type_denoter}
+use Rattle.ep_check_unit.specs.Giving.{gives}
 use Rattle.ep_check_unit.specs.declared.block.Enclosing.{Enclosing}
 use Rattle.ep_check_unit.specs.declared.block.OwnResult.{OwnResult}
 use Rattle.ep_check_unit.specs.declared.functions.HeadingResult.{HeadingResult}
@@ -99,11 +100,30 @@ assigned_functions (e ∷ es) = function_before (assigned_function (suc (length 
 
 -- ---- what gives a result (ISO 10206, 6.7.2)
 
--- The text of the block assigns to the name of the function, in its own statements or in those of its parts, where its
--- result has no other name. Of a procedure nothing is asked, here and below.
+-- the name by which the text of a function with this name gives the result: that name, or the one of its own
+abbrev pub own_or : List ℕ → Option (List ℕ) → List ℕ
+own_or function None = function
+own_or function (Some own) = own
+
+abbrev pub result_name : List ℕ → Option HeadingResult → List ℕ
+result_name function None = function
+result_name function (Some r) = own_or function r.name
+
+-- the result has a name of its own
+abbrev pub is_named : Option OwnResult → Bool
+is_named None = false
+is_named (Some r) = r.named
+
+-- The text of statements gives a result by this name: they assign to it, where it is that of the function, and do so to
+-- the variable with this name or give it elsewhere where it is one of its own.
+abbrev pub text_gives : Bool → List ℕ → Compound → Bool
+text_gives named name c = if named then gives name c else assigns name c
+
+-- The text of the block gives the result by this name, in its own statements or in those of its parts. Of a procedure
+-- nothing is asked, here and below.
 abbrev pub is_assigned : Option OwnResult → List ℕ → Bool → Compound → Bool
 is_assigned None name in_parts c = true
-is_assigned (Some r) name in_parts c = r.named || (assigns name c || in_parts)
+is_assigned (Some r) name in_parts c = text_gives r.named name c || in_parts
 
 abbrev pub is_function : Declaration → Bool
 is_function (declaration.Function ps of h) = true

@@ -4,6 +4,7 @@ use Rattle.ep_typed.specs.Denoters.{enumeration_type, found_of, required_type, s
 use Rattle.ep_typed.specs.Trees as tree
 use Rattle.ep_values.specs.TypeValues.{TypeValue}
 use Rattle.ep_typed.specs.declared.unit.UnitType.{UnitType}
+use Rattle.ep_check_unit.specs.Definitions.{followed}
 use Rattle.ep_scope.specs.declared.parameter.TypeName.{TypeName}
 use Rattle.ep_scope.specs.declared.parameter.TypeName.TheVariants as type_name
 
@@ -18,3 +19,13 @@ ordinal_value _ = None
 abbrev pub value_of : List UnitType → TypeName → Option TypeValue
 value_of types (type_name.Required r) = Some (required_type r)
 value_of types (type_name.Entry number) = found_of ordinal_value (slice_get types number)
+
+-- that of a denoter without names and initial states
+abbrev pub bare_ordinal : Option tree.Denoter → Option TypeValue
+bare_ordinal None = None
+bare_ordinal (Some (tree.Required r)) = Some (required_type r)
+bare_ordinal (Some d) = ordinal_value d
+
+-- that of an ordinal denoter, whatever names lead to it and whatever these begin with
+abbrev pub ordinal_of : List UnitType → tree.Denoter → Option TypeValue
+ordinal_of types d = bare_ordinal (followed types d)

@@ -38,7 +38,6 @@ use Rattle.ep_check_stmt.specs.Auxiliaries.{has_for, has_for_in}
 use Rattle.ep_check_stmt.specs.Statements.{Context, Locals, OfUnit, OfRoutine, Judgement, Passes, Waits, Fails}
 use Rattle.ep_check_stmt.specs.Statements.{compound_judged}
 use Rattle.ep_check_stmt.specs.Tags.{assigns_tag}
-use Rattle.ep_check_stmt.specs.Threats.{assigns}
 use Rattle.ep_check_unit.specs.Blocks.{Block, RoutineForm, around_of, first_own, own_count}
 pub use Rattle.ep_check_unit.specs.Blocks.{has_number}
 use Rattle.ep_check_unit.specs.declared.block.Enclosing.{Enclosing}
@@ -47,9 +46,9 @@ use Rattle.ep_tree.specs.declared.operator.QualifiedName.{QualifiedName}
 use Rattle.ep_check_unit.specs.Declarations.{Written, Standing, Stands, Falls, all_variables_declared, and_then}
 use Rattle.ep_check_unit.specs.Declarations.{at_line, constants_declared, entered, misnamed, noted, own_thing}
 use Rattle.ep_check_unit.specs.Declarations.{scopes_of, type_definitions, type_denoter, type_named, written_type}
-use Rattle.ep_check_unit.specs.Functions.{assigned_functions, if_given, is_assigned, is_in_view, own_name_at}
-use Rattle.ep_check_unit.specs.Functions.{own_result, result_entered, routine_declaration, row_gives, same_result}
-use Rattle.ep_check_unit.specs.Functions.{typed_result}
+use Rattle.ep_check_unit.specs.Functions.{assigned_functions, if_given, is_assigned, is_in_view, is_named}
+use Rattle.ep_check_unit.specs.Functions.{own_name_at, own_result, result_entered, result_name, routine_declaration}
+use Rattle.ep_check_unit.specs.Functions.{row_gives, same_result, text_gives, typed_result}
 use Rattle.ep_check_unit.specs.declared.functions.HeadingResult.{HeadingResult}
 
 -- ---- formal parameters (ISO 10206, 6.7.3)
@@ -370,39 +369,39 @@ body_declared line name number before c b =
 
 -- ---- parts of a block (ISO 10206, 6.2.1)
 
--- a part: what it declares, and whether the text of statements in it assigns to a name
+-- a part: what it declares, and whether the text of statements in it gives a result by a name, of its own or not
 pub record PartJudged : Type 0 where
   pub declares : Block → Standing
-  pub assigns_to : List ℕ → Bool
+  pub gives_to : Bool → List ℕ → Bool
 
 -- alike the body of a routine with this line and start
 pub record BodyJudged : Type 0 where
   pub declares : ℕ → RoutineStart → Block → Standing
-  pub assigns_to : List ℕ → Bool
+  pub gives_to : Bool → List ℕ → Bool
 
 -- parts in order
 abbrev pub all_declared : List PartJudged → Block → Standing
 all_declared [] b = Stands b
 all_declared (p ∷ ps) b = and_then (all_declared ps) (p.declares b)
 
-abbrev pub assigns_among : List ℕ → List PartJudged → Bool
-assigns_among name ps = list_any (λ p. p.assigns_to name) ps
+abbrev pub given_among : Bool → List ℕ → List PartJudged → Bool
+given_among named name ps = list_any (λ p. p.gives_to named name) ps
 
--- the parts of a block, and then its statements; the text of both assigns the result
-abbrev pub inside_declared : ℕ → List ℕ → ℕ → OwnVariables → List PartJudged → Compound → Block → Standing
-inside_declared line name number before ps c b =
-    if_given line (is_assigned b.own.result name (assigns_among name ps) c)
+-- the parts of a block, and then its statements; the text of both gives the result, by the second name
+abbrev pub inside_declared : ℕ → List ℕ → List ℕ → ℕ → OwnVariables → List PartJudged → Compound → Block → Standing
+inside_declared line name own number before ps c b =
+    if_given line (is_assigned b.own.result own (given_among (is_named b.own.result) own ps) c)
     (and_then (body_declared line name number before c) (all_declared ps b))
 
 -- the block of a routine: its formal parameters and its result, and then what is inside
 abbrev pub block_declared : ℕ → List ℕ → List PartJudged → Compound → Headed → Standing
 block_declared line name ps c h =
-    and_then (inside_declared line name h.number h.block.own ps c)
+    and_then (inside_declared line name (result_name name h.result) h.number h.block.own ps c)
     (at_line line (heading_entered h (scope_opened h h.block)))
 
 -- a part in which there is no statement
 abbrev pub plain_part : (Block → Standing) → PartJudged
-plain_part declares = record { declares = declares; assigns_to = λ name. false }
+plain_part declares = record { declares = declares; gives_to = λ named name. false }
 
 abbrev pub of_part : Part-F PartJudged BodyJudged PartJudged → PartJudged
 of_part (Part-F.Constants c) = plain_part (constants_declared c.definitions)
@@ -414,15 +413,15 @@ abbrev pub of_body : RoutineBody-F PartJudged BodyJudged PartJudged → BodyJudg
 of_body (RoutineBody-F.Forward at) =
     record {
       declares = λ line s b. headed_then line (λ h. Stands (forwarded line h)) (start_headed true line s b);
-      assigns_to = λ name. false;
+      gives_to = λ named name. false;
     }
 of_body (RoutineBody-F.Block at ps c) = record {
   declares = λ line s b. headed_then line (block_declared line (start_name s) ps c) (start_headed false line s b);
-  assigns_to = λ name. assigns name c || assigns_among name ps;
+  gives_to = λ named name. text_gives named name c || given_among named name ps;
 }
 
 abbrev pub of_routine : Routine-F PartJudged BodyJudged PartJudged → PartJudged
-of_routine r = record { declares = r.body.declares r.line r.start; assigns_to = r.body.assigns_to }
+of_routine r = record { declares = r.body.declares r.line r.start; gives_to = r.body.gives_to }
 
 abbrev pub part_judged : Part → PartJudged
 part_judged = fold-Part PartJudged BodyJudged PartJudged of_part of_body of_routine

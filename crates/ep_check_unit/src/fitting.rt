@@ -1,17 +1,19 @@
 //! Whether constants lie in their types (ISO 10206, 6.4.6 and 6.8.7).
 
-ghost use Rattle.std.specs.Prelude.{◌≡◌, ◌&&◌, IfOk, int_le, map, pos};
+ghost use Rattle.std.specs.Prelude.{◌≡◌, ◌&&◌, IfOk, Some, int_le, map, pos};
 ghost use Rattle.std.specs.List.{list_all};
 ghost use Rattle.std.specs.Option.{option_map};
 ghost use Rattle.ep_scope.specs.Scopes.{structure_in};
 ghost use Rattle.ep_typed.specs.Trees.{elements};
 ghost use Rattle.ep_typed.specs.Viewed.{denoter_of, element_of, expr_of};
 ghost use Rattle.ep_check_stmt.specs.Answers.{AnswersForm};
+ghost use Rattle.ep_check_unit.specs.Definitions.{followed};
 ghost use Rattle.ep_check_unit.specs.FittingConstants as spec;
 ghost use Rattle.ep_check_unit.specs.Labels.{tag_values as values_of};
-ghost use Rattle.ep_check_unit.specs.OrdinalTypes.{value_of};
+ghost use Rattle.ep_check_unit.specs.OrdinalTypes.{bare_ordinal, ordinal_of, value_of};
 ghost use Rattle.ep_scope.specs.declared.kind.Host.TheVariants as host;
 
+use crate::definitions::followed;
 use crate::labels::{TagValues, denoted_values, tag_values};
 use ep_base::NoMemory;
 use ep_rules::{Refusal, field_steps, value_of_field};
@@ -59,21 +61,49 @@ fn field_type(
     }
 }
 
-/// The values that members of a set type may have, by its own denoter, whatever it begins with.
-fn base_values(types: &[UnitType], denoter: &Denoter) -> Result<TagValues, Refusal>
+/// The values of an ordinal denoter without names and initial states.
+fn bare_values(types: &[UnitType], denoter: &Denoter) -> Result<TagValues, Refusal>
     ensures { AnswersForm (λ t. t) result
-        (values_of host.Integer (spec.base_value types.now (denoter_of denoter.now))) }
+        (values_of host.Integer (bare_ordinal (Some (denoter_of denoter.now)))) }
 {
     match denoter {
-        Denoter::Set(base) => match base.get() {
-            Denoter::Required(required) => {
-                tag_values(types, Host::Integer, TypeName::Required(*required))
-            }
-            Denoter::Named(number, _) => tag_values(types, Host::Integer, TypeName::Entry(*number)),
-            other => denoted_values(Host::Integer, other),
-        },
-        Denoter::Initial(of, _) => base_values(types, of.get()),
+        Denoter::Required(required) => {
+            tag_values(types, Host::Integer, TypeName::Required(*required))
+        }
+        other => denoted_values(Host::Integer, other),
+    }
+}
+
+/// Those of an ordinal denoter, whatever names lead to it and whatever these begin with.
+fn ordinal_values(types: &[UnitType], denoter: &Denoter) -> Result<TagValues, Refusal>
+    ensures { AnswersForm (λ t. t) result
+        (values_of host.Integer (ordinal_of types.now (denoter_of denoter.now))) }
+{
+    match followed(types, denoter) {
+        None => Err(Refusal::Rule(rule::ORDINAL)),
+        Some(found) => bare_values(types, found),
+    }
+}
+
+/// The values that members of a set type may have, by its denoter without names and initial states.
+fn base_values(types: &[UnitType], denoter: &Denoter) -> Result<TagValues, Refusal>
+    ensures { AnswersForm (λ t. t) result
+        (values_of host.Integer (spec.base_value types.now (Some (denoter_of denoter.now)))) }
+{
+    match denoter {
+        Denoter::Set(base) => ordinal_values(types, base.get()),
         _ => Err(Refusal::Rule(rule::ORDINAL)),
+    }
+}
+
+/// Those of a denoter that leads to a set type.
+fn member_values(types: &[UnitType], denoter: &Denoter) -> Result<TagValues, Refusal>
+    ensures { AnswersForm (λ t. t) result
+        (values_of host.Integer (spec.base_value types.now (followed types.now (denoter_of denoter.now)))) }
+{
+    match followed(types, denoter) {
+        None => Err(Refusal::Rule(rule::ORDINAL)),
+        Some(found) => base_values(types, found),
     }
 }
 
@@ -85,7 +115,7 @@ fn members_of(types: &[UnitType], of: TypeName) -> Result<TagValues, Refusal>
         TypeName::Required(_) => Err(Refusal::Rule(rule::ORDINAL)),
         TypeName::Entry(number) => match types.get(number as usize) {
             None => Err(Refusal::Rule(rule::ORDINAL)),
-            Some(t) => base_values(types, &t.entry.denoter),
+            Some(t) => member_values(types, &t.entry.denoter),
         },
     }
 }

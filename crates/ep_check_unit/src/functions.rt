@@ -7,11 +7,12 @@ ghost use Rattle.ep_check_stmt.specs.Answers.{AnswersForm, passed, result_of, st
 ghost use Rattle.ep_check_unit.specs.Answers.{AnswersBlock, AnswersGiven};
 ghost use Rattle.ep_check_unit.specs.Blocks.{block_of, routine_form};
 ghost use Rattle.ep_check_unit.specs.Functions as spec;
-ghost use Rattle.ep_check_unit.specs.Functions.{assigned_function, has_unknown, in_block, is_empty, is_function, is_that_function, own_name_entered, own_result, routine_declaration, row_gives, same_own_name, same_result, typed_result};
-ghost use Rattle.ep_check_unit.specs.Routines.{assigns_among, part_judged, result_judged, routine_judged};
+ghost use Rattle.ep_check_unit.specs.Functions.{assigned_function, has_unknown, in_block, is_empty, is_function, is_named, is_that_function, own_name_entered, own_result, routine_declaration, row_gives, same_own_name, same_result, typed_result};
+ghost use Rattle.ep_check_unit.specs.Routines.{given_among, part_judged, result_judged, routine_judged};
 ghost use Rattle.ep_scope.specs.Meanings.{meant_by};
 
 use crate::block::{Block, OwnResult, has_number};
+use crate::giving::gives;
 use crate::types::type_denoter;
 use ep_base::{Line, List, Name, NoMemory};
 use ep_check_stmt::{
@@ -53,6 +54,19 @@ pub(crate) fn copied_name(alloc: Global, name: &Option<Name>) -> Result<Option<N
     match name {
         None => Ok(None),
         Some(name) => Ok(Some(name.copy(alloc)?)),
+    }
+}
+
+/// The name by which the text of a function with this name gives the result.
+pub(crate) fn result_name<'a>(function: &'a Name, given: &'a Option<HeadingResult>) -> &'a Name
+    ensures { result.now ≡ spec.result_name function.now given.now }
+{
+    match given {
+        None => function,
+        Some(given) => match &given.name {
+            None => function,
+            Some(own) => own,
+        },
     }
 }
 
@@ -230,15 +244,14 @@ impl Block {
         self.enter(alloc, name, thing)
     }
 
-    /// Whether the text of a block with these parts and statements assigns to the name of a function, where its result has
-    /// no other one.
+    /// Whether the text of a block with these parts and statements gives the result by this name, of its own or not.
     pub(crate) fn is_assigned(&self, name: &Name, parts: &[Part], body: &Compound) -> bool
         ensures { result ≡ spec.is_assigned (block_of self.now).own.result name.now
-            (assigns_among name.now (map part_judged parts.now)) body.now }
+            (given_among (is_named (block_of self.now).own.result) name.now (map part_judged parts.now)) body.now }
     {
         match self.own.result {
             None => true,
-            Some(own) => own.named || assigns(name, body) || parts_assign(name, parts),
+            Some(own) => text_gives(own.named, name, body) || parts_give(own.named, name, parts),
         }
     }
 
@@ -324,13 +337,24 @@ fn assigned_function(level: u32, given: Option<OwnResult>) -> Option<FunctionRes
     })
 }
 
-/// Whether the text of statements in one of these parts assigns to the name.
-#[cycle(assigned)]
-fn parts_assign(name: &Name, parts: &[Part]) -> bool
-    ensures { result ≡ assigns_among name.now (map part_judged parts.now) }
+/// Whether the text of statements gives a result by this name, of its own or not.
+fn text_gives(named: bool, name: &Name, body: &Compound) -> bool
+    ensures { result ≡ spec.text_gives named name.now body.now }
+{
+    if named {
+        gives(name, body)
+    } else {
+        assigns(name, body)
+    }
+}
+
+/// Whether the text of statements in one of these parts gives a result by this name, of its own or not.
+#[cycle(given)]
+fn parts_give(named: bool, name: &Name, parts: &[Part]) -> bool
+    ensures { result ≡ given_among named name.now (map part_judged parts.now) }
 {
     for part in parts {
-        if part_assigns(name, part) {
+        if part_gives(named, name, part) {
             return true;
         }
     }
@@ -338,25 +362,25 @@ fn parts_assign(name: &Name, parts: &[Part]) -> bool
 }
 
 /// Whether that of a part does.
-#[cycle(assigned)]
-fn part_assigns(name: &Name, part: &Part) -> bool
-    ensures { result ≡ (part_judged part.now).assigns_to name.now }
+#[cycle(given)]
+fn part_gives(named: bool, name: &Name, part: &Part) -> bool
+    ensures { result ≡ (part_judged part.now).gives_to named name.now }
 {
     match part {
-        Part::Routine(r) => routine_assigns(name, r),
+        Part::Routine(r) => routine_gives(named, name, r),
         _ => false,
     }
 }
 
 /// Whether that of a routine does, in its block.
-#[cycle(assigned)]
-fn routine_assigns(name: &Name, r: &Routine) -> bool
-    ensures { result ≡ (routine_judged r.now).assigns_to name.now }
+#[cycle(given)]
+fn routine_gives(named: bool, name: &Name, r: &Routine) -> bool
+    ensures { result ≡ (routine_judged r.now).gives_to named name.now }
 {
     match &r.body {
         RoutineBody::Forward(_) => false,
         RoutineBody::Block(_, parts, body) => {
-            assigns(name, body) || parts_assign(name, parts.items())
+            text_gives(named, name, body) || parts_give(named, name, parts.items())
         }
     }
 }

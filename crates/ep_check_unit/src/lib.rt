@@ -8,15 +8,17 @@
 //! variants.rt with specs/Labels.antt, sets.rt, initial_states.rt. A heading or a part of a block:
 //! specs/Routines.antt, src/headings.rt, formals.rt, routines.rt; results: specs/Functions.antt. How large a type may
 //! be: `counted` of Declarations.antt. Whether constants lie in their types: specs/FittingConstants.antt,
-//! src/fitting.rt.
+//! src/fitting.rt; what a name of a type stands for: specs/Definitions.antt, src/definitions.rt.
 #![tactic(auto)]
 
 mod block;
 mod component;
 mod declarations;
+mod definitions;
 mod fitting;
 mod formals;
 mod functions;
+mod giving;
 mod headings;
 mod initial_states;
 mod labels;

@@ -10,7 +10,7 @@ ghost use Rattle.ep_check_unit.specs.Declarations.{Stands};
 ghost use Rattle.ep_check_unit.specs.Routines.{all_declared, block_declared, body_closed, body_declared, forwarded, has_bounds, headed_then, inside_declared, locals_of, members_of, part_judged, routine_judged, start_headed, start_name, statements_judged, with_block, with_its_block, withs_behind};
 
 use crate::block::{Block, Forward, OwnVariables, number};
-use crate::functions::if_given;
+use crate::functions::{if_given, result_name};
 use crate::headings::{Heading, start_name};
 use ep_base::{Line, Name, NoMemory};
 use ep_check_stmt::{
@@ -206,16 +206,27 @@ impl Block {
         if let Err(refusal) = self.enter_heading(alloc, &heading) {
             return Err(refused_at(line, refusal));
         }
-        self.declare_inside(alloc, line, name, heading.number, before, parts, body)
+        self.declare_inside(
+            alloc,
+            line,
+            name,
+            result_name(name, &heading.result),
+            heading.number,
+            before,
+            parts,
+            body,
+        )
     }
 
-    /// The parts of the routine of this name and number, and then its statements. The text of both assigns the result.
+    /// The parts of the routine of this name and number, and then its statements. The text of both gives the result, by
+    /// the second name.
     #[cycle(parts)]
     fn declare_inside(
         &mut self,
         alloc: Global,
         line: Line,
         name: &Name,
+        own: &Name,
         number: u32,
         before: OwnVariables,
         parts: &[Part],
@@ -224,10 +235,10 @@ impl Block {
         requires parts { first_in (map part_unbuilt parts.now) ≡ None }
         requires body { compound_unbuilt body.now ≡ None }
         ensures { AnswersStanding result (block_of self.new)
-            (inside_declared line name.now number before (map part_judged parts.now) body.now
+            (inside_declared line name.now own.now number before (map part_judged parts.now) body.now
             (block_of self.old)) }
     {
-        if_given(line, self.is_assigned(name, parts, body))?;
+        if_given(line, self.is_assigned(own, parts, body))?;
         self.declare(alloc, parts)?;
         self.declare_body(alloc, line, name, number, before, body)
     }

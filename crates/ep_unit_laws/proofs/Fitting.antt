@@ -37,10 +37,11 @@ use Rattle.ep_expr_laws.proofs.public.Betweens.{between_all}
 use Rattle.ep_expr_laws.proofs.public.Leading.{among_bare, leads_once, record_among, step_leads}
 use Rattle.ep_expr_laws.proofs.public.Listed.{structure_in-listed}
 use Rattle.ep_check_unit.specs.FittingConstants.{are_in, are_members_in, base_value, element_type, field_type, is_in, is_number_in, is_plain_in, members_of, type_among as field_among}
-use Rattle.ep_check_unit.specs.OrdinalTypes.{value_of}
+use Rattle.ep_check_unit.specs.Definitions.{followed, followed_step, followed_within, without_states}
+use Rattle.ep_check_unit.specs.OrdinalTypes.{bare_ordinal, ordinal_of, value_of}
 use Rattle.ep_unit_laws.proofs.Holds.{named_tree}
 use Rattle.ep_unit_laws.proofs.Prefixes.{prefix_get}
-use Rattle.ep_unit_laws.proofs.Ordinals.{definition_is, value_is}
+use Rattle.ep_unit_laws.proofs.Ordinals.{definition_is, required_is, value_is}
 
 -- ---- the values of set types by their own denoters
 
@@ -53,34 +54,98 @@ module _ (types : List UnitType) where
   over_is None v low high base e = cc
   over_is (Some w) v low high base e = set_made (Some (bare_of w)) v low high e (ap Some (base w refl))
 
-  base_is : (n : ℕ) (few : List UnitType) (d : Denoter) (v : TypeValue) (low high : ℤ) → IsPrefix few types → type_within types n d ≡ Some v → base_value few d ≡ Some (type.Ordinal low high) → bare_of v ≡ type.Set low high
-  base_is zero few d v low high p e f = cc
-  base_is (suc n) few (tree.Set (tree.Required r)) v low high p e f =
-      over_is (type_within types (suc n) (tree.Required r)) v low high (λ w is. value_is types n few (type_name.Required r) w (type.Ordinal low high) p is f) e
-  base_is (suc n) few (tree.Set (tree.Named number [])) v low high p e f =
-      over_is (type_within types (suc n) (tree.Named number [])) v low high (λ w is. value_is types n few (type_name.Entry number) w (type.Ordinal low high) p is f) e
-  base_is (suc n) few (tree.Set (tree.Named number (b ∷ bs))) v low high p e f = cc
-  base_is (suc n) few (tree.Set (tree.Subrange of from to)) v low high p e f =
-      over_is (type_within types (suc n) (tree.Subrange of from to)) v low high (λ w is. definition_is types (suc n) (tree.Subrange of from to) w (type.Ordinal low high) is f) e
-  base_is (suc n) few (tree.Set (tree.Enumeration names)) v low high p e f =
-      over_is (type_within types (suc n) (tree.Enumeration names)) v low high (λ w is. definition_is types (suc n) (tree.Enumeration names) w (type.Ordinal low high) is f) e
-  base_is (suc n) few (tree.Set (tree.Initial of value)) v low high p e f =
-      over_is (type_within types (suc n) (tree.Initial of value)) v low high (λ w is. definition_is types (suc n) (tree.Initial of value) w (type.Ordinal low high) is f) e
-  base_is (suc n) few (tree.Set (tree.Array index component)) v low high p e f = cc
-  base_is (suc n) few (tree.Set (tree.Record ds)) v low high p e f = cc
-  base_is (suc n) few (tree.Set (tree.Set base)) v low high p e f = cc
-  base_is (suc n) few (tree.Initial of value) v low high p e f = base_is (suc n) few of v low high p e f
-  base_is (suc n) few (tree.Required r) v low high p e f = cc
-  base_is (suc n) few (tree.Named index tuple) v low high p e f = cc
-  base_is (suc n) few (tree.Subrange of from to) v low high p e f = cc
-  base_is (suc n) few (tree.Enumeration names) v low high p e f = cc
-  base_is (suc n) few (tree.Array index component) v low high p e f = cc
-  base_is (suc n) few (tree.Record ds) v low high p e f = cc
+  -- initial states matter nothing to the type value
+  without_states_is : (n : ℕ) (d : Denoter) → type_within types (suc n) d ≡ type_within types (suc n) (without_states d)
+  without_states_is n (tree.Initial of value) = without_states_is n of
+  without_states_is n (tree.Required r) = refl
+  without_states_is n (tree.Named index tuple) = refl
+  without_states_is n (tree.Subrange of from to) = refl
+  without_states_is n (tree.Enumeration names) = refl
+  without_states_is n (tree.Array index component) = refl
+  without_states_is n (tree.Record ds) = refl
+  without_states_is n (tree.Set base) = refl
+
+  -- a denoter has this type value, however many names are followed
+  abbrev Has : Denoter → TypeValue → Type 0
+  Has d v = (n : ℕ) × (type_within types n d ≡ Some v)
+
+  itself_has : (n : ℕ) (d e : Denoter) (v : TypeValue) → type_within types n d ≡ Some v → Some d ≡ Some e → Has e v
+  itself_has n d e v is same = (n, subst (λ x. type_within types n x ≡ Some v) (same_Some d e same) is)
+
+  -- what stands for an entry of fewer types has its type value
+  entry_has : (n number : ℕ) (find : Denoter → Option Denoter) (e : Denoter) (v : TypeValue) (o : Option UnitType) → ((t : UnitType) → o ≡ Some t → slice_get types number ≡ Some t)
+      → ((d : Denoter) → type_within types n d ≡ Some v → find d ≡ Some e → Has e v)
+      → found_of (type_within types n) (slice_get types number) ≡ Some v → found_of find o ≡ Some e → Has e v
+  entry_has n number find e v None there has is found = cc
+  entry_has n number find e v (Some t) there has is found = has (definition_of t) (sym (ap (found_of (type_within types n)) (there t refl)) ∙ is) found
+
+  step_has : (n : ℕ) (few : List UnitType) (find : Denoter → Option Denoter) (d e : Denoter) (v : TypeValue) → IsPrefix few types → ((x : Denoter) → type_within types n x ≡ Some v → find x ≡ Some e → Has e v)
+      → type_within types (suc n) d ≡ Some v → followed_step few find d ≡ Some e → Has e v
+  step_has n few find (tree.Named number []) e v p has is found =
+      entry_has n number find e v (slice_get few number) (λ t at. prefix_get few types number t p at) has is found
+  step_has n few find (tree.Named number (b ∷ bs)) e v p has is found = cc
+  step_has n few find (tree.Required r) e v p has is found = itself_has (suc n) (tree.Required r) e v is found
+  step_has n few find (tree.Subrange of from to) e v p has is found = itself_has (suc n) (tree.Subrange of from to) e v is found
+  step_has n few find (tree.Enumeration names) e v p has is found = itself_has (suc n) (tree.Enumeration names) e v is found
+  step_has n few find (tree.Array index component) e v p has is found = itself_has (suc n) (tree.Array index component) e v is found
+  step_has n few find (tree.Record ds) e v p has is found = itself_has (suc n) (tree.Record ds) e v is found
+  step_has n few find (tree.Set base) e v p has is found = itself_has (suc n) (tree.Set base) e v is found
+  step_has n few find (tree.Initial of value) e v p has is found = itself_has (suc n) (tree.Initial of value) e v is found
+
+  -- what a denoter stands for has its type value
+  followed_has : (n m : ℕ) (few : List UnitType) (d e : Denoter) (v : TypeValue) → IsPrefix few types → type_within types n d ≡ Some v → followed_within few m d ≡ Some e → Has e v
+  followed_has zero m few d e v p is found = cc
+  followed_has (suc n) zero few d e v p is found = cc
+  followed_has (suc n) (suc m) few d e v p is found =
+      step_has n few (followed_within few m) (without_states d) e v p (λ x. followed_has n m few x e v p) (sym (without_states_is n d) ∙ is) found
+
+  -- the bounds of an ordinal denoter are those of its type value
+  bare_is : (n : ℕ) (d : Denoter) (v x : TypeValue) → type_within types n d ≡ Some v → bare_ordinal (Some d) ≡ Some x → bare_of v ≡ x
+  bare_is zero d v x is e = cc
+  bare_is (suc n) (tree.Required r) v x is e = required_is types r v x is e
+  bare_is (suc n) (tree.Named index tuple) v x is e = definition_is types (suc n) (tree.Named index tuple) v x is e
+  bare_is (suc n) (tree.Subrange of from to) v x is e = definition_is types (suc n) (tree.Subrange of from to) v x is e
+  bare_is (suc n) (tree.Enumeration names) v x is e = definition_is types (suc n) (tree.Enumeration names) v x is e
+  bare_is (suc n) (tree.Array index component) v x is e = definition_is types (suc n) (tree.Array index component) v x is e
+  bare_is (suc n) (tree.Record ds) v x is e = definition_is types (suc n) (tree.Record ds) v x is e
+  bare_is (suc n) (tree.Set base) v x is e = definition_is types (suc n) (tree.Set base) v x is e
+  bare_is (suc n) (tree.Initial of value) v x is e = definition_is types (suc n) (tree.Initial of value) v x is e
+
+  ordinal_is : (n : ℕ) (few : List UnitType) (d : Denoter) (v x : TypeValue) → IsPrefix few types → type_within types n d ≡ Some v → ordinal_of few d ≡ Some x → bare_of v ≡ x
+  ordinal_is n few d v x p is e = go (followed few d) refl e
+    where
+      go : (o : Option Denoter) → followed few d ≡ o → bare_ordinal o ≡ Some x → bare_of v ≡ x
+      go None same f = cc
+      go (Some g) same f =
+          let has : Has g v = followed_has n (suc (length few)) few d g v p is same in
+          bare_is has.0 g v x has.1 f
+
+  -- the values of members by the denoter of a set
+  base_is : (n : ℕ) (few : List UnitType) (d : Denoter) (v : TypeValue) (low high : ℤ) → IsPrefix few types → type_within types n d ≡ Some v → base_value few (Some d) ≡ Some (type.Ordinal low high) → bare_of v ≡ type.Set low high
+  base_is zero few d v low high p is e = cc
+  base_is (suc n) few (tree.Set base) v low high p is e =
+      over_is (type_within types (suc n) base) v low high (λ w at. ordinal_is (suc n) few base w (type.Ordinal low high) p at e) is
+  base_is (suc n) few (tree.Required r) v low high p is e = cc
+  base_is (suc n) few (tree.Named index tuple) v low high p is e = cc
+  base_is (suc n) few (tree.Subrange of from to) v low high p is e = cc
+  base_is (suc n) few (tree.Enumeration names) v low high p is e = cc
+  base_is (suc n) few (tree.Array index component) v low high p is e = cc
+  base_is (suc n) few (tree.Record ds) v low high p is e = cc
+  base_is (suc n) few (tree.Initial of value) v low high p is e = cc
 
   entry_based : (n number : ℕ) (few : List UnitType) (v : TypeValue) (low high : ℤ) (o : Option UnitType) → IsPrefix few types → ((t : UnitType) → o ≡ Some t → slice_get types number ≡ Some t)
-      → found_of (type_within types n) (slice_get types number) ≡ Some v → found_of (base_value few) o ≡ Some (type.Ordinal low high) → bare_of v ≡ type.Set low high
+      → found_of (type_within types n) (slice_get types number) ≡ Some v → base_value few (found_of (followed few) o) ≡ Some (type.Ordinal low high) → bare_of v ≡ type.Set low high
   entry_based n number few v low high None p there e f = cc
-  entry_based n number few v low high (Some t) p there e f = base_is n few (definition_of t) v low high p (sym (ap (found_of (type_within types n)) (there t refl)) ∙ e) f
+  entry_based n number few v low high (Some t) p there e f = go (followed few (definition_of t)) refl f
+    where
+      is : type_within types n (definition_of t) ≡ Some v
+      is = sym (ap (found_of (type_within types n)) (there t refl)) ∙ e
+
+      go : (o : Option Denoter) → followed few (definition_of t) ≡ o → base_value few o ≡ Some (type.Ordinal low high) → bare_of v ≡ type.Set low high
+      go None same g = cc
+      go (Some d) same g =
+          let has : Has d v = followed_has n (suc (length few)) few (definition_of t) d v p is same in
+          base_is has.0 few d v low high p has.1 g
 
   -- by the name of the type
   members_are : (n : ℕ) (few : List UnitType) (of : TypeName) (v : TypeValue) (low high : ℤ) → IsPrefix few types → type_within types (suc n) (named_tree of) ≡ Some v → members_of few of ≡ Some (type.Ordinal low high) → bare_of v ≡ type.Set low high

@@ -83,7 +83,7 @@ module _ (types : List UnitType) where
   entry_is n number v x None there e f = cc
   entry_is n number v x (Some t) there e f = definition_is n (definition_of t) v x (sym (ap (found_of (type_within types n)) (there t refl)) ∙ e) f
 
-  required_is : (r : RequiredType) (v x : TypeValue) → Some (required_type r) ≡ Some v → Some (required_type r) ≡ Some x → bare_of v ≡ x
+  pub required_is : (r : RequiredType) (v x : TypeValue) → Some (required_type r) ≡ Some v → Some (required_type r) ≡ Some x → bare_of v ≡ x
   required_is simple.Integer v x e f = ap bare_of (same_Some v (required_type simple.Integer) (sym e)) ∙ same_Some (required_type simple.Integer) x f
   required_is simple.Char v x e f = ap bare_of (same_Some v (required_type simple.Char) (sym e)) ∙ same_Some (required_type simple.Char) x f
   required_is simple.Boolean v x e f = ap bare_of (same_Some v (required_type simple.Boolean) (sym e)) ∙ same_Some (required_type simple.Boolean) x f

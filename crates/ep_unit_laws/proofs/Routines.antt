@@ -39,8 +39,8 @@ use Rattle.ep_stmt_laws.proofs.public.judged.Auxiliaries.{bounded_there, members
 use Rattle.ep_check_stmt.proofs.public.judged.Fits.{Fits, fits_then}
 use Rattle.ep_check_unit.specs.Blocks.{Block, RoutineForm, around_of, own_count, result_count, routine_form}
 use Rattle.ep_check_unit.specs.Declarations.{Standing, Stands, Falls, and_then, at_line, entered, own_thing, scopes_of, type_definitions, type_denoter}
-use Rattle.ep_check_unit.specs.Functions.{if_given, in_block, is_assigned, is_in_view, own_name_entered, own_result, result_entered, row_gives}
-use Rattle.ep_check_unit.specs.Routines.{BodyJudged, Headed, PartJudged, all_declared, assigns_among, block_declared, body_closed, body_declared, body_ended, context_of, first_auxiliary, formal_of, formals_entered, forwarded, has_number, heading_entered, inside_declared, locals_in, locals_of, of_body, of_part, of_routine, part_judged, parts_declared, routine_body_judged, routine_judged, scope_opened, set_to, start_headed, start_name, statements_judged, with_its_block}
+use Rattle.ep_check_unit.specs.Functions.{if_given, in_block, is_assigned, is_in_view, is_named, own_name_entered, own_result, result_entered, result_name as given_name, row_gives}
+use Rattle.ep_check_unit.specs.Routines.{BodyJudged, Headed, PartJudged, all_declared, block_declared, body_closed, body_declared, body_ended, context_of, first_auxiliary, formal_of, formals_entered, forwarded, given_among, has_number, heading_entered, inside_declared, locals_in, locals_of, of_body, of_part, of_routine, part_judged, parts_declared, routine_body_judged, routine_judged, scope_opened, set_to, start_headed, start_name, statements_judged, with_its_block}
 use Rattle.ep_check_unit.specs.declared.block.Enclosing.{Enclosing}
 use Rattle.ep_check_unit.specs.declared.block.OwnResult.{OwnResult}
 use Rattle.ep_check_unit.specs.declared.functions.HeadingResult.{HeadingResult}
@@ -480,9 +480,9 @@ module _ (u : TypedUnit) (few : length u.constants ≤ maxint) (statements : Sta
           (given_leads b line (row_gives d row) (body_closed line h.number h.block.own d row) (closed_leads d g c row refl))
       parts_ended (Falls at rules) g = tt
 
-      heading_ended : (j : Judged Block) → Fits (Leads u Opened) j → LeadsOn u b (and_then (inside_declared line name h.number h.block.own ps c) (at_line line j))
+      heading_ended : (j : Judged Block) → Fits (Leads u Opened) j → LeadsOn u b (and_then (inside_declared line name (given_name name h.result) h.number h.block.own ps c) (at_line line j))
       heading_ended (Accepts d) g =
-          given_leads b line (is_assigned d.own.result name (assigns_among name ps) c) (and_then (body_declared line name h.number h.block.own c) (all_declared ps d))
+          given_leads b line (is_assigned d.own.result (given_name name h.result) (given_among (is_named d.own.result) (given_name name h.result) ps) c) (and_then (body_declared line name h.number h.block.own c) (all_declared ps d))
           (parts_ended (all_declared ps d) (further u Opened d (all_declared ps d) g (parts_lead d)))
       heading_ended (Breaks rules) g = tt
 
