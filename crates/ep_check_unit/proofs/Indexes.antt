@@ -1,5 +1,6 @@
 -- An array of several index types is written from left to right: first all index types, then the components, and then the arrays, the innermost first.
-use Rattle.std.proofs.Common.{◌≡◌, ℕ, ◌+◌, ◌<◌, false, List, [], ◌∷◌, ◌++◌, map, length, drop, get_or, refl, sym, ap, ◌∙◌, subst, append_assoc}
+use Rattle.std.proofs.Common.{◌≡◌, ℕ, ◌+◌, ◌-◌, ◌<◌, ◌≤◌, false, List, [], ◌∷◌, ◌++◌, map, length, take, drop, get_or, refl, sym, ap, ◌∙◌, subst, append_assoc, arith}
+use Rattle.std.proofs.lemmas.List.{map_more}
 use Rattle.std.specs.Prelude.{if◌then◌else◌}
 use Rattle.ep_tree.specs.declared.expression.Expression.{Expression}
 use Rattle.ep_tree.specs.declared.operator.QualifiedName.{QualifiedName}
@@ -136,6 +137,25 @@ next_index line plains n p lt is made pushed index values b new all push settles
     ∙ (ap (λ xs. behind xs (indexes_written line rest new)) (map_push index_of made item)
     ∙ (one_behind (map index_of made) (index_of item) (indexes_written line rest new)
     ∙ (ap (behind (map index_of made)) (sym step) ∙ same)))
+
+-- ---- the innermost array first
+
+below_last : (line : ℕ) (is : Indexes) (i : Denoter × ℕ × TagValues) (w : Written) → arrays_below line (is ++ i ∷ []) w ≡ arrays_below line is (settled line (array_over i.0 i.1 i.2 w))
+below_last line [] i w = refl
+below_last line (j ∷ js) i w = ap (λ x. settled line (array_over j.0 j.1 j.2 x)) (below_last line js i w)
+
+-- the array of the last of the index types that are left is below those before
+pub next_below : (line : ℕ) (indexes : List IndexType) (place : ℕ) (d : IndexType) → 0 < place → place ≤ length indexes → (below over above : Written)
+    → Accepts (array_over (index_of (get_or indexes (place - 1) d)).0 (index_of (get_or indexes (place - 1) d)).1 (index_of (get_or indexes (place - 1) d)).2 below) ≡ Accepts over → Accepts (settled line over) ≡ Accepts above
+    → arrays_below line (map index_of (take (place - 1) indexes)) above ≡ arrays_below line (map index_of (take place indexes)) below
+next_below line indexes place d some within below over above made settles =
+    let last : IndexType = get_or indexes (place - 1) d in
+    let is : Denoter × ℕ × TagValues = index_of last in
+    let back : (place - 1) + 1 ≡ place = omega (arith, some) in
+    let above_is : settled line (array_over is.0 is.1 is.2 below) ≡ above = accepted_same above (settled line (array_over is.0 is.1 is.2 below)) (sym (ap (λ w. Accepts (settled line w)) (sym (accepted_same (array_over is.0 is.1 is.2 below) over made)) ∙ settles)) in
+    ap (arrays_below line (map index_of (take (place - 1) indexes))) (sym above_is)
+    ∙ (sym (below_last line (map index_of (take (place - 1) indexes)) is below)
+    ∙ ap (λ xs. arrays_below line xs below) (sym (map_more index_of indexes (place - 1) d (omega (arith, some, within))) ∙ ap (λ k. map index_of (take k indexes)) back))
 
 -- ---- structures
 

@@ -5,6 +5,7 @@ mod FieldSections
 mod Following
 mod GivenLoops
 mod GivenParts
+mod FoundNames
 mod Indexes
 mod InitialStates
 mod Kept

@@ -8,6 +8,7 @@ ghost use Rattle.ep_check_unit.specs.Declarations.{constant_entered, entered, en
 ghost use Rattle.ep_check_unit.specs.Checks.{IsUnitWith};
 ghost use Rattle.ep_check_unit.specs.Units.{first_block};
 
+use crate::bodied::Bodies;
 use crate::sets::set_denoter;
 use crate::types::{Written, host_type, type_denoter};
 use ep_base::{Line, List, Name, NoMemory};
@@ -45,7 +46,7 @@ pub(crate) struct Block {
     /// The routines that are declared `forward`.
     pub(crate) forwards: List<Forward>,
     /// The numbers of the routines that have a body.
-    pub(crate) bodies: List<u32>,
+    pub(crate) bodies: Bodies,
     /// The line of the first item that is accepted and not built.
     pub(crate) waits: Option<Line>,
 }
@@ -229,7 +230,7 @@ impl Block {
             own: OwnVariables::new(alloc, List::new(alloc), None, List::new(alloc)),
             routines: Vec::new(alloc),
             forwards: List::new(alloc),
-            bodies: List::new(alloc),
+            bodies: Bodies::new(alloc),
             waits: None,
         })
     }

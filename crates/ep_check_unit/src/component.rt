@@ -9,7 +9,8 @@ ghost use Rattle.ep_check_unit.specs.Blocks.{block_of};
 ghost use Rattle.ep_check_unit.specs.Checks.{AnswersBuilt, AnswersMissing, IsChecked, IsRefusal, IsRefusalOf, unit_in};
 ghost use Rattle.ep_check_unit.specs.Units.{IsTypedProgram, first_missing, has_name, imports_of, parameters_entered, program_judged, standard_file, standard_import, standard_interface};
 
-use crate::block::{Block, Forward, has_number};
+use crate::block::{Block, Forward};
+use crate::bodied::Bodies;
 use ep_base::{Line, List, Name, NameRefusal, NoMemory};
 use ep_check_stmt::{CheckRefusal, Outcome, refused_at};
 use ep_rules::Refusal;
@@ -83,18 +84,18 @@ fn check_program(alloc: Global, p: &Program) -> Result<Unit, CheckRefusal>
     }
     block.declare(alloc, p.parts.items())?;
     let found = block.statements(alloc, &p.body)?;
-    all_there(block.forwards.items(), block.bodies.items())?;
+    all_there(block.forwards.items(), &block.bodies)?;
     let statements = all_built(block.waits, found)?;
     let imports = imports(alloc, p.parameters.items())?;
     Ok(block.into_unit(imports, statements))
 }
 
 /// Each routine that is declared `forward` has a body.
-fn all_there(forwards: &[Forward], bodies: &[u32]) -> Result<(), CheckRefusal>
+fn all_there(forwards: &[Forward], bodies: &Bodies) -> Result<(), CheckRefusal>
     ensures { AnswersMissing (first_missing forwards.now bodies.now) result }
 {
     for forward in forwards {
-        if !has_number(forward.number, bodies) {
+        if !bodies.has(forward.number) {
             return Err(refused_at(forward.line, Refusal::Rule(rule::NO_BODY)));
         }
     }

@@ -6,9 +6,10 @@ ghost use Rattle.ep_check_stmt.specs.Answers.{AnswersForm};
 ghost use Rattle.ep_check_unit.specs.Answers.{AnswersBlock, named_in};
 ghost use Rattle.ep_check_unit.specs.Blocks.{block_of};
 ghost use Rattle.ep_check_unit.specs.Routines as spec;
-ghost use Rattle.ep_check_unit.specs.Routines.{formal_of, formals_entered, is_parameter, is_repeated, parameters_added, section_judged, section_mode, sections_judged};
+ghost use Rattle.ep_check_unit.specs.Routines.{formal_of, formals_entered, is_repeated, parameters_added, section_judged, section_mode, sections_judged};
 
 use crate::block::{Block, number};
+use crate::distinct::DistinctParameters;
 use crate::types::{NamedType, type_denoter};
 use ep_base::{List, Name, NoMemory};
 use ep_rules::Refusal;
@@ -32,13 +33,6 @@ fn section_mode(protected: bool, variable: bool) -> FormalMode
     }
 }
 
-/// Whether a parameter has the name.
-fn is_parameter(name: &Name, parameters: &[FormalParameter]) -> bool
-    ensures { result ≡ is_parameter name.now parameters.now }
-{
-    parameters.iter().any(|p| p.name.bytes() == name.bytes())
-}
-
 /// The parameters with those of these names more, of a section of this number.
 fn with_names(
     alloc: Global,
@@ -47,23 +41,24 @@ fn with_names(
     of: WrittenType,
     kind: Kind,
     names: &[Name],
-    before: FormalParameters,
-) -> Result<FormalParameters, Refusal>
+    before: DistinctParameters,
+) -> Result<DistinctParameters, Refusal>
     ensures { AnswersForm (λ ps. ps) result
         (parameters_added mode section of kind names.now before) }
 {
     let mut all = before;
     for name in names {
-        if is_parameter(name, all.items()) {
+        if all.has(name) {
             return Err(Refusal::Rule(rule::TWICE));
         }
-        all.push(FormalParameter {
+        let parameter = FormalParameter {
             name: name.copy(alloc)?,
             mode,
             section,
             of,
             kind,
-        })?;
+        };
+        all = all.with(alloc, parameter)?;
     }
     Ok(all)
 }
@@ -103,11 +98,11 @@ impl Block {
         ensures { AnswersForm (λ ps. ps) result
             (sections_judged routine.now 0 sections.now (block_of self.now) []) }
     {
-        let mut all = List::new(alloc);
+        let mut all = DistinctParameters::new(alloc);
         for (place, section) in sections.iter().enumerate() {
             all = self.add_section(alloc, routine, number(place)?, section, all)?;
         }
-        Ok(all)
+        Ok(all.into_parameters())
     }
 
     /// The parameters with those of a section of this number more.
@@ -117,8 +112,8 @@ impl Block {
         routine: &Name,
         number: u32,
         section: &FormalSection,
-        before: FormalParameters,
-    ) -> Result<FormalParameters, Refusal>
+        before: DistinctParameters,
+    ) -> Result<DistinctParameters, Refusal>
         requires { section_unbuilt section.now ≡ None }
         ensures { AnswersForm (λ ps. ps) result
             (section_judged routine.now number section.now (block_of self.now) before) }
@@ -126,7 +121,7 @@ impl Block {
         let FormalType::Named(name) = &section.of else {
             unreachable!()
         };
-        let named = self.parameter_type(routine, before.items(), name)?;
+        let named = self.parameter_type(routine, &before, name)?;
         let mode = section_mode(section.protected, section.variable);
         let names = section.names.items();
         with_names(
@@ -144,13 +139,13 @@ impl Block {
     pub(crate) fn parameter_type(
         &self,
         routine: &Name,
-        before: &[FormalParameter],
+        before: &DistinctParameters,
         name: &QualifiedName,
     ) -> Result<NamedType, Refusal>
         ensures { AnswersForm (named_in (block_of self.now)) result (spec.parameter_type routine.now
             before.now name.now.first name.now.second (block_of self.now)) }
     {
-        if routine.bytes() == name.first.bytes() || is_parameter(&name.first, before) {
+        if routine.bytes() == name.first.bytes() || before.has(&name.first) {
             match &name.second {
                 None => Err(Refusal::Rule(rule::OTHER_THING)),
                 Some(_) => Err(Refusal::Rule(rule::UNDECLARED)),

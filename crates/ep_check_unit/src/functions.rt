@@ -12,6 +12,7 @@ ghost use Rattle.ep_check_unit.specs.Routines.{given_among, part_judged, result_
 ghost use Rattle.ep_scope.specs.Meanings.{meant_by};
 
 use crate::block::{Block, OwnResult, has_number};
+use crate::distinct::DistinctParameters;
 use crate::giving::gives;
 use crate::types::type_denoter;
 use ep_base::{Line, List, Name, NoMemory};
@@ -218,7 +219,8 @@ impl Block {
         ensures { AnswersForm (λ r. r) result
             (result_judged function.now own.now of.now (block_of self.now)) }
     {
-        let named = self.parameter_type(function, &[], of)?;
+        let none = DistinctParameters::new(alloc);
+        let named = self.parameter_type(function, &none, of)?;
         Ok(HeadingResult {
             name: copied_name(alloc, own)?,
             of: named.written(),

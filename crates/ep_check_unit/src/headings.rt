@@ -10,7 +10,7 @@ ghost use Rattle.ep_check_unit.specs.Routines.{function_headed, function_identif
 ghost use Rattle.ep_scope.specs.Required.{look_up};
 ghost use Rattle.ep_rules.specs.Judgements.{Accepts};
 
-use crate::block::{Block, Enclosing, OwnVariables, has_number, number};
+use crate::block::{Block, Enclosing, OwnVariables, number};
 use crate::formals::{formals, is_repeated};
 use crate::functions::{
     HeadingResult, copied_name, in_block, own_result, routine_declaration, same_result,
@@ -216,7 +216,7 @@ impl Block {
     fn has_body(&self, number: u32) -> bool
         ensures { result ≡ has_body number (block_of self.now) }
     {
-        has_number(number, self.bodies.items())
+        self.bodies.has(number)
     }
 
     /// A routine with these formal parameters and this result, by what its name stands for in the scope.

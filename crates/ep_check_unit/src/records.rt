@@ -7,9 +7,10 @@ ghost use Rattle.ep_check_stmt.specs.Answers.{AnswersForm};
 ghost use Rattle.ep_check_unit.specs.Answers.{field_in, field_named, fields_in, listed_in, written_in};
 ghost use Rattle.ep_check_unit.specs.Blocks.{Block as BlockNow, block_of};
 ghost use Rattle.ep_check_unit.specs.Declarations as spec;
-ghost use Rattle.ep_check_unit.specs.Declarations.{fields_named, fields_nodes, has_field, record_field, record_over};
+ghost use Rattle.ep_check_unit.specs.Declarations.{fields_named, fields_nodes, record_field, record_over};
 
 use crate::block::{Block, number};
+use crate::distinct::WrittenFields;
 use crate::types::{NamedType, Written, counted, type_denoter};
 use ep_base::{List, Name, NoMemory};
 use ep_rules::Refusal;
@@ -30,9 +31,6 @@ impl Drop for WrittenField {
         let WrittenField { name: _, of: _ } = self;
     }
 }
-
-/// Fields of a record or of a variant that are written, in order.
-pub(crate) type WrittenFields = List<WrittenField>;
 
 /// A list of fields that is written, with its variant part.
 pub(crate) struct Listing {
@@ -69,36 +67,25 @@ impl Listing {
     }
 }
 
-/// Whether a field has the name.
-fn has_field(fields: &[WrittenField], name: &Name) -> bool
-    ensures { result ≡ has_field (map field_in fields.now) name.now }
-{
-    for field in fields {
-        if field.name.bytes() == name.bytes() {
-            return true;
-        }
-    }
-    false
-}
-
-/// Fields of a type more, no two of one name.
+/// Fields with those of a type more, no two of one name.
 pub(crate) fn add_fields(
     alloc: Global,
     names: &[Name],
     of: NamedType,
-    fields: &mut WrittenFields,
-) -> Result<(), Refusal>
-    ensures { AnswersForm (λ done. map field_in fields.new) result
-        (fields_named (field_named of) names.now (map field_in fields.old)) }
+    before: WrittenFields,
+) -> Result<WrittenFields, Refusal>
+    ensures { AnswersForm (map field_in) result
+        (fields_named (field_named of) names.now (map field_in before)) }
 {
+    let mut all = before;
     for name in names {
-        if has_field(fields.items(), name) {
+        if all.has(name) {
             return Err(Refusal::Rule(rule::TWICE));
         }
         let name = name.copy(alloc)?;
-        fields.push(WrittenField { name, of })?;
+        all = all.with(alloc, WrittenField { name, of })?;
     }
-    Ok(())
+    Ok(all)
 }
 
 /// Fields, as a denoter has them.

@@ -13,8 +13,9 @@ ghost use Rattle.ep_check_unit.specs.Blocks.{Block as BlockNow, block_of};
 ghost use Rattle.ep_check_unit.specs.Declarations.{array_over, common_host, core_part, core_written, counted, unless_large, index_host, index_values, plain_part, settled, settled_part, settled_type, structure_part, type_written, completing_written, fields_judged, none_gathered, record_written, section_part, variant_judged, variant_written, variants_judged, variants_written, sections_written, enumerated, enumeration, host_denoter, next_type, number_in, ordered, range, required_host, scopes_of, subrange_denoter, type_denoter, type_meant, written_by};
 
 use crate::block::{Block, number};
+use crate::distinct::WrittenFields;
 use crate::labels::{TagValues, tag_values};
-use crate::records::{Listing, WrittenField, WrittenFields, add_fields, plain_list};
+use crate::records::{Listing, WrittenField, add_fields, plain_list};
 use crate::variants::{Gathered, variant_list};
 use ep_base::{Boxed, Line, List, Name, Names, NoMemory};
 use ep_check_expr::{ConstantForm, bound_value};
@@ -542,10 +543,10 @@ impl Block {
         ensures { AnswersForm (fields_in (block_of self.new)) result
             (sections_written line (map section_part sections.now) (fields_in (block_of self.old) [])) }
     {
-        let mut all = List::new(alloc);
+        let mut all = WrittenFields::new(alloc);
         for section in sections {
             let of = self.settled_denoter(alloc, line, &section.of)?;
-            add_fields(alloc, section.names.items(), of, &mut all)?;
+            all = add_fields(alloc, section.names.items(), of, all)?;
         }
         Ok(all)
     }
@@ -748,12 +749,12 @@ impl Block {
         ensures { AnswersForm (named_in (block_of self.new)) result
             (Accepts (arrays_below line (map index_of indexes.now) (named_in (block_of self.old) of))) }
     {
-        let Some((first, others)) = indexes.split_first() else {
-            return Ok(of);
-        };
-        let below = self.arrays_below(alloc, line, others, of)?;
-        let written = self.array_over(alloc, *first, below)?;
-        self.settle(alloc, line, written)
+        let mut below = of;
+        for place in (0..indexes.len()).rev() {
+            let written = self.array_over(alloc, indexes[place], below)?;
+            below = self.settle(alloc, line, written)?;
+        }
+        Ok(below)
     }
 }
 

@@ -15,7 +15,9 @@ use crate::records::{Listing, WrittenField, denoted, nodes, own_fields};
 use crate::types::{NamedType, counted, type_denoter};
 use ep_base::{Boxed, Line, List, Name, NoMemory};
 use ep_rules::Refusal;
-use ep_scope::{FieldType, FieldTypes, Kind, TagType, VariantPath, VariantStep, rule};
+use ep_scope::{
+    FieldType, FieldTypes, Kind, TagType, VariantPath, VariantStep, field_number, rule,
+};
 use ep_tree::{Label, VariantSelector};
 use ep_typed::{
     CaseRange, CaseRanges, FieldPart, Selection, Selector, Shared, Variant, VariantLabels,
@@ -205,22 +207,18 @@ fn inside(
 }
 
 /// Whether one of these fields has the name.
-fn is_among(fields: &[FieldType], name: &Name) -> bool
+#[tactic(auto, using(crate::proofs::VariantParts::placed_among))]
+fn is_among(fields: &FieldTypes, name: &Name) -> bool
     ensures { result ≡ is_among_fields fields.now name.now }
 {
-    for field in fields {
-        if field.name.bytes() == name.bytes() {
-            return true;
-        }
-    }
-    false
+    field_number(fields.items(), name).is_some()
 }
 
 /// A field more, which has the name of no other one.
 fn add_field(field: FieldType, all: &mut FieldTypes) -> Result<(), Refusal>
     ensures { AnswersForm (λ done. all.new) result (fields_joined (field ∷ []) all.old) }
 {
-    if is_among(all.items(), &field.name) {
+    if is_among(all, &field.name) {
         return Err(Refusal::Rule(rule::TWICE));
     }
     all.push(field)?;

@@ -25,7 +25,7 @@ returns-in_err-statements-clause-refused c =
     (rw (c.items-2.ensures, c.in_ok-block.ensures, c.in_ok-copy.ensures, c.has_name-output.ensures, c.items.ensures) at c.in_default.ensures)
     (rw c.items-3.ensures at c.in_ok-declare.ensures)
     c.in_ok-found.ensures
-    (rw (c.items-4.ensures, c.items-5.ensures) at c.in_ok-all_there.ensures)
+    (rw c.items-4.ensures at c.in_ok-all_there.ensures)
     c.in_err-statements.ensures)
 
 pub returns-clause-typed : goal.returns-clause-typed
@@ -34,9 +34,9 @@ returns-clause-typed c =
     (rw (c.items-2.ensures, c.in_ok-block.ensures, c.in_ok-copy.ensures, c.has_name-output.ensures, c.items.ensures) at c.in_default.ensures)
     (rw c.items-3.ensures at c.in_ok-declare.ensures)
     c.in_ok-found.ensures
-    (rw (c.items-4.ensures, c.items-5.ensures) at c.in_ok-all_there.ensures)
+    (rw c.items-4.ensures at c.in_ok-all_there.ensures)
     c.in_ok-statements.ensures
-    (rw (c.in_ok-imports.ensures, c.items-6.ensures) at c.into_unit.ensures)
+    (rw (c.in_ok-imports.ensures, c.items-5.ensures) at c.into_unit.ensures)
 
 pub returns-in_err-all_there-clause-refused : goal.returns-in_err-all_there-clause-refused
 returns-in_err-all_there-clause-refused c =
@@ -46,4 +46,4 @@ returns-in_err-all_there-clause-refused c =
     (rw (c.items-2.ensures, c.in_ok-block.ensures, c.in_ok-copy.ensures, c.has_name-output.ensures, c.items.ensures) at c.in_default.ensures)
     (rw c.items-3.ensures at c.in_ok-declare.ensures)
     c.in_ok-found.ensures
-    (rw (c.items-4.ensures, c.items-5.ensures) at c.in_err-all_there.ensures))
+    (rw c.items-4.ensures at c.in_err-all_there.ensures))

@@ -48,16 +48,16 @@ structure-returns-in_ok-below-in-Array t c =
     c.in-Some.first.now c.in-Some.others.now (rw c.items-in-Array.ensures at c.in-Some.ensures.cases).0 c.in_ok-below-in-Array.below (named_in (block_of c.settled_plain.new.self) c.in_ok-of-in-Array.of) (block_of c.arrays_below.new.self) (rw c.get-in-Array.ensures at c.in_ok-of-in-Array.ensures) c.in_ok-below-in-Array.ensures)
     c.array_over.ensures
 
-pub sections-returns-in_err-add_fields : goal.sections-returns-in_err-add_fields
-sections-returns-in_err-add_fields t c =
-    let p = err_from_is_err_and c.from_residual-in_err-add_fields.result c.from_residual-in_err-add_fields.ensures.1 in
+pub sections-returns-in_err-all : goal.sections-returns-in_err-all
+sections-returns-in_err-all t c =
+    let p = err_from_is_err_and c.from_residual-in_err-all.result c.from_residual-in_err-all.ensures.1 in
     rw (p.1, p.2, ← c.loop-section.invariant.same)
-    (names_refused c.args.line c.args.sections.now c.loop-section.section-index c.section-item.result c.loop-section-test.true c.section-item.is (block_of c.loop-section.self) c.loop-section.all c.in_ok-of.of (block_of c.settled_denoter.new.self) c.in_ok-of.ensures c.in_err-add_fields.field-0.0 (rw c.items.ensures at c.in_err-add_fields.ensures))
+    (names_refused c.args.line c.args.sections.now c.loop-section.section-index c.section-item.result c.loop-section-test.true c.section-item.is (block_of c.loop-section.self) c.loop-section.all c.in_ok-of.of (block_of c.settled_denoter.new.self) c.in_ok-of.ensures c.in_err-all.field-0.0 (rw c.items.ensures at c.in_err-all.ensures))
 
 pub sections-loop-section-preserved : goal.sections-loop-section-preserved
 sections-loop-section-preserved t c = record {
   built = rest_built field_section_unbuilt c.args.sections.now c.loop-section.section-index c.section-item.result c.loop-section-test.true c.section-item.is c.loop-section.invariant.built;
-  same = next_section c.args.line c.args.sections.now c.loop-section.section-index c.section-item.result c.loop-section-test.true c.section-item.is (block_of c.loop-section.self) c.loop-section.all c.in_ok-of.of (block_of c.settled_denoter.new.self) c.in_ok-of.ensures c.add_fields.new.fields (rw c.items.ensures at c.in_ok-add_fields.ensures) ∙ c.loop-section.invariant.same;
+  same = next_section c.args.line c.args.sections.now c.loop-section.section-index c.section-item.result c.loop-section-test.true c.section-item.is (block_of c.loop-section.self) c.loop-section.all c.in_ok-of.of (block_of c.settled_denoter.new.self) c.in_ok-of.ensures c.in_ok-all.all (rw c.items.ensures at c.in_ok-all.ensures) ∙ c.loop-section.invariant.same;
 }
 
 pub completing-returns : goal.completing-returns
