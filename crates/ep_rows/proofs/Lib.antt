@@ -8,5 +8,6 @@ mod InitialStates
 mod Meeting
 mod RecordTypes
 mod SetBits
+mod SetWords
 mod TypeTables
 mod WordRows

@@ -1,17 +1,16 @@
 //! Sets as words whose bits tell of the members.
 
-ghost use Rattle.std.specs.Prelude.{◌≡◌, ◌<◌, ◌≤◌, ◌+◌, ◌==◌, ◌||◌, ◌&&◌, ◌^◌, not, int_le, ℕ, ℤ, [], Some, length, pos, slice_get};
+ghost use Rattle.std.specs.Prelude.{◌≡◌, ◌<◌, ◌≤◌, ◌+◌, ◌==◌, ◌||◌, ◌&&◌, ◌^◌, count_ones, int_le, ℕ, ℤ, [], Some, length, pos, slice_get};
 ghost use Rattle.ep_decode.specs.Operations.{combination_number};
 ghost use Rattle.ep_object.specs.SetRows.{combined as combination_of, is_member, least_from};
 ghost use Rattle.ep_object.specs.Sets.{are_between, is_subset as are_all_in, member_limit, set_in, tells, with_member, with_span as span_of, word_members, words_of_set};
-ghost use Rattle.ep_object.specs.WordRows.{is_between as lies_between};
 ghost use Rattle.ep_frames.specs.Members.{is_told, set_of};
-ghost use Rattle.ep_rows.specs.Members.{either, is_one, IsEmptiness, IsZero, Tells};
+ghost use Rattle.ep_rows.specs.Members.{either, is_one, AreInside, IsEmptiness, IsHighest, IsLeastIn, IsLowest, IsZero, Tells};
 
 use crate::words;
 use ep_decode::Combination;
 use ep_frames::Members;
-use ep_object::{SET_MEMBERS, WORD_MEMBERS};
+use ep_object::{SET_MEMBERS, SET_WORDS, WORD_MEMBERS};
 
 /// The empty set.
 #[tactic(auto, using(crate::proofs::SetBits::none_told))]
@@ -116,25 +115,65 @@ pub fn is_subset(a: Members, b: Members) -> bool
     is_empty(combined(Combination::Difference, a, b))
 }
 
-/// Whether an ordinal is a member that does not lie from one number to another.
-fn is_outside(lo: i64, hi: i64, member: u32, set: Members) -> bool
-    requires { member < member_limit }
-    ensures { result ≡ (is_told set.words member && not (lies_between (pos member) lo hi)) }
+/// The lowest bit of a word that is 1.
+#[inline(always)]
+fn lowest(word: u32) -> u32
+    requires { 0 < word }
+    ensures { IsLowest result word }
 {
-    let ordinal = i64::from(member);
-    has(set, member) && (ordinal < lo || hi < ordinal)
+    word.trailing_zeros()
+}
+
+/// The highest bit of a word that is 1.
+#[inline(always)]
+fn highest(word: u32) -> u32
+    requires { 0 < word }
+    ensures { IsHighest result word }
+{
+    word.ilog2()
+}
+
+/// Whether the ordinals from a first to a last one lie from one number to another.
+#[inline(always)]
+fn spans(lo: i64, hi: i64, first: u32, last: u32) -> bool
+    ensures { result ≡ (int_le lo (pos first) && int_le (pos last) hi) }
+{
+    lo <= i64::from(first) && i64::from(last) <= hi
+}
+
+/// Whether all members that the word at a place tells of lie from one number to another.
+#[inline(always)]
+fn word_is_between(lo: i64, hi: i64, place: u32, word: u32) -> bool
+    requires { place < 8 }
+    ensures { AreInside result lo hi place word }
+{
+    if word == 0 {
+        return true;
+    }
+    let first = place * WORD_MEMBERS;
+    spans(lo, hi, first + lowest(word), first + highest(word))
 }
 
 /// Whether all members lie from one number to another.
 pub fn is_between(lo: i64, hi: i64, set: Members) -> bool
     ensures { result ≡ are_between lo hi (set_of set) }
 {
-    for member in 0..SET_MEMBERS {
-        if is_outside(lo, hi, member, set) {
+    for place in 0..SET_WORDS {
+        if !word_is_between(lo, hi, place, set.words[place as usize]) {
             return false;
         }
     }
     true
+}
+
+/// How many bits of a word are 1.
+#[inline(always)]
+fn ones(word: u32) -> u32
+    ensures ones { result ≡ count_ones word }
+    ensures few { result ≤ word_members }
+    ensures fits { word < 2 ^ 32 }
+{
+    word.count_ones()
 }
 
 /// How many members it has.
@@ -142,32 +181,55 @@ pub fn count(set: Members) -> u32
     ensures { result ≡ length (set_of set) }
 {
     let mut members = 0;
-    for member in 0..SET_MEMBERS {
-        if has(set, member) {
-            members += 1;
-        }
+    for place in 0..SET_WORDS {
+        members += ones(set.words[place as usize]);
     }
     members
 }
 
-/// Whether an ordinal is a member, and not less than a number.
-fn is_from(from: i64, member: u32, set: Members) -> bool
-    requires { member < member_limit }
-    ensures { result ≡ (int_le from (pos member) && is_told set.words member) }
+/// The least member from an ordinal on of those that the word at a place tells of.
+#[inline(always)]
+fn least_in(from: u32, place: u32, word: u32) -> Option<u32>
+    requires { place < 8 }
+    ensures { IsLeastIn (pos from) place word result }
 {
-    from <= i64::from(member) && has(set, member)
+    let first = place * WORD_MEMBERS;
+    let passed = from.saturating_sub(first);
+    match word.checked_shr(passed) {
+        Some(left) => {
+            if left == 0 {
+                return None;
+            }
+            Some(first + passed + lowest(left))
+        }
+        None => None,
+    }
+}
+
+/// The least member from an ordinal on, and -1 where there is none.
+fn least(from: u32, set: Members) -> i64
+    ensures { result ≡ least_from (pos from) (set_of set) }
+{
+    for place in 0..SET_WORDS {
+        match least_in(from, place, set.words[place as usize]) {
+            Some(member) => return i64::from(member),
+            None => {}
+        }
+    }
+    -1
 }
 
 /// The least member from a number on, and -1 where there is none.
 pub fn next(from: i64, set: Members) -> i64
     ensures { result ≡ least_from from (set_of set) }
 {
-    for member in 0..SET_MEMBERS {
-        if is_from(from, member, set) {
-            return i64::from(member);
-        }
+    if from < 0 {
+        return least(0, set);
     }
-    -1
+    match words::index(SET_MEMBERS, from) {
+        Some(from) => least(from, set),
+        None => -1,
+    }
 }
 
 /// The word at a place.

@@ -1,7 +1,6 @@
-use Rattle.std.proofs.Common.{◌≡◌, ◌<◌, ◌&&◌, not, ℕ, pos, false}
-use Rattle.ep_frames.specs.Members.{is_told}
-use Rattle.ep_object.specs.WordRows.{is_between}
+use Rattle.std.proofs.Common.{◌<◌, ℕ, true, get_or}
+use Rattle.ep_rows.specs.Members.{AreInside}
 use Rattle.ep_rows.proofs.members.is_between.Given as goal
 
-abbrev pub invariant-loop-member : goal.invariant-loop-member
-invariant-loop-member l = (n : ℕ) → n < l.member → (is_told l.set.words n && not (is_between (pos n) l.lo l.hi)) ≡ false
+abbrev pub invariant-loop-place : goal.invariant-loop-place
+invariant-loop-place l = (k : ℕ) → k < l.place → AreInside true l.lo l.hi k (get_or l.set.words k 0)

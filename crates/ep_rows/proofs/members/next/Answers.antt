@@ -1,22 +1,25 @@
-use Rattle.std.proofs.Common.{◌≡◌, pos, to_z, of_z, sym, ◌∙◌, arith, rules, w64}
+use Rattle.std.proofs.Common.{◌≡◌, true, int_le, int_lt, pos, to_z, of_z, rules, sym, ◌∙◌, w64}
 use Rattle.std.proofs.lemmas.Int.{to_z-of_z}
-use Rattle.ep_rows.proofs.SetBits.{least_found, least_missing, next_false}
+use Rattle.ep_frames.specs.Members.{set_of}
+use Rattle.ep_rows.proofs.SetWords.{least_below, least_beyond, least_within}
 use Rattle.ep_rows.proofs.members.next.Goals as goal
 
-pub loop-member-init : goal.loop-member-init
-loop-member-init c n less = absurd (omega (arith, less))
+pub returns-then-from-lt0 : goal.returns-then-from-lt0
+returns-then-from-lt0 c =
+    let below : int_lt c.args.from (pos 0) ≡ true = search rules in
+    let shown : to_z w64 (of_z w64 c.least.result) ≡ c.least.result = search rules in
+    shown ∙ (c.least.ensures ∙ least_below c.args.from (set_of c.args.set) below)
 
-pub returns-then-is_from : goal.returns-then-is_from
-returns-then-is_from c =
+pub returns-in-Some : goal.returns-in-Some
+returns-in-Some c =
     let from = to_z-of_z w64 c.args.from c.ranges.from in
-    let is = rw from at c.is_from.ensures in
-    let shown : to_z w64 (of_z w64 c.from.result) ≡ pos c.loop-member.member = search rules in
-    shown ∙ least_found c.args.from c.args.set c.loop-member.member c.loop-member-test.true (sym is ∙ c.if-is_from.true) (λ k less. rw from at (c.loop-member.invariant k less))
+    let found = rw from at c.index.ensures in
+    let shown : to_z w64 (of_z w64 c.least-in-Some.result) ≡ c.least-in-Some.result = search rules in
+    shown ∙ (c.least-in-Some.ensures ∙ least_within c.args.from c.in-Some.from (set_of c.args.set) (sym c.in-Some.is ∙ found))
 
-pub loop-member-preserved : goal.loop-member-preserved
-loop-member-preserved c = next_false _ c.loop-member.member c.loop-member.invariant (sym c.is_from.ensures ∙ c.if-is_from.false)
-
-pub returns : goal.returns
-returns c =
+pub returns-in-None : goal.returns-in-None
+returns-in-None c =
     let from = to_z-of_z w64 c.args.from c.ranges.from in
-    least_missing c.args.from c.args.set (λ n less. rw from at (c.loop-member.invariant n (omega (arith, less, c.loop-member-test.false))))
+    let found = rw from at c.index.ensures in
+    let reached : int_le (pos 0) c.args.from ≡ true = search rules in
+    least_beyond c.args.from c.args.set (sym c.in-None.is ∙ found) reached
