@@ -1,12 +1,15 @@
 -- The rows on variables, by their kinds.
-use Rattle.std.proofs.Common.{◌≡◌, ℕ, ℤ, true, List, [], ◌∷◌, Option, Some, None, MatchOption, option_map, slice_get, refl, ap}
+use Rattle.std.proofs.Common.{◌≡◌, ℕ, ℤ, Bool, true, false, if◌then◌else◌, MatchBool, List, [], ◌∷◌, Option, Some, None, IfSome, MatchOption, option_map, slice_get, refl, ap, ◌∙◌}
 use Rattle.std.proofs.lemmas.Bool.{lt-ltb}
 use Rattle.std.proofs.lemmas.Option.{slice_get_within}
-use Rattle.ep_memory.specs.Stores.{Store, cell_in, segment_at, with_word_at}
+use Rattle.ep_frames.specs.Members.{set_of}
+use Rattle.ep_frames.specs.declared.members.Members.{Members}
+use Rattle.ep_memory.specs.Stores.{Store, cell_in, living, segment_at, with_word_at}
 use Rattle.ep_memory.specs.declared.answers.Cell.TheVariants as cell
-use Rattle.ep_object.specs.Effects.{Continues, having, having_weighed, light, provided}
+use Rattle.ep_object.specs.Effects.{Continues, Work, having, having_weighed, light, provided}
 use Rattle.ep_object.specs.Operands.{Operand, Word, Place, Text, Value, Set, word_on_place}
-use Rattle.ep_object.specs.Places.{is_within, is_word_kind, kind_of, load_by, load_of, store_by, store_of, store_row}
+use Rattle.ep_object.specs.Places.{is_within, is_word_kind, kind_of, load_by, load_of, load_row, set_loaded, store_by, store_of, store_row, words_at}
+use Rattle.ep_object.specs.Sets.{set_size}
 use Rattle.ep_object.specs.State.{Segments, TypeTable, bare_number}
 use Rattle.ep_object.specs.declared.state.Kind.{Kind}
 use Rattle.ep_object.specs.declared.state.Kind.TheVariants as kind
@@ -98,6 +101,27 @@ module _ (kind : Kind) (m : Store) (p : PlaceOf) (w x : ℤ) (st : List Operand)
           gone : cell.Word x ≡ cell.Gone → ⊥
           gone h = cc
       by_segment (Some (Some s)) e = by_word s (slice_get s.words p.offset) e refl
+
+-- what a variable of a set type gives, in a segment with these words
+module _ (types : TypeTable) (segments : Segments) (p : PlaceOf) (lo hi : ℤ) (e : TypeEntry) (words : List ℤ)
+    (entry : slice_get types p.type_number ≡ Some e) (type : e.kind ≡ kind.Set lo hi) where
+  set_loads : (st : List Operand) (segment : Option (Option Segment)) → slice_get segments p.segment ≡ segment → option_map (λ s. s.words) (living segment) ≡ Some words
+      → load_row types segments (Place p ∷ st) ≡ light (having (words_at words p.offset set_size) (λ ws. set_loaded ws st))
+  set_loads st None there same = cc
+  set_loads st (Some None) there same = cc
+  set_loads st (Some (Some s)) there same = let has : s.words ≡ words = cc in rw (entry, type, there, has) refl
+
+  -- its set, where the words tell of one that is defined
+  pub set_found : (r : Option Members) → option_map (λ s. s.words) (living (slice_get segments p.segment)) ≡ Some words
+      → IfSome r (λ m. (st : List Operand) → having (words_at words p.offset set_size) (λ ws. set_loaded ws st) ≡ Continues (Set (set_of m) ∷ st))
+      → IfSome r (λ m. (st : List Operand) → load_row types segments (Place p ∷ st) ≡ light (Continues (Set (set_of m) ∷ st)))
+  set_found None same h = tt
+  set_found (Some m) same h = λ st. set_loads st (slice_get segments p.segment) refl same ∙ ap light (h st)
+
+-- the value of a variable was put on top, where there was memory
+pub value_pushed : (b : Bool) (row : List Operand → Work (List Operand)) (st st2 : List Operand) (x : Operand) → ((st : List Operand) → row st ≡ light (Continues (x ∷ st))) → st2 ≡ (if b then x ∷ st else st) → MatchBool b (row st ≡ light (Continues st2)) (st2 ≡ st)
+value_pushed true row st st2 x h e = rw e (h st)
+value_pushed false row st st2 x h e = e
 
 -- ---- a word on a place
 

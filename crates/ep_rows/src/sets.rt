@@ -1,16 +1,16 @@
 //! The rows on sets.
 
-ghost use Rattle.std.specs.Prelude.{◌≡◌, ◌<◌, ◌≤◌, ◌+◌, ◌^◌, suc, ◌∷◌, ℕ, ℤ, false, List, Option, Some, None, MatchOption, length};
+ghost use Rattle.std.specs.Prelude.{◌≡◌, ◌<◌, ◌≤◌, ◌+◌, ◌^◌, suc, ◌∷◌, ℕ, ℤ, false, List, Option, Some, None, IfSome, MatchBool, MatchOption, length};
 ghost use Rattle.ep_decode.specs.Operations.{combination_number, inclusion_number};
 ghost use Rattle.ep_frames.specs.Members.{set_of};
 ghost use Rattle.ep_memory.specs.Stores.{live};
 ghost use Rattle.ep_object.specs.Control.{dup_row};
-ghost use Rattle.ep_object.specs.Effects.{Continues, having};
+ghost use Rattle.ep_object.specs.Effects.{Continues, having, light};
 ghost use Rattle.ep_object.specs.Operands.{Operand, Place as PlaceOperand, Set};
-ghost use Rattle.ep_object.specs.Sets.{are_between};
-ghost use Rattle.ep_object.specs.Places.{load_set, store_set, set_defined};
+ghost use Rattle.ep_object.specs.Sets.{are_between, set_size};
+ghost use Rattle.ep_object.specs.Places.{load_row, load_set, store_row, store_set, set_defined, set_loaded, words_at as words_in};
 ghost use Rattle.ep_object.specs.SetRows.{card_row, in_row, next_row, set_add_row, set_cmp_row, set_none_row, set_op_row, set_span_row, span_added, is_ordinal as may_be_member, sets_compared};
-ghost use Rattle.ep_rows.specs.Steps.{IsDone, IsStep};
+ghost use Rattle.ep_rows.specs.Steps.{IsQuick, IsStep, OnRare};
 ghost use Rattle.ep_rows.specs.Values.{set_stored_at};
 
 use crate::control::spend;
@@ -205,6 +205,70 @@ pub(crate) fn load(p: Place, memory: &Memory, stack: &mut Stack) -> Step
     push_defined(words.first().copied(), members::read(words), stack)
 }
 
+/// The set in a variable's words from an offset on, where it is defined.
+fn set_in_words(words: &[i64], offset: usize) -> Option<Members>
+    ensures { IfSome result (λ m. (st : List Operand)
+        → having (words_in words.now offset set_size) (λ ws. set_loaded ws st)
+        ≡ Continues (Set (set_of m) ∷ st)) }
+{
+    let Some(words) = words_at(words, offset, SET_WORDS as usize) else {
+        return None;
+    };
+    match words.first() {
+        Some(first) if *first > UNDEFINED => Some(members::read(words)),
+        _ => None,
+    }
+}
+
+/// The set of a variable at a place, where it is defined.
+fn value_at(p: Place, types: &[TypeEntry], memory: &Memory) -> Option<Members>
+    ensures { IfSome result (λ m. (st : List Operand)
+        → load_row types.now memory.now.segments (PlaceOperand p ∷ st)
+        ≡ light (Continues (Set (set_of m) ∷ st))) }
+{
+    let Some(entry) = types.get(p.type_number as usize) else {
+        return None;
+    };
+    let Kind::Set(_, _) = entry.kind else {
+        return None;
+    };
+    let Some(words) = memory.words_of(p.segment) else {
+        return None;
+    };
+    set_in_words(words, p.offset as usize)
+}
+
+/// One more set, that of a variable at a place, where it is defined.
+#[inline(never)]
+pub fn push_at(p: Place, types: &[TypeEntry], memory: &Memory, stack: &mut Stack) -> bool
+    ensures { MatchBool result (load_row types.now memory.now.segments (PlaceOperand p ∷ stack.old)
+        ≡ light (Continues stack.new)) (stack.new ≡ stack.old) }
+{
+    match value_at(p, types, memory) {
+        Some(set) => stack.push_set(set),
+        None => false,
+    }
+}
+
+/// The set of a variable whose place is on top. Of any other one the row is not a frequent one.
+#[inline(never)]
+pub(crate) fn load_at(types: &[TypeEntry], memory: &Memory, stack: &mut Stack) -> Step
+    ensures done { IsQuick (load_row types.now memory.now.segments stack.old) result stack.new }
+    ensures rare { OnRare result (stack.new ≡ stack.old) }
+{
+    let Some(p) = stack.place_top() else {
+        return Step::Rare;
+    };
+    let Some(entry) = types.get(p.type_number as usize) else {
+        return Step::Rare;
+    };
+    let Kind::Set(_, _) = entry.kind else {
+        return Step::Rare;
+    };
+    stack.pop();
+    load(p, memory, stack)
+}
+
 /// How the row ends where a set has a member outside of the base type.
 fn outside(p: Place, memory: &Memory) -> Step
     ensures { (lo : ℤ) (hi : ℤ) (ms : List ℕ) (st : List Operand) → are_between lo hi ms ≡ false
@@ -257,4 +321,19 @@ pub(crate) fn store(
         return Step::Broken;
     };
     put(lo, hi, p, set, memory)
+}
+
+/// A variable takes a set. With any other operand the row is not a frequent one.
+#[tactic(auto, using(crate::proofs::WordRows::set_stores))]
+#[inline(never)]
+pub(crate) fn store_at(types: &[TypeEntry], memory: &mut Memory, stack: &mut Stack) -> Step
+    ensures done { IsQuick (store_row types.now memory.old.segments stack.old) result
+        (stack.new, memory.new.segments) }
+    ensures live { live memory.new ≡ live memory.old }
+    ensures rare { OnRare result ((stack.new ≡ stack.old) × (memory.new ≡ memory.old)) }
+{
+    match stack.pop_set() {
+        Some(set) => store(set, types, memory, stack),
+        None => Step::Rare,
+    }
 }
