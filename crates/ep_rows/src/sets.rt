@@ -45,6 +45,7 @@ pub(crate) fn push_twice(set: Members, stack: &mut Stack) -> Step
 }
 
 /// The empty set.
+#[inline(never)]
 pub fn none(stack: &mut Stack) -> Step
     ensures { IsStep (set_none_row stack.old) result stack.new }
 {
@@ -59,6 +60,7 @@ pub(crate) fn is_ordinal(number: i64) -> bool
 }
 
 /// A set with one member more.
+#[inline(never)]
 pub fn add(stack: &mut Stack) -> Step
     ensures { IsStep (set_add_row stack.old) result stack.new }
 {
@@ -101,6 +103,7 @@ pub fn span(stack: &mut Stack) -> Step
 }
 
 /// What is made of two sets.
+#[inline(never)]
 pub fn combine(combination: Combination, stack: &mut Stack) -> Step
     ensures { IsStep (set_op_row (combination_number combination) stack.old) result stack.new }
 {
@@ -141,6 +144,7 @@ pub fn compare(inclusion: Inclusion, stack: &mut Stack) -> Step
 }
 
 /// 1 where a number is a member of a set, else 0.
+#[inline(never)]
 pub fn has(stack: &mut Stack) -> Step
     ensures { IsStep (in_row stack.old) result stack.new }
 {
@@ -164,6 +168,7 @@ pub fn count(stack: &mut Stack) -> Step
 }
 
 /// The least member of a set from a number on, and -1 where there is none.
+#[inline(never)]
 pub fn next(stack: &mut Stack) -> Step
     ensures { IsStep (next_row stack.old) result stack.new }
 {

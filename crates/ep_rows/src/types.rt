@@ -244,6 +244,7 @@ fn set_entry(lo: i64, hi: i64) -> TypeEntry
 }
 
 /// The set type whose base type has the number on top.
+#[inline(never)]
 pub fn set(types: &mut TypeTable, memory: &mut Memory, stack: &mut Stack) -> Step
     ensures done { IsStep (set_row (typing stack.old types.old memory.old)) result
         (typing stack.new types.new memory.new) }
