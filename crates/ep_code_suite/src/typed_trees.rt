@@ -116,8 +116,8 @@ fn code_of(alloc: Global, words: &str) -> Result<Code, Unbuilt> {
 /// Tells code, and the tables that it names where these are not the usual ones.
 fn tell_code(alloc: Global, code: &Code, usual: Line) -> Result<String, AllocError> {
     let mut out = told(alloc, code.instructions.items(), usual)?;
-    let texts = code.texts.items().len();
-    let references = code.references.items().len();
+    let texts = code.texts.count();
+    let references = code.references.count();
     if texts != 0 {
         write!(&mut out, " | texts {texts}")?;
     }

@@ -1,1 +1,3 @@
+mod Keyed
+mod SameReferences
 pub mod public

@@ -2,4 +2,6 @@ pub mod Credit
 pub mod Growth
 pub mod Instructions
 pub mod Jumps
+pub mod Keys
 pub mod Referring
+pub mod Tables

@@ -5,8 +5,9 @@ ghost use Rattle.ep_gen_code.specs.Instructions.{instr};
 ghost use Rattle.ep_gen_code.specs.Growth.{Grows, IsTable, begun_code};
 
 use crate::references::first_references;
+use crate::tables::{ReferenceTable, TextTable};
 use ep_base::{Line, List, NoMemory};
-use ep_object::{ConstantTypes, Instr, Instrs, References, Texts};
+use ep_object::{ConstantTypes, Instr, Instrs};
 use ep_typed::Unit;
 use std::alloc::Global;
 
@@ -19,9 +20,9 @@ pub struct Code {
     /// The instructions.
     pub instructions: Instrs,
     /// The texts.
-    pub texts: Texts,
+    pub texts: TextTable,
     /// The routines and slots that instructions name.
-    pub references: References,
+    pub references: ReferenceTable,
     /// The constant types.
     pub constant_types: ConstantTypes,
     /// The line that every appended instruction gets: that of the statement or declaration.
@@ -38,7 +39,7 @@ impl Code {
         let references = first_references(alloc, unit)?;
         Ok(Code {
             instructions: List::new(alloc),
-            texts: List::new(alloc),
+            texts: TextTable::new(alloc),
             references,
             constant_types: List::new(alloc),
             line: NO_LINE,

@@ -6,8 +6,8 @@ ghost use Rattle.ep_gen_code.specs.Referring.{type_reference};
 ghost use Rattle.ep_simulation.specs.Promises.{swap_routine};
 
 use crate::jumps::{field_number, place_number};
-use ep_base::{List, NoMemory};
-use ep_object::{Reference, References};
+use crate::tables::ReferenceTable;
+use ep_base::NoMemory;
 use ep_typed::Unit;
 use std::alloc::Global;
 
@@ -36,7 +36,7 @@ pub fn type_reference(number: u32) -> i64
 /// The first references of a unit, to routines that stand in this order behind those of the unit, its start and its stop: the
 /// one that leaves two operands in the other order, those that give values to components of arrays, and those that elaborate the
 /// unit's types.
-pub fn first_references(alloc: Global, unit: &Unit) -> Result<References, NoMemory>
+pub fn first_references(alloc: Global, unit: &Unit) -> Result<ReferenceTable, NoMemory>
     ensures row { IfOk result
         (λ references. references
         ≡ in_row unit.now.name (swap_routine (length unit.now.routines)) (type_reference (length
@@ -45,11 +45,10 @@ pub fn first_references(alloc: Global, unit: &Unit) -> Result<References, NoMemo
 {
     let first = field_number(unit.routines.items().len())? as u64 + 2;
     let count = TYPES as u64 + field_number(unit.types.items().len())? as u64;
-    let mut references = List::new(alloc);
+    let mut references = ReferenceTable::new(alloc);
     for index in 0..count {
         let number = place_number(first + index)?;
-        let unit = unit.name.copy(alloc)?;
-        references.push(Reference { unit, number })?;
+        references.push(alloc, &unit.name, number)?;
     }
     Ok(references)
 }

@@ -172,26 +172,18 @@ appends_step {a = a} down low high x n p q r =
     whole_expr (Step down low high x n) (p.code ++ (q.code ++ step_code a.line down low high)) (p.code, q.code, first_part x p (grows_then q.grows r), second_part n p.grows q r, refl) (after_parts (λ line. step_code line down low high) p.grows q.grows r)
 
 -- a new text at the end of the table
-new_text : (a : Code) (ts : List (List ℕ)) (bytes : List ℕ) (k : ℕ) → IsNowhere a.texts bytes → k ≡ length a.texts → k < 2 ^ 32 - 1 → ts ≡ a.texts ++ bytes ∷ [] → NumbersText a (record a { texts = ts }) bytes k
+pub new_text : (a : Code) (ts : List (List ℕ)) (bytes : List ℕ) (k : ℕ) → IsNowhere a.texts bytes → k ≡ length a.texts → k < 2 ^ 32 - 1 → ts ≡ a.texts ++ bytes ∷ [] → NumbersText a (record a { texts = ts }) bytes k
 new_text a ts bytes k new at few e = record {
   there = ap (λ n. slice_get ts n) at ∙ ap (λ l. slice_get l (length a.texts)) e ∙ get_last a.texts bytes;
   grows = record { instructions = sym (append-nil a.instructions); texts = table_pushed new (omega arith) e; references = table_same a.references; constant_types = refl; line = refl };
 }
 
-new_reference : (a : Code) (rs : List Reference) (r : Reference) (k : ℕ) → IsNowhere a.references r → k ≡ length a.references → k < 2 ^ 32 - 1 → rs ≡ a.references ++ r ∷ [] → NumbersReference a (record a { references = rs }) r k
+-- and a new reference
+pub new_reference : (a : Code) (rs : List Reference) (r : Reference) (k : ℕ) → IsNowhere a.references r → k ≡ length a.references → k < 2 ^ 32 - 1 → rs ≡ a.references ++ r ∷ [] → NumbersReference a (record a { references = rs }) r k
 new_reference a rs r k new at few e = record {
   there = ap (λ n. slice_get rs n) at ∙ ap (λ l. slice_get l (length a.references)) e ∙ get_last a.references r;
   grows = record { instructions = sym (append-nil a.instructions); texts = table_same a.texts; references = table_pushed new (omega arith) e; constant_types = refl; line = refl };
 }
-
--- the same, of a table and a text that were seen through a reference and a copy
-pub numbers_new_text : (a : Code) (ts xs ys : List (List ℕ)) (bytes copy : List ℕ) (k : ℕ) → xs ≡ a.texts → ys ≡ a.texts → copy ≡ bytes → IsNowhere xs bytes → (k ≡ length ys) × (k < 2 ^ 32 - 1) → ts ≡ a.texts ++ copy ∷ [] → NumbersText a (record a { texts = ts }) bytes k
-numbers_new_text a ts xs ys bytes copy k p q r new at e =
-    new_text a ts bytes k (subst (λ l. IsNowhere l bytes) p new) (at.0 ∙ ap length q) at.1 (e ∙ ap (λ b. a.texts ++ b ∷ []) r)
-
-pub numbers_new_reference : (a : Code) (rs xs ys : List Reference) (unit copy : List ℕ) (number k : ℕ) → xs ≡ a.references → ys ≡ a.references → copy ≡ unit → IsNowhere xs (reference unit number) → (k ≡ length ys) × (k < 2 ^ 32 - 1) → rs ≡ a.references ++ reference copy number ∷ [] → NumbersReference a (record a { references = rs }) (reference unit number) k
-numbers_new_reference a rs xs ys unit copy number k p q r new at e =
-    new_reference a rs (reference unit number) k (subst (λ l. IsNowhere l (reference unit number)) p new) (at.0 ∙ ap length q) at.1 (e ∙ ap (λ u. a.references ++ reference u number ∷ []) r)
 
 -- one that is there
 pub numbers_old_text : (a : Code) (bytes : List ℕ) (k : ℕ) → slice_get a.texts k ≡ Some bytes → NumbersText a a bytes k

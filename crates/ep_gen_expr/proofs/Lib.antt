@@ -2,7 +2,6 @@ mod ActualForms
 mod Arguments
 mod Components
 mod Forms
-mod Found
 mod GivenRanges
 mod Hosts
 mod MemberForms

@@ -37,7 +37,7 @@ pub fn place_code(alloc: Global, p: &TypedPlace, code: &mut Code) -> Result<(), 
         TypedPlace::Indexed(array, index) => index_code(alloc, array.get(), index.get(), code),
         TypedPlace::Field(variable, number) => field_code(alloc, variable.get(), *number, code),
         TypedPlace::Variant(whole, selection, number) => {
-            variant_code(alloc, whole.get(), selection, *number, code)
+            variant_code(alloc, whole.get(), selection.get(), *number, code)
         }
     }
 }
@@ -143,7 +143,7 @@ pub fn expression_code(alloc: Global, e: &TypedExpr, code: &mut Code) -> Result<
             field_value_code(alloc, whole.get(), *number, code)
         }
         TypedExpr::VariantValue(whole, selection, number) => {
-            variant_value_code(alloc, whole.get(), selection, *number, code)
+            variant_value_code(alloc, whole.get(), selection.get(), *number, code)
         }
         TypedExpr::SetConstant(members) => set_constant_code(members.items(), code),
         TypedExpr::Set(members) => constructor_code(alloc, members.items(), code),

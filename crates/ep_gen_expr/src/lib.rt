@@ -6,7 +6,7 @@
 //! To change the code of a form: specs/ExprCode.antt, src/expressions.rt, or src/operations.rt, structured.rt,
 //! variants.rt, ranges.rt, controls.rt; the file of proofs that ends in Forms for how the code is put together, and
 //! for what it does the file of its form (Sets, VariantMoves, ValueParts, StructuredValues, Calls, ShortCircuit),
-//! which Following.antt brings together; Stays.antt. Tables of texts and references: src/tables.rt.
+//! which Following.antt brings together; Stays.antt. Numbers of texts and references: src/tables.rt.
 #![tactic(auto)]
 
 mod controls;

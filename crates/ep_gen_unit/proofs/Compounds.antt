@@ -1,15 +1,14 @@
 -- What statements without parts, and with lists of statements, are seen as.
 use Rattle.std.proofs.Common.{◌≡◌, ℕ, List, Option, Some, None, map, sym, ap, ◌∙◌}
-use Rattle.ep_typed.specs.Trees.{Stmt, Empty, Compound, Repeat, With, Case, Arm, stmts, arms}
-use Rattle.ep_typed.specs.Viewed.{entire_of, expr_of, place_of, stmt_of, stmt_step, arm_of, arm_step, other_of}
+use Rattle.ep_typed.specs.Trees.{Stmt, Empty, Compound, Repeat, Case, Arm, stmts, arms, with_form}
+use Rattle.ep_typed.specs.Viewed.{expr_of, stmt_of, stmt_step, arm_of, arm_step, other_of, with_record_of}
 use Rattle.ep_typed.specs.declared.tree.CaseArm.{CaseArm, out-CaseArm}
-use Rattle.ep_typed.specs.declared.tree.EntireVariable.{EntireVariable}
 use Rattle.ep_typed.specs.declared.tree.TypedExpr.{TypedExpr}
-use Rattle.ep_typed.specs.declared.tree.TypedPlace.{TypedPlace}
 use Rattle.ep_typed.specs.declared.tree.TypedStmt.{TypedStmt}
 use Rattle.ep_typed.specs.declared.tree.TypedStmt.TheVariants as typed
 use Rattle.ep_typed.specs.declared.tree.TypedStmt.TheOpen as layer
 use Rattle.ep_typed.specs.declared.tree.TypedStmt.TheFolds.{fold-roll-TypedStmt, fold_out-CaseArm}
+use Rattle.ep_typed.specs.declared.tree.WithRecord.{WithRecord}
 
 pub compound_is : (ss : List TypedStmt) → stmt_of (typed.Compound ss) ≡ Compound (stmts (map stmt_of ss))
 compound_is ss = ap stmt_of (sym (typed.rolls-Compound ss)) ∙ fold-roll-TypedStmt Stmt Arm stmt_step arm_step (layer.Compound ss)
@@ -28,5 +27,5 @@ arm_is a = fold_out-CaseArm Stmt Arm stmt_step arm_step a
 pub empty_is : stmt_of typed.Empty ≡ Empty
 empty_is = ap stmt_of (sym typed.rolls-Empty) ∙ fold-roll-TypedStmt Stmt Arm stmt_step arm_step layer.Empty
 
-pub with_is : (line : ℕ) (variable : EntireVariable) (of : ℕ) (place : TypedPlace) (body : TypedStmt) → stmt_of (typed.With line variable of place body) ≡ With line (entire_of variable) of (place_of place) (stmt_of body)
-with_is line variable of place body = ap stmt_of (sym (typed.rolls-With line variable of place body)) ∙ fold-roll-TypedStmt Stmt Arm stmt_step arm_step (layer.With line variable of place body)
+pub with_is : (line : ℕ) (records : List WithRecord) (body : TypedStmt) → stmt_of (typed.With line records body) ≡ with_form line (map with_record_of records) (stmt_of body)
+with_is line records body = ap stmt_of (sym (typed.rolls-With line records body)) ∙ fold-roll-TypedStmt Stmt Arm stmt_step arm_step (layer.With line records body)

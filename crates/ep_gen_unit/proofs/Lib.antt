@@ -30,5 +30,6 @@ mod TagLengths
 mod TagMoves
 mod TypeRoutines
 mod Units
+mod WithForms
 mod WithMoves
 mod Writing

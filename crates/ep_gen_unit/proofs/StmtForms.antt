@@ -3,7 +3,7 @@ use Rattle.std.proofs.Common.{◌≡◌, ℕ, pos, ◌+◌, ◌<◌, Bool, List,
 use Rattle.std.proofs.lemmas.List.{map_more}
 use Rattle.ep_object.specs.declared.code.Instr.{Instr}
 use Rattle.ep_object.specs.declared.code.Reference.{Reference}
-use Rattle.ep_typed.specs.Trees.{Callee, Entire, Place, Expr, Function, Actuals, Item, Stmt, Stmts, Empty, Compound, Assign, If, While, Repeat, With, Procedure, Halt, Write, stmts}
+use Rattle.ep_typed.specs.Trees.{Callee, Entire, Place, Expr, Function, Actuals, Item, Stmt, Stmts, Empty, Compound, Assign, If, While, Repeat, Procedure, Halt, Write, stmts}
 use Rattle.ep_gen_expr.specs.ExprCode.{IsExprCode}
 use Rattle.ep_gen_code.specs.Instructions.{bare, instr}
 use Rattle.ep_gen_code.specs.Growth.{Grows}
@@ -14,7 +14,7 @@ use Rattle.ep_gen_code.proofs.public.Growing.{grows_at}
 use Rattle.ep_gen_expr.proofs.public.Stays.{place_code_stays}
 use Rattle.ep_gen_unit.specs.StmtCode.{IsStmtCode, AreStmtsCode, slot_of}
 use Rattle.ep_gen_unit.specs.StmtGrowth.{Follows, AppendsBind, AppendsItems, AppendsStmt, AppendsStmts}
-use Rattle.ep_gen_unit.proofs.StmtStays.{bind_code_stays, stmt_code_short, stmts_code_stays}
+use Rattle.ep_gen_unit.proofs.StmtStays.{stmt_code_short, stmts_code_stays}
 use Rattle.ep_gen_unit.proofs.Following.{IsLater, later_then, later_grows, later_follows, later_landed, expr_later, stmt_later, follows_none, follows_grows, follows_line, follows_then, follows_middle, follows_landed, grown_length, landed_length}
 use Rattle.ep_object.specs.declared.op.TheConstants as op
 
@@ -39,7 +39,7 @@ appends_assign {b = b} {c = c} {d = d} a line place x p q r =
     )
     (follows_line a line (follows_grows (grows_at (λ l. q.code ++ bare l op.STORE ∷ []) p.grows after)))
 
--- the beginning of a `with`
+-- a record that a `with` opens
 pub appends_bind : {b c : Code} (a : Code) (line : ℕ) (v : Entire) (slot : ℕ) (place : Place) → slot ≡ slot_of v → AppendsPlace (record a { line = line }) b place → Grows b c (instr op.BIND (pos slot) 0 b.line ∷ []) → AppendsBind line a c v place
 appends_bind {b = b} {c = c} a line v slot place is p q =
     let later : IsLater b c = later_grows q in
@@ -48,19 +48,6 @@ appends_bind {b = b} {c = c} a line v slot place is p q =
       is_code = (p.code, place_code_stays b.texts c.texts b.references c.references line later.texts.begins later.references.begins (length a.instructions) place p.code p.is_code, refl);
       follows = subst (λ k. Follows a c (p.code ++ instr op.BIND (pos k) 0 line ∷ [])) is (follows_line a line (follows_grows (grows_at (λ l. instr op.BIND (pos slot) 0 l ∷ []) p.grows q)));
     }
-
--- and the body behind it
-pub appends_with : {b c : Code} (a : Code) (line : ℕ) (v : Entire) (of : ℕ) (place : Place) (s : Stmt) → AppendsBind line a b v place → AppendsStmt b c s → AppendsStmt a c (With line v of place s)
-appends_with {b = b} {c = c} a line v of place s p q =
-    let b_c : IsLater b c = later_follows q.follows in
-    whole a (With line v of place s) (p.code ++ q.code) (
-      p.code,
-      q.code,
-      bind_code_stays b.texts c.texts b.references c.references b_c.texts.begins b_c.references.begins line (length a.instructions) v place p.code p.is_code,
-      subst (λ k. IsStmtCode c.texts c.references k s q.code) (grown_length p.follows) q.is_code,
-      refl,
-    )
-    (follows_then p.follows q.follows)
 
 -- a call
 pub appends_procedure : {b : Code} (a : Code) (line : ℕ) (callee : Callee) (given : Actuals) → AppendsExpr (record a { line = line }) b (Function callee given) → AppendsStmt a b (Procedure line callee given)

@@ -4,7 +4,7 @@ use Rattle.ep_outside.specs.Known.{IsPrefix}
 use Rattle.ep_object.specs.declared.code.Instr.{Instr}
 use Rattle.ep_object.specs.declared.code.Reference.{Reference}
 use Rattle.ep_meaning.specs.Controls.{has_more, in_order, next_value, others}
-use Rattle.ep_typed.specs.Trees.{One, SetOf, Single, no_member, next_member, Entire, OfUnit, OfRoutine, entire, Place, Function, Item, Plain, Wide, Stmt, Stmts, Empty, Compound, Assign, AssignTag, Tagging, If, While, Repeat, Control, For, MemberControl, ForIn, With, Read, Expr, Procedure, Halt, Write, none, next, Case, Arms, no_arm, next_arm, Other, no_other, otherwise_do}
+use Rattle.ep_typed.specs.Trees.{One, SetOf, Single, no_member, next_member, Entire, OfUnit, OfRoutine, entire, Place, Function, Item, Plain, Wide, Stmt, Stmts, Empty, Compound, Assign, AssignTag, Tagging, If, While, Repeat, Control, For, MemberControl, ForIn, With, Read, Expr, Procedure, Halt, Write, none, next, Case, Arms, no_arm, next_arm, Other, no_other, otherwise_do, WithRecord}
 use Rattle.ep_values.specs.declared.operations.Print.{Print}
 use Rattle.ep_values.specs.declared.operations.Print.TheVariants as print
 use Rattle.std.specs.Prelude.{if◌then◌else◌}
@@ -14,12 +14,13 @@ use Rattle.ep_values.specs.declared.operations.Binary.TheVariants as binary
 use Rattle.ep_values.specs.declared.operations.Unary.TheVariants as unary
 use Rattle.ep_values.specs.declared.operations.SetOperation.TheVariants as set_operation
 use Rattle.ep_gen_expr.proofs.public.Stays.{place_code_stays, expr_code_stays, place_code_short, expr_code_short, tests_length}
-use Rattle.ep_gen_unit.specs.StmtCode.{for_code, for_in_code, IsLeastCode, IsKeptCode, IsAssignCode, AreBoundsCode, IsFirstCode, IsTestCode, IsUndefineCode, IsBindCode, IsItemCode, AreItemsCode, IsStmtCode, AreStmtsCode, AreArmsCode, IsOtherCode, plain_code, before_width, wide_code}
+use Rattle.ep_gen_unit.specs.StmtCode.{for_code, for_in_code, IsLeastCode, IsKeptCode, IsAssignCode, AreBoundsCode, IsFirstCode, IsTestCode, IsUndefineCode, IsBindCode, AreBindsCode, IsItemCode, AreItemsCode, IsStmtCode, AreStmtsCode, AreArmsCode, IsOtherCode, plain_code, before_width, wide_code}
 use Rattle.ep_gen_unit.specs.TagCode.{IsTriedCode, IsChangeCode, IsTakenCode, none_now, number_code, number_length, selected_code, selected_length, variants_code}
 use Rattle.ep_gen_unit.proofs.TagLengths.{number_code_length, selected_code_length, selections_short, variants_short}
 use Rattle.ep_values.specs.declared.run_error.TheConstants as run_error
 use Rattle.ep_typed.specs.declared.tree.Selection.{Selection}
-use Rattle.ep_typed.specs.Nodes.{labels_nodes, place_nodes, expr_nodes, item_nodes, items_nodes, stmt_nodes, stmts_nodes, arms_nodes, other_nodes}
+use Rattle.ep_typed.specs.Nodes.{place_nodes, expr_nodes, item_nodes, items_nodes, stmt_nodes, stmts_nodes, arms_nodes, other_nodes}
+use Rattle.ep_typed.specs.Selections.{labels_nodes}
 use Rattle.ep_object.specs.declared.op.TheConstants as op
 
 module _ (ts us : List (List ℕ)) (rs ss : List Reference) (a : IsPrefix ts us) (b : IsPrefix rs ss) where
@@ -67,6 +68,10 @@ module _ (ts us : List (List ℕ)) (rs ss : List Reference) (a : IsPrefix ts us)
   -- the beginning of a `with`
   pub bind_code_stays : (line at : ℕ) (v : Entire) (p : Place) (is : List Instr) → IsBindCode ts rs line at v p is → IsBindCode us ss line at v p is
   bind_code_stays line at v p is h = (h.0, place_code_stays ts us rs ss line a b at p h.0 h.1, h.2)
+
+  pub binds_code_stays : (line at : ℕ) (ws : List WithRecord) (is : List Instr) → AreBindsCode ts rs line at ws is → AreBindsCode us ss line at ws is
+  binds_code_stays line at [] is h = h
+  binds_code_stays line at (w ∷ ws) is h = (h.0, h.1, bind_code_stays line at w.variable w.place h.0 h.2, binds_code_stays line (at + length h.0) ws h.1 h.3, h.4)
 
   mutual
     pub stmt_code_stays : (at : ℕ) (s : Stmt) (is : List Instr) → IsStmtCode ts rs at s is → IsStmtCode us ss at s is

@@ -7,7 +7,7 @@ use Rattle.ep_gen_expr.proofs.public.Stays.{tests_length}
 use Rattle.ep_gen_unit.specs.TagCode.{clear_code, cleared_code, clears_code, none_before, number_code, number_length, rest_number, selected_code, selected_length, selection_code, selection_length, selections_code, selections_length, variants_code}
 use Rattle.ep_object.specs.declared.code.Instr.{Instr}
 use Rattle.ep_object.specs.declared.op.TheConstants as op
-use Rattle.ep_typed.specs.Nodes.{labels_nodes}
+use Rattle.ep_typed.specs.Selections.{labels_nodes}
 use Rattle.ep_typed.specs.Selections.{variant_number}
 use Rattle.ep_typed.specs.declared.tree.CaseRange.{CaseRange}
 use Rattle.ep_typed.specs.declared.tree.Selection.{Selection}

@@ -14,7 +14,7 @@ use Rattle.ep_object.specs.declared.code.Reference.{Reference}
 use Rattle.ep_typed.specs.Trees.{Place, Expr, Read, Function, Item, Plain, Wide, Stmt, Stmts, Empty, Compound, Assign}
 use Rattle.ep_typed.specs.Trees.{AssignTag, If, While, Repeat, Control, For, MemberControl, ForIn, With, Procedure}
 use Rattle.ep_typed.specs.Trees.{Halt, Write, none, next, Case, Arms, no_arm, next_arm, Other, no_other, otherwise_do}
-use Rattle.ep_typed.specs.Trees.{Entire, OfUnit, OfRoutine, entire}
+use Rattle.ep_typed.specs.Trees.{Entire, OfUnit, OfRoutine, WithRecord, entire}
 use Rattle.ep_typed.specs.Denoters.{host_of}
 use Rattle.ep_typed.specs.Hosts.{Host}
 use Rattle.ep_typed.specs.Viewed.{denoter_of}
@@ -156,11 +156,18 @@ module _ (texts : List (List ℕ)) (references : List Reference) where
       (vs xs : List Instr) × IsPlaceCode texts references line at (entire c.rest) vs
       × IsExprCode texts references line (at + length vs) (others c) xs × (is ≡ vs ++ xs)
 
-  -- the beginning of a `with`: the place, which goes into the slot of the variable that stands for it
+  -- a record that a `with` opens: the place, which goes into the slot of the variable that stands for it
   abbrev pub IsBindCode : ℕ → ℕ → Entire → Place → List Instr → Type 0
   IsBindCode line at v p is =
       (ps : List Instr) × IsPlaceCode texts references line at p ps
       × (is ≡ ps ++ instr op.BIND (pos (slot_of v)) 0 line ∷ [])
+
+  -- the beginning of a `with` of several records
+  abbrev pub AreBindsCode : ℕ → ℕ → List WithRecord → List Instr → Type 0
+  AreBindsCode line at [] is = is ≡ []
+  AreBindsCode line at (r ∷ more) is =
+      (xs ys : List Instr) × IsBindCode line at r.variable r.place xs × AreBindsCode line (at + length xs) more ys
+      × (is ≡ xs ++ ys)
 
   abbrev mutual
     -- the code of a statement that begins at this place

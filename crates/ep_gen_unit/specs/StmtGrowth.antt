@@ -6,8 +6,8 @@ use Rattle.ep_gen_code.specs.Growth.{TableGrows, Grows, IsTable, AreDistinct}
 use Rattle.ep_gen_code.specs.Jumps.{landed}
 use Rattle.ep_gen_code.specs.declared.code.Code.{Code}
 use Rattle.ep_gen_unit.specs.StmtCode.{IsItemCode, AreItemsCode, IsStmtCode, AreStmtsCode, AreBoundsCode, IsFirstCode}
-use Rattle.ep_gen_unit.specs.StmtCode.{IsTestCode, IsUndefineCode, IsLeastCode, IsKeptCode, IsBindCode, make_all_code}
-use Rattle.ep_gen_unit.specs.StmtCode.{return_code, end_code, AreArmsCode, IsOtherCode}
+use Rattle.ep_gen_unit.specs.StmtCode.{IsTestCode, IsUndefineCode, IsLeastCode, IsKeptCode, IsBindCode, AreBindsCode}
+use Rattle.ep_gen_unit.specs.StmtCode.{make_all_code, return_code, end_code, AreArmsCode, IsOtherCode}
 use Rattle.ep_gen_unit.specs.TagCode.{IsTriedCode, IsChangeCode, IsTakenCode}
 use Rattle.ep_gen_unit.specs.UnitCode.{IsFillCode, IsShuffleCode, fill_code, range_code, spread_code, swap_code}
 use Rattle.ep_gen_unit.specs.UnitCode.{AreRoutinesCode, AreTypesCode, elaborating_code, own_code, entry_of, its_end}
@@ -26,6 +26,7 @@ use Rattle.ep_typed.specs.declared.unit.UnitType.{UnitType}
 use Rattle.ep_typed.specs.declared.unit.UnitVariable.{UnitVariable}
 use Rattle.ep_object.specs.declared.code.Reference.{Reference}
 use Rattle.ep_typed.specs.Trees.{Control, MemberControl, Tagging, Entire, Item, Place, Stmt, Stmts, Expr, Arms, Other}
+use Rattle.ep_typed.specs.Trees.{WithRecord}
 use Rattle.ep_typed.specs.declared.tree.CaseRange.{CaseRange}
 use Rattle.ep_typed.specs.declared.tree.Selection.{Selection}
 
@@ -107,10 +108,15 @@ abbrev pub AppendsTaken : Code → Code → Tagging → Selection → Type 0
 AppendsTaken old new c s =
     AppendsTagPart (λ texts references line at is. IsTakenCode texts references line at c s is) old new
 
--- the beginning of a `with` on this line
+-- a record that a `with` on this line opens
 abbrev pub AppendsBind : ℕ → Code → Code → Entire → Place → Type 0
 AppendsBind line old new v p =
     AppendsPart (λ texts references at is. IsBindCode texts references line at v p is) old new
+
+-- all that it opens, one after another
+abbrev pub AppendsBinds : ℕ → Code → Code → List WithRecord → Type 0
+AppendsBinds line old new rs =
+    AppendsPart (λ texts references at is. AreBindsCode texts references line at rs is) old new
 
 -- the code of the statements is appended
 pub record AppendsStmts (old new : Code) (ss : Stmts) : Type 0 where

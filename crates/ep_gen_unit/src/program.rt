@@ -49,7 +49,7 @@ pub fn program_code(alloc: Global, u: &Unit) -> Result<Object, NoMemory>
     types_code(u.types.items(), &mut routines, &mut code)?;
     // A place of the code has to fit a field of an instruction.
     next_place(&code)?;
-    Ok(assemble(alloc, name, code, routines, start, unit_slots))
+    assemble(alloc, name, code, routines, start, unit_slots)
 }
 
 /// Appends the code of the start and of the stop, and answers the entry of the stop.
@@ -397,7 +397,7 @@ fn give_result(number: u32, code: &mut Code) -> Result<(), NoMemory>
     emit(code, op::FAIL, run_error::RESULT_UNDEFINED as i64, 0)
 }
 
-/// The object of the code.
+/// The object of the code. Its tables take memory for their items alone, which are moved.
 fn assemble(
     alloc: Global,
     name: Name,
@@ -405,24 +405,26 @@ fn assemble(
     routines: CodeRoutines,
     start: u32,
     unit_slots: u32,
-) -> Object
+) -> Result<Object, NoMemory>
     requires { start + 1 < 2 ^ 32 }
-    ensures { result ≡ assembled name code routines start unit_slots }
+    ensures { IfOk result (λ o. o ≡ assembled name code routines start unit_slots) }
 {
-    Object {
+    let texts = code.texts.into_texts(alloc)?;
+    let references = code.references.into_references(alloc)?;
+    Ok(Object {
         module: false,
         name,
         interface: List::new(alloc),
         imports: List::new(alloc),
-        references: code.references,
-        texts: code.texts,
+        references,
+        texts,
         constant_types: code.constant_types,
         routines,
         unit_slots,
         start,
         stop: start + 1,
         instructions: code.instructions,
-    }
+    })
 }
 
 /// The sum of two numbers, as a number of a field.

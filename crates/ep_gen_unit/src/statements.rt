@@ -4,9 +4,9 @@
 
 ghost use Rattle.std.specs.Prelude.{◌≡◌, OnOk, map, IfOk, ◌<◌, length, [], ◌∷◌};
 ghost use Rattle.ep_typed.specs.Trees.{Compound, Assign, AssignTag, If, While, Repeat, For, ForIn, Procedure, Halt, Write, stmts};
-ghost use Rattle.ep_typed.specs.Viewed.{expr_of, actual_of, callee_of, control_of, entire_of, item_of, member_control_of, place_of, stmt_of, arm_of, tagging_of};
+ghost use Rattle.ep_typed.specs.Viewed.{expr_of, actual_of, callee_of, control_of, entire_of, item_of, member_control_of, place_of, stmt_of, arm_of, tagging_of, with_record_of};
 ghost use Rattle.ep_gen_unit.specs.StmtCode.{slot_of};
-ghost use Rattle.ep_gen_unit.specs.StmtGrowth.{AppendsBind, AppendsStmt, AppendsStmts, AppendsArms, ClosesCase, OpensCase};
+ghost use Rattle.ep_gen_unit.specs.StmtGrowth.{AppendsBind, AppendsBinds, AppendsStmt, AppendsStmts, AppendsArms, ClosesCase, OpensCase};
 ghost use Rattle.ep_typed.specs.Trees as tree;
 
 use crate::items::items_code;
@@ -22,7 +22,7 @@ use ep_gen_expr::{call_code, expression_code, place_code};
 use ep_object::op;
 use ep_typed::{
     Actual, Callee, CaseArm, EntireVariable, ForControl, MemberControl, TypedExpr, TypedPlace,
-    TypedStmt, WriteItem,
+    TypedStmt, WithRecord, WriteItem,
 };
 use ep_values::run_error;
 use std::alloc::Global;
@@ -40,7 +40,15 @@ pub fn statement_code(alloc: Global, s: &TypedStmt, code: &mut Code) -> Result<(
             assign_code(alloc, *line, place, value.get(), code)
         }
         TypedStmt::AssignTag(line, control, whole, selection, value) => {
-            assign_tag_code(alloc, *line, control, whole, selection, value.get(), code)
+            assign_tag_code(
+                alloc,
+                *line,
+                control,
+                whole,
+                selection.get(),
+                value.get(),
+                code,
+            )
         }
         TypedStmt::If(line, condition, then_part, else_part) => {
             if_code(
@@ -72,8 +80,8 @@ pub fn statement_code(alloc: Global, s: &TypedStmt, code: &mut Code) -> Result<(
                 code,
             )
         }
-        TypedStmt::With(line, variable, _, place, body) => {
-            bind_code(alloc, *line, variable, place, code)?;
+        TypedStmt::With(line, records, body) => {
+            binds_code(alloc, *line, records.items(), code)?;
             statement_code(alloc, body.get(), code)
         }
         TypedStmt::Procedure(line, callee, given) => {
@@ -247,7 +255,22 @@ fn for_in_code(
     undefine_code(alloc, line, &control.variable, code)
 }
 
-/// Appends the beginning of the code of a `with`: the place, which goes into the slot of the variable that stands for it.
+/// Appends the beginning of the code of a `with`: its records, one after another.
+fn binds_code(
+    alloc: Global,
+    line: Line,
+    records: &[WithRecord],
+    code: &mut Code,
+) -> Result<(), NoMemory>
+    ensures { OnOk result (AppendsBinds line code.old code.new (map with_record_of records.now)) }
+{
+    for record in records {
+        bind_code(alloc, line, &record.variable, &record.place, code)?;
+    }
+    Ok(())
+}
+
+/// Appends the code of a record that a `with` opens: the place, which goes into the slot of the variable that stands for it.
 fn bind_code(
     alloc: Global,
     line: Line,

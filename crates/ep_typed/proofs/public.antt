@@ -1,5 +1,7 @@
 -- What the proofs of ep_typed offer to other crates, all else in proofs/ being private to the crate:
--- what holds of denoters and of the forms of values, and how designators are counted.
+-- what holds of denoters, of the forms of values and of statements, how designators are counted, and what a `with` of several records has.
 pub mod Denoters
 pub mod DesignatorCounts
 pub mod Forms
+pub mod Statements
+pub mod Withs

@@ -10,7 +10,8 @@ use Rattle.ep_typed.specs.Trees.{Evaluated, Accessed, Actuals, no_actual, next_a
 use Rattle.ep_typed.specs.Trees.{Empty, Compound, Assign, AssignTag, If, While, Repeat, For, ForIn, With, Procedure}
 use Rattle.ep_typed.specs.Trees.{Case, Halt, Write, none, next, Arm, Arms, no_arm, next_arm, Other, no_other}
 use Rattle.ep_typed.specs.Trees.{otherwise_do, entire, SetConstant, Structured, Element, AtIndex, AtField, SameField}
-use Rattle.ep_typed.specs.Trees.{AtRanges, AtIndexes, Elements, no_element, next_element, elements}
+use Rattle.ep_typed.specs.Trees.{AtRanges, AtIndexes, Elements, no_element, next_element, elements, WithRecord}
+use Rattle.ep_typed.specs.Selections.{labels_nodes}
 use Rattle.ep_typed.specs.Viewed.{element_of, expr_of, stmt_of}
 use Rattle.ep_typed.specs.declared.denoter.Denoter.{Denoter}
 use Rattle.ep_typed.specs.declared.denoter.Denoter.TheOpen as denoter
@@ -26,7 +27,6 @@ use Rattle.ep_typed.specs.declared.interface.ConstantEntry.{ConstantEntry}
 use Rattle.ep_typed.specs.declared.interface.Formal.{Formal}
 use Rattle.ep_typed.specs.declared.interface.RoutineResult.{RoutineResult}
 use Rattle.ep_typed.specs.declared.interface.SchemaFormal.{SchemaFormal}
-use Rattle.ep_typed.specs.declared.tree.CaseRange.{CaseRange}
 use Rattle.ep_typed.specs.declared.tree.TypedExpr.{TypedExpr}
 use Rattle.ep_typed.specs.declared.unit.Unit.{Unit as TypedUnit}
 use Rattle.ep_typed.specs.declared.unit.UnitRoutine.{UnitRoutine}
@@ -36,11 +36,6 @@ use Rattle.ep_typed.specs.declared.value.Value.{Value}
 use Rattle.ep_typed.specs.declared.value.Value.TheVariants as value
 
 -- ---- expressions
-
--- the labels of variants
-abbrev pub labels_nodes : List (List CaseRange) → ℕ
-labels_nodes [] = 0
-labels_nodes (ranges ∷ more) = 3 * length ranges + labels_nodes more
 
 -- how many designators these are
 abbrev pub designators_count : Designators → ℕ
@@ -184,6 +179,11 @@ item_nodes (Wide print x w) = expr_nodes x + expr_nodes w
 abbrev pub items_nodes : List Item → ℕ
 items_nodes [] = 0
 items_nodes (i ∷ is) = item_nodes i + items_nodes is
+
+-- the records that a `with` opens, each of which is a `with` of its own with a place
+abbrev pub with_nodes : List WithRecord → ℕ
+with_nodes [] = 0
+with_nodes (r ∷ more) = 1 + place_nodes r.place + with_nodes more
 
 abbrev mutual
   pub stmt_nodes : Stmt → ℕ

@@ -189,6 +189,13 @@ pub record MemberControl : Type 0 where
   pub variable : Entire
   pub rest : Entire
 
+-- A record that a `with` opens (ISO 10206, 6.9.3.10): the variable that stands for it, the number of its record type,
+-- and its place.
+pub record WithRecord : Type 0 where
+  pub variable : Entire
+  pub of : ℕ
+  pub place : Place
+
 mutual
   -- a statement, with the line of its first token
   pub data Stmt : Type 0 where
@@ -244,3 +251,9 @@ arms (a ∷ more) = next_arm a.0 a.1 (arms more)
 abbrev pub other : Option (List Stmt) → Other
 other None = no_other
 other (Some ss) = otherwise_do (stmts ss)
+
+-- a `with` of several records: what stands in a list sees the fields of what stands before it, so that `with a, b do s`
+-- is `with a do with b do s`
+abbrev pub with_form : ℕ → List WithRecord → Stmt → Stmt
+with_form line [] s = s
+with_form line (r ∷ more) s = With line r.variable r.of r.place (with_form line more s)

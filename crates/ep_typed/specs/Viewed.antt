@@ -32,6 +32,7 @@ use Rattle.ep_typed.specs.declared.tree.EntireVariable.TheVariants as entire
 use Rattle.ep_typed.specs.declared.tree.ForControl.{ForControl}
 use Rattle.ep_typed.specs.declared.tree.TagControl.{TagControl}
 use Rattle.ep_typed.specs.declared.tree.MemberControl.{MemberControl}
+use Rattle.ep_typed.specs.declared.tree.WithRecord.{WithRecord}
 use Rattle.ep_typed.specs.declared.tree.TypedStmt.{TypedStmt}
 use Rattle.ep_typed.specs.declared.tree.TypedStmt.TheOpen as stmt
 use Rattle.ep_typed.specs.declared.tree.TypedStmt.TheOpen.{TypedStmt-F, CaseArm-F}
@@ -232,6 +233,10 @@ member_control_of c = record { variable = entire_of c.variable; rest = entire_of
 abbrev pub tagging_of : TagControl → tree.Tagging
 tagging_of c = record { value = entire_of c.value; low = c.low; high = c.high }
 
+abbrev pub with_record_of : WithRecord → tree.WithRecord
+with_record_of r = record { variable = entire_of r.variable; of = r.of; place = place_of r.place }
+
+-- the records of a `with` are one list in the code, and each is a `with` of its own here
 abbrev pub stmt_step : TypedStmt-F tree.Stmt tree.Arm → tree.Stmt
 stmt_step stmt.Empty = tree.Empty
 stmt_step (stmt.Compound statements) = tree.Compound (tree.stmts statements)
@@ -244,7 +249,7 @@ stmt_step (stmt.Repeat line body condition) = tree.Repeat line (tree.stmts body)
 stmt_step (stmt.For line control initial last body) =
     tree.For line (control_of control) (expr_of initial) (expr_of last) body
 stmt_step (stmt.ForIn line control set body) = tree.ForIn line (member_control_of control) (expr_of set) body
-stmt_step (stmt.With line variable of place body) = tree.With line (entire_of variable) of (place_of place) body
+stmt_step (stmt.With line records body) = tree.with_form line (map with_record_of records) body
 stmt_step (stmt.Procedure line callee given) =
     tree.Procedure line (callee_of callee) (tree.actuals (map actual_of given))
 stmt_step (stmt.Case line selector arms other) = tree.Case line (expr_of selector) (tree.arms arms) (tree.other other)

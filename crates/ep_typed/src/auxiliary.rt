@@ -114,7 +114,7 @@ pub fn first_for(s: &TypedStmt) -> Option<Line>
         TypedStmt::Repeat(_, all, _) => first_for_of(all.items()),
         TypedStmt::For(line, _, _, _, _) | TypedStmt::AssignTag(line, _, _, _, _) => Some(*line),
         TypedStmt::ForIn(_, _, _, body) => first_for(body.get()),
-        TypedStmt::With(_, _, _, _, body) => first_for(body.get()),
+        TypedStmt::With(_, _, body) => first_for(body.get()),
         TypedStmt::Case(_, _, arms, other) => {
             let rest = match other {
                 None => None,
@@ -170,7 +170,7 @@ pub fn first_for_in(s: &TypedStmt) -> Option<Line>
         TypedStmt::Repeat(_, all, _) => first_for_in_of(all.items()),
         TypedStmt::For(_, _, _, _, body) => first_for_in(body.get()),
         TypedStmt::ForIn(line, _, _, _) => Some(*line),
-        TypedStmt::With(_, _, _, _, body) => first_for_in(body.get()),
+        TypedStmt::With(_, _, body) => first_for_in(body.get()),
         TypedStmt::Case(_, _, arms, other) => {
             let rest = match other {
                 None => None,
@@ -213,7 +213,8 @@ fn first_for_in_arms(all: &[CaseArm]) -> Option<Line>
     None
 }
 
-/// How many `with` statements are in a statement, each of which has a variable of its own, at most the greatest `usize`.
+/// How many records the `with` statements in a statement open, each of which has a variable of its own, at most the greatest
+/// `usize`.
 #[cycle(with_statements)]
 pub fn with_count(s: &TypedStmt) -> usize
     ensures { result ≡ min (length (spec.with_variables (stmt_of s.now))) usize.MAX }
@@ -227,7 +228,9 @@ pub fn with_count(s: &TypedStmt) -> usize
         TypedStmt::Repeat(_, all, _) => with_count_of(all.items()),
         TypedStmt::For(_, _, _, _, body) => with_count(body.get()),
         TypedStmt::ForIn(_, _, _, body) => with_count(body.get()),
-        TypedStmt::With(_, _, _, _, body) => with_count(body.get()).saturating_add(1),
+        TypedStmt::With(_, records, body) => {
+            with_count(body.get()).saturating_add(records.items().len())
+        }
         TypedStmt::Case(_, _, arms, other) => {
             let rest = match other {
                 None => 0,

@@ -6,7 +6,8 @@
 //! To change a typed form: src/tree.rt, specs/Trees.antt, Viewed.antt, Nodes.antt with src/nodes.rt. A denoter:
 //! src/denoter.rt, specs/Denoters.antt, and Hosts.antt for hosts. Units and interfaces: src/unit.rt, src/interface.rt.
 //! The numbers of a routine's variables: specs/Routines.antt; the auxiliary ones: Auxiliaries.antt, src/auxiliary.rt.
-//! Constants that share their elements: src/value.rt, src/shared.rt.
+//! Constants that share their elements, and uses of variants that share their labels: src/value.rt, src/shared.rt,
+//! src/selection.rt.
 #![tactic(auto)]
 
 mod auxiliary;
@@ -14,6 +15,7 @@ mod denoter;
 mod interface;
 mod laws;
 mod nodes;
+mod selection;
 mod shared;
 mod tree;
 mod unit;
@@ -34,12 +36,13 @@ pub use interface::{
 };
 pub use laws::laws_of_denoters;
 pub use nodes::unit_nodes;
+pub use selection::SharedSelection;
 pub use shared::Shared;
 pub use tree::{
     Actual, Actuals, Callee, CaseArm, CaseArms, CaseRange, CaseRanges, ComponentSteps, Element,
     Elements, EntireVariable, ForControl, MemberControl, MemberDesignator, MemberDesignators,
     Selection, StandardFile, TagControl, TypedExpr, TypedExprs, TypedPlace, TypedStmt, TypedStmts,
-    VariantLabels, WriteItem, WriteItems,
+    VariantLabels, WithRecord, WithRecords, WriteItem, WriteItems,
 };
 pub use unit::{
     RoutineNumbers, Unit, UnitRoutine, UnitRoutines, UnitType, UnitTypes, UnitVariable,

@@ -1,16 +1,16 @@
 //! The number of typed nodes, as specs/Nodes.antt says, at most the greatest `u64`. Nothing here takes memory.
 
-ghost use Rattle.std.specs.Prelude.{◌≡◌, min, map, sum};
+ghost use Rattle.std.specs.Prelude.{◌≡◌, ◌∷◌, [], min, map, sum};
 ghost use Rattle.ep_typed.specs.Nodes as nodes;
-ghost use Rattle.ep_typed.specs.Viewed.{actual_of, arm_of, designator_of, element_of, entire_of, expr_of, item_of, place_of, stmt_of};
+ghost use Rattle.ep_typed.specs.Viewed.{actual_of, arm_of, designator_of, element_of, entire_of, expr_of, item_of, place_of, stmt_of, with_record_of};
 ghost use Rattle.ep_typed.specs.Trees as tree;
 ghost use Rattle.ep_typed.specs.Trees.{stmts};
 
 use crate::denoter::{Denoter, FieldPart, RecordField, Selector, Variant, VariantPart};
 use crate::interface::{ConstantEntry, Formal, RoutineResult, SchemaFormal};
 use crate::tree::{
-    Actual, CaseArm, CaseRanges, Element, EntireVariable, MemberDesignator, TypedExpr, TypedPlace,
-    TypedStmt, WriteItem,
+    Actual, CaseArm, Element, EntireVariable, MemberDesignator, TypedExpr, TypedPlace, TypedStmt,
+    WithRecord, WriteItem,
 };
 use crate::unit::{Unit, UnitRoutine, UnitType, UnitVariable};
 use crate::value::Value;
@@ -261,7 +261,7 @@ fn statement(s: &TypedStmt) -> u64
         }
         TypedStmt::AssignTag(_, _, p, selection, value) => {
             place(p)
-                .saturating_add(labels(selection.labels.items()))
+                .saturating_add(selection.nodes())
                 .saturating_add(expression(value.get()))
                 .saturating_add(2)
         }
@@ -294,10 +294,8 @@ fn statement(s: &TypedStmt) -> u64
                 .saturating_add(statement(body.get()))
                 .saturating_add(1)
         }
-        TypedStmt::With(_, _, _, p, body) => {
-            place(p)
-                .saturating_add(statement(body.get()))
-                .saturating_add(1)
+        TypedStmt::With(_, all, body) => {
+            records(all.items()).saturating_add(statement(body.get()))
         }
         TypedStmt::Case(_, selector, all, other) => {
             let otherwise = match other {
@@ -365,6 +363,23 @@ fn actual(a: &Actual) -> u64
     }
 }
 
+/// The nodes of the records that a `with` opens.
+fn records(all: &[WithRecord]) -> u64
+    ensures { result ≡ min (nodes.with_nodes (map with_record_of all.now)) u64.MAX }
+{
+    let mut total = 0;
+    for r in all {
+        total = record(r).saturating_add(total);
+    }
+    total
+}
+
+fn record(r: &WithRecord) -> u64
+    ensures { result ≡ min (nodes.with_nodes (with_record_of r.now ∷ [])) u64.MAX }
+{
+    place(&r.place).saturating_add(1)
+}
+
 fn items(all: &[WriteItem]) -> u64
     ensures { result ≡ min (nodes.items_nodes (map item_of all.now)) u64.MAX }
 {
@@ -398,23 +413,10 @@ fn place(p: &TypedPlace) -> u64
         TypedPlace::Field(whole, _) => place(whole.get()).saturating_add(1),
         TypedPlace::Variant(whole, selection, _) => {
             place(whole.get())
-                .saturating_add(labels(selection.labels.items()))
+                .saturating_add(selection.nodes())
                 .saturating_add(1)
         }
     }
-}
-
-/// The nodes of the labels of variants.
-fn labels(all: &[CaseRanges]) -> u64
-    ensures { result ≡ min (nodes.labels_nodes all.now) u64.MAX }
-{
-    let mut total = 0;
-    for ranges in all {
-        total = (ranges.items().len() as u64)
-            .saturating_mul(3)
-            .saturating_add(total);
-    }
-    total
 }
 
 /// The nodes of the place of an entire variable.
@@ -467,7 +469,7 @@ fn expression(x: &TypedExpr) -> u64
         }
         TypedExpr::FieldValue(whole, _) => expression(whole.get()).saturating_add(1),
         TypedExpr::VariantValue(whole, selection, _) => expression(whole.get())
-            .saturating_add(labels(selection.labels.items()))
+            .saturating_add(selection.nodes())
             .saturating_add(1),
         TypedExpr::SetConstant(members) => (members.items().len() as u64).saturating_add(2),
         TypedExpr::Set(members) => designators(members.items()).saturating_add(1),

@@ -1,5 +1,6 @@
 //! Typed trees: expressions, places and statements whose names, types and kinds are settled.
 
+use crate::selection::SharedSelection;
 use crate::shared::Shared;
 use ep_base::{Boxed, Bytes, Line, List, Name};
 use ep_values::{Binary, Print, SetOperation, ShortOperation, Unary};
@@ -28,8 +29,8 @@ pub enum TypedPlace {
     /// The component of a record by its number (ISO 10206, 6.5.3.3).
     Field(Boxed<TypedPlace>, u32),
     /// A variant of a record, as the record of its fields: what selects it, and its number among the variants of that
-    /// variant part.
-    Variant(Boxed<TypedPlace>, Selection, u32),
+    /// variant part. All uses of that variant part share it.
+    Variant(Boxed<TypedPlace>, SharedSelection, u32),
 }
 
 /// How a variant of a variant part is selected (ISO 10206, 6.4.3.4).
@@ -119,7 +120,7 @@ pub enum TypedExpr {
     /// The component of a record that a function gives, by its number (ISO 10206, 6.8.6.3).
     FieldValue(Boxed<TypedExpr>, u32),
     /// The variant with this number of a record that a function gives, which is selected so (ISO 10206, 6.8.6.3).
-    VariantValue(Boxed<TypedExpr>, Selection, u32),
+    VariantValue(Boxed<TypedExpr>, SharedSelection, u32),
     /// A constant that is a set, by the ordinal numbers of its members in rising order.
     SetConstant(Bytes),
     /// A set constructor (ISO 10206, 6.8.7.4).
@@ -290,6 +291,29 @@ impl Drop for TagControl {
     }
 }
 
+/// A record that a `with` opens (ISO 10206, 6.9.3.10).
+pub struct WithRecord {
+    /// The variable of the block that stands for it, which is its alone.
+    pub variable: EntireVariable,
+    /// The number of its type in the unit's list of types.
+    pub of: u32,
+    /// The place that is accessed.
+    pub place: TypedPlace,
+}
+
+impl Drop for WithRecord {
+    fn drop(self) {
+        let WithRecord {
+            variable: _,
+            of: _,
+            place: _,
+        } = self;
+    }
+}
+
+/// The records that a `with` opens, in order.
+pub type WithRecords = List<WithRecord>;
+
 /// A statement, with the line of its first token (ISO 10206, 6.9.1).
 #[cycle(statement)]
 #[derive(Drop)]
@@ -301,7 +325,7 @@ pub enum TypedStmt {
     /// An assignment.
     Assign(Line, TypedPlace, Boxed<TypedExpr>),
     /// An assignment to the tag of a record: what it works with, the record, how its variants are selected, and the value.
-    AssignTag(Line, TagControl, TypedPlace, Selection, Boxed<TypedExpr>),
+    AssignTag(Line, TagControl, TypedPlace, SharedSelection, Boxed<TypedExpr>),
     /// `if`; a missing `else` is the empty statement.
     If(Line, Boxed<TypedExpr>, Boxed<TypedStmt>, Boxed<TypedStmt>),
     /// `while`
@@ -312,9 +336,8 @@ pub enum TypedStmt {
     For(Line, ForControl, Boxed<TypedExpr>, Boxed<TypedExpr>, Boxed<TypedStmt>),
     /// `for` over the members of a set: what it goes by, the set, and the statement.
     ForIn(Line, MemberControl, Boxed<TypedExpr>, Boxed<TypedStmt>),
-    /// `with` of one variable (ISO 10206, 6.9.3.10): the variable of the block that stands for it, which is its alone, the
-    /// number of its record type in the unit's list of types, the place that it accesses, and the statement.
-    With(Line, EntireVariable, u32, TypedPlace, Boxed<TypedStmt>),
+    /// `with`: the records that it opens, each where those before it are open, and the statement (ISO 10206, 6.9.3.10).
+    With(Line, WithRecords, Boxed<TypedStmt>),
     /// A procedure statement: the procedure, and what it is given for its parameters (ISO 10206, 6.9.2.3).
     Procedure(Line, Callee, Actuals),
     /// `case`: the selector, the arms in order, and the statements where no range of theirs has its value.

@@ -1,7 +1,7 @@
 -- References to routines in a row.
 use Rattle.std.proofs.Common.{◌≡◌, ℕ, zero, suc, ◌+◌, ◌-◌, ◌^◌, ◌<◌, ◌⊎◌, inl, inr, List, [], ◌∷◌, ◌++◌, length, length-append, Some, slice_get, refl, sym, ap, ◌∙◌, subst, arith}
 use Rattle.std.proofs.lemmas.Option.{same_Some, slice_get_within}
-use Rattle.ep_gen_code.specs.Growth.{AreDistinct, IsTable, in_row}
+use Rattle.ep_gen_code.specs.Growth.{AreDistinct, IsNowhere, IsTable, in_row}
 use Rattle.ep_gen_code.specs.Instructions.{reference}
 use Rattle.ep_gen_code.proofs.public.Pushed.{get_front, get_last}
 use Rattle.ep_object.specs.declared.code.Reference.{Reference}
@@ -41,9 +41,17 @@ named_distinct unit first n = λ j k x p q.
     let two : reference unit (first + k) ≡ x = same_Some (reference unit (first + k)) x (sym (named_at unit first n k within_k) ∙ q) in
     omega (arith, ap (λ (r : Reference). r.number) (one ∙ sym two))
 
+-- the next one is none of them
+pub named_new : (unit : List ℕ) (first n number : ℕ) (xs : List Reference) → xs ≡ in_row unit first n → number ≡ first + n → IsNowhere xs (reference unit number)
+named_new unit first n number xs is at = λ k h.
+    let there : slice_get (in_row unit first n) k ≡ Some (reference unit number) = subst (λ l. slice_get l k ≡ Some (reference unit number)) is h in
+    let within : k < n = subst (λ m. k < m) (length-named unit first n) (slice_get_within (in_row unit first n) k (reference unit number) there) in
+    let same : reference unit (first + k) ≡ reference unit number = same_Some (reference unit (first + k)) (reference unit number) (sym (named_at unit first n k within) ∙ there) in
+    absurd (omega (arith, within, ap (λ (r : Reference). r.number) same, at))
+
 -- one more behind the first ones, whose number fits a field
-pub named_more : (unit : List ℕ) (first n number : ℕ) (name : List ℕ) (xs ys : List Reference) → xs ≡ in_row unit first n → name ≡ unit → number ≡ first + n → number < 2 ^ 32 - 1
-    → ys ≡ xs ++ reference name number ∷ [] → (ys ≡ in_row unit first (n + 1)) × IsTable ys
-named_more unit first n number name xs ys old named is fits pushed =
-    let grown : ys ≡ in_row unit first (suc n) = pushed ∙ (ap (λ l. l ++ reference name number ∷ []) old ∙ (ap (λ m. in_row unit first n ++ reference m number ∷ []) named ∙ ap (λ k. in_row unit first n ++ reference unit k ∷ []) is)) in
+pub named_more : (unit : List ℕ) (first n number : ℕ) (xs ys : List Reference) → xs ≡ in_row unit first n → number ≡ first + n → number < 2 ^ 32 - 1
+    → ys ≡ xs ++ reference unit number ∷ [] → (ys ≡ in_row unit first (n + 1)) × IsTable ys
+named_more unit first n number xs ys old is fits pushed =
+    let grown : ys ≡ in_row unit first (suc n) = pushed ∙ (ap (λ l. l ++ reference unit number ∷ []) old ∙ ap (λ k. in_row unit first n ++ reference unit k ∷ []) is) in
     (grown ∙ ap (in_row unit first) {x = suc n} {y = n + 1} (omega arith), omega (arith, ap length grown, length-named unit first (suc n), is, fits))

@@ -9,7 +9,8 @@ use Rattle.ep_values.specs.declared.operations.Unary.{Unary}
 use Rattle.ep_values.specs.declared.operations.Unary.TheVariants as unary
 use Rattle.ep_values.specs.declared.operations.ShortOperation.{ShortOperation}
 use Rattle.ep_values.specs.declared.operations.ShortOperation.TheVariants as short
-use Rattle.ep_typed.specs.Nodes.{place_nodes, expr_nodes, actual_nodes, actuals_nodes, element_nodes, elements_nodes, designator_nodes, designators_count, designators_nodes, labels_nodes}
+use Rattle.ep_typed.specs.Nodes.{place_nodes, expr_nodes, actual_nodes, actuals_nodes, element_nodes, elements_nodes, designator_nodes, designators_count, designators_nodes}
+use Rattle.ep_typed.specs.Selections.{labels_nodes}
 use Rattle.ep_meaning.specs.Steps.{is_number}
 use Rattle.ep_typed.specs.declared.tree.CaseRange.{CaseRange}
 use Rattle.ep_typed.specs.declared.tree.Selection.{Selection}

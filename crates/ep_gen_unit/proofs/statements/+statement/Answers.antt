@@ -1,7 +1,7 @@
 use Rattle.std.proofs.Common.{◌≡◌, ◌+◌, [], ◌∷◌, Some, None, map, w64, arith, OnOk, subst, sym, ap, ◌∙◌}
 use Rattle.std.proofs.lemmas.Int.{to_z_pos}
-use Rattle.ep_typed.specs.Trees.{Empty, Compound, Repeat, With, Case, Arm, stmts, arms, no_other, otherwise_do}
-use Rattle.ep_typed.specs.Viewed.{member_control_of, control_of, entire_of, expr_of, place_of, stmt_of, arm_of}
+use Rattle.ep_typed.specs.Trees.{Empty, Compound, Repeat, Case, Arm, stmts, arms, no_other, otherwise_do, with_form}
+use Rattle.ep_typed.specs.Viewed.{member_control_of, control_of, expr_of, stmt_of, arm_of, with_record_of}
 use Rattle.ep_gen_code.proofs.public.Growing.{on_ok}
 use Rattle.ep_gen_unit.specs.StmtGrowth.{AppendsArms, AppendsStmt}
 use Rattle.ep_typed.specs.declared.tree.CaseArm.{out-CaseArm}
@@ -10,7 +10,8 @@ use Rattle.ep_gen_unit.proofs.CaseForms.{appends_arm, arms_more, appends_otherwi
 use Rattle.ep_gen_unit.proofs.ForForms.{appends_for}
 use Rattle.ep_gen_unit.proofs.MemberForms.{appends_for_in}
 use Rattle.ep_gen_unit.proofs.Compounds.{empty_is, arm_is, compound_is, repeat_is, with_is, case_is}
-use Rattle.ep_gen_unit.proofs.StmtForms.{appends_empty, appends_compound, appends_if, appends_repeat, appends_while, appends_with, stmts_more}
+use Rattle.ep_gen_unit.proofs.StmtForms.{appends_empty, appends_compound, appends_if, appends_repeat, appends_while, stmts_more}
+use Rattle.ep_gen_unit.proofs.WithForms.{appends_with}
 use Rattle.ep_gen_unit.proofs.statements.+statement.Goals as goal
 
 pub compound_code-loop-s-preserved : goal.compound_code-loop-s-preserved
@@ -105,10 +106,9 @@ statement_code-returns-in-Some t c =
     (on_ok c.otherwise_code.result (appends_case c.args.code.now line leave (expr_of c.in-Case.selector) (arms (map arm_of c.in-Case.arms)) (otherwise_do (stmts (map stmt_of statements))) (rw (c.items-in-Case.ensures, c.get-in-Case.ensures) at c.in_ok-leave-in-Case.ensures))
     (rw c.items-in-Some.ensures at c.otherwise_code.ensures))
 
-pub statement_code-returns-in_ok-bind_code-in-With : goal.statement_code-returns-in_ok-bind_code-in-With
-statement_code-returns-in_ok-bind_code-in-With t c =
+pub statement_code-returns-in_ok-binds_code-in-With : goal.statement_code-returns-in_ok-binds_code-in-With
+statement_code-returns-in_ok-binds_code-in-With t c =
     let x = c.in-With in
-    let v = entire_of x.variable in
-    let is : stmt_of c.args.s.now ≡ With x.line v x.field-2 (place_of x.place) (stmt_of x.body) = ap stmt_of x.is ∙ with_is x.line x.variable x.field-2 x.place x.body in
+    let is : stmt_of c.args.s.now ≡ with_form x.line (map with_record_of x.records) (stmt_of x.body) = ap stmt_of x.is ∙ with_is x.line x.records x.body in
     subst (λ s. OnOk c.statement_code.result (AppendsStmt c.args.code.now c.statement_code.new.code s)) (sym is)
-    (on_ok c.statement_code.result (appends_with c.args.code.now x.line v x.field-2 (place_of x.place) (stmt_of x.body) c.in_ok-bind_code-in-With.ensures) (rw c.get-in-With.ensures at c.statement_code.ensures))
+    (on_ok c.statement_code.result (appends_with c.args.code.now x.line (map with_record_of x.records) (stmt_of x.body) (rw c.items-in-With.ensures at c.in_ok-binds_code-in-With.ensures)) (rw c.get-in-With.ensures at c.statement_code.ensures))
