@@ -1,3 +1,4 @@
+mod Apartness
 mod Calls
 mod Elements
 mod Examples

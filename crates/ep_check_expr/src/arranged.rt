@@ -1,9 +1,8 @@
 //! The rules of structured values of arrays, on parts that are accepted (ISO 10206, 6.8.7.2).
 
-ghost use Rattle.std.specs.Prelude.{◌≡◌, ◌++◌, ◌∷◌, [], IfOk, map};
+ghost use Rattle.std.specs.Prelude.{◌≡◌, ◌++◌, ◌∷◌, [], IfOk, MatchOption, false, map, true};
 ghost use Rattle.std.specs.Option.{option_map};
 ghost use Rattle.std.specs.List.{list_all};
-ghost use Rattle.ep_typed.specs.CaseRanges.{is_apart};
 ghost use Rattle.ep_typed.specs.Viewed.{designator_of, element_of, expr_of};
 ghost use Rattle.ep_rules.specs.Answers.{AnswersJudged, AnswersTyped, typed_of};
 ghost use Rattle.ep_check_expr.specs.Answers.{arranged_of, index_of, labels_of, ranges_of};
@@ -13,7 +12,7 @@ ghost use Rattle.ep_check_expr.specs.StructuredValues.{arranged, component_given
 use crate::structured::{added, structured};
 use ep_base::{Boxed, List, NoMemory};
 use ep_rules::{
-    Folded, Refusal, Typed, are_compatible, folded_form, given_value, has_index, number_in,
+    ApartRanges, Folded, Refusal, Typed, are_compatible, folded_form, given_value, number_in,
     with_designator,
 };
 use ep_scope::{ArrayType, Kind, rule};
@@ -430,7 +429,7 @@ impl Arranged {
     ) -> Result<Typed, Refusal>
         ensures { AnswersTyped result (arranged number of completed (arranged_of self)) }
     {
-        if !is_arranged(of, completed, &self.indexes) {
+        if !is_arranged(alloc, of, completed, &self.indexes)? {
             return Err(Refusal::Rule(rule::STRUCTURED_VALUE));
         }
         let depth = self.depth;
@@ -439,56 +438,55 @@ impl Arranged {
     }
 }
 
-/// Whether no index is in a range and in one of others.
-fn is_apart_from(range: CaseRange, others: &[CaseRange]) -> bool
-    ensures { result ≡ list_all (is_apart range) others.now }
+/// The ranges, where no index is in two of them.
+fn apart(alloc: Global, ranges: &[CaseRange]) -> Result<Option<ApartRanges>, NoMemory>
+    ensures { IfOk result (λ found. MatchOption found (spec.are_apart ranges.now ≡ false)
+        (λ apart. (apart ≡ ranges.now) × (spec.are_apart ranges.now ≡ true))) }
 {
-    others
-        .iter()
-        .all(|other| range.high < other.low || other.high < range.low)
-}
-
-/// Whether no index is in two ranges.
-fn are_apart(ranges: &[CaseRange]) -> bool
-    ensures { result ≡ spec.are_apart ranges.now }
-{
-    for (place, range) in ranges.iter().enumerate() {
-        if !is_apart_from(*range, &ranges[place + 1..]) {
-            return false;
+    let mut apart = ApartRanges::new(alloc);
+    for range in ranges {
+        if !apart.add(*range)? {
+            return Ok(None);
         }
     }
-    true
+    Ok(Some(apart))
 }
 
 /// Whether the index behind a range is in one of the ranges, where the array has it.
-fn goes_on(of: ArrayType, ranges: &[CaseRange], range: CaseRange) -> bool
+fn goes_on(of: ArrayType, ranges: &ApartRanges, range: CaseRange) -> bool
     ensures { result ≡ spec.goes_on of ranges.now range }
 {
-    of.high <= range.high || has_index(ranges, range.high + 1)
+    of.high <= range.high || ranges.has(range.high + 1)
 }
 
 /// Whether that holds of all these.
-fn all_go_on(of: ArrayType, ranges: &[CaseRange], all: &[CaseRange]) -> bool
+fn all_go_on(of: ArrayType, ranges: &ApartRanges, all: &[CaseRange]) -> bool
     ensures { result ≡ list_all (spec.goes_on of ranges.now) all.now }
 {
     all.iter().all(|range| goes_on(of, ranges, *range))
 }
 
 /// Whether each index of the array is in one of the ranges.
-fn leave_none_out(of: ArrayType, ranges: &[CaseRange]) -> bool
+fn leave_none_out(of: ArrayType, ranges: &ApartRanges) -> bool
     ensures { result ≡ spec.leave_none_out of ranges.now }
 {
-    has_index(ranges, of.low) && all_go_on(of, ranges, ranges)
+    ranges.has(of.low) && all_go_on(of, ranges, ranges.ranges())
 }
 
 /// Whether each component is given once, where all indexes are constant.
-fn is_arranged(of: ArrayType, completed: bool, indexes: &Option<CaseRanges>) -> bool
-    ensures { result ≡ spec.is_arranged of completed indexes.now }
+fn is_arranged(
+    alloc: Global,
+    of: ArrayType,
+    completed: bool,
+    indexes: &Option<CaseRanges>,
+) -> Result<bool, NoMemory>
+    ensures { IfOk result (λ b. b ≡ spec.is_arranged of completed indexes.now) }
 {
-    match indexes {
-        None => true,
-        Some(ranges) => {
-            are_apart(ranges.items()) && (completed || leave_none_out(of, ranges.items()))
-        }
+    let Some(indexes) = indexes else {
+        return Ok(true);
+    };
+    match apart(alloc, indexes.items())? {
+        None => Ok(false),
+        Some(ranges) => Ok(completed || leave_none_out(of, &ranges)),
     }
 }

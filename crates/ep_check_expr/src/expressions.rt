@@ -29,7 +29,7 @@ use ep_rules::{
     indexed, multiplied, named, negated, qualified, signed, takes, undeclared,
 };
 use ep_scope::{
-    ArrayType, Composition, Declaration, Declared, FieldType, FormalParameter, Function, Host,
+    ArrayType, Composition, Declaration, Declared, FieldTypes, FormalParameter, Function, Host,
     Meaning, Required, View, depth_in, meaning_of, rule, structure_of,
 };
 use ep_tree::{
@@ -112,9 +112,7 @@ fn structured(
 {
     match structure_of(scopes, number) {
         Some(Composition::Array(of)) => array(alloc, number, *of, values, scopes),
-        Some(Composition::Record(fields)) => {
-            record(alloc, number, fields.items(), values, scopes)
-        }
+        Some(Composition::Record(fields)) => record(alloc, number, fields, values, scopes),
         None => Err(Refusal::Rule(rule::STRUCTURED_VALUE)),
     }
 }
@@ -285,7 +283,7 @@ fn with_range(
 fn record(
     alloc: Global,
     number: u32,
-    fields: &[FieldType],
+    fields: &FieldTypes,
     values: &Values,
     scopes: &View<'_>,
 ) -> Result<Typed, Refusal>
@@ -300,7 +298,7 @@ fn record(
 #[cycle(typed)]
 fn values_filled(
     alloc: Global,
-    fields: &[FieldType],
+    fields: &FieldTypes,
     within: &[usize],
     values: &Values,
     before: Filled,
@@ -321,14 +319,14 @@ fn values_filled(
         before,
         scopes,
     )?;
-    all.with_all(fields, within)
+    all.with_all(fields.items(), within)
 }
 
 /// `element { ";" element }`, of a record or of a variant in it, after those before it
 #[cycle(typed)]
 fn record_elements(
     alloc: Global,
-    fields: &[FieldType],
+    fields: &FieldTypes,
     within: &[usize],
     elements: &[Element],
     before: Filled,
@@ -349,7 +347,7 @@ fn record_elements(
 #[cycle(typed)]
 fn with_fields(
     alloc: Global,
-    fields: &[FieldType],
+    fields: &FieldTypes,
     within: &[usize],
     element: &Element,
     before: Filled,
@@ -362,13 +360,13 @@ fn with_fields(
     match element {
         Element::Labelled(_, labels, value) => {
             let places = label_places(alloc, fields, within, labels.items())?;
-            let asked = asked_first(fields, places.items());
+            let asked = asked_first(fields.items(), places.items());
             let value = typed_value(alloc, value, asked, scopes)?;
-            before.with_fields(alloc, fields, places.items(), value)
+            before.with_fields(alloc, fields.items(), places.items(), value)
         }
         Element::Variant(_, name, tag, values) => {
             let tag = typed_expression(alloc, tag.get(), scopes)?;
-            let choice = before.choosing(alloc, fields, within, name, tag)?;
+            let choice = before.choosing(alloc, fields.items(), within, name, tag)?;
             values_chosen(alloc, fields, choice, values, scopes)
         }
     }
@@ -378,7 +376,7 @@ fn with_fields(
 #[cycle(typed)]
 fn values_chosen(
     alloc: Global,
-    fields: &[FieldType],
+    fields: &FieldTypes,
     choice: Choice,
     values: &Option<Boxed<Values>>,
     scopes: &View<'_>,
@@ -392,7 +390,7 @@ fn values_chosen(
         return Ok(filled);
     };
     match values {
-        None => filled.with_all(fields, within.items()),
+        None => filled.with_all(fields.items(), within.items()),
         Some(values) => values_filled(alloc, fields, within.items(), values.get(), filled, scopes),
     }
 }

@@ -1,8 +1,7 @@
 //! The rules of structured values of records, on parts that are accepted (ISO 10206, 6.8.7.3). Where a value is given is told
 //! by the numbers of variants that lead there, which are none for the record itself.
 
-ghost use Rattle.std.specs.Prelude.{◌≡◌, ◌∷◌, [], IfOk, map, nat_eq, slice_get, Some, None};
-ghost use Rattle.std.specs.List.{list_any};
+ghost use Rattle.std.specs.Prelude.{◌≡◌, ◌∷◌, [], IfOk, map, slice_get, Some, None};
 ghost use Rattle.std.specs.Option.{option_map};
 ghost use Rattle.ep_tree.specs.Shapes.{as_identifier};
 ghost use Rattle.ep_tree.specs.declared.expression.Label.{out-Label};
@@ -14,11 +13,12 @@ ghost use Rattle.ep_check_expr.specs.StructuredValues as spec;
 ghost use Rattle.ep_rules.specs.VariantSteps as variants;
 ghost use Rattle.ep_check_expr.specs.StructuredValues.{filled, fields_filled, label_place, label_places, same_filled};
 
+use crate::places::Places;
 use crate::shapes::label_name;
 use crate::structured::{added, asked_by, structured};
 use ep_base::{Boxed, List, NoMemory};
 use ep_rules::{Access, Refusal, Typed, field_steps, given_value};
-use ep_scope::{FieldType, Kind, VariantStep, field_number, rule, same_host};
+use ep_scope::{FieldType, FieldTypes, Kind, VariantStep, field_number, rule, same_host};
 use ep_tree::Label;
 use ep_typed::{Element, Elements, TypedExpr};
 use std::alloc::Global;
@@ -31,7 +31,7 @@ pub(crate) struct Filled {
     /// The depth.
     pub(crate) depth: u32,
     /// The places of fields.
-    pub(crate) fields: List<usize>,
+    pub(crate) fields: Places,
 }
 
 impl Drop for Filled {
@@ -65,7 +65,7 @@ fn is_plain(within: &[usize], field: &FieldType) -> bool
 }
 
 /// The place of the field that a label names, which is there.
-fn label_place(fields: &[FieldType], within: &[usize], label: &Label) -> Result<usize, Refusal>
+fn label_place(fields: &FieldTypes, within: &[usize], label: &Label) -> Result<usize, Refusal>
     ensures { AnswersJudged (λ place. place) result (label_place fields.now within.now (spec.label_name label.now)) }
 {
     let Some(name) = label_name(label) else {
@@ -74,7 +74,7 @@ fn label_place(fields: &[FieldType], within: &[usize], label: &Label) -> Result<
     let Some(place) = field_number(fields, name) else {
         return Err(Refusal::Rule(rule::STRUCTURED_VALUE));
     };
-    match fields.get(place) {
+    match fields.items().get(place) {
         Some(field) if is_plain(within, field) => Ok(place),
         _ => Err(Refusal::Rule(rule::STRUCTURED_VALUE)),
     }
@@ -83,7 +83,7 @@ fn label_place(fields: &[FieldType], within: &[usize], label: &Label) -> Result<
 /// The places of the fields that labels name.
 pub(crate) fn label_places(
     alloc: Global,
-    fields: &[FieldType],
+    fields: &FieldTypes,
     within: &[usize],
     labels: &[Label],
 ) -> Result<List<usize>, Refusal>
@@ -165,13 +165,6 @@ fn same_if(alloc: Global, first: &FieldType, field: &FieldType) -> Result<Option
     Ok(Some(Element::SameField(from, to)))
 }
 
-/// Whether a place is one of these.
-fn is_among(place: usize, places: &[usize]) -> bool
-    ensures { result ≡ list_any (nat_eq place) places.now }
-{
-    places.iter().any(|given| place == *given)
-}
-
 impl Filled {
     /// Nothing.
     pub(crate) fn nothing(alloc: Global) -> Filled
@@ -180,12 +173,12 @@ impl Filled {
         Filled {
             elements: Some(List::new(alloc)),
             depth: 0,
-            fields: List::new(alloc),
+            fields: Places::new(alloc),
         }
     }
 
-    /// The lists alone.
-    fn into_parts(self) -> (Option<Elements>, List<usize>)
+    /// The elements and the places alone.
+    fn into_parts(self) -> (Option<Elements>, Places)
         ensures { result ≡ (self.elements, self.fields) }
     {
         let Filled {
@@ -206,12 +199,12 @@ impl Filled {
         ensures { AnswersJudged filled_of result
             (spec.with_field (filled_of self) place depth (option_map (λ e. e ∷ []) (option_map element_of element))) }
     {
-        if is_among(place, self.fields.items()) {
+        if self.fields.has(place) {
             return Err(Refusal::Rule(rule::STRUCTURED_VALUE));
         }
         let depth = self.depth.max(depth);
         let (elements, mut fields) = self.into_parts();
-        fields.push(place)?;
+        fields.add(place)?;
         let elements = added(elements, element)?;
         Ok(Filled {
             elements,
@@ -315,7 +308,7 @@ impl Filled {
     pub(crate) fn with_all(self, fields: &[FieldType], within: &[usize]) -> Result<Filled, Refusal>
         ensures { AnswersJudged filled_of result (spec.all_given fields.now within.now (filled_of self)) }
     {
-        if !are_given(within, self.fields.items(), fields) {
+        if !are_given(within, &self.fields, fields) {
             return Err(Refusal::Rule(rule::STRUCTURED_VALUE));
         }
         Ok(self)
@@ -344,11 +337,11 @@ fn of_kind(kind: Kind) -> Typed
 }
 
 /// Whether each field that is there is given, the tag among them.
-fn are_given(within: &[usize], given: &[usize], fields: &[FieldType]) -> bool
+fn are_given(within: &[usize], given: &Places, fields: &[FieldType]) -> bool
     ensures { result ≡ spec.are_given within.now given.now 0 fields.now }
 {
     for (place, field) in fields.iter().enumerate() {
-        if is_at(within, field.path.items()) && !is_among(place, given) {
+        if is_at(within, field.path.items()) && !given.has(place) {
             return false;
         }
     }

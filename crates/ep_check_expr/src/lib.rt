@@ -17,6 +17,7 @@ mod chosen;
 mod constants;
 mod expressions;
 mod filled;
+mod places;
 mod shapes;
 mod structured;
 mod structured_constants;

@@ -1,5 +1,5 @@
 -- What a call answers of what is judged: the typed form, or one of the rules that fail; want of memory is free.
-use Rattle.std.specs.Prelude.{◌≡◌, ℕ, ◌+◌, suc, nat_eq, nat_le, true, false, map, None, Result, Ok, Err, IsTrue, ⊤}
+use Rattle.std.specs.Prelude.{◌≡◌, ℕ, ◌+◌, suc, nat_eq, nat_le, Bool, true, false, List, map, None, Result, Ok, Err, IsTrue, ⊤}
 use Rattle.std.specs.List.{list_any}
 use Rattle.std.specs.Option.{option_map}
 use Rattle.ep_typed.specs.Viewed.{actual_of, designator_of, expr_of}
@@ -33,6 +33,20 @@ abbrev pub AnswersJudged : {T A : Type 0} → (T → A) → Result T Refusal →
 AnswersJudged view (Ok t) judged = judged ≡ Accepts (view t)
 AnswersJudged view (Err (Rule rule)) judged = IsTrue (breaks rule judged)
 AnswersJudged view (Err NoMemory) judged = ⊤
+
+-- whether the rule is one of these
+abbrev pub fails_among : ℕ → List ℕ → Bool
+fails_among rule rules = list_any (nat_eq rule) rules
+
+-- a rule that fails in what is judged, or want of memory
+abbrev pub Refuses : {A : Type 0} → Refusal → Judged A → Type 0
+Refuses (Rule rule) judged = IsTrue (breaks rule judged)
+Refuses NoMemory judged = ⊤
+
+-- the form exactly where it is accepted, or a refusal
+abbrev pub AnswersForm : {T A : Type 0} → (T → A) → Result T Refusal → Judged A → Type 0
+AnswersForm view (Ok t) judged = judged ≡ Accepts (view t)
+AnswersForm view (Err refusal) judged = Refuses refusal judged
 
 -- alike, of a typed form
 abbrev pub AnswersTyped : Result Typed Refusal → Judged spec.Typed → Type 0

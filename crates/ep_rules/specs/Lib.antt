@@ -1,4 +1,5 @@
 pub mod Answers
+pub mod ApartRanges
 pub mod Arguments
 pub mod ConstantAccesses
 pub mod Constructors

@@ -13,8 +13,8 @@ use crate::constant_accesses::field_known;
 use crate::forms::{DEPTH, Refusal, Typed};
 use ep_base::{Boxed, Name, NoMemory};
 use ep_scope::{
-    Composition, FieldType, Kind, Protection, TagType, TypeName, VariantStep, View,
-    copied_selection, field_number, rule, structure_of,
+    Composition, FieldType, Kind, Protection, TagType, TypeName, VariantStep, View, field_number,
+    rule, structure_of,
 };
 use ep_typed::{Elements, Shared, TypedExpr, TypedPlace};
 use std::alloc::Global;
@@ -29,7 +29,7 @@ pub(crate) fn along(
 {
     let mut place = whole;
     for step in path {
-        let selection = copied_selection(alloc, step.selection.get())?;
+        let selection = step.selection.share()?;
         place = Boxed::new(alloc, TypedPlace::Variant(place, selection, step.variant))?;
     }
     Ok(place)
@@ -116,7 +116,7 @@ fn taken_along(
 {
     let mut value = whole;
     for step in path {
-        let selection = copied_selection(alloc, step.selection.get())?;
+        let selection = step.selection.share()?;
         value = Boxed::new(
             alloc,
             TypedExpr::VariantValue(value, selection, step.variant),
@@ -246,7 +246,7 @@ pub fn designated(
     let Some(Composition::Record(fields)) = structure_of(scopes, number) else {
         return Err(Refusal::Rule(rule::FIELD));
     };
-    let Some(place) = field_number(fields.items(), name) else {
+    let Some(place) = field_number(fields, name) else {
         return Err(Refusal::Rule(rule::FIELD));
     };
     match fields.items().get(place) {

@@ -12,6 +12,7 @@
 #![tactic(auto)]
 
 mod access;
+mod apart;
 mod arguments;
 mod constant_accesses;
 mod constructors;
@@ -27,6 +28,7 @@ mod sets;
 mod variants;
 
 pub use access::Access;
+pub use apart::ApartRanges;
 pub use arguments::{Taken, given_value, unless_protected};
 pub use constant_accesses::{has_index, value_of_field};
 pub use constructors::{Members, with_designator};

@@ -1,3 +1,4 @@
 mod Found
 mod Opened
 mod Parameters
+mod Places

@@ -3,6 +3,7 @@ pub mod Fields
 pub mod Keys
 pub mod Kinds
 pub mod Meanings
+pub mod Numbers
 pub mod Parameters
 pub mod Records
 pub mod Required

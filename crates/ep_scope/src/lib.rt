@@ -5,12 +5,13 @@
 //! Open specs/Scopes.antt first.
 //! To change what a name means: specs/Scopes.antt, src/meaning.rt, src/scopes.rt, and src/view.rt for what code sees.
 //! A required identifier: specs/Required.antt, src/required.rt. The number of a static rule: src/rule.rt. What is
-//! declared of a name: src/thing.rt, of parameters src/parameter.rt, of structured types src/structure.rt with
-//! specs/Fields.antt. Kinds: src/kind.rt, specs/Kinds.antt. Records that `with` opens: src/record.rt,
+//! declared of a name: src/thing.rt, of parameters src/parameter.rt, of structured types src/structure.rt, and how they
+//! and the fields of records are found src/structures.rt and src/fields.rt with specs/Numbers.antt and specs/Fields.antt. Kinds: src/kind.rt, specs/Kinds.antt. Records that `with` opens: src/record.rt,
 //! specs/Records.antt.
 #![tactic(auto)]
 
 mod entries;
+mod fields;
 mod kind;
 mod meaning;
 mod parameter;
@@ -19,11 +20,12 @@ mod required;
 pub mod rule;
 mod scope;
 mod scopes;
-mod selection;
 mod structure;
+mod structures;
 mod thing;
 mod view;
 
+pub use fields::{FieldTypes, field_number};
 pub use kind::{Enumeration, Host, Kind, same_host};
 pub use meaning::Meaning;
 pub use parameter::{
@@ -34,10 +36,8 @@ pub use record::{OpenField, OpenRecord, RecordVariable};
 pub use required::{Function, Procedure, Required, RequiredConstant, required_identifier};
 pub use scope::{Scope, ScopeRefusal};
 pub use scopes::Scopes;
-pub use selection::copied_selection;
 pub use structure::{
-    ArrayType, Composition, FieldType, FieldTypes, StructuredType, TagType, VariantPath,
-    VariantStep, field_number,
+    ArrayType, Composition, FieldType, StructuredType, TagType, VariantPath, VariantStep,
 };
 pub use thing::{Declaration, Declared, Thing};
 pub use view::{Inner, View, depth_in, meaning_in, meaning_of, structure_of};

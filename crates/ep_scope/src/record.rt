@@ -6,8 +6,9 @@ ghost use Rattle.ep_scope.specs.Meanings.{field_meant};
 ghost use Rattle.ep_scope.specs.Records.{open_of};
 ghost use Rattle.ep_scope.specs.Scopes.{field_among, field_of};
 
+use crate::fields::{FieldTypes, field_number};
 use crate::parameter::Protection;
-use crate::structure::{FieldType, field_number};
+use crate::structure::FieldType;
 use ep_base::{List, Name, NoMemory};
 use std::alloc::Global;
 
@@ -28,7 +29,7 @@ pub struct OpenRecord<'a> {
     /// Whether it is protected.
     pub protection: Protection,
     /// Its fields, with its tags and those of its variants, in order.
-    pub fields: &'a [FieldType],
+    pub fields: &'a FieldTypes,
 }
 
 /// A field of an open record.
@@ -49,7 +50,7 @@ fn field_of<'a>(opened: OpenRecord<'a>, name: &Name) -> Option<OpenField<'a>>
     let Some(number) = field_number(opened.fields, name) else {
         return None;
     };
-    match opened.fields.get(number) {
+    match opened.fields.items().get(number) {
         None => None,
         Some(field) => Some(OpenField {
             variable: opened.variable,

@@ -8,6 +8,7 @@ ghost use Rattle.ep_scope.specs.Entering.{AnswersEntered, AnswersEntryIn, Answer
 
 use crate::entries::{Entries, EntryRefusal};
 use crate::structure::{Composition, StructuredType};
+use crate::structures::Structures;
 use crate::thing::Thing;
 use ep_base::{Name, NoMemory};
 use indexmap::IndexMap;
@@ -20,7 +21,7 @@ pub struct Scope {
     alloc: Global,
     entries: Entries,
     qualified: IndexMap<Vec<u8>, Entries>,
-    structures: Vec<StructuredType>,
+    structures: Structures,
 }
 
 impl Model for Scope {
@@ -34,7 +35,7 @@ impl Model for Scope {
 
     ghost coded = { Prim.hlevel (codes, value.the_row.coded) };
 
-    ghost view = { λ s. record { entries = s.entries; qualified = by_bytes s.qualified.entries; structures = s.structures.items; records = [] } };
+    ghost view = { λ s. record { entries = s.entries; qualified = by_bytes s.qualified.entries; structures = s.structures; records = [] } };
 }
 
 impl Drop for Scope {
@@ -80,7 +81,7 @@ impl Scope {
             alloc,
             entries: Entries::new(alloc),
             qualified: IndexMap::new(alloc),
-            structures: Vec::new(alloc),
+            structures: Structures::new(alloc),
         }
     }
 
@@ -155,12 +156,7 @@ impl Scope {
     pub fn structure(&self, number: u32) -> Option<&Composition>
         ensures { option_copied result ≡ structure_among number self.now.structures }
     {
-        for structured in &self.structures {
-            if structured.number == number {
-                return Some(&structured.composition);
-            }
-        }
-        None
+        self.structures.find(number)
     }
 
     /// What a name stands for. `None` comes exactly where the scope does not have it. It takes no memory.

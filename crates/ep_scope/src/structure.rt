@@ -3,13 +3,13 @@
 ghost use Rattle.std.specs.Prelude.{◌≡◌, IfOk};
 ghost use Rattle.std.specs.Option.{option_copied};
 ghost use Rattle.ep_scope.specs.Scopes.{structure_in};
-ghost use Rattle.ep_scope.specs.Fields.{field_number};
 
+use crate::fields::FieldTypes;
 use crate::kind::{Host, Kind};
 use crate::parameter::TypeName;
 use crate::scope::Scope;
 use ep_base::{List, Name, NoMemory};
-use ep_typed::{Selection, Shared};
+use ep_typed::SharedSelection;
 
 /// A structured type of a unit (ISO 10206, 6.4.3.1).
 pub struct StructuredType {
@@ -93,7 +93,7 @@ impl Drop for FieldType {
 /// The step from a record, or from a variant, to a variant of its variant part.
 pub struct VariantStep {
     /// How the variants of that part are selected.
-    pub selection: Shared<Selection>,
+    pub selection: SharedSelection,
     /// The number of the variant among them, counted from 0.
     pub variant: u32,
 }
@@ -113,7 +113,7 @@ pub type VariantPath = List<VariantStep>;
 /// The tag of a variant part (ISO 10206, 6.4.3.4).
 pub struct TagType {
     /// How it selects the variants.
-    pub selection: Shared<Selection>,
+    pub selection: SharedSelection,
     /// The host of its type.
     pub host: Host,
     /// The least value of its type.
@@ -147,9 +147,6 @@ impl TagType {
     }
 }
 
-/// The fields of a record type, with its tags and those of its variants, in the order of the text.
-pub type FieldTypes = List<FieldType>;
-
 /// What the structured type of this number is made of in these scopes. `None` comes exactly where none of them has it.
 pub(crate) fn structure_among(scopes: &[Scope], number: u32) -> Option<&Composition>
     ensures { option_copied result ≡ structure_in scopes.now number }
@@ -160,11 +157,4 @@ pub(crate) fn structure_among(scopes: &[Scope], number: u32) -> Option<&Composit
         }
     }
     None
-}
-
-/// The place of the field of this name among these, counted from 0. `None` comes exactly where there is none. It takes no memory.
-pub fn field_number(fields: &[FieldType], name: &Name) -> Option<usize>
-    ensures { result ≡ field_number fields.now name.now }
-{
-    fields.iter().position(|f| f.name.bytes() == name.bytes())
 }

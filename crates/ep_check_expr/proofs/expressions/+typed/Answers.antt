@@ -5,9 +5,9 @@ use Rattle.ep_tree.specs.declared.expression.Label.{out-Label}
 use Rattle.ep_tree.specs.declared.expression.Simple.{out-Simple}
 use Rattle.ep_tree.specs.declared.expression.Term.{out-Term}
 use Rattle.ep_tree.specs.declared.expression.ComponentValue.TheViews.{the_lemmas}
-use Rattle.ep_built.specs.Built.{addend_belonging, expression_unbuilt, label_unbuilt, multiplier_belonging, written_unbuilt}
+use Rattle.ep_built.specs.Built.{addend_belonging, element_unbuilt, expression_unbuilt, label_unbuilt, multiplier_belonging, written_unbuilt}
 use Rattle.ep_rules.proofs.public.Breaking.{part-exit, refused-exit, when_accepted-part}
-use Rattle.ep_check_expr.proofs.public.Rows.{chained-first, next-built, rest-built, chained-operand, chained-operator, chained-step, operands-built, at_node-inner, or-first, or-second}
+use Rattle.ep_check_expr.proofs.public.Rows.{chained-first, left-cons, next-built, rest-built, chained-operand, chained-operator, chained-step, operands-built, at_node-inner, or-first, or-second}
 use Rattle.ep_check_expr.proofs.Calls.{given-exit, one-item, two-items, applied-one, applied-two, applied-fault, applied-number, fault-exit, first-fault, later-fault}
 use Rattle.ep_check_expr.proofs.public.Folds.{addend_judged-is, multiplier_judged-is, addend_belonging-is, multiplier_belonging-is, simple_judged-is, term_judged-is, simple_unbuilt-is, term_unbuilt-is}
 use Rattle.ep_check_expr.proofs.Selectors.{FieldNode, IndexNode, access-alone-fails, access-call-fails, access-field-fails, arguments-split, call-components, call-lines, component-node, field-acts, field-split, index-acts, index-fails, index-turned, indexing-fails, more-components, more-lines, next-component, node-lines, rest-components, rest-lines, selector-fails, selector-turned}
@@ -22,10 +22,10 @@ use Rattle.ep_check_expr.proofs.Gathering.{argument_fails, gathered, other_numbe
 use Rattle.ep_check_expr.proofs.Reading.{argument-reads}
 use Rattle.ep_check_expr.proofs.public.Written.{all_written}
 use Rattle.ep_rules.specs.Constructors.{constructed, gathered as gathered_labels, no_members}
-use Rattle.ep_check_expr.specs.Expressions.{addend_judged, judged, labelled, multiplier_judged, given, selected, selected_all}
+use Rattle.ep_check_expr.specs.Expressions.{addend_judged, element_written, judged, labelled, multiplier_judged, given, selected, selected_all}
 use Rattle.ep_rules.specs.Judgements.{Accepts, when_accepted}
 use Rattle.ep_rules.specs.Operators.{added, multiplied}
-use Rattle.ep_check_expr.specs.StructuredValues.{Many, One, index_judged, no_ranges, ranges_labelled, single_label}
+use Rattle.ep_check_expr.specs.StructuredValues.{Many, One, index_judged, no_ranges, ranges_labelled, record_elements, single_label}
 use Rattle.ep_check_expr.specs.Shapes.{arguments_first, field_first}
 
 pub addends-returns-in_err-right : goal.addends-returns-in_err-right
@@ -349,6 +349,22 @@ index_labels-returns-in_ok-ranges-in-None t c =
     let none : single_label c.args.labels.now ≡ None = cc in
     more_labels c.args.scopes.now c.args.of c.args.labels.now none ∙ ap (when_accepted (λ x. Accepts (Many x))) c.in_ok-ranges-in-None.ensures
 
+pub record_elements-loop-element-preserved : goal.record_elements-loop-element-preserved
+record_elements-loop-element-preserved t c =
+    let all = c.args.elements.now in
+    let place = c.loop-element.element-index in
+    let next = c.element-item.result in
+    let written = element_written c.args.scopes.now in
+    let rest = map written (drop (place + 1) all) in
+    let left : drop place all ≡ next ∷ drop (place + 1) all = left-cons all place next c.loop-element-test.true c.element-item.is in
+    let turn : record_elements c.args.fields.now c.args.within.now (map written (drop place all)) (filled_of c.loop-element.filled) ≡ record_elements c.args.fields.now c.args.within.now rest (filled_of c.in_ok-filled.filled) =
+    ap (λ es. record_elements c.args.fields.now c.args.within.now (map written es) (filled_of c.loop-element.filled)) left
+    ∙ ap (when_accepted (record_elements c.args.fields.now c.args.within.now rest)) c.in_ok-filled.ensures in
+    record {
+      judged = sym turn ∙ c.loop-element.invariant.judged;
+      built = rest-built element_unbuilt all place next c.loop-element-test.true c.element-item.is c.loop-element.invariant.built;
+    }
+
 pub with_fields-returns-in_err-places-in-Labelled : goal.with_fields-returns-in_err-places-in-Labelled
 with_fields-returns-in_err-places-in-Labelled t c =
     part-exit (λ places. places) filled_of c.from_residual.result c.in_err-places-in-Labelled.field-0.0 _ _ c.from_residual.ensures.1
@@ -359,13 +375,13 @@ pub with_fields-returns-in_err-value-in-Labelled : goal.with_fields-returns-in_e
 with_fields-returns-in_err-value-in-Labelled t c =
     part-exit typed_of filled_of c.from_residual-in_err-value-in-Labelled.result c.in_err-value-in-Labelled.field-0.0 _ _ c.from_residual-in_err-value-in-Labelled.ensures.1
     (λ n h. field_fails c.args.scopes.now c.args.fields.now c.args.within.now c.args.element.now _ _ _ c.in-Labelled.is (filled_of c.args.before) c.in_ok-places-in-Labelled.places (rw c.items.ensures at c.in_ok-places-in-Labelled.ensures) n h)
-    (rw (c.asked_first-asked.ensures, c.items-in-Labelled.ensures) at c.in_err-value-in-Labelled.ensures.typed)
+    (rw (c.asked_first-asked.ensures, c.items-in-Labelled.ensures, c.items-in-Labelled-2.ensures) at c.in_err-value-in-Labelled.ensures.typed)
 
 pub with_fields-returns-in_ok-value-in-Labelled : goal.with_fields-returns-in_ok-value-in-Labelled
 with_fields-returns-in_ok-value-in-Labelled t c =
     rw (field_given_is c.args.scopes.now c.args.fields.now c.args.within.now c.args.element.now _ _ _ c.in-Labelled.is (filled_of c.args.before) c.in_ok-places-in-Labelled.places (rw c.items.ensures at c.in_ok-places-in-Labelled.ensures) (typed_of c.in_ok-value-in-Labelled.value)
-    (rw (c.asked_first-asked.ensures, c.items-in-Labelled.ensures) at c.in_ok-value-in-Labelled.ensures.typed))
-    (rw c.items-in-Labelled-2.ensures at c.with_fields.ensures)
+    (rw (c.asked_first-asked.ensures, c.items-in-Labelled.ensures, c.items-in-Labelled-2.ensures) at c.in_ok-value-in-Labelled.ensures.typed))
+    (rw (c.items-in-Labelled-3.ensures, c.items-in-Labelled-4.ensures) at c.with_fields.ensures)
 
 pub with_fields-returns-in_err-tag-in-Variant : goal.with_fields-returns-in_err-tag-in-Variant
 with_fields-returns-in_err-tag-in-Variant t c =
@@ -377,4 +393,4 @@ pub with_fields-returns-in_err-choice-in-Variant : goal.with_fields-returns-in_e
 with_fields-returns-in_err-choice-in-Variant t c =
     part-exit choice_of filled_of c.from_residual-in_err-choice-in-Variant.result c.in_err-choice-in-Variant.field-0.0 _ _ c.from_residual-in_err-choice-in-Variant.ensures.1
     (λ n h. choice_fails c.args.scopes.now c.args.fields.now c.args.within.now c.args.element.now _ _ _ _ c.in-Variant.is (filled_of c.args.before) (typed_of c.in_ok-tag-in-Variant.tag) (rw c.get.ensures at c.in_ok-tag-in-Variant.ensures.typed) n h)
-    c.in_err-choice-in-Variant.ensures
+    (rw c.items-in-Variant.ensures at c.in_err-choice-in-Variant.ensures)

@@ -11,7 +11,7 @@ open-requires c =
 pub returns-in-Some : goal.returns-in-Some
 returns-in-Some c =
     rw (← c.self.view_is, (c.get_mut.follows.holds c.enter.new.self).0, ← c.bytes.ensures.bytes)
-    (entered_in c.bytes.result.now c.args.name.now c.args.thing c.self.inside.qualified.entries c.self.inside.entries c.self.inside.structures.items c.in-Some.entries.now c.enter.new.self c.enter.result (sym c.in-Some.ensures.value) c.enter.ensures)
+    (entered_in c.bytes.result.now c.args.name.now c.args.thing c.self.inside.qualified.entries c.self.inside.entries c.self.inside.structures c.in-Some.entries.now c.enter.new.self c.enter.result (sym c.in-Some.ensures.value) c.enter.ensures)
 
 pub returns-in-Ok : goal.returns-in-Ok
 returns-in-Ok c =
@@ -21,4 +21,4 @@ returns-in-Ok c =
 pub returns-in-Err : goal.returns-in-Err
 returns-in-Err c =
     let absent : look_up (by_bytes c.self.inside.qualified.entries) c.args.interface.now ≡ None = rw (← c.bytes.ensures.bytes) (sym (lookup-by_bytes c.bytes.result.now c.self.inside.qualified.entries) ∙ sym c.in-None.ensures.value) in
-    rw (← c.self.view_is) (absent_in c.args.interface.now c.args.name.now c.args.thing (record { entries = c.self.inside.entries; qualified = by_bytes c.self.inside.qualified.entries; structures = c.self.inside.structures.items; records = [] }) absent, rw c.get_mut.follows.holds-at-none at c.in-Err.ensures.unchanged)
+    rw (← c.self.view_is) (absent_in c.args.interface.now c.args.name.now c.args.thing (record { entries = c.self.inside.entries; qualified = by_bytes c.self.inside.qualified.entries; structures = c.self.inside.structures; records = [] }) absent, rw c.get_mut.follows.holds-at-none at c.in-Err.ensures.unchanged)

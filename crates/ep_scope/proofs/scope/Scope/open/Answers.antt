@@ -11,4 +11,4 @@ returns-clause-opened c =
     let grown =
     entered _ c.in_ok-key.key c.add.new.self (λ k. refl) c.self.inside.qualified.entries c.insert.new.self.entries (by_bytes c.self.inside.qualified.entries) c.args.interface.now
     refl (c.in_ok-key.ensures.items ∙ c.bytes.ensures.bytes) absent c.in_ok-insert.ensures.entries in
-    rw (← c.self.view_is) (ap (λ q. record { entries = c.self.inside.entries; qualified = q; structures = c.self.inside.structures.items; records = [] }) (grown ∙ ap (λ v. by_bytes c.self.inside.qualified.entries ++ (c.args.interface.now, v) ∷ []) first))
+    rw (← c.self.view_is) (ap (λ q. record { entries = c.self.inside.entries; qualified = q; structures = c.self.inside.structures; records = [] }) (grown ∙ ap (λ v. by_bytes c.self.inside.qualified.entries ++ (c.args.interface.now, v) ∷ []) first))
