@@ -28,7 +28,7 @@ use Rattle.ep_check_stmt.specs.Outcomes.{refused_at}
 use Rattle.ep_check_stmt.specs.Statements.{ArmJudged, Context, Under, Judgement, expr_item, Passes, Waits, Fails, after, arm_judged, arm_row, arms_in_order, at_arm, at_compound, behind, at_otherwise, at_statement, case_judged, in_order, other_judged, otherwise_judged, statement_judged}
 use Rattle.ep_check_stmt.specs.declared.outcome.CheckRefusal.{CheckRefusal}
 use Rattle.ep_check_stmt.specs.declared.outcome.CheckRefusal.TheVariants as refusal
-use Rattle.ep_check_stmt.proofs.public.judged.Refusing.{first_refused, part_refused, second_refused}
+use Rattle.ep_rules.proofs.public.Refusing.{first_refused, part_refused, second_refused}
 use Rattle.ep_check_stmt.proofs.public.judged.Rounds.{first_built, next_item, rest_of}
 use Rattle.ep_check_stmt.proofs.Rows.{first_falls, own_line}
 

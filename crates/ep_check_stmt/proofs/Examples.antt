@@ -32,7 +32,7 @@ use Rattle.ep_rules.specs.declared.access.Access.TheVariants as access
 use Rattle.ep_check_expr.proofs.public.Nodes.{access-judged, argument-judged, expression-judged, indexes-judged, simple-judged, term-judged, name-judged, number-judged}
 use Rattle.ep_check_expr.specs.Expressions.{judged}
 use Rattle.ep_rules.specs.Judgements.{Judged, Accepts, Breaks, both}
-use Rattle.ep_check_stmt.specs.RoutineForms.{RoutineForm}
+use Rattle.ep_threats.specs.RoutineForms.{RoutineForm}
 use Rattle.ep_check_stmt.specs.Statements.{At, Context, FunctionResult, MemberHead, OfRoutine, OfUnit, assigned, counted_by, declared_called, declared_control, function_target, is_threatened_in, members_judged, stmt_threat, target_judged, unless_threatening}
 
 -- an expression of one factor

@@ -6,7 +6,7 @@ use Rattle.ep_rules.specs.declared.forms.Refusal.{Refusal}
 use Rattle.ep_rules.specs.declared.forms.Refusal.TheVariants.{Rule, NoMemory}
 use Rattle.ep_check_stmt.specs.Answers.{Refuses}
 use Rattle.ep_check_stmt.specs.Statements.{item_judged, items_judged, one_after, one_more}
-use Rattle.ep_check_stmt.proofs.public.judged.Refusing.{first_refused}
+use Rattle.ep_rules.proofs.public.Refusing.{first_refused}
 use Rattle.ep_check_stmt.proofs.public.judged.Rounds.{next_item}
 
 -- what is made so far, where all are built, and what comes

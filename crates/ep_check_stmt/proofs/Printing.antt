@@ -8,7 +8,7 @@ use Rattle.ep_rules.specs.declared.forms.Refusal.{Refusal}
 use Rattle.ep_check_expr.proofs.public.Nodes.{given-value}
 use Rattle.ep_check_stmt.specs.Answers.{Refuses}
 use Rattle.ep_check_stmt.specs.Statements.{item_form, item_judged, shown, width_judged}
-use Rattle.ep_check_stmt.proofs.public.judged.Refusing.{first_refused}
+use Rattle.ep_rules.proofs.public.Refusing.{first_refused}
 
 -- what is no value that can be written is refused with its parameter
 pub shown_falls : (scopes : List Region) (a : Argument) (e : Refusal) → Refuses e (when_accepted shown (judged scopes (out-Argument a).value)) → Refuses e (item_judged (given scopes a))

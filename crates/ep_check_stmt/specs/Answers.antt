@@ -1,10 +1,9 @@
 -- What the functions answer of what is judged: the form, or a rule that fails first; want of memory is free.
-use Rattle.std.specs.Prelude.{◌≡◌, ℕ, nat_eq, Bool, List, map, Option, Result, Ok, Err, IsTrue, ⊤}
-use Rattle.std.specs.List.{list_any}
+use Rattle.std.specs.Prelude.{◌≡◌, ℕ, List, map, Option, Result, Ok, Err, IsTrue, ⊤}
 use Rattle.std.specs.Option.{option_map}
 use Rattle.ep_typed.specs.Trees.{Item, Stmts, stmts}
-use Rattle.ep_typed.specs.Viewed as viewed
 use Rattle.ep_typed.specs.Viewed.{control_of, expr_of, item_of, member_control_of, place_of, stmt_of, arm_of}
+use Rattle.ep_typed.specs.Viewed.{with_record_of}
 use Rattle.ep_tree.specs.declared.expression.Label.{Label}
 use Rattle.ep_tree.specs.declared.statement.Arm.{Arm, out-Arm}
 use Rattle.ep_typed.specs.Trees as tree
@@ -14,9 +13,9 @@ use Rattle.ep_typed.specs.declared.tree.TypedExpr.{TypedExpr}
 use Rattle.ep_typed.specs.declared.tree.TypedStmt.{TypedStmt}
 use Rattle.ep_typed.specs.declared.tree.WriteItem.{WriteItem}
 use Rattle.ep_scope.specs.declared.kind.Kind.{Kind}
-use Rattle.ep_rules.specs.Judgements.{Judged, Accepts, breaks}
+pub use Rattle.ep_rules.specs.Answers.{AnswersForm, Refuses, fails_among}
+use Rattle.ep_rules.specs.Judgements.{Judged, Accepts}
 use Rattle.ep_rules.specs.declared.forms.Refusal.{Refusal}
-use Rattle.ep_rules.specs.declared.forms.Refusal.TheVariants.{Rule, NoMemory}
 use Rattle.ep_check_stmt.specs.Statements.{Judgement, Passes, Shown, Waits, fails_at}
 use Rattle.ep_check_stmt.specs.Statements as rows
 use Rattle.ep_check_stmt.specs.Cases as cases
@@ -30,32 +29,18 @@ use Rattle.ep_check_stmt.specs.declared.outcome.CheckRefusal.TheVariants as refu
 use Rattle.ep_check_stmt.specs.declared.outcome.Outcome.{Outcome}
 use Rattle.ep_check_stmt.specs.declared.outcome.Outcome.TheVariants as outcome
 use Rattle.ep_check_stmt.specs.declared.statements.Context.{Context}
-use Rattle.ep_check_stmt.specs.RoutineForms.{routine_form}
+use Rattle.ep_threats.specs.RoutineForms.{routine_form}
 use Rattle.ep_check_stmt.specs.declared.statements.FunctionResult.{FunctionResult}
 use Rattle.ep_check_stmt.specs.declared.statements.Locals.{Locals}
 use Rattle.ep_check_stmt.specs.declared.statements.Locals.TheVariants as locals
 use Rattle.ep_check_stmt.specs.declared.records.Opened.{Opened}
 use Rattle.ep_check_stmt.specs.declared.records.RecordNamed.{RecordNamed}
-use Rattle.ep_check_stmt.specs.declared.records.WithHead.{WithHead}
+use Rattle.ep_typed.specs.declared.tree.WithRecord.{WithRecord}
 use Rattle.ep_check_stmt.specs.declared.targets.Receiver.{Receiver}
 use Rattle.ep_check_stmt.specs.declared.targets.Receiver.TheVariants as receiver
 use Rattle.ep_check_stmt.specs.declared.targets.Target.{Target}
-use Rattle.ep_check_stmt.specs.declared.threats.Entire.{Entire}
-use Rattle.ep_check_stmt.specs.declared.threats.Entire.TheVariants as entire
-
--- whether the rule is one of these
-abbrev pub fails_among : ℕ → List ℕ → Bool
-fails_among rule rules = list_any (nat_eq rule) rules
-
--- a rule that fails in what is judged, or want of memory
-abbrev pub Refuses : {A : Type 0} → Refusal → Judged A → Type 0
-Refuses (Rule rule) judged = IsTrue (breaks rule judged)
-Refuses NoMemory judged = ⊤
-
--- the form exactly where it is accepted, or a refusal
-abbrev pub AnswersForm : {T A : Type 0} → (T → A) → Result T Refusal → Judged A → Type 0
-AnswersForm view (Ok t) judged = judged ≡ Accepts (view t)
-AnswersForm view (Err refusal) judged = Refuses refusal judged
+use Rattle.ep_threats.specs.Variables.{entire_of}
+use Rattle.ep_threats.specs.declared.threats.Entire.{Entire}
 
 -- the labels after what is judged, exactly where it is accepted, or a refusal
 abbrev pub AnswersLabels : Result (Unit {0}) Refusal → Labels → Judged Labels → Type 0
@@ -113,11 +98,6 @@ receiver_of (receiver.TagOf whole tag) = rows.TagOf (place_of whole) tag
 abbrev pub target_of : Target → rows.Target
 target_of t = record { receiver = option_map receiver_of t.receiver; kind = t.kind }
 
--- an entire variable, of which threats are asked
-abbrev pub entire_of : Entire → tree.Entire
-entire_of (entire.Variable unit number) = tree.OfUnit unit.now number
-entire_of (entire.Own up number) = tree.OfRoutine up number
-
 -- a control variable with the kind of its type, or with its host where that is ordinal, and a `for` without its body
 abbrev pub named_of : Entire × Kind → rows.Named
 named_of p = record { variable = entire_of p.0; kind = p.1 }
@@ -137,11 +117,8 @@ abbrev pub record_named_of : RecordNamed → rows.RecordNamed
 record_named_of r =
     record { of = r.of; guarded = r.protection; fields = r.fields.now; place = option_map place_of r.place }
 
-abbrev pub with_head_of : WithHead → rows.WithHead
-with_head_of h = record { variable = viewed.entire_of h.variable; of = h.of; place = place_of h.place }
-
-abbrev pub heads_of : List WithHead → List rows.WithHead
-heads_of hs = map with_head_of hs
+abbrev pub heads_of : List WithRecord → List tree.WithRecord
+heads_of hs = map with_record_of hs
 
 abbrev pub opened_of : Opened → rows.Opened
 opened_of o = record { scopes = o.inner; withs = o.withs; heads = option_map heads_of o.heads }

@@ -6,7 +6,7 @@ use Rattle.ep_tree.specs.declared.statement.Statement.{Statement}
 use Rattle.ep_tree.specs.declared.statement.Arm.{Arm}
 use Rattle.ep_tree.specs.declared.statement.Compound.{Compound}
 use Rattle.ep_tree.specs.declared.statement.Otherwise.{Otherwise}
-use Rattle.ep_check_stmt.specs.Threats.{any_true, true_if}
+use Rattle.ep_threats.specs.Threats.{any_true, true_if}
 use Rattle.ep_check_stmt.specs.declared.auxiliaries.ForForm.{ForForm}
 use Rattle.ep_check_stmt.specs.declared.auxiliaries.ForForm.TheVariants as form
 

@@ -26,7 +26,7 @@ use Rattle.ep_typed.specs.Auxiliaries.{with_variables, with_variables_in}
 use Rattle.ep_typed.specs.Hosts.{greatest, least}
 use Rattle.ep_typed.specs.Trees as tree
 use Rattle.ep_typed.specs.Trees.{Control, Entire, MemberControl, Tagging, Place, Expr, Item, Stmt, Stmts, Arm, Arms}
-use Rattle.ep_typed.specs.Trees.{Other}
+use Rattle.ep_typed.specs.Trees.{Other, WithRecord, with_form}
 use Rattle.ep_values.specs.declared.operations.Print.{Print}
 use Rattle.ep_values.specs.declared.operations.Print.TheVariants as print
 use Rattle.ep_typed.specs.declared.tree.StandardFile.{StandardFile}
@@ -65,8 +65,8 @@ use Rattle.ep_check_expr.specs.Expressions.{given, judged, judged_value, name_ju
 use Rattle.ep_check_expr.specs.StructuredValues.{asked_by}
 use Rattle.ep_tree.specs.declared.expression.ComponentValue.{ComponentValue}
 use Rattle.ep_check_stmt.specs.Cases.{CaseSelector, own_ranges, selector_judged}
-use Rattle.ep_check_stmt.specs.RoutineForms.{RoutineForm, formals_at}
-use Rattle.ep_check_stmt.specs.Threats.{expr_threatens, inner_threatens, is_variable, place_threatens, threatens}
+use Rattle.ep_threats.specs.RoutineForms.{RoutineForm, formals_at}
+use Rattle.ep_threats.specs.Threats.{expr_threatens, inner_threatens, is_variable, place_threatens, threatens}
 
 -- ---- rows of items
 
@@ -763,14 +763,8 @@ abbrev pub record_accessed : List Region → Access → Option Expr → Kind →
 record_accessed scopes (access.Variable of guarded) form k = record_of_kind scopes guarded form k
 record_accessed scopes _ form k = Breaks (rule.WITH_RECORD ∷ [])
 
--- one of the records of a `with`: the variable that stands for it, the number of its type, and its place
-pub record WithHead : Type 0 where
-  pub variable : Entire
-  pub of : ℕ
-  pub place : Place
-
 -- where the place is built
-abbrev pub with_head : Entire → ℕ → Option Place → Option WithHead
+abbrev pub with_head : Entire → ℕ → Option Place → Option WithRecord
 with_head v of place = option_map (λ p. record { variable = v; of = of; place = p }) place
 
 -- the scopes in the statement of a `with`, the number of the variable of the next one, and the records, where they are
@@ -778,7 +772,7 @@ with_head v of place = option_map (λ p. record { variable = v; of = of; place =
 pub record Opened : Type 0 where
   pub scopes : List Region
   pub withs : ℕ
-  pub heads : Option (List WithHead)
+  pub heads : Option (List WithRecord)
 
 abbrev pub none_opened : Context → Opened
 none_opened c = record { scopes = c.scopes; withs = c.withs; heads = Some [] }
@@ -806,16 +800,11 @@ records_opened c [] o = Accepts o
 records_opened c (a ∷ more) o = when_accepted (records_opened c more) (record_opened c a o)
 
 -- a place of them threatens a variable, where an index does
-abbrev pub place_threat : List RoutineForm → Entire → WithHead → Bool
+abbrev pub place_threat : List RoutineForm → Entire → WithRecord → Bool
 place_threat routines v h = place_threatens (formals_at routines) v h.place
 
-abbrev pub heads_threat : List RoutineForm → Entire → List WithHead → Bool
+abbrev pub heads_threat : List RoutineForm → Entire → List WithRecord → Bool
 heads_threat routines v heads = list_any (place_threat routines v) heads
-
--- one `with` in another
-abbrev pub with_form : ℕ → List WithHead → Stmt → Stmt
-with_form line [] s = s
-with_form line (h ∷ heads) s = tree.With line h.variable h.of h.place (with_form line heads s)
 
 -- what is known in its statement
 abbrev pub inside : Context → Opened → Context

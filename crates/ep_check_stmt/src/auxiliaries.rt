@@ -3,7 +3,7 @@
 
 ghost use Rattle.std.specs.Prelude.{◌≡◌, map};
 ghost use Rattle.ep_check_stmt.specs.Auxiliaries as spec;
-ghost use Rattle.ep_check_stmt.specs.Threats.{any_true};
+ghost use Rattle.ep_threats.specs.Threats.{any_true};
 
 use ep_tree::{Arm, Compound, Statement};
 

@@ -1,10 +1,8 @@
 //! The selector and the labels of `case`, and its form.
 
 ghost use Rattle.std.specs.Prelude.{◌≡◌, None, Some, List, Option, map};
-ghost use Rattle.std.specs.List.{list_all};
 ghost use Rattle.ep_built.specs.Built.{arm_unbuilt, expression_unbuilt, first_in, label_unbuilt};
 ghost use Rattle.ep_tree.specs.declared.expression.Label.{out-Label};
-ghost use Rattle.ep_typed.specs.CaseRanges.{is_apart};
 ghost use Rattle.ep_typed.specs.Trees as tree;
 ghost use Rattle.ep_typed.specs.Trees.{Arms, Expr, Other, Stmt, Stmts};
 ghost use Rattle.ep_typed.specs.Viewed.{arm_of, expr_of, other_of, stmt_of};
@@ -16,9 +14,9 @@ ghost use Rattle.ep_check_stmt.specs.Statements.{Judgement, Passes, after, at_it
 
 use crate::outcome::Outcome;
 use crate::statements::{Context, Row};
-use ep_base::{Boxed, Line, List};
+use ep_base::{Boxed, Line};
 use ep_check_expr::{ConstantForm, label_value, typed_expression};
-use ep_rules::Refusal;
+use ep_rules::{ApartRanges, Refusal};
 use ep_scope::{Host, Kind, rule, same_host};
 use ep_tree::{Arm, Expression, Label};
 use ep_typed::{CaseArm, CaseArms, CaseRange, CaseRanges, TypedExpr, TypedStmt, TypedStmts, Value};
@@ -27,7 +25,7 @@ use std::alloc::Global;
 /// The ranges of labels so far, and whether all labels are built.
 pub struct Labels {
     /// The ranges of those that are built.
-    pub ranges: CaseRanges,
+    pub ranges: ApartRanges,
     /// Whether all are.
     pub built: bool,
 }
@@ -47,7 +45,7 @@ impl Labels {
         ensures { result ≡ spec.no_labels }
     {
         Labels {
-            ranges: List::new(alloc),
+            ranges: ApartRanges::new(alloc),
             built: true,
         }
     }
@@ -60,10 +58,9 @@ impl Labels {
             self.built = false;
             return Ok(());
         };
-        if !is_apart_from_all(self.ranges.items(), range) {
+        if !self.ranges.add(range)? {
             return Err(Refusal::Rule(rule::CASE_LABELS));
         }
-        self.ranges.push(range)?;
         Ok(())
     }
 
@@ -75,20 +72,11 @@ impl Labels {
         if !built {
             return Ok(None);
         }
-        if ranges.items().is_empty() {
+        if ranges.ranges().is_empty() {
             return Err(Refusal::Rule(rule::CASE_LABELS));
         }
-        Ok(Some(ranges))
+        Ok(Some(ranges.into_ranges()))
     }
-}
-
-/// Whether no value is in a range and in one of these.
-fn is_apart_from_all(ranges: &[CaseRange], range: CaseRange) -> bool
-    ensures { result ≡ list_all (λ s. is_apart s range) ranges.now }
-{
-    ranges
-        .iter()
-        .all(|other| other.high < range.low || range.high < other.low)
 }
 
 /// The selector of a `case`: its host, and its form where it and the labels are built.

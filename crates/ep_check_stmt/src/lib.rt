@@ -5,8 +5,8 @@
 //! the block only what `Context` has. That what it accepts is valid is ep_stmt_laws. Open specs/Statements.antt first.
 //! To change a statement's rule: specs/Statements.antt, src/statements.rt; what is assigned to: src/targets.rt, tags:
 //! specs/Tags.antt, src/tags.rt; `for`: src/loops.rt, over members src/members.rt; `case`: specs/Cases.antt,
-//! src/cases.rt; `with`: src/records.rt, src/numbering.rt; `write`: src/writing.rt. Threats: specs/Threats.antt,
-//! src/threats.rt. Auxiliary variables: specs/Auxiliaries.antt. Lemmas on what rules judge: proofs/public.
+//! src/cases.rt; `with`: src/records.rt, src/numbering.rt; `write`: src/writing.rt. Threats are ep_threats. Auxiliary
+//! variables: specs/Auxiliaries.antt. Lemmas on what rules judge: proofs/public.
 #![tactic(auto)]
 
 mod auxiliaries;
@@ -19,7 +19,6 @@ mod records;
 mod statements;
 mod tags;
 mod targets;
-mod threats;
 mod writing;
 
 pub use auxiliaries::{ForForm, has_for, has_for_in};
@@ -27,4 +26,3 @@ pub use cases::Labels;
 pub use outcome::{CheckRefusal, Outcome, refused_at};
 pub use statements::{Context, FunctionResult, Locals, Row};
 pub use tags::{Reached, assigns_tag};
-pub use threats::{Entire, assigns, inner_threatens, threatens};

@@ -12,18 +12,19 @@ ghost use Rattle.ep_typed.specs.Viewed.{control_of, expr_of, stmt_of};
 ghost use Rattle.ep_check_expr.specs.Expressions.{judged};
 ghost use Rattle.ep_rules.specs.Judgements.{Judged, Accepts, both, when_accepted};
 ghost use Rattle.ep_rules.specs.Operators.{map_both};
-ghost use Rattle.ep_check_stmt.specs.Answers.{AnswersForm, AnswersRow, context_of, counted_of, entire_of, head_of, locals_of, named_of};
-ghost use Rattle.ep_check_stmt.specs.RoutineForms.{routine_form};
+ghost use Rattle.ep_check_stmt.specs.Answers.{AnswersForm, AnswersRow, context_of, counted_of, head_of, locals_of, named_of};
+ghost use Rattle.ep_threats.specs.Variables.{entire_of};
+ghost use Rattle.ep_threats.specs.RoutineForms.{routine_form};
 ghost use Rattle.ep_check_stmt.specs.Statements as spec;
 ghost use Rattle.ep_check_stmt.specs.Statements.{Judgement, bound_judged, bounds_judged, control_judged, control_named, declared_control, declares_own, declares_variable, expr_threat, for_control, for_head, for_row, head_threat, initial_variable, last_variable, stmt_threat, unless_threatening};
 
 use crate::outcome::Outcome;
 use crate::statements::{Context, Locals, Row};
-use crate::threats::{Entire, expr_threatens, inner_threatens, is_same, statement_threatens};
 use ep_base::{Boxed, Line, List, Name, NoMemory};
 use ep_check_expr::typed_expression;
 use ep_rules::{Refusal, given_value, greatest, least, undeclared};
 use ep_scope::{Declaration, Declared, Host, Kind, Meaning, depth_in, meaning_of, rule};
+use ep_threats::{Entire, Routines, expr_threatens, inner_threatens, is_same, statement_threatens};
 use ep_tree::{Direction, Expression};
 use ep_typed::{EntireVariable, ForControl, TypedExpr, TypedStmt, UnitRoutine};
 use std::alloc::{AllocError, Global};
@@ -155,16 +156,25 @@ fn routines_threaten(routines: &[UnitRoutine], variable: Entire<'_>) -> bool
 /// Whether a routine of the block, however deep, threatens this variable of the block.
 fn is_threatened_in(
     locals: Locals<'_>,
-    routines: &[UnitRoutine],
+    routines: &Routines<'_>,
     variable: Entire<'_>,
 ) -> Result<bool, NoMemory>
     ensures { IfOk result (λ threatened. threatened ≡ spec.is_threatened_in (locals_of locals.entry)
         (map routine_form routines.now) (entire_of variable.entry)) }
 {
     match (locals, variable) {
-        (Locals::Unit(_, _), _) => Ok(routines_threaten(routines, variable)),
+        (Locals::Unit(_, _), Entire::Variable(unit, number)) => {
+            match routines.threaten_of_unit(unit, number) {
+                Some(threatened) => Ok(threatened),
+                None => Ok(routines_threaten(routines.all(), variable)),
+            }
+        }
+        (Locals::Unit(_, _), _) => Ok(routines_threaten(routines.all(), variable)),
         (Locals::Routine(routine, _, _), Entire::Own(_, number)) => {
-            inner_threatens(routine, routines, number)
+            match routines.threaten_of_routine(routine, number) {
+                Some(threatened) => Ok(threatened),
+                None => inner_threatens(routine, routines.table(), number),
+            }
         }
         _ => Ok(false),
     }
@@ -403,7 +413,7 @@ impl<'a> Context<'a> {
         let Some(s) = form? else {
             return Ok(None);
         };
-        if statement_threatens_one(s.get(), self.routines, controls) {
+        if statement_threatens_one(s.get(), self.routines.all(), controls) {
             return Err(Refusal::Rule(rule::CONTROL_THREATENED));
         }
         Ok(Some(s))
@@ -422,7 +432,7 @@ impl<'a> Context<'a> {
         let Some(x) = form? else {
             return Ok(None);
         };
-        if value_threatens_one(x.get(), self.routines, controls) {
+        if value_threatens_one(x.get(), self.routines.all(), controls) {
             return Err(Refusal::Rule(rule::CONTROL_THREATENED));
         }
         Ok(Some(x))
@@ -441,7 +451,7 @@ impl<'a> Context<'a> {
         let Some(h) = head? else {
             return Ok(None);
         };
-        if head_threatens_one(&h, self.routines, controls) {
+        if head_threatens_one(&h, self.routines.all(), controls) {
             return Err(Refusal::Rule(rule::CONTROL_THREATENED));
         }
         Ok(Some(h))

@@ -10,19 +10,20 @@ ghost use Rattle.ep_typed.specs.Viewed as viewed;
 ghost use Rattle.ep_typed.specs.Viewed.{expr_of, member_control_of, stmt_of};
 ghost use Rattle.ep_check_expr.specs.Expressions.{judged};
 ghost use Rattle.ep_rules.specs.Judgements.{Judged, when_accepted};
-ghost use Rattle.ep_check_stmt.specs.Answers.{AnswersForm, AnswersRow, context_of, counted_of, entire_of, locals_of, member_head_of};
-ghost use Rattle.ep_check_stmt.specs.RoutineForms.{routine_form};
+ghost use Rattle.ep_check_stmt.specs.Answers.{AnswersForm, AnswersRow, context_of, counted_of, locals_of, member_head_of};
+ghost use Rattle.ep_threats.specs.Variables.{entire_of};
+ghost use Rattle.ep_threats.specs.RoutineForms.{routine_form};
 ghost use Rattle.ep_check_stmt.specs.Statements as spec;
 ghost use Rattle.ep_check_stmt.specs.Statements.{Judgement, for_in_row, member_control, member_threat, members_judged, block_variable, set_judged, unless_threatening};
 
 use crate::loops::Counted;
 use crate::outcome::Outcome;
 use crate::statements::{Context, Locals, Row};
-use crate::threats::{Entire, expr_threatens, is_same};
 use ep_base::{Boxed, Line, NoMemory};
 use ep_check_expr::typed_expression;
 use ep_rules::{Refusal, given_value};
 use ep_scope::{Host, Kind, rule};
+use ep_threats::{Entire, expr_threatens, is_same};
 use ep_tree::Expression;
 use ep_typed::{EntireVariable, MemberControl, TypedExpr, TypedStmt, UnitRoutine};
 use std::alloc::Global;
@@ -168,7 +169,7 @@ impl Context<'_> {
         let Some(h) = head? else {
             return Ok(None);
         };
-        if member_threatens_one(&h, self.routines, controls) {
+        if member_threatens_one(&h, self.routines.all(), controls) {
             return Err(Refusal::Rule(rule::CONTROL_THREATENED));
         }
         Ok(Some(h))

@@ -7,27 +7,28 @@ ghost use Rattle.ep_built.specs.Built.{access_unbuilt, first_in};
 ghost use Rattle.ep_scope.specs.Records.{variable_of};
 ghost use Rattle.ep_typed.specs.Trees as tree;
 ghost use Rattle.ep_typed.specs.Trees.{Stmt};
-ghost use Rattle.ep_typed.specs.Viewed.{expr_of, place_of, stmt_of};
+ghost use Rattle.ep_typed.specs.Viewed.{expr_of, place_of, stmt_of, with_record_of};
 ghost use Rattle.ep_rules.specs.Arguments.{IsReading};
 ghost use Rattle.ep_check_expr.specs.Expressions.{name_judged};
 ghost use Rattle.ep_rules.specs.Judgements.{Accepts, when_accepted};
-ghost use Rattle.ep_check_stmt.specs.Answers.{AnswersForm, AnswersRow, context_of, entire_of, heads_of, locals_of, opened_of, record_named_of, with_head_of};
-ghost use Rattle.ep_check_stmt.specs.RoutineForms.{routine_form};
+ghost use Rattle.ep_check_stmt.specs.Answers.{AnswersForm, AnswersRow, context_of, heads_of, locals_of, opened_of, record_named_of};
+ghost use Rattle.ep_threats.specs.Variables.{entire_of};
+ghost use Rattle.ep_threats.specs.RoutineForms.{routine_form};
 ghost use Rattle.ep_check_stmt.specs.Statements as spec;
 ghost use Rattle.ep_check_stmt.specs.Statements.{Judgement, after, block_variable, heads_threat, none_opened, one_opened, record_accessed, record_opened, records_opened, unless_threatening};
 
 use crate::members;
 use crate::outcome::Outcome;
 use crate::statements::{Context, Locals, Row};
-use crate::threats::{Entire, place_threatens};
 use ep_base::{Boxed, Line, List, NoMemory};
 use ep_check_expr::typed_access;
 use ep_rules::{Access, Refusal, Typed};
 use ep_scope::{
-    Composition, FieldType, Inner, Kind, OpenRecord, Protection, RecordVariable, View, rule,
+    Composition, FieldTypes, Inner, Kind, OpenRecord, Protection, RecordVariable, View, rule,
     structure_of,
 };
-use ep_typed::{EntireVariable, TypedPlace, TypedStmt, UnitRoutine};
+use ep_threats::{Entire, place_threatens};
+use ep_typed::{TypedPlace, TypedStmt, UnitRoutine, WithRecord, WithRecords};
 use std::alloc::{AllocError, Global};
 
 /// A record variable that a `with` names.
@@ -37,7 +38,7 @@ pub(crate) struct RecordNamed<'a> {
     /// Whether it is protected.
     protection: Protection,
     /// Its fields.
-    fields: &'a [FieldType],
+    fields: &'a FieldTypes,
     /// Its place, where it is built.
     place: Option<TypedPlace>,
 }
@@ -68,38 +69,6 @@ impl<'a> RecordNamed<'a> {
     }
 }
 
-/// One of the records of a `with`: the variable that stands for it, the number of its type, and its place.
-pub(crate) struct WithHead {
-    variable: EntireVariable,
-    of: u32,
-    place: TypedPlace,
-}
-
-impl Drop for WithHead {
-    fn drop(self) {
-        let WithHead {
-            variable: _,
-            of: _,
-            place: _,
-        } = self;
-    }
-}
-
-impl WithHead {
-    /// The `with` of this record, with this statement.
-    fn into_statement(self, line: Line, body: Boxed<TypedStmt>) -> TypedStmt
-        ensures { stmt_of result
-            ≡ tree.With line (with_head_of self).variable (with_head_of self).of (with_head_of self).place (stmt_of body) }
-    {
-        let WithHead {
-            variable,
-            of,
-            place,
-        } = self;
-        TypedStmt::With(line, variable, of, place, body)
-    }
-}
-
 /// The records that a `with` has opened so far.
 pub(crate) struct Opened<'a> {
     /// The scopes in view where they are open.
@@ -107,7 +76,7 @@ pub(crate) struct Opened<'a> {
     /// The number of the variable of the next one.
     pub(crate) withs: u32,
     /// Them, where they are built.
-    heads: Option<List<WithHead>>,
+    heads: Option<WithRecords>,
 }
 
 impl<'a> Drop for Opened<'a> {
@@ -122,7 +91,7 @@ impl<'a> Drop for Opened<'a> {
 
 impl<'a> Opened<'a> {
     /// The records alone.
-    pub(crate) fn into_heads(self) -> Option<List<WithHead>>
+    pub(crate) fn into_heads(self) -> Option<WithRecords>
         ensures { result ≡ self.entry.heads }
     {
         let Opened {
@@ -187,15 +156,15 @@ fn with_head(
     number: u32,
     of: u32,
     place: Option<TypedPlace>,
-) -> Result<Option<WithHead>, NoMemory>
-    ensures { IfOk result (λ head. option_map with_head_of head
+) -> Result<Option<WithRecord>, NoMemory>
+    ensures { IfOk result (λ head. option_map with_record_of head
         ≡ spec.with_head (block_variable (locals_of locals.entry) number) of (option_map place_of place)) }
 {
     let Some(place) = place else {
         return Ok(None);
     };
     let variable = members::block_variable(alloc, locals, number)?;
-    Ok(Some(WithHead {
+    Ok(Some(WithRecord {
         variable,
         of,
         place,
@@ -205,11 +174,11 @@ fn with_head(
 /// One more at the end, where all are built.
 #[tactic(auto, using(crate::proofs::Nested::heads_more))]
 fn one_after(
-    heads: Option<List<WithHead>>,
-    head: Option<WithHead>,
-) -> Result<Option<List<WithHead>>, NoMemory>
+    heads: Option<WithRecords>,
+    head: Option<WithRecord>,
+) -> Result<Option<WithRecords>, NoMemory>
     ensures { IfOk result (λ all.
-        option_map heads_of all ≡ spec.one_after (option_map heads_of heads) (option_map with_head_of head)) }
+        option_map heads_of all ≡ spec.one_after (option_map heads_of heads) (option_map with_record_of head)) }
 {
     match (heads, head) {
         (Some(mut heads), Some(head)) => {
@@ -237,42 +206,26 @@ fn record_made<'a>(scopes: &View<'a>, variable: Typed) -> Result<RecordNamed<'a>
     Ok(RecordNamed {
         of,
         protection,
-        fields: fields.items(),
+        fields,
         place: variable.into_place(),
     })
 }
 
-/// One `with` in another, of these records, with this statement.
-#[tactic(auto, using(crate::proofs::Nested::innermost))]
-fn nested(
-    alloc: Global,
-    line: Line,
-    heads: List<WithHead>,
-    body: Boxed<TypedStmt>,
-) -> Result<Boxed<TypedStmt>, NoMemory>
-    ensures { IfOk result (λ form. stmt_of form ≡ spec.with_form line (heads_of heads) (stmt_of body)) }
-{
-    let mut heads = heads;
-    let mut form = body;
-    while let Some(head) = heads.pop() {
-        form = Boxed::new(alloc, head.into_statement(line, form))?;
-    }
-    Ok(form)
-}
-
 /// A `with` statement of its records and its body, in order.
+#[tactic(auto, using(ep_typed::proofs::public::Statements::with_is))]
 pub(crate) fn with_form(
     alloc: Global,
     line: Line,
-    heads: Row<List<WithHead>>,
+    heads: Row<WithRecords>,
     body: Row<Boxed<TypedStmt>>,
 ) -> Row<Boxed<TypedStmt>>
-    ensures { (x : Judgement (List spec.WithHead)) (y : Judgement Stmt) → AnswersRow heads_of heads x
-        → AnswersRow stmt_of body y → AnswersRow stmt_of result (after (spec.with_form line) x y) }
+    ensures { (x : Judgement (List tree.WithRecord)) (y : Judgement Stmt) → AnswersRow heads_of heads x
+        → AnswersRow stmt_of body y → AnswersRow stmt_of result (after (tree.with_form line) x y) }
 {
     match (heads?, body?) {
         (Outcome::Passes(heads), Outcome::Passes(body)) => {
-            Ok(Outcome::Passes(nested(alloc, line, heads, body)?))
+            let form = Boxed::new(alloc, TypedStmt::With(line, heads, body))?;
+            Ok(Outcome::Passes(form))
         }
         (Outcome::Waits(first), _) => Ok(Outcome::Waits(first)),
         (_, Outcome::Waits(first)) => Ok(Outcome::Waits(first)),
@@ -280,9 +233,9 @@ pub(crate) fn with_form(
 }
 
 /// Whether a place of these records threatens a control variable.
-fn places_threaten(heads: &[WithHead], routines: &[UnitRoutine], control: Entire<'_>) -> bool
+fn places_threaten(heads: &[WithRecord], routines: &[UnitRoutine], control: Entire<'_>) -> bool
     ensures { result ≡ heads_threat (map routine_form routines.now) (entire_of control.entry)
-        (map with_head_of heads.now) }
+        (map with_record_of heads.now) }
 {
     for head in heads {
         if place_threatens(&head.place, routines, control) {
@@ -294,11 +247,11 @@ fn places_threaten(heads: &[WithHead], routines: &[UnitRoutine], control: Entire
 
 /// Whether one does threaten one of these.
 fn places_threaten_one(
-    heads: &[WithHead],
+    heads: &[WithRecord],
     routines: &[UnitRoutine],
     controls: &[Entire<'_>],
 ) -> bool
-    ensures { result ≡ list_any (λ v. heads_threat (map routine_form routines.now) v (map with_head_of heads.now))
+    ensures { result ≡ list_any (λ v. heads_threat (map routine_form routines.now) v (map with_record_of heads.now))
         (map entire_of controls.now) }
 {
     for control in controls {
@@ -360,18 +313,18 @@ impl<'a> Context<'a> {
     pub(crate) fn unless_places_threaten(
         &self,
         controls: &[Entire<'_>],
-        heads: Option<List<WithHead>>,
-    ) -> Result<Option<List<WithHead>>, Refusal>
+        heads: Option<WithRecords>,
+    ) -> Result<Option<WithRecords>, Refusal>
         ensures { AnswersForm (option_map heads_of) result
             (unless_threatening (heads_threat (context_of self.now).routines) (map entire_of controls.now)
             (Accepts (option_map heads_of heads))) }
     {
-        let Some(all) = heads else {
+        let Some(records) = heads else {
             return Ok(None);
         };
-        if places_threaten_one(all.items(), self.routines, controls) {
+        if places_threaten_one(records.items(), self.routines.all(), controls) {
             return Err(Refusal::Rule(rule::CONTROL_THREATENED));
         }
-        Ok(Some(all))
+        Ok(Some(records))
     }
 }

@@ -13,7 +13,8 @@ ghost use Rattle.ep_typed.specs.Viewed.{arm_of, expr_of, other_of, stmt_of};
 ghost use Rattle.ep_rules.specs.Answers.{typed_of};
 ghost use Rattle.ep_check_expr.specs.Expressions.{judged};
 ghost use Rattle.ep_rules.specs.Judgements.{both};
-ghost use Rattle.ep_check_stmt.specs.Answers.{AnswersForm, AnswersRow, arms_of, context_of, entire_of, fails_among, locals_of, numbered, opened_of, stmts_of, target_of};
+ghost use Rattle.ep_check_stmt.specs.Answers.{AnswersForm, AnswersRow, arms_of, context_of, fails_among, locals_of, numbered, opened_of, stmts_of, target_of};
+ghost use Rattle.ep_threats.specs.Variables.{entire_of};
 ghost use Rattle.ep_check_stmt.specs.Statements as spec;
 ghost use Rattle.ep_check_stmt.specs.Statements.{Judgement, after, arm_judged, arm_row, arms_in_order, assigned, component_rules, compound_judged, compound_under, condition_judged, control_judged, declared_called, for_in_judged, for_judged, formed, if_judged, in_order, name_called, none_opened, own_called, records_opened, repeat_judged, required_called, statement_judged, target_judged, value_judged, tested, with_judged};
 
@@ -25,7 +26,6 @@ use crate::outcome::{CheckRefusal, Outcome, item_at, refused_at};
 use crate::records::{Opened, with_form};
 use crate::tags::assignment;
 use crate::targets::Target;
-use crate::threats::Entire;
 use ep_base::{Boxed, Line, List, Name};
 use ep_check_expr::{asked_by, typed_arguments, typed_expression, typed_value};
 use ep_rules::{Refusal, Typed, callee_at, given_value, undeclared};
@@ -33,11 +33,12 @@ use ep_scope::{
     Declaration, Declared, FormalParameter, Host, Kind, Meaning, Procedure, Required, View,
     depth_in, meaning_of, rule,
 };
+use ep_threats::{Entire, Routines};
 use ep_tree::{
     Access, Argument, Arm, ComponentValue, Compound, Direction, Expression, Otherwise, Selector,
     Statement,
 };
-use ep_typed::{CaseArm, CaseArms, TypedExpr, TypedStmt, TypedStmts, UnitRoutine};
+use ep_typed::{CaseArm, CaseArms, TypedExpr, TypedStmt, TypedStmts};
 use std::alloc::Global;
 
 /// A function in whose block the statements are, maybe deeper, where its name is assigned to for the result (ISO 10206,
@@ -82,7 +83,7 @@ pub struct Context<'a> {
     /// The number of the auxiliary variable of `for` statements over members among them (ISO 10206, 6.9.3.9.3).
     pub members: u32,
     /// The routines of the unit.
-    pub routines: &'a [UnitRoutine],
+    pub routines: &'a Routines<'a>,
     /// The number of the variable that stands for the next record which a `with` opens (ISO 10206, 6.9.3.10).
     pub withs: u32,
 }

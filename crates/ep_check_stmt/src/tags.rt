@@ -17,7 +17,7 @@ use crate::targets::Receiver;
 use ep_base::{Boxed, Line, Name, NoMemory};
 use ep_scope::{
     Composition, Declaration, FieldType, Inner, Kind, Meaning, OpenRecord, Protection,
-    RecordVariable, View, copied_selection, field_number, meaning_in, meaning_of, structure_of,
+    RecordVariable, View, field_number, meaning_in, meaning_of, structure_of,
 };
 use ep_tree::{Access, Arm, Compound, Expression, Selector, Statement};
 use ep_typed::{EntireVariable, TagControl, TypedExpr, TypedStmt};
@@ -54,7 +54,7 @@ pub(crate) fn assignment(
                 low: tag.low,
                 high: tag.high,
             };
-            let selection = copied_selection(alloc, tag.selection.get())?;
+            let selection = tag.selection.share()?;
             let form = TypedStmt::AssignTag(line, control, whole, selection, value);
             Boxed::new(alloc, form)
         }
@@ -147,7 +147,7 @@ fn designated(scopes: &View<'_>, name: &Name, reached: Option<Reached>) -> Optio
     let Composition::Record(fields) = composition_of(scopes, reached?.kind)? else {
         return None;
     };
-    let place = field_number(fields.items(), name)?;
+    let place = field_number(fields, name)?;
     let field = fields.items().get(place)?;
     Some(of_field(field))
 }
@@ -235,7 +235,7 @@ fn record_within<'a>(
     let record = OpenRecord {
         variable: RecordVariable::Own(0),
         protection: Protection::Unprotected,
-        fields: fields.items(),
+        fields,
     };
     inner.within(alloc, record)
 }

@@ -17,7 +17,7 @@ use Rattle.ep_tree.specs.declared.statement.Statement.TheOpen.{Statement-F, Arm-
 use Rattle.ep_typed.specs.Auxiliaries.{first_for, first_for_in, first_for_in_of, first_for_of, with_variables, with_variables_in, with_variables_of}
 use Rattle.ep_typed.specs.Hosts as typed
 use Rattle.ep_typed.specs.Trees as tree
-use Rattle.ep_typed.specs.Trees.{Entire, Actual, Callee, Place, Expr, Item, Other, Stmt, Stmts}
+use Rattle.ep_typed.specs.Trees.{Entire, Actual, Callee, Place, Expr, Item, Other, Stmt, Stmts, WithRecord, with_form}
 use Rattle.ep_meaning.specs.Valid as valid
 use Rattle.ep_meaning.specs.Valid.{AreItems, Declarations, IsExpr, IsItem, IsOfKind, IsPlace, IsPlaceWhere, IsStmt, WritesSomething, printed_kind}
 use Rattle.ep_values.specs.declared.operations.Print.{Print}
@@ -49,7 +49,7 @@ use Rattle.ep_check_expr.proofs.public.Nodes.{argument-judged, wide-judged}
 use Rattle.ep_expr_laws.proofs.public.Passing.{IfForm}
 use Rattle.ep_check_stmt.specs.Cases.{CaseSelector, labelled, selecting, selector_judged}
 use Rattle.ep_stmt_laws.specs.Laws.{ResultsAreThere, StatementsAreSound}
-use Rattle.ep_check_stmt.specs.Statements.{ArmJudged, Context, Judgement, Passes, Shown, Under, after, arm_judged, arms_in_order, at_arm, at_compound, at_item, at_otherwise, at_statement, available, call_arguments, call_judged, case_judged, compound_under, condition, condition_judged, declared_called, expr_item, expr_threat, falls_by, file_given, formed, if_judged, in_order, item_form, item_judged, items_judged, measured, name_called, one_more, own_called, otherwise_judged, procedure_called, required_called, shown, something, statement_judged, stmt_item, stmt_threat, tested, to_file, unless_threatening, usually_written, width_judged, write_judged, written, written_or, Waits, Fails, Opened, WithHead, behind, heads_threat, inside, none_opened, records_opened, with_form, with_judged}
+use Rattle.ep_check_stmt.specs.Statements.{ArmJudged, Context, Judgement, Passes, Shown, Under, after, arm_judged, arms_in_order, at_arm, at_compound, at_item, at_otherwise, at_statement, available, call_arguments, call_judged, case_judged, compound_under, condition, condition_judged, declared_called, expr_item, expr_threat, falls_by, file_given, formed, if_judged, in_order, item_form, item_judged, items_judged, measured, name_called, one_more, own_called, otherwise_judged, procedure_called, required_called, shown, something, statement_judged, stmt_item, stmt_threat, tested, to_file, unless_threatening, usually_written, width_judged, write_judged, written, written_or, Waits, Fails, Opened, behind, heads_threat, inside, none_opened, records_opened, with_judged}
 use Rattle.ep_check_stmt.proofs.public.judged.Fits.{Any, Fits, fits_any, fits_both, fits_is, fits_pair, fits_then, fits_weaker}
 use Rattle.ep_stmt_laws.proofs.valid.Passing.{FitsRow, after_fits, behind_fits, fits_if, form_if, formed_fits, item_fits, unthreatening_fits}
 use Rattle.ep_stmt_laws.proofs.valid.Assignments.{IsAssigned, assignment_fits}
@@ -485,7 +485,7 @@ module _ (declared : Declarations) (expressions : ExpressionsAreSound) (passed :
           (unthreatening_fits (λ hs. IfBuilt declared types structures depth variables c o (Some hs)) (heads_threat c.routines) controls (Accepts o.heads) (built o.heads h)))
           (p (inside c o) controls) (λ hs s f g. nested_sound declared types structures depth variables c line s o hs f g)
         where
-          built : (hs : Option (List WithHead)) → IfBuilt declared types structures depth variables c o hs → IfForm (λ xs. IfBuilt declared types structures depth variables c o (Some xs)) hs
+          built : (hs : Option (List WithRecord)) → IfBuilt declared types structures depth variables c o hs → IfForm (λ xs. IfBuilt declared types structures depth variables c o (Some xs)) hs
           built None q = tt
           built (Some hs) q = q
 

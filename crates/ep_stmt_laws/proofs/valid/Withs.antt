@@ -6,8 +6,9 @@ use Rattle.std.proofs.lemmas.List.Elements.{All-nil}
 use Rattle.ep_tree.specs.declared.expression.Access as syntax
 use Rattle.ep_typed.specs.Denoters.{bare_type_of}
 use Rattle.ep_typed.specs.Trees as tree
-use Rattle.ep_typed.specs.Auxiliaries.{first_for, first_for_in, with_variables}
-use Rattle.ep_typed.specs.Trees.{Denoter, Entire, Expr, Named, Place, Stmt, entire}
+use Rattle.ep_typed.specs.Auxiliaries.{with_variables}
+use Rattle.ep_typed.proofs.public.Withs.{first_for_in_with, first_for_with}
+use Rattle.ep_typed.specs.Trees.{Denoter, Entire, Expr, Named, Place, Stmt, WithRecord, entire, with_form}
 use Rattle.ep_values.specs.TypeValues.{TypeValue}
 use Rattle.ep_values.specs.TypeValues as type
 use Rattle.ep_meaning.specs.Valid.{Declarations, IsStmt, IsStructured, IsWith}
@@ -32,7 +33,7 @@ use Rattle.ep_expr_laws.proofs.public.Components.{fields-at}
 use Rattle.ep_expr_laws.proofs.public.Passing.{IfForm}
 use Rattle.ep_expr_laws.proofs.public.Places.{made_so, place_at, place_wider, structure_in-holds}
 use Rattle.ep_stmt_laws.specs.Laws.{WithIsThere, WithsAreThere}
-use Rattle.ep_check_stmt.specs.Statements.{Context, Opened, RecordNamed, WithHead, block_variable, inside, none_opened, one_after, one_opened, record_accessed, record_made, record_of_kind, record_opened, records_opened, with_form, with_head}
+use Rattle.ep_check_stmt.specs.Statements.{Context, Opened, RecordNamed, block_variable, inside, none_opened, one_after, one_opened, record_accessed, record_made, record_of_kind, record_opened, records_opened, with_head}
 use Rattle.ep_check_stmt.proofs.public.judged.Fits.{Fits, fits_then}
 use Rattle.ep_stmt_laws.proofs.valid.Sound.{AgreedIn, IsSound, agrees_in}
 
@@ -40,24 +41,24 @@ use Rattle.ep_stmt_laws.proofs.valid.Sound.{AgreedIn, IsSound, agrees_in}
 
 module _ (declared : Declarations) (types : TypeValues) (structures : List StructuredType) where
   -- the variables that stand for them are there
-  abbrev pub HeadsAreThere : List WithHead → Type 0
+  abbrev pub HeadsAreThere : List WithRecord → Type 0
   HeadsAreThere [] = ⊤
   HeadsAreThere (h ∷ hs) = WithIsThere declared types structures h.variable h.of × HeadsAreThere hs
 
-  front_there : (hs : List WithHead) (h : WithHead) → HeadsAreThere (hs ++ h ∷ []) → HeadsAreThere hs
+  front_there : (hs : List WithRecord) (h : WithRecord) → HeadsAreThere (hs ++ h ∷ []) → HeadsAreThere hs
   front_there [] h p = tt
   front_there (g ∷ hs) h p = (p.0, front_there hs h p.1)
 
-  last_there : (hs : List WithHead) (h : WithHead) → HeadsAreThere (hs ++ h ∷ []) → WithIsThere declared types structures h.variable h.of
+  last_there : (hs : List WithRecord) (h : WithRecord) → HeadsAreThere (hs ++ h ∷ []) → WithIsThere declared types structures h.variable h.of
   last_there [] h p = p.0
   last_there (g ∷ hs) h p = last_there hs h p.1
 
   -- they are valid
-  abbrev pub AreHeads : List WithHead → Type 0
+  abbrev pub AreHeads : List WithRecord → Type 0
   AreHeads [] = ⊤
   AreHeads (h ∷ hs) = IsWith declared h.variable h.of h.place × AreHeads hs
 
-  one_valid : (hs : List WithHead) (h : WithHead) → AreHeads hs → IsWith declared h.variable h.of h.place → AreHeads (hs ++ h ∷ [])
+  one_valid : (hs : List WithRecord) (h : WithRecord) → AreHeads hs → IsWith declared h.variable h.of h.place → AreHeads (hs ++ h ∷ [])
   one_valid [] h p q = (q, tt)
   one_valid (g ∷ hs) h p q = (p.0, one_valid hs h p.1 q)
 
@@ -103,16 +104,16 @@ module _ (declared : Declarations) (types : TypeValues) (structures : List Struc
 
     module _ (variables : VariablesAreSound) (c : Context) where
       -- they have the next numbers
-      abbrev pub AreNumbered : ℕ → List WithHead → Type 0
+      abbrev pub AreNumbered : ℕ → List WithRecord → Type 0
       AreNumbered number [] = ⊤
       AreNumbered number (h ∷ hs) = (h.variable ≡ block_variable c.locals number) × AreNumbered (number + 1) hs
 
-      one_numbered : (hs : List WithHead) (h : WithHead) (number : ℕ) → AreNumbered number hs → h.variable ≡ block_variable c.locals (number + length hs) → AreNumbered number (hs ++ h ∷ [])
+      one_numbered : (hs : List WithRecord) (h : WithRecord) (number : ℕ) → AreNumbered number hs → h.variable ≡ block_variable c.locals (number + length hs) → AreNumbered number (hs ++ h ∷ [])
       one_numbered [] h number p q = (subst (λ m. h.variable ≡ block_variable c.locals m) {x = number + 0} {y = number} (omega arith) q, tt)
       one_numbered (g ∷ hs) h number p q = (p.0, one_numbered hs h (number + 1) p.1 (subst (λ m. h.variable ≡ block_variable c.locals m) {x = number + suc (length hs)} {y = (number + 1) + length hs} (omega arith) q))
 
       -- the records, where they are built
-      abbrev pub IfBuilt : Opened → Option (List WithHead) → Type 0
+      abbrev pub IfBuilt : Opened → Option (List WithRecord) → Type 0
       IfBuilt o None = ⊤
       IfBuilt o (Some hs) =
           (o.withs ≡ c.withs + length hs) × AreNumbered c.withs hs × (AgreedIn declared types structures depth c.scopes → HeadsAreThere hs → AreHeads hs × AgreedIn declared types structures depth o.scopes)
@@ -177,13 +178,13 @@ module _ (declared : Declarations) (types : TypeValues) (structures : List Struc
         abbrev after_record : RecordNamed → Opened
         after_record r = one_opened c.locals o r
 
-        one_built : (r : RecordNamed) → IsRecord r → (hs : Option (List WithHead)) (place : Option Place) → r.place ≡ place → IfBuilt o hs → IfBuilt (after_record r) (one_after hs (with_head (block_variable c.locals o.withs) r.of place))
+        one_built : (r : RecordNamed) → IsRecord r → (hs : Option (List WithRecord)) (place : Option Place) → r.place ≡ place → IfBuilt o hs → IfBuilt (after_record r) (one_after hs (with_head (block_variable c.locals o.withs) r.of place))
         one_built r p None None g h = tt
         one_built r p None (Some place) g h = tt
         one_built r p (Some hs) None g h = tt
         one_built r p (Some hs) (Some place) g h =
             let v : Entire = block_variable c.locals o.withs in
-            let head : WithHead = record { variable = v; of = r.of; place = place } in (
+            let head : WithRecord = record { variable = v; of = r.of; place = place } in (
               omega (arith, h.0, length_push hs head),
               one_numbered hs head c.withs h.1 (ap (block_variable c.locals) h.0),
               λ agreed there.
@@ -211,43 +212,34 @@ module _ (declared : Declarations) (types : TypeValues) (structures : List Struc
       -- ---- the statement
 
       module _ (line : ℕ) (s : Stmt) where
-        -- a `for` in it is one in its body
-        bounded_in : (hs : List WithHead) → first_for (with_form line hs s) ≡ first_for s
-        bounded_in [] = refl
-        bounded_in (h ∷ hs) = bounded_in hs
-
-        members_in : (hs : List WithHead) → first_for_in (with_form line hs s) ≡ first_for_in s
-        members_in [] = refl
-        members_in (h ∷ hs) = members_in hs
-
         -- the variables that stand for the records come before those of the body
-        heads_there : (hs : List WithHead) (number : ℕ) → AreNumbered number hs → WithsAreThere declared types structures c.locals number (with_variables (with_form line hs s)) → HeadsAreThere hs
+        heads_there : (hs : List WithRecord) (number : ℕ) → AreNumbered number hs → WithsAreThere declared types structures c.locals number (with_variables (with_form line hs s)) → HeadsAreThere hs
         heads_there [] number p q = tt
         heads_there (h ∷ hs) number p q = (
           subst (λ v. WithIsThere declared types structures v h.of) (sym p.0) (subst (λ m. WithIsThere declared types structures (block_variable c.locals m) h.of) {x = number + 0} {y = number} (omega arith) (q 0 line h.of refl)),
           heads_there hs (number + 1) p.1 (more_there h hs number q),
         )
           where
-            more_there : (h : WithHead) (hs : List WithHead) (number : ℕ) → WithsAreThere declared types structures c.locals number (with_variables (with_form line (h ∷ hs) s)) → WithsAreThere declared types structures c.locals (number + 1) (with_variables (with_form line hs s))
+            more_there : (h : WithRecord) (hs : List WithRecord) (number : ℕ) → WithsAreThere declared types structures c.locals number (with_variables (with_form line (h ∷ hs) s)) → WithsAreThere declared types structures c.locals (number + 1) (with_variables (with_form line hs s))
             more_there h hs number q k at of e = subst (λ m. WithIsThere declared types structures (block_variable c.locals m) of) {x = number + suc k} {y = (number + 1) + k} (omega arith) (q (suc k) at of e)
 
-        body_there : (hs : List WithHead) (number : ℕ) → WithsAreThere declared types structures c.locals number (with_variables (with_form line hs s)) → WithsAreThere declared types structures c.locals (number + length hs) (with_variables s)
+        body_there : (hs : List WithRecord) (number : ℕ) → WithsAreThere declared types structures c.locals number (with_variables (with_form line hs s)) → WithsAreThere declared types structures c.locals (number + length hs) (with_variables s)
         body_there [] number q k at of e = subst (λ m. WithIsThere declared types structures (block_variable c.locals m) of) {x = number + k} {y = (number + 0) + k} (omega arith) (q k at of e)
         body_there (h ∷ hs) number q k at of e =
             subst (λ m. WithIsThere declared types structures (block_variable c.locals m) of) {x = ((number + 1) + length hs) + k} {y = (number + suc (length hs)) + k} (omega arith)
             (body_there hs (number + 1) (λ j a o f. subst (λ m. WithIsThere declared types structures (block_variable c.locals m) o) {x = number + suc j} {y = (number + 1) + j} (omega arith) (q (suc j) a o f)) k at of e)
 
         -- it is valid, where they stand for their places and the body is valid
-        nested_valid : (hs : List WithHead) → AreHeads hs → IsStmt declared s → IsStmt declared (with_form line hs s)
+        nested_valid : (hs : List WithRecord) → AreHeads hs → IsStmt declared s → IsStmt declared (with_form line hs s)
         nested_valid [] p q = q
         nested_valid (h ∷ hs) p q = (p.0, nested_valid hs p.1 q)
 
-        pub nested_sound : (o : Opened) (hs : List WithHead) → IfBuilt o (Some hs) → IsSound declared types structures depth (inside c o) s → IsSound declared types structures depth c (with_form line hs s)
+        pub nested_sound : (o : Opened) (hs : List WithRecord) → IfBuilt o (Some hs) → IsSound declared types structures depth (inside c o) s → IsSound declared types structures depth c (with_form line hs s)
         nested_sound o hs built body agreed there =
             let valid = built.2 agreed.0 (heads_there hs c.withs built.1 there.2) in
             nested_valid hs valid.0
             (body (valid.1, agreed.1) (
-              λ at e. there.0 at (bounded_in hs ∙ e),
-              λ at e. there.1 at (members_in hs ∙ e),
+              λ at e. there.0 at (first_for_with line hs s ∙ e),
+              λ at e. there.1 at (first_for_in_with line hs s ∙ e),
               subst (λ m. WithsAreThere declared types structures c.locals m (with_variables s)) (sym built.0) (body_there hs c.withs there.2),
             ))

@@ -1,6 +1,6 @@
 use Rattle.std.proofs.Common.{◌≡◌, drop, map}
 use Rattle.ep_check_stmt.specs.Auxiliaries.{arm_has, statement_has}
-use Rattle.ep_check_stmt.specs.Threats.{any_true}
+use Rattle.ep_threats.specs.Threats.{any_true}
 use Rattle.ep_check_stmt.proofs.auxiliaries.+for_statements.Given as goal
 
 abbrev pub invariant-any_has-loop-s : goal.invariant-any_has-loop-s

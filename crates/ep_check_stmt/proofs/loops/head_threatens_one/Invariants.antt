@@ -1,8 +1,9 @@
 use Rattle.std.proofs.Common.{◌≡◌, drop, map}
 use Rattle.std.specs.List.{list_any}
-use Rattle.ep_check_stmt.specs.RoutineForms.{routine_form}
+use Rattle.ep_threats.specs.RoutineForms.{routine_form}
 use Rattle.ep_check_stmt.specs.Statements.{head_threat}
-use Rattle.ep_check_stmt.specs.Answers.{entire_of, head_of}
+use Rattle.ep_check_stmt.specs.Answers.{head_of}
+use Rattle.ep_threats.specs.Variables.{entire_of}
 use Rattle.ep_check_stmt.proofs.loops.head_threatens_one.Given as goal
 
 abbrev pub invariant-loop-control : goal.invariant-loop-control

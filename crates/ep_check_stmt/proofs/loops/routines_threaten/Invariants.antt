@@ -1,7 +1,7 @@
 use Rattle.std.proofs.Common.{◌≡◌, drop, map}
 use Rattle.std.specs.List.{list_any}
-use Rattle.ep_check_stmt.specs.Answers.{entire_of}
-use Rattle.ep_check_stmt.specs.RoutineForms.{routine_form}
+use Rattle.ep_threats.specs.Variables.{entire_of}
+use Rattle.ep_threats.specs.RoutineForms.{routine_form}
 use Rattle.ep_check_stmt.specs.Statements.{stmt_threat}
 use Rattle.ep_check_stmt.proofs.loops.routines_threaten.Given as goal
 

@@ -1,8 +1,9 @@
 use Rattle.std.proofs.Common.{◌≡◌, drop, map}
 use Rattle.std.specs.List.{list_any}
-use Rattle.ep_check_stmt.specs.RoutineForms.{routine_form}
+use Rattle.ep_threats.specs.RoutineForms.{routine_form}
 use Rattle.ep_check_stmt.specs.Statements.{member_threat}
-use Rattle.ep_check_stmt.specs.Answers.{entire_of, member_head_of}
+use Rattle.ep_check_stmt.specs.Answers.{member_head_of}
+use Rattle.ep_threats.specs.Variables.{entire_of}
 use Rattle.ep_check_stmt.proofs.members.member_threatens_one.Given as goal
 
 abbrev pub invariant-loop-control : goal.invariant-loop-control

@@ -1,10 +1,11 @@
 use Rattle.std.proofs.Common.{◌≡◌, drop, map}
 use Rattle.std.specs.List.{list_any}
-use Rattle.ep_check_stmt.specs.Answers.{entire_of, with_head_of}
-use Rattle.ep_check_stmt.specs.RoutineForms.{routine_form}
+use Rattle.ep_typed.specs.Viewed.{with_record_of}
+use Rattle.ep_threats.specs.Variables.{entire_of}
+use Rattle.ep_threats.specs.RoutineForms.{routine_form}
 use Rattle.ep_check_stmt.specs.Statements.{heads_threat}
 use Rattle.ep_check_stmt.proofs.records.places_threaten_one.Given as goal
 
 abbrev pub invariant-loop-control : goal.invariant-loop-control
 invariant-loop-control l =
-    list_any (λ v. heads_threat (map routine_form l.routines) v (map with_head_of l.heads)) (map entire_of (drop l.control-index l.controls)) ≡ list_any (λ v. heads_threat (map routine_form l.routines) v (map with_head_of l.heads)) (map entire_of l.controls)
+    list_any (λ v. heads_threat (map routine_form l.routines) v (map with_record_of l.heads)) (map entire_of (drop l.control-index l.controls)) ≡ list_any (λ v. heads_threat (map routine_form l.routines) v (map with_record_of l.heads)) (map entire_of l.controls)

@@ -13,7 +13,7 @@ use Rattle.ep_tree.specs.declared.statement.Statement.TheFolds.{fold-roll-Arm, f
 use Rattle.ep_tree.specs.declared.statement.Statement.TheOpen.{Statement-F, Arm-F, Compound-F, Otherwise-F}
 use Rattle.ep_typed.specs.Auxiliaries.{first_for, first_for_arms, first_for_in, first_for_in_arms, first_for_in_of, first_for_in_other, first_for_of, first_for_other, with_variables, with_variables_in}
 use Rattle.ep_typed.specs.Trees as tree
-use Rattle.ep_typed.specs.Trees.{Arms, Control, Entire, Expr, MemberControl, Other, Stmt, Stmts}
+use Rattle.ep_typed.specs.Trees.{Arms, Control, Entire, Expr, MemberControl, Other, Stmt, Stmts, WithRecord, with_form}
 use Rattle.ep_typed.specs.declared.tree.CaseRange.{CaseRange}
 use Rattle.ep_scope.specs.Scopes.{Region}
 use Rattle.ep_scope.specs.declared.kind.Host.{Host}
@@ -21,9 +21,9 @@ use Rattle.ep_rules.specs.Judgements.{Judged, Accepts, Breaks, both}
 use Rattle.ep_expr_laws.proofs.public.Passing.{IfForm}
 use Rattle.ep_check_stmt.specs.Auxiliaries.{arm_has, compound_has, has_for, has_for_in, in_arm, in_compound, in_otherwise, in_statement, is_bounded, is_over_members, otherwise_has, statement_has}
 use Rattle.ep_check_stmt.specs.Cases.{CaseSelector, own_ranges}
-use Rattle.ep_check_stmt.specs.Statements.{ArmJudged, Context, Counted, Judgement, Passes, Waits, Fails, Under, after, arm_judged, arm_row, arms_in_order, at_arm, at_compound, at_item, at_otherwise, at_statement, call_arguments, case_judged, compound_judged, compound_under, condition_judged, control_judged, expr_item, falls_by, for_in_judged, for_judged, formed, if_judged, in_order, otherwise_judged, statement_judged, stmt_item, stmt_threat, target_judged, value_judged, unless_threatening, assigned, Opened, WithHead, behind, inside, none_opened, records_opened, with_form, with_judged}
+use Rattle.ep_check_stmt.specs.Statements.{ArmJudged, Context, Counted, Judgement, Passes, Waits, Fails, Under, after, arm_judged, arm_row, arms_in_order, at_arm, at_compound, at_item, at_otherwise, at_statement, call_arguments, case_judged, compound_judged, compound_under, condition_judged, control_judged, expr_item, falls_by, for_in_judged, for_judged, formed, if_judged, in_order, otherwise_judged, statement_judged, stmt_item, stmt_threat, target_judged, value_judged, unless_threatening, assigned, Opened, behind, inside, none_opened, records_opened, with_judged}
 use Rattle.ep_check_stmt.specs.Tags as tags
-use Rattle.ep_check_stmt.specs.Threats.{any_true}
+use Rattle.ep_threats.specs.Threats.{any_true}
 use Rattle.ep_check_stmt.specs.declared.auxiliaries.ForForm.{ForForm}
 use Rattle.ep_check_stmt.specs.declared.auxiliaries.ForForm.TheVariants as form
 use Rattle.ep_stmt_laws.proofs.judged.Alike.{Alike, opened_alike, same_tag}
@@ -178,7 +178,7 @@ case_has : (asked : ForForm) (line : ℕ) (e : Expr) (arms : Arms) (o : Other) (
 case_has form.Bounds line e arms o x y p q = or_some (first_for_arms arms) (first_for_other o) x y p q
 case_has form.Members line e arms o x y p q = or_some (first_for_in_arms arms) (first_for_in_other o) x y p q
 
-nested_has : (asked : ForForm) (line : ℕ) (hs : List WithHead) (s : Stmt) (x : Bool) → Has asked x s → Has asked x (with_form line hs s)
+nested_has : (asked : ForForm) (line : ℕ) (hs : List WithRecord) (s : Stmt) (x : Bool) → Has asked x s → Has asked x (with_form line hs s)
 nested_has asked line [] s x p = p
 nested_has form.Bounds line (h ∷ hs) s x p = nested_has form.Bounds line hs s x p
 nested_has form.Members line (h ∷ hs) s x p = nested_has form.Members line hs s x p

@@ -1,0 +1,5 @@
+pub mod Inner
+pub mod RoutineForms
+pub mod Threatened
+pub mod Threats
+pub mod Variables
