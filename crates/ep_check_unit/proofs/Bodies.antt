@@ -4,14 +4,15 @@ use Rattle.ep_tree.specs.declared.statement.Compound.{Compound}
 use Rattle.ep_scope.specs.Scopes.{Row, opened}
 use Rattle.ep_rules.specs.Judgements.{Accepts}
 use Rattle.ep_rules.specs.declared.forms.Refusal.{Refusal}
-use Rattle.ep_check_stmt.specs.Answers.{Refuses}
+use Rattle.ep_rules.specs.Answers.{Refuses}
 use Rattle.ep_check_stmt.specs.Outcomes.{refused_at}
 use Rattle.ep_check_unit.specs.Answers.{RefusesItems}
 use Rattle.ep_check_unit.specs.Blocks.{Block}
-use Rattle.ep_check_unit.specs.declared.block.OwnVariables.{OwnVariables}
+use Rattle.ep_unit_rules.specs.declared.own.OwnVariables.{OwnVariables}
 use Rattle.ep_check_unit.specs.Declarations.{Standing, and_then, at_line}
-use Rattle.ep_check_unit.specs.Functions.{result_name}
-use Rattle.ep_check_unit.specs.Routines.{Headed, PartJudged, block_declared, heading_entered, inside_declared, own_variables, scope_opened}
+use Rattle.ep_unit_rules.specs.Functions.{result_name}
+use Rattle.ep_unit_rules.specs.Headings.{own_variables}
+use Rattle.ep_check_unit.specs.Routines.{Headed, PartJudged, block_declared, heading_entered, inside_declared, scope_opened}
 use Rattle.ep_check_unit.proofs.Refusing.{line_refused, then_refused}
 use Rattle.ep_check_unit.proofs.Subranges.{accepted_same}
 

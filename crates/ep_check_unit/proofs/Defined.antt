@@ -11,10 +11,10 @@ use Rattle.ep_rules.specs.Judgements.{Judged, Accepts, Breaks, when_accepted}
 use Rattle.ep_check_expr.specs.declared.constants.ConstantForm.{ConstantForm}
 use Rattle.ep_rules.specs.declared.forms.Refusal.{Refusal}
 use Rattle.ep_rules.specs.declared.forms.Refusal.TheVariants.{Rule, NoMemory}
-use Rattle.ep_check_stmt.specs.Answers.{Refuses}
-use Rattle.ep_check_stmt.proofs.public.judged.Refusing.{from_judged, first_refused, both_accepted}
+use Rattle.ep_rules.specs.Answers.{Refuses}
+use Rattle.ep_rules.proofs.public.Refusing.{from_judged, first_refused, both_accepted}
 use Rattle.ep_check_unit.specs.Declarations.{constant_definition, constant_entered, constant_fitting, noted, scopes_of, unused, with_constant}
-use Rattle.ep_check_unit.specs.FittingConstants.{fits, unless_outside}
+use Rattle.ep_unit_rules.specs.FittingConstants.{fits, unless_outside}
 use Rattle.ep_check_unit.specs.Blocks.{Block}
 
 -- the value of a definition is refused, lies in its type, or does not

@@ -29,13 +29,14 @@ use Rattle.ep_scope.specs.declared.thing.Declaration.TheVariants as declaration
 use Rattle.ep_scope.specs.declared.thing.Thing.TheVariants as thing
 use Rattle.ep_rules.specs.Judgements.{Judged, Accepts, Breaks}
 use Rattle.ep_check_stmt.specs.Statements.{OfRoutine}
-use Rattle.ep_check_stmt.specs.Threats.{assigns, in_arm, in_compound, in_otherwise, in_statement}
-use Rattle.ep_check_unit.specs.Blocks.{Block, own_count}
+use Rattle.ep_threats.specs.Threats.{assigns, in_arm, in_compound, in_otherwise, in_statement}
+use Rattle.ep_unit_rules.specs.Own.{own_count}
+use Rattle.ep_check_unit.specs.Blocks.{Block}
 use Rattle.ep_check_unit.specs.Declarations.{own_thing, set_on, with_constant, with_own_variable}
 use Rattle.ep_check_unit.specs.Functions.{is_assigned, is_in_view, is_threatened}
 use Rattle.ep_check_unit.specs.Routines.{Headed, PartJudged, context_of, function_identified, given_among, headed_first, headed_over, heading_entered, locals_of, of_body, of_part, of_routine, result_judged, scope_opened, with_body}
 use Rattle.ep_check_unit.specs.Units.{first_block}
-use Rattle.ep_check_unit.specs.declared.functions.HeadingResult.{HeadingResult}
+use Rattle.ep_unit_rules.specs.declared.functions.HeadingResult.{HeadingResult}
 
 abbrev integer : TypeName
 integer = type_name.Required simple.Integer

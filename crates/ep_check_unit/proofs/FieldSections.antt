@@ -7,14 +7,16 @@ use Rattle.ep_tree.specs.declared.types.FieldSection.{FieldSection, out-FieldSec
 use Rattle.ep_tree.specs.declared.types.TypeDenoter.{TypeDenoter}
 use Rattle.ep_rules.specs.Judgements.{Judged, Accepts, when_accepted}
 use Rattle.ep_rules.specs.declared.forms.Refusal.{Refusal}
-use Rattle.ep_check_stmt.specs.Answers.{Refuses}
-use Rattle.ep_check_stmt.proofs.public.judged.Refusing.{part_refused}
+use Rattle.ep_rules.specs.Answers.{Refuses}
+use Rattle.ep_rules.proofs.public.Refusing.{part_refused}
 use Rattle.ep_check_stmt.proofs.public.judged.Rounds.{next_item}
-use Rattle.ep_check_unit.specs.Answers.{field_in, field_named, fields_in, named_in}
+use Rattle.ep_unit_rules.specs.Answers.{field_in, field_named}
+use Rattle.ep_check_unit.specs.Answers.{fields_in, named_in}
 use Rattle.ep_check_unit.specs.Blocks.{Block}
-use Rattle.ep_check_unit.specs.Declarations.{Fielded, ListJudged, Part, PartJudged, Section, VariantJudged, Written, at_core, at_field_section, at_fields, at_plain, at_structure, at_type_denoter, at_variant, at_variant_part, denoter_part, field_of, fields_named, section_part, section_written, sections_written, settled_part}
-use Rattle.ep_check_unit.specs.declared.records.WrittenField.{WrittenField}
-use Rattle.ep_check_unit.specs.declared.types.NamedType.{NamedType}
+use Rattle.ep_unit_rules.specs.Records.{fields_named}
+use Rattle.ep_check_unit.specs.Declarations.{Fielded, ListJudged, Part, PartJudged, Section, VariantJudged, Written, at_core, at_field_section, at_fields, at_plain, at_structure, at_type_denoter, at_variant, at_variant_part, denoter_part, field_of, section_part, section_written, sections_written, settled_part}
+use Rattle.ep_unit_rules.specs.declared.records.WrittenField.{WrittenField}
+use Rattle.ep_unit_rules.specs.declared.types.NamedType.{NamedType}
 
 -- the type of a section
 abbrev pub type_in : FieldSection → TypeDenoter

@@ -20,15 +20,17 @@ use Rattle.ep_typed.specs.declared.denoter.Denoter.{Denoter}
 use Rattle.ep_rules.specs.Judgements.{Judged, Accepts, Breaks, when_accepted}
 use Rattle.ep_rules.specs.declared.forms.Refusal.{Refusal}
 use Rattle.ep_rules.specs.declared.forms.Refusal.TheVariants.{Rule, NoMemory}
-use Rattle.ep_check_stmt.specs.Answers.{Refuses}
-use Rattle.ep_check_stmt.proofs.public.judged.Refusing.{part_refused}
+use Rattle.ep_rules.specs.Answers.{Refuses}
+use Rattle.ep_rules.proofs.public.Refusing.{part_refused}
 use Rattle.ep_check_stmt.proofs.public.judged.Rounds.{next_item}
-use Rattle.ep_check_unit.specs.Answers.{arrays_below, index_of, indexes_written, named_in}
+use Rattle.ep_unit_rules.specs.Answers.{index_of}
+use Rattle.ep_check_unit.specs.Answers.{arrays_below, indexes_written, named_in}
 use Rattle.ep_check_unit.specs.Blocks.{Block}
-use Rattle.ep_check_unit.specs.Declarations.{ListJudged, Part, PartJudged, Section, VariantJudged, Written, array_over, array_part, at_core, at_field_section, at_fields, at_plain, at_structure, at_type_denoter, at_variant, at_variant_part, core_part, index_values, plain_part, settled, settled_part, structure_part, structured, type_denoter}
-use Rattle.ep_check_unit.specs.declared.labels.TagValues.{TagValues}
-use Rattle.ep_check_unit.specs.declared.types.IndexType.{IndexType}
-use Rattle.ep_check_unit.specs.declared.types.NamedType.{NamedType}
+use Rattle.ep_unit_rules.specs.Types.{type_denoter}
+use Rattle.ep_check_unit.specs.Declarations.{ListJudged, Part, PartJudged, Section, VariantJudged, Written, array_over, array_part, at_core, at_field_section, at_fields, at_plain, at_structure, at_type_denoter, at_variant, at_variant_part, core_part, index_values, plain_part, settled, settled_part, structure_part, structured}
+use Rattle.ep_unit_rules.specs.declared.labels.TagValues.{TagValues}
+use Rattle.ep_unit_rules.specs.declared.types.IndexType.{IndexType}
+use Rattle.ep_unit_rules.specs.declared.types.NamedType.{NamedType}
 use Rattle.ep_check_unit.proofs.public.Forms.{map_push}
 use Rattle.ep_check_unit.proofs.Subranges.{accepted_same}
 

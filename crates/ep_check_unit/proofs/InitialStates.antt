@@ -10,9 +10,10 @@ use Rattle.ep_rules.specs.Judgements.{Accepts, Breaks}
 use Rattle.ep_check_expr.specs.StructuredValues.{asked_by}
 use Rattle.ep_check_expr.specs.declared.constants.ConstantForm.{ConstantForm}
 use Rattle.ep_rules.specs.declared.forms.Refusal.{Refusal}
-use Rattle.ep_check_stmt.specs.Answers.{Refuses}
-use Rattle.ep_check_stmt.proofs.public.judged.Refusing.{from_judged, part_refused, then_accepted}
-use Rattle.ep_check_unit.specs.Declarations.{Written, begun_with, fitting_state, may_begin, scopes_of, with_initial_state}
+use Rattle.ep_rules.specs.Answers.{Refuses}
+use Rattle.ep_rules.proofs.public.Refusing.{from_judged, part_refused, then_accepted}
+use Rattle.ep_unit_rules.specs.InitialStates.{may_begin}
+use Rattle.ep_check_unit.specs.Declarations.{Written, begun_with, fitting_state, scopes_of, with_initial_state}
 
 module _ (line : ℕ) (v : ComponentValue) (w : Written) (scopes : List Region) (is : scopes ≡ scopes_of w.block) (asked : Option ℕ) (asks : asked ≡ asked_by w.kind) where
   -- it is refused

@@ -46,19 +46,26 @@ use Rattle.ep_check_expr.specs.StructuredValues.{asked_by}
 use Rattle.ep_check_expr.specs.declared.constants.ConstantForm.{ConstantForm}
 use Rattle.ep_check_stmt.proofs.public.judged.Fits.{Any, Fits, fits_then, fits_both, fits_any}
 use Rattle.ep_check_stmt.specs.Statements.{Judgement, Passes, Waits, Fails}
-use Rattle.ep_check_unit.specs.Declarations.{constant_fitting, unless_large, Fielded, Gathered, Labelled, ListJudged, Listed, Part as DenoterPart, PartJudged as VariantsJudged, Section, Tag, VariantJudged, all_fields, completing_added, completing_written, field_of, fields_named, labels_noted, list_ended, list_written, record_over, selection_of, tag_written, unless_left_out, variant_added, variant_list, variant_listing, variant_part_written, variant_written, variants_after, variants_written, none_gathered, section_written, sections_written, set_on, set_over, unless_wide, all_variables_declared, and_then, array_over, at_line, common_host, constant_definition, constant_entered, begun, begun_with, constants_declared, denoter_part, fitting_state, may_begin, with_initial_state, declaration_ended, declared_type, entered, enumerated, enumeration, index_host, index_values, next_enumeration, noted, ordered, range, scopes_of, settled, settled_part, settled_type, Standing, Stands, Falls, subrange, type_definition, type_definitions, type_entered, type_meant, type_named, type_written, unused, variable_declaration, variable_entered, variables_declared, variables_entered, with_constant, with_name, with_type, is_outermost, with_own_variable, with_unit_variable, with_variable, own_thing, Written}
-use Rattle.ep_check_unit.specs.Functions.{if_given, in_block, is_assigned, is_in_view, is_named, own_name_entered, result_entered, result_name, routine_declaration, row_gives, same_result}
-use Rattle.ep_check_unit.specs.Routines.{BodyJudged, Headed, PartJudged, all_declared, block_declared, body_closed, body_declared, body_ended, declared_routine, formals_entered, given_among, forwarded, has_body, headed_again, headed_first, headed_over, headed_then, heading_entered, identified_again, identified_over, inside_declared, is_repeated, of_body, of_part, of_routine, part_judged, parts_declared, result_headed, result_judged, routine_body_judged, routine_judged, routine_there, scope_opened, sections_judged, start_headed, start_name, statements_judged, with_routine}
-use Rattle.ep_check_unit.specs.declared.functions.HeadingResult.{HeadingResult}
-use Rattle.ep_check_unit.specs.Labels.{completed, variant_labelled}
-use Rattle.ep_check_unit.specs.declared.labels.Labels.{Labels}
-use Rattle.ep_check_unit.specs.declared.labels.TagValues.{TagValues}
+use Rattle.ep_unit_rules.specs.InitialStates.{may_begin}
+use Rattle.ep_unit_rules.specs.Records.{fields_named}
+use Rattle.ep_unit_rules.specs.Types.{common_host, index_host, ordered}
+use Rattle.ep_unit_rules.specs.Variants.{Tag, all_fields}
+use Rattle.ep_check_unit.specs.Declarations.{constant_fitting, unless_large, Fielded, Gathered, Labelled, ListJudged, Listed, Part as DenoterPart, PartJudged as VariantsJudged, Section, VariantJudged, completing_added, completing_written, field_of, labels_noted, list_ended, list_written, record_over, selection_of, tag_written, unless_left_out, variant_added, variant_list, variant_listing, variant_part_written, variant_written, variants_after, variants_written, none_gathered, section_written, sections_written, set_on, set_over, unless_wide, all_variables_declared, and_then, array_over, at_line, constant_definition, constant_entered, begun, begun_with, constants_declared, denoter_part, fitting_state, with_initial_state, declaration_ended, declared_type, entered, enumerated, enumeration, index_values, next_enumeration, noted, range, scopes_of, settled, settled_part, settled_type, Standing, Stands, Falls, subrange, type_definition, type_definitions, type_entered, type_meant, type_named, type_written, unused, variable_declaration, variable_entered, variables_declared, variables_entered, with_constant, with_name, with_type, is_outermost, with_own_variable, with_unit_variable, with_variable, own_thing, Written}
+use Rattle.ep_unit_rules.specs.Functions.{in_block, result_name, routine_declaration, same_result}
+use Rattle.ep_check_unit.specs.Functions.{if_given, is_assigned, is_in_view, is_named, own_name_entered, result_entered, row_gives}
+use Rattle.ep_unit_rules.specs.Formals.{is_repeated}
+use Rattle.ep_unit_rules.specs.Headings.{start_name}
+use Rattle.ep_check_unit.specs.Routines.{BodyJudged, Headed, PartJudged, all_declared, block_declared, body_closed, body_declared, body_ended, declared_routine, formals_entered, given_among, forwarded, has_body, headed_again, headed_first, headed_over, headed_then, heading_entered, identified_again, identified_over, inside_declared, of_body, of_part, of_routine, part_judged, parts_declared, result_headed, result_judged, routine_body_judged, routine_judged, routine_there, scope_opened, sections_judged, start_headed, statements_judged, with_routine}
+use Rattle.ep_unit_rules.specs.declared.functions.HeadingResult.{HeadingResult}
+use Rattle.ep_unit_rules.specs.Labels.{completed, variant_labelled}
+use Rattle.ep_unit_rules.specs.declared.labels.Labels.{Labels}
+use Rattle.ep_unit_rules.specs.declared.labels.TagValues.{TagValues}
 use Rattle.ep_check_unit.specs.Units.{parameter_entered, parameters_entered, standard_file}
 use Rattle.ep_check_unit.specs.Blocks.{Block}
-use Rattle.ep_check_unit.specs.declared.types.TheConstants as limit
+use Rattle.ep_unit_rules.specs.declared.types.TheConstants as limit
 use Rattle.ep_check_unit.proofs.public.Denoters.{AreKept, AreVariantsKept, IsKeptIf, KeptByDenoters, each_type, over_part, record_part, set_part}
-use Rattle.ep_check_unit.specs.declared.block.OwnResult.{OwnResult}
-use Rattle.ep_check_unit.specs.declared.block.OwnVariables.{OwnVariables}
+use Rattle.ep_unit_rules.specs.declared.own.OwnResult.{OwnResult}
+use Rattle.ep_unit_rules.specs.declared.own.OwnVariables.{OwnVariables}
 
 module _ (n : List ℕ) where
   abbrev pub IsOf : Block → Type 0

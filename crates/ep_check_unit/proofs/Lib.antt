@@ -2,15 +2,9 @@ mod Bodies
 mod Defined
 mod Examples
 mod FieldSections
-mod Following
-mod GivenLoops
-mod GivenParts
-mod FoundNames
 mod Indexes
 mod InitialStates
 mod Kept
-mod KnownValues
-mod OwnFields
 mod Parameters
 mod Programs
 pub mod public

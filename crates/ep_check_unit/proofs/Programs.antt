@@ -11,7 +11,8 @@ use Rattle.ep_typed.specs.declared.tree.TypedStmt.TheFolds.{fold-roll-TypedStmt}
 use Rattle.ep_typed.specs.declared.unit.Unit.{Unit as TypedUnit}
 use Rattle.ep_rules.specs.Judgements.{Judged, Accepts}
 use Rattle.ep_rules.specs.declared.forms.Refusal.{Refusal}
-use Rattle.ep_check_stmt.specs.Answers.{Refuses, RefusesRow, passed, stmts_of}
+use Rattle.ep_rules.specs.Answers.{Refuses}
+use Rattle.ep_check_stmt.specs.Answers.{RefusesRow, passed, stmts_of}
 use Rattle.ep_check_stmt.specs.Outcomes.{refused_at}
 use Rattle.ep_check_stmt.specs.Statements.{Judgement, Passes, Waits, Fails, after}
 use Rattle.ep_check_stmt.specs.declared.outcome.CheckRefusal.{CheckRefusal}

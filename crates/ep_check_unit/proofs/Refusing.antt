@@ -5,7 +5,7 @@ use Rattle.std.specs.List.{list_any}
 use Rattle.ep_rules.specs.Judgements.{Judged, Accepts, Breaks}
 use Rattle.ep_rules.specs.declared.forms.Refusal.{Refusal}
 use Rattle.ep_rules.specs.declared.forms.Refusal.TheVariants.{Rule, NoMemory}
-use Rattle.ep_check_stmt.specs.Answers.{Refuses}
+use Rattle.ep_rules.specs.Answers.{Refuses}
 use Rattle.ep_check_stmt.specs.Outcomes.{refused_at}
 use Rattle.ep_check_stmt.specs.Statements.{Fails, fails_at}
 use Rattle.ep_scope.specs.declared.rule.TheConstants as rule

@@ -8,9 +8,10 @@ use Rattle.ep_check_expr.specs.Constants.{bound_judged}
 use Rattle.ep_rules.specs.Judgements.{Judged, Accepts, when_accepted, both}
 use Rattle.ep_check_expr.specs.declared.constants.ConstantForm.{ConstantForm}
 use Rattle.ep_rules.specs.declared.forms.Refusal.{Refusal}
-use Rattle.ep_check_stmt.specs.Answers.{Refuses}
-use Rattle.ep_check_stmt.proofs.public.judged.Refusing.{from_judged, first_refused, second_refused, both_refused, part_refused, rest_refused, both_accepted}
-use Rattle.ep_check_unit.specs.Declarations.{Written, common_host, ordered, range, scopes_of, subrange}
+use Rattle.ep_rules.specs.Answers.{Refuses}
+use Rattle.ep_rules.proofs.public.Refusing.{from_judged, first_refused, second_refused, both_refused, part_refused, rest_refused, both_accepted}
+use Rattle.ep_unit_rules.specs.Types.{common_host, ordered}
+use Rattle.ep_check_unit.specs.Declarations.{Written, range, scopes_of, subrange}
 use Rattle.ep_check_unit.specs.Blocks.{Block}
 
 -- a subrange with these bounds

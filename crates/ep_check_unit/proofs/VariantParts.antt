@@ -1,10 +1,6 @@
 -- Lists of fields and their variants are written from left to right, by the steps that the functions take.
-use Rattle.std.proofs.Common.{◌≡◌, ℕ, ℤ, zero, suc, ◌+◌, ◌<◌, Bool, true, false, cond, ◌||◌, is_some, List, [], ◌∷◌, drop, map, length, Option, Some, None, refl, sym, ap, ◌∙◌, subst, arith}
-use Rattle.std.proofs.lemmas.Iterator.Adapters.{position_from-zero}
-use Rattle.std.specs.List.{position_from}
+use Rattle.std.proofs.Common.{◌≡◌, ℕ, suc, List, [], ◌∷◌, map, length, Option, Some, None, refl, sym, ap, ◌∙◌}
 use Rattle.std.specs.Option.{option_map}
-use Rattle.std.specs.Str.{bytes_eq}
-use Rattle.ep_tree.specs.declared.expression.Expression.{Expression}
 use Rattle.ep_tree.specs.declared.types.Core.TheFolds.{fold-roll-VariantPart, fold_out-Variant}
 use Rattle.ep_tree.specs.declared.types.Fields.{Fields}
 use Rattle.ep_tree.specs.declared.types.Variant.{Variant as VariantTree, out-Variant}
@@ -13,41 +9,19 @@ use Rattle.ep_tree.specs.declared.types.VariantSelector.{VariantSelector}
 use Rattle.ep_typed.specs.declared.denoter.FieldPart.{roll-FieldPart}
 use Rattle.ep_typed.specs.declared.denoter.RecordField.{RecordField}
 use Rattle.ep_typed.specs.declared.denoter.VariantPart.{VariantPart}
-use Rattle.ep_typed.specs.declared.tree.CaseRange.{CaseRange}
 use Rattle.ep_typed.specs.declared.tree.Selection.{Selection}
-use Rattle.ep_scope.specs.Fields.{field_number}
-use Rattle.ep_scope.specs.Scopes.{Region}
 use Rattle.ep_scope.specs.declared.structure.FieldType.{FieldType}
 use Rattle.ep_rules.specs.Judgements.{Accepts, when_accepted}
-use Rattle.ep_rules.specs.declared.forms.Refusal.{Refusal}
-use Rattle.ep_check_stmt.specs.Answers.{Refuses}
-use Rattle.ep_check_stmt.proofs.public.judged.Refusing.{first_refused, part_refused, second_refused}
 use Rattle.ep_check_unit.specs.Blocks.{Block}
-use Rattle.ep_check_unit.specs.Declarations.{Field, Fielded, Gathered, Labelled, ListJudged, Listed, Part, PartJudged, Section, Tag, VariantJudged, all_fields, at_core, at_field_section, at_fields, at_plain, at_structure, at_type_denoter, at_variant, at_variant_part, bounds_nodes, completing_written, counted, fields_judged, fields_nodes, is_among_fields, labels_noted, none_gathered, record_field, selection_of, tag_written, unless_left_out, variant_added, variant_judged, variant_list, variant_listing, variant_part, variant_part_written, variant_written, variants_after, variants_judged, variants_written}
-use Rattle.ep_check_unit.specs.Labels.{end_judged, range_judged, ranging}
-use Rattle.ep_check_unit.specs.declared.labels.TagValues.{TagValues}
+use Rattle.ep_unit_rules.specs.Records.{Field, fields_nodes, record_field}
+use Rattle.ep_unit_rules.specs.Types.{counted}
+use Rattle.ep_unit_rules.specs.Variants.{Tag, all_fields}
+use Rattle.ep_check_unit.specs.Declarations.{Fielded, Gathered, Labelled, ListJudged, Listed, Part, PartJudged, Section, VariantJudged, at_core, at_field_section, at_fields, at_plain, at_structure, at_type_denoter, at_variant, at_variant_part, completing_written, fields_judged, labels_noted, none_gathered, selection_of, tag_written, unless_left_out, variant_added, variant_judged, variant_list, variant_listing, variant_part, variant_part_written, variant_written, variants_after, variants_judged, variants_written}
+use Rattle.ep_unit_rules.specs.declared.labels.TagValues.{TagValues}
 
 pub map_length : {X Y : Type 0} (f : X → Y) (xs : List X) → length (map f xs) ≡ length xs
 map_length f [] = refl
 map_length f (x ∷ xs) = ap suc (map_length f xs)
-
--- ---- labels
-
-module _ (scopes : List Region) (t : TagValues) (e : Refusal) (low : Expression) where
-  -- the first end is refused
-  pub low_refused : (high : Option Expression) → Refuses e (end_judged scopes t low) → Refuses e (range_judged scopes t low high)
-  low_refused None h = part_refused (λ z. ranging z z) e (end_judged scopes t low) h
-  low_refused (Some high) h = first_refused ranging e (end_judged scopes t low) (end_judged scopes t high) h
-
-  -- the last one is
-  pub high_refused : (o : Option Expression) (high : Expression) (z : Option ℤ) → o ≡ Some high → end_judged scopes t low ≡ Accepts z → Refuses e (end_judged scopes t high) → Refuses e (range_judged scopes t low o)
-  high_refused o high z there is h = subst (λ x. Refuses e (range_judged scopes t low x)) (sym there) (second_refused ranging e (end_judged scopes t low) (end_judged scopes t high) z is h)
-
--- the bounds of one more
-pub next_bounds : (nodes : ℕ) (ranges : List CaseRange) (i : ℕ) → i < length ranges → bounds_nodes nodes (drop i ranges) ≡ bounds_nodes (counted nodes 2) (drop (i + 1) ranges)
-next_bounds nodes [] i lt = absurd (omega (arith, lt))
-next_bounds nodes (r ∷ rs) zero lt = refl
-next_bounds nodes (r ∷ rs) (suc i) lt = next_bounds nodes rs i (omega (arith, lt)) ∙ ap (λ k. bounds_nodes (counted nodes 2) (drop k (r ∷ rs))) {x = suc (i + 1)} {y = suc i + 1} (omega arith)
 
 -- ---- variants
 
@@ -91,18 +65,3 @@ list_made own b t g s lists fields denoted part nodes selection same accepted is
     let there : all_fields (selection_of (length own) g) t own g.lists ≡ Accepts fields =
     ap (λ x. all_fields x t own g.lists) (sym selection) ∙ (ap (all_fields s t own) (sym same) ∙ accepted) in
     ap (when_accepted (λ fs. Accepts (variant_listing (record { fields = own; block = b }) t g fs))) there ∙ rw (is_denoted, is_part, is_counted) refl
-
--- ---- names of fields
-
-placed_from : (fields : List FieldType) (name : List ℕ) (n : ℕ) → is_some (position_from (λ f. bytes_eq f.name name) n fields) ≡ is_among_fields fields name
-placed_from [] name n = refl
-placed_from (f ∷ fs) name n = at (bytes_eq f.name name) (placed_from fs name (n + 1))
-  where
-    at : (b : Bool) → is_some (position_from (λ g. bytes_eq g.name name) (n + 1) fs) ≡ is_among_fields fs name
-        → is_some (cond b (Some n) (position_from (λ g. bytes_eq g.name name) (n + 1) fs)) ≡ (b || is_among_fields fs name)
-    at true rest = refl
-    at false rest = rest
-
--- a field of the name has a place
-pub placed_among : (fields : List FieldType) (name : List ℕ) → is_some (field_number fields name) ≡ is_among_fields fields name
-placed_among fields name = ap is_some (position_from-zero (λ f. bytes_eq f.name name) fields) ∙ placed_from fields name 0

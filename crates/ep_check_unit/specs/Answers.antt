@@ -7,7 +7,7 @@ use Rattle.ep_scope.specs.declared.kind.Kind.{Kind}
 use Rattle.ep_rules.specs.Judgements.{Judged, Accepts, when_accepted}
 use Rattle.ep_rules.specs.declared.forms.Refusal.{Refusal}
 use Rattle.ep_rules.specs.declared.forms.Refusal.TheVariants.{Rule, NoMemory}
-use Rattle.ep_check_stmt.specs.Answers.{Refuses}
+use Rattle.ep_rules.specs.Answers.{Refuses}
 use Rattle.ep_check_stmt.specs.declared.outcome.CheckRefusal.{CheckRefusal}
 use Rattle.ep_check_stmt.specs.declared.outcome.CheckRefusal.TheVariants as refusal
 use Rattle.ep_check_unit.specs.Declarations as spec
@@ -18,22 +18,17 @@ use Rattle.ep_check_stmt.specs.Answers.{locals_of}
 use Rattle.ep_check_stmt.specs.Statements as rows
 use Rattle.ep_check_stmt.specs.declared.statements.Locals.{Locals}
 use Rattle.ep_check_unit.specs.Routines.{Headed}
-use Rattle.ep_check_unit.specs.declared.headings.Heading.{Heading}
-use Rattle.ep_check_unit.specs.declared.types.IndexType.{IndexType}
-use Rattle.ep_check_unit.specs.declared.types.NamedType.{NamedType}
-use Rattle.ep_check_unit.specs.declared.types.Written.{Written}
-use Rattle.ep_check_unit.specs.declared.labels.Labels.{Labels}
-use Rattle.ep_check_unit.specs.declared.labels.TagValues.{TagValues}
-use Rattle.ep_check_unit.specs.declared.records.Listing.{Listing}
-use Rattle.ep_check_unit.specs.declared.records.WrittenField.{WrittenField}
+use Rattle.ep_unit_rules.specs.declared.headings.Heading.{Heading}
+use Rattle.ep_unit_rules.specs.declared.types.NamedType.{NamedType}
+use Rattle.ep_unit_rules.specs.declared.types.Written.{Written}
+use Rattle.ep_unit_rules.specs.declared.labels.Labels.{Labels}
+use Rattle.ep_unit_rules.specs.declared.labels.TagValues.{TagValues}
+use Rattle.ep_unit_rules.specs.declared.records.Listing.{Listing}
+use Rattle.ep_unit_rules.specs.declared.records.WrittenField.{WrittenField}
 use Rattle.ep_check_unit.specs.declared.variants.Gathered.{Gathered}
-use Rattle.ep_check_unit.specs.declared.variants.Tag.{Tag}
-
--- a count as a number of 32 bits, where it is one
-abbrev pub AnswersNumber : ℕ → Result ℕ Refusal → Type 0
-AnswersNumber count (Ok n) = n ≡ count
-AnswersNumber count (Err (Rule rule)) = ⊥
-AnswersNumber count (Err NoMemory) = ⊤
+use Rattle.ep_unit_rules.specs.Answers.{field_in}
+use Rattle.ep_unit_rules.specs.Constants.{entry_denoter, with_entry}
+use Rattle.ep_unit_rules.specs.Types.{type_denoter}
 
 -- the variables of a block, where their numbers have 32 bits
 abbrev pub AnswersLocals : rows.Locals → Result Locals Refusal → Type 0
@@ -64,14 +59,10 @@ AnswersGiven line given (Err r) = (s : Standing) → RefusesItems r (if_given li
 
 -- types that are written, in a block
 abbrev pub named_in : Block → NamedType → spec.Written
-named_in b t = record { denoter = spec.type_denoter t.name; of = t.of; kind = t.kind; nodes = t.nodes; block = b }
+named_in b t = record { denoter = type_denoter t.name; of = t.of; kind = t.kind; nodes = t.nodes; block = b }
 
 abbrev pub written_in : Block → Written → spec.Written
 written_in b w = record { denoter = w.denoter; of = w.of; kind = w.kind; nodes = w.nodes; block = b }
-
--- an index type, as the denoter of an array has it
-abbrev pub index_of : IndexType → Denoter × ℕ × TagValues
-index_of i = (spec.type_denoter i.name, i.nodes, i.values)
 
 -- index types from left to right, each with an entry where it needs one, and the block behind them
 abbrev pub indexes_written : ℕ → List spec.Part → Block → Judged (List (Denoter × ℕ × TagValues) × Block)
@@ -88,16 +79,6 @@ abbrev pub arrays_below : ℕ → List (Denoter × ℕ × TagValues) → spec.Wr
 arrays_below line [] w = w
 arrays_below line (i ∷ is) w = spec.settled line (spec.array_over i.0 i.1 i.2 (arrays_below line is w))
 
--- a field that is written
-abbrev pub field_in : WrittenField → spec.Field
-field_in f =
-    record { name = f.name; denoter = spec.type_denoter f.of.name; of = f.of.of; kind = f.of.kind; nodes = f.of.nodes }
-
--- the labels after what is judged, exactly where it is accepted, or a refusal
-abbrev pub AnswersLabels : Result (Unit {0}) Refusal → Labels → Judged Labels → Type 0
-AnswersLabels (Ok done) new judged = judged ≡ Accepts new
-AnswersLabels (Err refusal) new judged = Refuses refusal judged
-
 -- a list of fields that is written, in a block
 abbrev pub listed_in : Block → Listing → spec.Listed
 listed_in b l = record { listing = l; block = b }
@@ -105,17 +86,6 @@ listed_in b l = record { listing = l; block = b }
 -- the ranges of a variant, with the labels behind it, in a block
 abbrev pub labelled_in : Block → List CaseRange → Labels → spec.Labelled
 labelled_in b ranges found = record { ranges = ranges; labels = found; block = b }
-
--- a tag that is written
-abbrev pub tag_in : Tag → spec.Tag
-tag_in t =
-    record {
-      name = t.name.now;
-      denoter = spec.type_denoter t.of.name;
-      of = t.of.of;
-      values = t.values;
-      nodes = t.of.nodes;
-    }
 
 -- variants that are written so far, in a block
 abbrev pub gathered_in : Block → Gathered → spec.Gathered
@@ -129,11 +99,6 @@ gathered_in b g =
       block = b;
     }
 
--- fields of a type that is written
-abbrev pub field_named : NamedType → List ℕ → spec.Field
-field_named t name =
-    record { name = name; denoter = spec.type_denoter t.name; of = t.of; kind = t.kind; nodes = t.nodes }
-
 -- fields that are written, in a block
 abbrev pub fields_in : Block → List WrittenField → spec.Fielded
 fields_in b fields = record { fields = map field_in fields; block = b }
@@ -144,7 +109,7 @@ headed_in b h = record { number = h.number; parameters = h.parameters; result = 
 
 -- a constant's entry more, where it has one
 abbrev pub with_constant_entry : List ℕ → Kind → Value → Block → Block
-with_constant_entry name k v b = record b { constants = spec.with_entry name (spec.entry_denoter k v) v b.constants }
+with_constant_entry name k v b = record b { constants = with_entry name (entry_denoter k v) v b.constants }
 
 -- a type more, by its number
 abbrev pub AnswersType : Option (List ℕ) → ℕ → Denoter → Block → Result ℕ Refusal → Block → Type 0

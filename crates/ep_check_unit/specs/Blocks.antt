@@ -1,37 +1,13 @@
 -- What has been declared in a block, as plain data.
-use Rattle.std.specs.Prelude.{ℕ, ◌+◌, nat_eq, Bool, List, map, length, Option, Some, None}
-use Rattle.std.specs.List.{list_any}
+use Rattle.std.specs.Prelude.{ℕ, Bool, List, map, Option}
 use Rattle.ep_typed.specs.declared.interface.ConstantEntry.{ConstantEntry}
 use Rattle.ep_typed.specs.declared.unit.UnitType.{UnitType}
 use Rattle.ep_typed.specs.declared.unit.UnitVariable.{UnitVariable}
 use Rattle.ep_scope.specs.Scopes.{Row}
-pub use Rattle.ep_check_stmt.specs.RoutineForms.{RoutineForm, routine_form}
+pub use Rattle.ep_threats.specs.RoutineForms.{RoutineForm, routine_form}
 use Rattle.ep_check_unit.specs.declared.block.Block as declared
-use Rattle.ep_check_unit.specs.declared.block.Enclosing.{Enclosing}
 use Rattle.ep_check_unit.specs.declared.block.Forward.{Forward}
-use Rattle.ep_check_unit.specs.declared.block.OwnResult.{OwnResult}
-use Rattle.ep_check_unit.specs.declared.block.OwnVariables.{OwnVariables}
-
--- how many variables have the result: one in the block of a function
-abbrev pub result_count : Option OwnResult → ℕ
-result_count None = 0
-result_count (Some r) = 1
-
--- the number of the first variable that the block of the routine declares which is under way
-abbrev pub first_own : OwnVariables → ℕ
-first_own own = length own.parameters + result_count own.result
-
--- how many variables the routine has so far, which is the number of the next one
-abbrev pub own_count : OwnVariables → ℕ
-own_count own = first_own own + length own.variables
-
--- the numbers of the routines whose blocks are under way, the innermost first
-abbrev pub around_of : List Enclosing → List ℕ
-around_of enclosing = map (λ e. e.number) enclosing
-
--- whether a list has a number
-abbrev pub has_number : ℕ → List ℕ → Bool
-has_number number numbers = list_any (λ n. nat_eq n number) numbers
+use Rattle.ep_unit_rules.specs.declared.own.OwnVariables.{OwnVariables}
 
 -- what has been declared so far in the block of a unit
 pub record Block : Type 0 where
@@ -67,7 +43,7 @@ block_of b =
       variables = b.variables;
       declarations = b.declarations;
       own = b.own;
-      routines = map routine_form b.routines.items;
+      routines = map routine_form b.routines;
       forwards = b.forwards;
       bodies = b.bodies;
       waits = b.waits;

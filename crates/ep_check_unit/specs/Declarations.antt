@@ -5,10 +5,9 @@
 -- their first token, and a type part is one, on the line of the word `type`. A name means what is declared before its
 -- use, or outside of the block: a later declaration of it plays no part (own).
 use Rattle.std.specs.List.{list_any}
-use Rattle.std.specs.Prelude.{ℕ, nat_eq, nat_le, ◌==◌, ◌+◌, ℤ, pos, suc, int_le, Bool, true, false, ◌&&◌, ◌||◌, List}
-use Rattle.std.specs.Prelude.{[], ◌∷◌, ◌++◌, length, map, Option, Some, None, is_some, if◌then◌else◌}
+use Rattle.std.specs.Prelude.{ℕ, nat_eq, nat_le, ◌==◌, ◌+◌, pos, suc, Bool, true, false, ◌&&◌, List}
+use Rattle.std.specs.Prelude.{[], ◌∷◌, ◌++◌, length, Option, Some, None, is_some, if◌then◌else◌}
 use Rattle.std.specs.Option.{option_or}
-use Rattle.std.specs.Str.{bytes_eq}
 use Rattle.ep_tree.specs.declared.expression.ComponentValue.{ComponentValue}
 use Rattle.ep_tree.specs.declared.expression.Label.{Label}
 use Rattle.ep_tree.specs.Folds as fold
@@ -26,26 +25,18 @@ use Rattle.ep_tree.specs.declared.types.VariantSelector.TheVariants as selector
 use Rattle.ep_tree.specs.declared.declaration.ConstantDefinition.{ConstantDefinition}
 use Rattle.ep_tree.specs.declared.declaration.TypeDefinition.{TypeDefinition}
 use Rattle.ep_tree.specs.declared.declaration.VariableDeclaration.{VariableDeclaration}
-use Rattle.ep_values.specs.Sets.{is_ordinal, last_member}
 use Rattle.ep_values.specs.TypeValues as type
-use Rattle.ep_values.specs.TypeValues.{TypeValue}
-use Rattle.ep_typed.specs.declared.denoter.Bound.TheVariants.{Constant as Fixed}
 use Rattle.ep_typed.specs.declared.denoter.Denoter.{Denoter}
 use Rattle.ep_typed.specs.declared.denoter.Denoter.TheVariants as denoter
-use Rattle.ep_typed.specs.declared.denoter.FieldPart.{FieldPart, roll-FieldPart}
-use Rattle.ep_typed.specs.declared.denoter.RecordField.{RecordField, roll-RecordField}
+use Rattle.ep_typed.specs.declared.denoter.FieldPart.{FieldPart}
 use Rattle.ep_typed.specs.declared.denoter.Selector.TheVariants as written_selector
 use Rattle.ep_typed.specs.declared.denoter.Variant.{Variant, roll-Variant}
 use Rattle.ep_typed.specs.declared.denoter.VariantPart.{VariantPart, roll-VariantPart}
-use Rattle.ep_typed.specs.declared.denoter.RequiredType.{RequiredType}
-use Rattle.ep_typed.specs.declared.denoter.RequiredType.TheVariants as simple
-use Rattle.ep_typed.specs.declared.interface.ConstantEntry.{ConstantEntry}
 use Rattle.ep_typed.specs.declared.tree.CaseRange.{CaseRange}
 use Rattle.ep_typed.specs.declared.tree.Selection.{Selection}
 use Rattle.ep_typed.specs.declared.unit.UnitVariable.{UnitVariable}
 use Rattle.ep_typed.specs.declared.value.Value.{Value}
 use Rattle.ep_typed.specs.declared.value.Value.TheVariants as value
-use Rattle.ep_scope.specs.Kinds.{same_host}
 use Rattle.ep_scope.specs.Required.{look_up}
 use Rattle.ep_scope.specs.Scopes.{Region, in_view, with_inner, with_inner_structure, Meant, Declares, Standard}
 use Rattle.ep_scope.specs.Scopes.{Requires, FieldOf, Nothing, meant, meant_in}
@@ -72,15 +63,22 @@ use Rattle.ep_check_expr.specs.Constants.{constant_judged, bound_judged, initial
 use Rattle.ep_check_expr.specs.declared.constants.ConstantForm.{ConstantForm}
 use Rattle.ep_rules.specs.Names.{undeclared}
 use Rattle.ep_check_expr.specs.StructuredValues.{asked_by}
-pub use Rattle.ep_check_unit.specs.OrdinalTypes.{ordinal_value, value_of}
-use Rattle.ep_check_unit.specs.FittingConstants.{unless_outside}
-use Rattle.ep_check_unit.specs.Blocks.{Block, own_count}
-use Rattle.ep_check_unit.specs.Labels.{completed, no_labels, tag_values, variant_labelled}
-use Rattle.ep_check_unit.specs.declared.block.Enclosing.{Enclosing}
-use Rattle.ep_check_unit.specs.declared.labels.Labels.{Labels}
-use Rattle.ep_check_unit.specs.declared.labels.TagValues.{TagValues}
-use Rattle.ep_check_unit.specs.declared.records.Listing.{Listing}
-use Rattle.ep_check_unit.specs.declared.types.TheConstants as limit
+use Rattle.ep_unit_rules.specs.OrdinalTypes.{value_of}
+use Rattle.ep_unit_rules.specs.FittingConstants.{unless_outside}
+use Rattle.ep_unit_rules.specs.Own.{own_count}
+use Rattle.ep_check_unit.specs.Blocks.{Block}
+use Rattle.ep_unit_rules.specs.Labels.{completed, no_labels, tag_values, variant_labelled}
+use Rattle.ep_unit_rules.specs.declared.own.Enclosing.{Enclosing}
+use Rattle.ep_unit_rules.specs.declared.labels.Labels.{Labels}
+use Rattle.ep_unit_rules.specs.declared.labels.TagValues.{TagValues}
+use Rattle.ep_unit_rules.specs.declared.records.Listing.{Listing}
+use Rattle.ep_unit_rules.specs.declared.types.TheConstants as limit
+use Rattle.ep_unit_rules.specs.Constants.{entry_denoter, with_entry}
+use Rattle.ep_unit_rules.specs.InitialStates.{may_begin}
+use Rattle.ep_unit_rules.specs.Records.{Field, fields_named, own_fields, fields_nodes, field_part}
+use Rattle.ep_unit_rules.specs.Sets.{are_members}
+use Rattle.ep_unit_rules.specs.Types.{type_denoter, required_host, counted, subrange_nodes, written_by, subrange_denoter, common_host, ordered, index_host}
+use Rattle.ep_unit_rules.specs.Variants.{Tag, variant_nodes, all_fields}
 
 -- ---- names
 
@@ -116,62 +114,6 @@ noted false line b = record b { waits = option_or b.waits (Some line) }
 
 -- ---- types
 
--- the denoter of the type that is a host: a required type, or the enumeration's entry in the list of types
-abbrev pub host_denoter : Host → Denoter
-host_denoter host.Integer = denoter.Required simple.Integer
-host_denoter host.Char = denoter.Required simple.Char
-host_denoter host.Boolean = denoter.Required simple.Boolean
-host_denoter (host.Enumeration e) = denoter.Named e.number []
-
--- a type as a denoter
-abbrev pub type_denoter : TypeName → Denoter
-type_denoter (type_name.Required r) = denoter.Required r
-type_denoter (type_name.Entry number) = denoter.Named number []
-
--- the host of a required type (ISO 10206, 6.4.2.2)
-abbrev pub required_host : RequiredType → Host
-required_host simple.Integer = host.Integer
-required_host simple.Char = host.Char
-required_host simple.Boolean = host.Boolean
-
--- whether all values of a host may be members of sets
-abbrev pub are_all_members : Host → Bool
-are_all_members host.Integer = false
-are_all_members host.Char = true
-are_all_members host.Boolean = true
-are_all_members (host.Enumeration e) = nat_le e.last last_member
-
--- the denoter of the values of a host that may be members
-abbrev pub members_denoter : Host → Denoter
-members_denoter h =
-    if are_all_members h then host_denoter h
-    else denoter.Subrange (host_denoter h) (Fixed (pos 0)) (Fixed (pos last_member))
-
--- the denoter of sets of them
-abbrev pub set_denoter : Host → Denoter
-set_denoter h = denoter.Set (members_denoter h)
-
--- the denoter of the type of an array or a record
-abbrev pub structured_denoter : Value → Option Denoter
-structured_denoter (value.Structured of es) = Some (denoter.Named of [])
-structured_denoter _ = None
-
--- The denoter of a constant in the list of constants: its host, a set of all values of its host that may be members,
--- or the array or record type that the value is of. The empty set is one of integers there, and no text stands in the
--- list so far (own).
-abbrev pub entry_denoter : Kind → Value → Option Denoter
-entry_denoter (kind.Ordinal h) v = Some (host_denoter h)
-entry_denoter (kind.Set h) v = Some (set_denoter h)
-entry_denoter kind.EmptySet v = Some (set_denoter host.Integer)
-entry_denoter (kind.Structured n) v = structured_denoter v
-entry_denoter kind.Text v = None
-entry_denoter kind.File v = None
-
--- constants with one more, where it has a denoter
-abbrev pub with_entry : List ℕ → Option Denoter → Value → List ConstantEntry → List ConstantEntry
-with_entry name None v all = all
-with_entry name (Some d) v all = all ++ record { name = name; denoter = d; value = v } ∷ []
-
 -- a constant is entered, with its entry in the list of constants
 abbrev pub with_constant : List ℕ → Kind → Value → ℕ → Block → Block
 with_constant name k v deep b =
@@ -181,16 +123,6 @@ with_constant name k v deep b =
 -- a constant whose name is not there yet
 abbrev pub constant_entered : List ℕ → Kind → Value → ℕ → Block → Judged Block
 constant_entered name k v deep b = when_accepted (λ _. Accepts (with_constant name k v deep b)) (unused name b)
-
--- The nodes of a type are its denoters and bounds, with the names in it replaced by what they name (own). They are
--- counted
--- up to one more than a type may have.
-abbrev pub counted : ℕ → ℕ → ℕ
-counted n m = if nat_le (n + m) limit.TYPE_NODES then n + m else suc limit.TYPE_NODES
-
--- those of a subrange: itself, its host and its bounds
-abbrev pub subrange_nodes : ℕ
-subrange_nodes = 4
 
 -- a type that is written: its denoter, which type it is, its kind, and how many nodes it has, and what has been
 -- declared with it
@@ -236,30 +168,8 @@ abbrev pub type_named : List ℕ → Option (List ℕ) → Block → Judged Writ
 type_named name None b = type_meant (undeclared name) (meant (scopes_of b) name) b
 type_named interface (Some name) b = type_meant (rule.UNDECLARED ∷ []) (meant_in (scopes_of b) interface name) b
 
--- The type name that a denoter is. What is denoted otherwise has no name, and would be the type itself.
-abbrev pub name_in : TypeName → Denoter → TypeName
-name_in of (denoter.Required r) = type_name.Required r
-name_in of (denoter.Named number bounds) = type_name.Entry number
-name_in of _ = of
-
--- a type by the name that is written for it
-abbrev pub written_by : TypeName → Denoter → WrittenType
-written_by of d = record { name = name_in of d; is = of }
-
 abbrev pub written_type : Written → WrittenType
 written_type w = written_by w.of w.denoter
-
--- the number of a value
-abbrev pub number_in : Value → ℤ
-number_in (value.Word z) = z
-number_in (value.Text bytes) = pos 0
-number_in (value.Set members) = pos 0
-number_in (value.Structured of es) = pos 0
-
--- the denoter of a subrange of a host
-abbrev pub subrange_denoter : Host → ConstantForm → ConstantForm → Denoter
-subrange_denoter h low high =
-    denoter.Subrange (host_denoter h) (Fixed (number_in low.value)) (Fixed (number_in high.value))
 
 -- a type that is not there yet, which is the next one of the unit
 abbrev pub next_type : Block → TypeName
@@ -275,18 +185,6 @@ subrange line h low high b =
       nodes = subrange_nodes;
       block = noted (low.built && high.built) line b;
     }
-
--- the host of two values (ISO 10206, 6.4.2.4)
-abbrev pub common_host : Kind → Kind → Judged Host
-common_host (kind.Ordinal h) (kind.Ordinal g) = if same_host h g then Accepts h else Breaks (rule.HOSTS ∷ [])
-common_host _ _ = Breaks (rule.HOSTS ∷ [])
-
--- the bounds are in order; of one that is not built it is not known yet
-abbrev pub are_ordered : ConstantForm → ConstantForm → Bool
-are_ordered low high = if low.built && high.built then int_le (number_in low.value) (number_in high.value) else true
-
-abbrev pub ordered : ConstantForm → ConstantForm → Judged (Unit {0})
-ordered low high = if are_ordered low high then Accepts tt else Breaks (rule.EMPTY_RANGE ∷ [])
 
 -- two bounds of one host, in order
 abbrev pub range : ℕ → Block → ConstantForm → ConstantForm → Judged Written
@@ -355,11 +253,6 @@ pub record Part : Type 0 where
 abbrev pub settled_part : Part → ℕ → Block → Judged Written
 settled_part p line b = when_accepted (λ w. Accepts (if p.is_name then w else settled line w)) (p.written line b)
 
--- an index type is ordinal (ISO 10206, 6.4.3.2), and so is a base type (ISO 10206, 6.4.3.5)
-abbrev pub index_host : Kind → Judged Host
-index_host (kind.Ordinal h) = Accepts h
-index_host _ = Breaks (rule.ORDINAL ∷ [])
-
 -- the values of an index type, or of the type of a tag (ISO 10206, 6.4.3.4)
 abbrev pub index_values : Written → Judged TagValues
 index_values w = when_accepted (λ h. tag_values h (value_of w.block.types w.of)) (index_host w.kind)
@@ -402,11 +295,6 @@ abbrev pub array_part : Part → List Part → Part
 array_part of [] = of
 array_part of (i ∷ is) = record { is_name = false; written = array_written i (array_part of is) }
 
--- whether the values of a type may be members of sets: all of them have ordinal numbers of 0 to 255 (own)
-abbrev pub are_members : Option TypeValue → Bool
-are_members (Some (type.Ordinal low high)) = is_ordinal low && is_ordinal high
-are_members _ = false
-
 abbrev pub unless_wide : Written → Judged (Unit {0})
 unless_wide w = if are_members (value_of w.block.types w.of) then Accepts tt else Breaks (rule.SET_BASE ∷ [])
 
@@ -428,29 +316,10 @@ set_on w = when_accepted (λ h. when_accepted (λ _. Accepts (set_over h w)) (un
 abbrev pub set_written : Part → ℕ → Block → Judged Written
 set_written base line b = when_accepted set_on (settled_part base line b)
 
--- a field of a record: its name, the denoter of its type, which type it is, its kind and how many nodes it has
-pub record Field : Type 0 where
-  pub name : List ℕ
-  pub denoter : Denoter
-  pub of : TypeName
-  pub kind : Kind
-  pub nodes : ℕ
-
 -- fields that are written, and what has been declared with them
 pub record Fielded : Type 0 where
   pub fields : List Field
   pub block : Block
-
--- whether a field has the name
-abbrev pub has_field : List Field → List ℕ → Bool
-has_field [] name = false
-has_field (f ∷ fs) name = bytes_eq f.name name || has_field fs name
-
--- fields more, no two of one name (ISO 10206, 6.2.2.7 and 6.4.3.4)
-abbrev pub fields_named : (List ℕ → Field) → List (List ℕ) → List Field → Judged (List Field)
-fields_named field [] fields = Accepts fields
-fields_named field (name ∷ names) fields =
-    if has_field fields name then Breaks (rule.TWICE ∷ []) else fields_named field names (fields ++ field name ∷ [])
 
 -- a section of fields: their names, and their type
 pub record Section : Type 0 where
@@ -481,25 +350,6 @@ pub record Listed : Type 0 where
   pub listing : Listing
   pub block : Block
 
--- a field, as a denoter has it
-abbrev pub record_field : Field → RecordField
-record_field f = roll-RecordField (record { name = f.name; denoter = f.denoter })
-
--- the fields that are none of a variant, as the rules see them, from this number on
-abbrev pub own_fields : ℕ → List Field → List FieldType
-own_fields number [] = []
-own_fields number (f ∷ fs) =
-    record { name = f.name; of = f.of; kind = f.kind; path = []; number = number; tag = None }
-    ∷ own_fields (suc number) fs
-
--- these nodes and those of these fields
-abbrev pub fields_nodes : ℕ → List Field → ℕ
-fields_nodes nodes [] = nodes
-fields_nodes nodes (f ∷ fs) = fields_nodes (counted nodes f.nodes) fs
-
-abbrev pub field_part : List Field → Option VariantPart → FieldPart
-field_part fields variants = roll-FieldPart (record { fields = map record_field fields; variant_part = variants })
-
 -- a list without a variant part
 abbrev pub plain_list : Fielded → Listed
 plain_list f =
@@ -516,14 +366,6 @@ plain_list f =
 -- what a list of fields comes to in an item on a line
 abbrev pub ListJudged : Type 0
 ListJudged = ℕ → Block → Judged Listed
-
--- a tag: its name, the denoter of its type, which type that is, its values, and how many nodes it has
-pub record Tag : Type 0 where
-  pub name : List ℕ
-  pub denoter : Denoter
-  pub of : TypeName
-  pub values : TagValues
-  pub nodes : ℕ
 
 abbrev pub tag_named : List ℕ → Written → TagValues → Tag
 tag_named name w values = record { name = name; denoter = w.denoter; of = w.of; values = values; nodes = w.nodes }
@@ -554,14 +396,6 @@ none_gathered b = record { labels = no_labels; variants = []; lists = []; nodes 
 pub record VariantJudged : Type 0 where
   pub labels : List Label
   pub fields : ListJudged
-
--- the nodes of a variant and of the bounds of its labels more
-abbrev pub bounds_nodes : ℕ → List CaseRange → ℕ
-bounds_nodes nodes [] = nodes
-bounds_nodes nodes (r ∷ rs) = bounds_nodes (counted nodes 2) rs
-
-abbrev pub variant_nodes : ℕ → List CaseRange → ℕ → ℕ
-variant_nodes nodes ranges inner = counted (bounds_nodes (counted nodes 1) ranges) inner
 
 -- one more, with these ranges, behind which the labels are these
 abbrev pub variant_added : List CaseRange → Labels → Listed → Gathered → Gathered
@@ -618,45 +452,6 @@ unless_left_out t g = when_accepted (λ _. Accepts g) (completed t g.labels (is_
 -- how the variants are selected, by a tag in the component of this number
 abbrev pub selection_of : ℕ → Gathered → Selection
 selection_of number g = record { tag = number; labels = g.labels.before; completed = is_some g.completing }
-
--- a field of a variant of this number
-abbrev pub inside : Selection → ℕ → FieldType → FieldType
-inside s number f = record f { path = record { selection = s; variant = number } ∷ f.path }
-
--- whether one of these fields has the name
-abbrev pub is_among_fields : List FieldType → List ℕ → Bool
-is_among_fields [] name = false
-is_among_fields (f ∷ fs) name = bytes_eq f.name name || is_among_fields fs name
-
--- A record has one list of field names, whatever variants they are in, and no two are the same (ISO 10206, 6.2.2.7 and
--- 6.4.3.4).
-abbrev pub fields_joined : List FieldType → List FieldType → Judged (List FieldType)
-fields_joined [] all = Accepts all
-fields_joined (f ∷ fs) all =
-    if is_among_fields all f.name then Breaks (rule.TWICE ∷ []) else fields_joined fs (all ++ f ∷ [])
-
--- the fields of variants from this number on more
-abbrev pub variants_joined : Selection → ℕ → List (List FieldType) → List FieldType → Judged (List FieldType)
-variants_joined s number [] all = Accepts all
-variants_joined s number (fs ∷ more) all =
-    when_accepted (variants_joined s (suc number) more) (fields_joined (map (inside s number) fs) all)
-
--- the tag as a field, in the component behind the other fields
-abbrev pub tag_field : Selection → Tag → FieldType
-tag_field s t =
-    record {
-      name = t.name;
-      of = t.of;
-      kind = kind.Ordinal t.values.host;
-      path = [];
-      number = s.tag;
-      tag = Some (record { selection = s; host = t.values.host; low = t.values.low; high = t.values.high });
-    }
-
--- the fields of a list with a variant part: its own, the tag, and those of the variants
-abbrev pub all_fields : Selection → Tag → List Field → List (List FieldType) → Judged (List FieldType)
-all_fields s t fields lists =
-    when_accepted (variants_joined s 0 lists) (fields_joined (tag_field s t ∷ []) (own_fields 0 fields))
 
 -- the variant part, as a denoter has it
 abbrev pub variant_part : Tag → Gathered → VariantPart
@@ -723,15 +518,6 @@ abbrev pub record_written : ListJudged → ℕ → Block → Judged Written
 record_written fields line b = when_accepted (λ l. Accepts (record_over l)) (fields line b)
 
 -- ---- initial states (ISO 10206, 6.6)
-
--- whether a constant of the one kind may be the initial state of a type of the other: a value of its host, a set over
--- it, of which the empty set is one over each host, or an array or a record of that type
-abbrev pub may_begin : Kind → Kind → Bool
-may_begin (kind.Ordinal g) (kind.Ordinal h) = same_host h g
-may_begin (kind.Structured m) (kind.Structured n) = nat_eq m n
-may_begin (kind.Set g) (kind.Set h) = same_host h g
-may_begin kind.EmptySet (kind.Set h) = true
-may_begin _ _ = false
 
 -- the type with this initial state
 abbrev pub with_initial_state : ℕ → Written → ConstantForm → Written

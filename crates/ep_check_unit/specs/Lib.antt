@@ -2,11 +2,6 @@ pub mod Answers
 pub mod Blocks
 pub mod Checks
 pub mod Declarations
-pub mod Definitions
-pub mod FittingConstants
 pub mod Functions
-pub mod Giving
-pub mod Labels
-pub mod OrdinalTypes
 pub mod Routines
 pub mod Units

@@ -2,7 +2,7 @@
 -- routine without its block is an item, on the line of the word `procedure` or `function`.
 use Rattle.std.specs.List.{list_any}
 use Rattle.std.specs.Prelude.{ℕ, ◌+◌, suc, Bool, true, false, not, ◌||◌, List, [], ◌∷◌, ◌++◌, map, length, slice_get}
-use Rattle.std.specs.Prelude.{slice_set, Option, Some, None, is_none, if◌then◌else◌}
+use Rattle.std.specs.Prelude.{Option, Some, None, is_none, if◌then◌else◌}
 use Rattle.std.specs.Str.{bytes_eq}
 use Rattle.ep_tree.specs.declared.declaration.FormalSection.{FormalSection}
 use Rattle.ep_tree.specs.declared.declaration.FormalType.{FormalType}
@@ -18,16 +18,11 @@ use Rattle.ep_tree.specs.declared.routine.RoutineStart.TheVariants as start
 use Rattle.ep_tree.specs.declared.statement.Compound.{Compound}
 use Rattle.ep_typed.specs.Trees as tree
 use Rattle.ep_typed.specs.Trees.{Stmt, Stmts}
-use Rattle.ep_typed.specs.declared.interface.Formal.{Formal}
-use Rattle.ep_typed.specs.declared.interface.FormalMode.{FormalMode}
-use Rattle.ep_typed.specs.declared.interface.FormalMode.TheVariants as mode
 use Rattle.ep_typed.specs.declared.unit.UnitVariable.{UnitVariable}
-use Rattle.ep_scope.specs.Parameters.{protection_of, same_parameters}
+use Rattle.ep_scope.specs.Parameters.{protection_of}
 use Rattle.ep_scope.specs.Required.{look_up}
 use Rattle.ep_scope.specs.Scopes.{Region, opened, closed}
-use Rattle.ep_scope.specs.declared.kind.Kind.{Kind}
 use Rattle.ep_scope.specs.declared.parameter.FormalParameter.{FormalParameter}
-use Rattle.ep_scope.specs.declared.parameter.WrittenType.{WrittenType}
 use Rattle.ep_scope.specs.declared.rule.TheConstants as rule
 use Rattle.ep_scope.specs.declared.thing.Declaration.{Declaration}
 use Rattle.ep_scope.specs.declared.thing.Declaration.TheVariants as declaration
@@ -38,31 +33,26 @@ use Rattle.ep_check_stmt.specs.Auxiliaries.{has_for, has_for_in}
 use Rattle.ep_check_stmt.specs.Statements.{Context, Locals, OfUnit, OfRoutine, Judgement, Passes, Waits, Fails}
 use Rattle.ep_check_stmt.specs.Statements.{compound_judged}
 use Rattle.ep_check_stmt.specs.Tags.{assigns_tag}
-use Rattle.ep_check_unit.specs.Blocks.{Block, RoutineForm, around_of, first_own, own_count}
-pub use Rattle.ep_check_unit.specs.Blocks.{has_number}
-use Rattle.ep_check_unit.specs.declared.block.Enclosing.{Enclosing}
-use Rattle.ep_check_unit.specs.declared.block.OwnVariables.{OwnVariables}
+use Rattle.ep_unit_rules.specs.Own.{around_of, first_own, own_count}
+use Rattle.ep_threats.specs.RoutineForms.{block_set}
+use Rattle.ep_check_unit.specs.Blocks.{Block, RoutineForm}
+use Rattle.ep_unit_rules.specs.Numbers.{has_number}
+use Rattle.ep_unit_rules.specs.declared.own.Enclosing.{Enclosing}
+use Rattle.ep_unit_rules.specs.declared.own.OwnVariables.{OwnVariables}
 use Rattle.ep_tree.specs.declared.operator.QualifiedName.{QualifiedName}
 use Rattle.ep_check_unit.specs.Declarations.{Written, Standing, Stands, Falls, all_variables_declared, and_then}
 use Rattle.ep_check_unit.specs.Declarations.{at_line, constants_declared, entered, misnamed, noted, own_thing}
-use Rattle.ep_check_unit.specs.Declarations.{scopes_of, type_definitions, type_denoter, type_named, written_type}
+use Rattle.ep_check_unit.specs.Declarations.{scopes_of, type_definitions, type_named, written_type}
 use Rattle.ep_check_unit.specs.Functions.{assigned_functions, if_given, is_assigned, is_in_view, is_named}
-use Rattle.ep_check_unit.specs.Functions.{own_name_at, own_result, result_entered, result_name, routine_declaration}
-use Rattle.ep_check_unit.specs.Functions.{row_gives, same_result, text_gives, typed_result}
-use Rattle.ep_check_unit.specs.declared.functions.HeadingResult.{HeadingResult}
+use Rattle.ep_unit_rules.specs.Functions.{result_name, routine_declaration, text_gives}
+use Rattle.ep_check_unit.specs.Functions.{own_name_at, result_entered}
+use Rattle.ep_unit_rules.specs.Functions.{same_result, typed_result}
+use Rattle.ep_check_unit.specs.Functions.{row_gives}
+use Rattle.ep_unit_rules.specs.declared.functions.HeadingResult.{HeadingResult}
+use Rattle.ep_unit_rules.specs.Formals.{section_mode, is_parameter, parameters_added, formal_of, is_repeated}
+use Rattle.ep_unit_rules.specs.Headings.{start_name, own_variables}
 
 -- ---- formal parameters (ISO 10206, 6.7.3)
-
--- how the parameters of a section are given: by the words `protected` and `var`
-abbrev pub section_mode : Bool → Bool → FormalMode
-section_mode false false = mode.Value
-section_mode false true = mode.Variable
-section_mode true false = mode.ProtectedValue
-section_mode true true = mode.ProtectedVariable
-
--- whether a parameter has the name
-abbrev pub is_parameter : List ℕ → List FormalParameter → Bool
-is_parameter name ps = list_any (λ p. bytes_eq p.name name) ps
 
 -- In a list of parameters the name of the routine and those of the parameters before hide what they mean outside; none
 -- of them is a type or has a constituent.
@@ -79,18 +69,6 @@ abbrev pub section_type : List ℕ → List FormalParameter → FormalType → B
 section_type routine before (formal_type.Named name) b = parameter_type routine before name.first name.second b
 section_type routine before (formal_type.TypeOf line name) b = unbuilt
 
--- no name stands twice in a list of parameters
-abbrev pub parameter_added : FormalParameter → List FormalParameter → Judged (List FormalParameter)
-parameter_added p before = if is_parameter p.name before then Breaks (rule.TWICE ∷ []) else Accepts (before ++ p ∷ [])
-
--- the parameters of these names, of a section with this number
-abbrev pub parameters_added : FormalMode → ℕ → WrittenType → Kind → List (List ℕ) → List FormalParameter
-    → Judged (List FormalParameter)
-parameters_added m section of k [] before = Accepts before
-parameters_added m section of k (name ∷ names) before =
-    when_accepted (parameters_added m section of k names)
-    (parameter_added (record { name = name; mode = m; section = section; of = of; kind = k }) before)
-
 abbrev pub section_judged : List ℕ → ℕ → FormalSection → Block → List FormalParameter → Judged (List FormalParameter)
 section_judged routine section s b before =
     when_accepted
@@ -105,10 +83,6 @@ sections_judged routine section (s ∷ ss) b before =
     when_accepted (sections_judged routine (suc section) ss b) (section_judged routine section s b before)
 
 -- ---- headings (ISO 10206, 6.7.1 and 6.7.2)
-
--- a formal parameter of a typed routine
-abbrev pub formal_of : FormalParameter → Formal
-formal_of p = record { name = p.name; mode = p.mode; section = p.section; denoter = type_denoter p.of.name }
 
 -- a routine with these formal parameters and this result, in the blocks of these, which has no block so far and does
 -- nothing
@@ -166,11 +140,6 @@ routine_there (thing.Standard file) b = Breaks (rule.TWICE ∷ [])
 -- whether the routine of this number has a body
 abbrev pub has_body : ℕ → Block → Bool
 has_body number b = has_number number b.bodies
-
--- A heading that is given again has no parameters, or those of the first one.
-abbrev pub is_repeated : List FormalParameter → List FormalParameter → Bool
-is_repeated [] first = true
-is_repeated (p ∷ ps) first = same_parameters (p ∷ ps) first
 
 -- another declaration of a routine is its body, where it has none yet
 abbrev pub headed_again : Bool → List FormalParameter → Option HeadingResult → Headed → Judged Headed
@@ -231,15 +200,6 @@ abbrev pub start_headed : Bool → ℕ → RoutineStart → Block → Judged Hea
 start_headed is_forward line (start.Heading h) b = heading_headed is_forward line h b
 start_headed is_forward line (start.Function at name) b = function_identified is_forward name b
 
-abbrev pub heading_name : RoutineHeading → List ℕ
-heading_name (heading.Procedure at name sections) = name
-heading_name (heading.Function at name sections own of) = name
-
--- its name
-abbrev pub start_name : RoutineStart → List ℕ
-start_name (start.Heading h) = heading_name h
-start_name (start.Function at name) = name
-
 -- and then more
 abbrev pub headed_then : ℕ → (Headed → Standing) → Judged Headed → Standing
 headed_then line more (Accepts h) = more h
@@ -252,17 +212,6 @@ forwarded line h =
     record b { forwards = b.forwards ++ record { number = h.number; line = line } ∷ [] }
 
 -- ---- blocks of routines (ISO 10206, 6.2.1)
-
--- The variables with which the block of the routine of this number begins, in the blocks of these: its formal
--- parameters are the first ones, and its result comes next.
-abbrev pub own_variables : ℕ → List FormalParameter → Option HeadingResult → List Enclosing → OwnVariables
-own_variables number ps r around =
-    record {
-      parameters = ps;
-      result = own_result number (length ps) r;
-      variables = [];
-      enclosing = record { number = number; result = own_result number (length ps) r } ∷ around;
-    }
 
 -- The block of a routine is a scope of its own inside of that of the block around it (ISO 10206, 6.2.2), with
 -- variables of its own.
@@ -333,19 +282,10 @@ context_of b c =
 abbrev pub statements_judged : Block → Compound → Judgement Stmts
 statements_judged b c = compound_judged (context_of b c) c
 
--- a routine with the block that a declaration on this line has, and the variables that are declared there
-abbrev pub with_its_block : ℕ → List UnitVariable → Stmt → RoutineForm → RoutineForm
-with_its_block line variables s r = record r { line = line; variables = variables; block = s }
-
--- the item of a number in another form, where there is one
-abbrev pub set_to : {A : Type 0} → List A → ℕ → (A → A) → Option A → List A
-set_to xs n f None = xs
-set_to xs n f (Some x) = slice_set xs n (f x)
-
 -- what the routine of this number does, with the variables that it has declared
 abbrev pub with_block : ℕ → ℕ → List UnitVariable → Stmt → Block → Block
 with_block line number variables s b =
-    record b { routines = set_to b.routines number (with_its_block line variables s) (slice_get b.routines number) }
+    record b { routines = block_set number line variables s b.routines }
 
 -- it has its body
 abbrev pub with_body : ℕ → Block → Block

@@ -18,7 +18,8 @@ use Rattle.ep_scope.specs.declared.thing.Thing.TheVariants as thing
 use Rattle.ep_rules.specs.Judgements.{Judged, Accepts, unbuilt, when_accepted}
 use Rattle.ep_check_stmt.specs.Statements.{Judgement, Passes, Waits, Fails, fails_at, after}
 use Rattle.ep_check_unit.specs.Declarations.{Standing, Stands, Falls, at_line, and_then, entered}
-use Rattle.ep_check_unit.specs.Routines.{has_number, parts_declared, statements_judged}
+use Rattle.ep_unit_rules.specs.Numbers.{has_number}
+use Rattle.ep_check_unit.specs.Routines.{parts_declared, statements_judged}
 use Rattle.ep_check_unit.specs.Blocks.{Block, routine_form}
 use Rattle.ep_check_unit.specs.declared.block.Forward.{Forward}
 

@@ -1,26 +1,22 @@
 //! What has been declared in a block.
 
-ghost use Rattle.std.specs.Prelude.{◌≡◌, [], length, IfOk, OnOk};
+ghost use Rattle.std.specs.Prelude.{◌≡◌, length, IfOk, OnOk};
 ghost use Rattle.std.specs.Option.{option_map};
-ghost use Rattle.ep_check_unit.specs.Answers.{AnswersBlock, AnswersNumber, AnswersType, with_constant_entry};
-ghost use Rattle.ep_check_unit.specs.Blocks.{block_of, first_own, has_number, own_count, result_count};
-ghost use Rattle.ep_check_unit.specs.Declarations.{constant_entered, entered, entry_denoter, noted, own_thing, structured_denoter, with_type};
+ghost use Rattle.ep_check_unit.specs.Answers.{AnswersBlock, AnswersType, with_constant_entry};
+ghost use Rattle.ep_check_unit.specs.Blocks.{block_of};
+ghost use Rattle.ep_check_unit.specs.Declarations.{constant_entered, entered, noted, own_thing};
 ghost use Rattle.ep_check_unit.specs.Checks.{IsUnitWith};
 ghost use Rattle.ep_check_unit.specs.Units.{first_block};
 
-use crate::bodied::Bodies;
-use crate::sets::set_denoter;
-use crate::types::{Written, host_type, type_denoter};
 use ep_base::{Line, List, Name, NoMemory};
 use ep_rules::Refusal;
-use ep_scope::{
-    Declaration, Declared, FormalParameters, Host, Kind, ScopeRefusal, Scopes, Thing, WrittenType,
-    rule,
-};
+use ep_scope::{Declaration, Declared, Kind, ScopeRefusal, Scopes, Thing, rule};
+use ep_threats::RoutineTable;
 use ep_typed::{
-    ConstantEntries, ConstantEntry, Denoter, ImportSpecs, TypeEntry, TypedStmt, TypedStmts, Unit,
-    UnitRoutine, UnitType, UnitTypes, UnitVariables, Value,
+    ConstantEntries, ConstantEntry, ImportSpecs, TypeEntry, TypedStmt, TypedStmts, Unit, UnitType,
+    UnitTypes, UnitVariables, Value,
 };
+use ep_unit_rules::{Bodies, OwnVariables, Written, copied_value, entry_denoter, number};
 use std::alloc::{AllocError, Global};
 
 /// What has been declared so far in the block of a unit.
@@ -42,7 +38,7 @@ pub(crate) struct Block {
     /// The variables of the routine whose block is under way; none outside of routines.
     pub(crate) own: OwnVariables,
     /// The routines, by number, each of which gets its block in place. One whose body is still to come does nothing.
-    pub(crate) routines: Vec<UnitRoutine>,
+    pub(crate) routines: RoutineTable,
     /// The routines that are declared `forward`.
     pub(crate) forwards: List<Forward>,
     /// The numbers of the routines that have a body.
@@ -70,123 +66,6 @@ impl Drop for Block {
     }
 }
 
-/// The result of the function whose block is under way.
-#[derive(Clone, Copy, Drop)]
-pub(crate) struct OwnResult {
-    /// The number of the function among the routines.
-    pub(crate) function: u32,
-    /// The number of the variable that has the result, among those of the function.
-    pub(crate) variable: u32,
-    /// Its type.
-    pub(crate) of: WrittenType,
-    /// The kind of the type.
-    pub(crate) kind: Kind,
-    /// Whether it has a name of its own.
-    pub(crate) named: bool,
-}
-
-/// A routine whose block is under way.
-#[derive(Clone, Copy, Drop)]
-pub(crate) struct Enclosing {
-    /// Its number.
-    pub(crate) number: u32,
-    /// Its result, where it is a function.
-    pub(crate) result: Option<OwnResult>,
-}
-
-/// The variables of the routine whose block is under way, and the routines around what is declared there.
-pub(crate) struct OwnVariables {
-    /// Its formal parameters, which come first.
-    pub(crate) parameters: FormalParameters,
-    /// Its result, which comes next.
-    pub(crate) result: Option<OwnResult>,
-    /// Those that it has declared so far.
-    pub(crate) variables: UnitVariables,
-    /// The routines whose blocks are under way, this one first; none outside of routines.
-    pub(crate) enclosing: List<Enclosing>,
-}
-
-impl Drop for OwnVariables {
-    fn drop(self) {
-        let OwnVariables {
-            parameters: _,
-            result: _,
-            variables: _,
-            enclosing: _,
-        } = self;
-    }
-}
-
-impl OwnVariables {
-    /// Those of a routine with these formal parameters and this result, which has declared none yet, in these blocks. It
-    /// takes no memory.
-    pub(crate) fn new(
-        alloc: Global,
-        parameters: FormalParameters,
-        given: Option<OwnResult>,
-        enclosing: List<Enclosing>,
-    ) -> OwnVariables
-        ensures { result ≡ record {
-          parameters = parameters;
-          result = given;
-          variables = [];
-          enclosing = enclosing;
-        } }
-    {
-        OwnVariables {
-            parameters,
-            result: given,
-            variables: List::new(alloc),
-            enclosing,
-        }
-    }
-
-    /// The number of the first one that is declared.
-    pub(crate) fn first(&self) -> Result<u32, Refusal>
-        ensures { AnswersNumber (first_own self.now) result }
-    {
-        let parameters = self.parameters.items().len();
-        match parameters.checked_add(result_count(self.result)) {
-            None => Err(Refusal::NoMemory),
-            Some(first) => number(first),
-        }
-    }
-
-    /// Their number, which the next one has.
-    pub(crate) fn count(&self) -> Result<u32, Refusal>
-        ensures { AnswersNumber (own_count self.now) result }
-    {
-        let first = self.first()?;
-        match (first as usize).checked_add(self.variables.items().len()) {
-            None => Err(Refusal::NoMemory),
-            Some(count) => number(count),
-        }
-    }
-
-    /// The declared ones alone.
-    pub(crate) fn into_variables(self) -> UnitVariables
-        ensures { result ≡ self.variables }
-    {
-        let OwnVariables {
-            parameters: _,
-            result: _,
-            variables,
-            enclosing: _,
-        } = self;
-        variables
-    }
-}
-
-/// How many variables have the result.
-fn result_count(given: Option<OwnResult>) -> usize
-    ensures { result ≡ result_count given }
-{
-    match given {
-        None => 0,
-        Some(_) => 1,
-    }
-}
-
 /// A routine that is declared `forward` (ISO 10206, 6.7.1 and 6.7.2).
 #[derive(Clone, Copy, Drop)]
 pub(crate) struct Forward {
@@ -194,23 +73,6 @@ pub(crate) struct Forward {
     pub(crate) number: u32,
     /// The line of the declaration.
     pub(crate) line: Line,
-}
-
-/// A count as a number of a unit, which has 32 bits.
-pub(crate) fn number(count: usize) -> Result<u32, Refusal>
-    ensures { AnswersNumber count result }
-{
-    match u32::try_from(count) {
-        Ok(number) => Ok(number),
-        Err(_) => Err(Refusal::NoMemory),
-    }
-}
-
-/// Whether a list has a number.
-pub(crate) fn has_number(number: u32, numbers: &[u32]) -> bool
-    ensures { result ≡ has_number number numbers.now }
-{
-    numbers.contains(&number)
 }
 
 impl Block {
@@ -228,7 +90,7 @@ impl Block {
             variables: List::new(alloc),
             declarations: 0,
             own: OwnVariables::new(alloc, List::new(alloc), None, List::new(alloc)),
-            routines: Vec::new(alloc),
+            routines: RoutineTable::new(alloc),
             forwards: List::new(alloc),
             bodies: Bodies::new(alloc),
             waits: None,
@@ -261,7 +123,7 @@ impl Block {
             types,
             constants,
             variables,
-            routines: List::from_vec(routines),
+            routines: routines.into_list(),
             start: TypedStmt::Compound(statements),
             stop: TypedStmt::Empty,
         }
@@ -334,7 +196,7 @@ impl Block {
     {
         let number = number(self.constants.items().len())?;
         self.add_entry(alloc, name, kind, value)?;
-        let copy = copied(alloc, value)?;
+        let copy = copied_value(alloc, value)?;
         let thing = self.own_thing(alloc, number, Declaration::Constant(kind, copy, depth))?;
         self.enter(alloc, name, thing)
     }
@@ -356,7 +218,7 @@ impl Block {
         let entry = ConstantEntry {
             name: name.copy(alloc)?,
             denoter,
-            value: copied(alloc, value)?,
+            value: copied_value(alloc, value)?,
         };
         self.constants.push(entry)
     }
@@ -387,40 +249,5 @@ impl Block {
         let line = Some(line);
         self.types.push(UnitType { entry, line })?;
         Ok(number)
-    }
-}
-
-/// An equal value. What an array or a record is given is shared.
-fn copied(alloc: Global, value: &Value) -> Result<Value, NoMemory>
-    ensures { IfOk result (λ copy. copy ≡ value.now) }
-{
-    match value {
-        Value::Word(word) => Ok(Value::Word(*word)),
-        Value::Text(bytes) => Ok(Value::Text(List::from_slice(alloc, bytes.items())?)),
-        Value::Set(members) => Ok(Value::Set(List::from_slice(alloc, members.items())?)),
-        Value::Structured(number, given) => Ok(Value::Structured(*number, given.share()?)),
-    }
-}
-
-/// The denoter of a constant of this kind in the list of constants, where it has one.
-fn entry_denoter(alloc: Global, kind: Kind, value: &Value) -> Result<Option<Denoter>, NoMemory>
-    ensures { IfOk result (λ d. d ≡ entry_denoter kind value.now) }
-{
-    match kind {
-        Kind::Ordinal(host) => Ok(Some(type_denoter(alloc, host_type(host)))),
-        Kind::Set(host) => Ok(Some(set_denoter(alloc, host)?)),
-        Kind::EmptySet => Ok(Some(set_denoter(alloc, Host::Integer)?)),
-        Kind::Structured(_) => Ok(structured_denoter(alloc, value)),
-        Kind::Text | Kind::File => Ok(None),
-    }
-}
-
-/// The denoter of the type of an array or a record.
-fn structured_denoter(alloc: Global, value: &Value) -> Option<Denoter>
-    ensures { result ≡ structured_denoter value.now }
-{
-    match value {
-        Value::Structured(number, _) => Some(Denoter::Named(*number, List::new(alloc))),
-        _ => None,
     }
 }

@@ -10,13 +10,13 @@ ghost use Rattle.ep_check_unit.specs.Checks.{AnswersBuilt, AnswersMissing, IsChe
 ghost use Rattle.ep_check_unit.specs.Units.{IsTypedProgram, first_missing, has_name, imports_of, parameters_entered, program_judged, standard_file, standard_import, standard_interface};
 
 use crate::block::{Block, Forward};
-use crate::bodied::Bodies;
 use ep_base::{Line, List, Name, NameRefusal, NoMemory};
 use ep_check_stmt::{CheckRefusal, Outcome, refused_at};
 use ep_rules::Refusal;
 use ep_scope::{Thing, rule};
 use ep_tree::{Component, Program};
 use ep_typed::{ImportSpec, ImportSpecs, Interface, StandardFile, TypedStmts, Unit};
+use ep_unit_rules::Bodies;
 use std::alloc::{AllocError, Global};
 
 /// What a component is that breaks no rule.

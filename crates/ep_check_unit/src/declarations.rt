@@ -6,11 +6,10 @@ ghost use Rattle.ep_rules.specs.Answers.{AnswersJudged};
 ghost use Rattle.ep_rules.specs.Judgements.{when_accepted};
 ghost use Rattle.ep_check_unit.specs.Answers.{AnswersBlock, AnswersStanding};
 ghost use Rattle.ep_check_unit.specs.Blocks.{block_of};
-ghost use Rattle.ep_check_unit.specs.Declarations.{all_variables_declared, at_line, constant_definition, constant_fitting, constants_declared, new_variable, type_definition, type_definitions, type_denoter, variable_declaration, variable_entered, variable_placed, variables_entered, with_own_variable, with_unit_variable};
+ghost use Rattle.ep_unit_rules.specs.Types.{type_denoter};
+ghost use Rattle.ep_check_unit.specs.Declarations.{all_variables_declared, at_line, constant_definition, constant_fitting, constants_declared, new_variable, type_definition, type_definitions, variable_declaration, variable_entered, variable_placed, variables_entered, with_own_variable, with_unit_variable};
 
-use crate::block::{Block, number};
-use crate::fitting::fits;
-use crate::types::{NamedType, type_denoter};
+use crate::block::Block;
 use ep_base::{Line, List, Name, NoMemory};
 use ep_check_expr::{ConstantForm, constant_value};
 use ep_check_stmt::{CheckRefusal, refused_at};
@@ -18,6 +17,7 @@ use ep_rules::Refusal;
 use ep_scope::{Declaration, Protection, rule};
 use ep_tree::{ComponentValue, ConstantDefinition, TypeDefinition, Types, VariableDeclaration};
 use ep_typed::UnitVariable;
+use ep_unit_rules::{NamedType, fits, number, type_denoter};
 use std::alloc::Global;
 
 impl Block {

@@ -1,90 +1,20 @@
 //! Lists of formal parameters.
 
-ghost use Rattle.std.specs.Prelude.{◌≡◌, [], None, IfOk, map};
+ghost use Rattle.std.specs.Prelude.{◌≡◌, [], None, map};
 ghost use Rattle.ep_built.specs.Built.{first_in, section_unbuilt};
-ghost use Rattle.ep_check_stmt.specs.Answers.{AnswersForm};
+ghost use Rattle.ep_rules.specs.Answers.{AnswersForm};
 ghost use Rattle.ep_check_unit.specs.Answers.{AnswersBlock, named_in};
 ghost use Rattle.ep_check_unit.specs.Blocks.{block_of};
 ghost use Rattle.ep_check_unit.specs.Routines as spec;
-ghost use Rattle.ep_check_unit.specs.Routines.{formal_of, formals_entered, is_repeated, parameters_added, section_judged, section_mode, sections_judged};
+ghost use Rattle.ep_check_unit.specs.Routines.{formals_entered, section_judged, sections_judged};
 
-use crate::block::{Block, number};
-use crate::distinct::DistinctParameters;
-use crate::types::{NamedType, type_denoter};
-use ep_base::{List, Name, NoMemory};
+use crate::block::Block;
+use ep_base::Name;
 use ep_rules::Refusal;
-use ep_scope::{
-    Declaration, FormalParameter, FormalParameters, Kind, WrittenType, protection_of, rule,
-    same_parameters,
-};
+use ep_scope::{Declaration, FormalParameter, FormalParameters, protection_of, rule};
 use ep_tree::{FormalSection, FormalType, QualifiedName};
-use ep_typed::{Formal, FormalMode, Formals};
+use ep_unit_rules::{DistinctParameters, NamedType, number, section_mode, with_names};
 use std::alloc::Global;
-
-/// How the parameters of a section are given.
-fn section_mode(protected: bool, variable: bool) -> FormalMode
-    ensures { result ≡ section_mode protected variable }
-{
-    match (protected, variable) {
-        (false, false) => FormalMode::Value,
-        (false, true) => FormalMode::Variable,
-        (true, false) => FormalMode::ProtectedValue,
-        (true, true) => FormalMode::ProtectedVariable,
-    }
-}
-
-/// The parameters with those of these names more, of a section of this number.
-fn with_names(
-    alloc: Global,
-    mode: FormalMode,
-    section: u32,
-    of: WrittenType,
-    kind: Kind,
-    names: &[Name],
-    before: DistinctParameters,
-) -> Result<DistinctParameters, Refusal>
-    ensures { AnswersForm (λ ps. ps) result
-        (parameters_added mode section of kind names.now before) }
-{
-    let mut all = before;
-    for name in names {
-        if all.has(name) {
-            return Err(Refusal::Rule(rule::TWICE));
-        }
-        let parameter = FormalParameter {
-            name: name.copy(alloc)?,
-            mode,
-            section,
-            of,
-            kind,
-        };
-        all = all.with(alloc, parameter)?;
-    }
-    Ok(all)
-}
-
-/// Whether a heading that is given again has no parameters, or those of the first one.
-pub(crate) fn is_repeated(parameters: &[FormalParameter], first: &[FormalParameter]) -> bool
-    ensures { result ≡ is_repeated parameters.now first.now }
-{
-    parameters.is_empty() || same_parameters(parameters, first)
-}
-
-/// The formal parameters of a typed routine.
-pub(crate) fn formals(alloc: Global, parameters: &[FormalParameter]) -> Result<Formals, NoMemory>
-    ensures { IfOk result (λ all. all ≡ map formal_of parameters.now) }
-{
-    let mut all = List::new(alloc);
-    for parameter in parameters {
-        all.push(Formal {
-            name: parameter.name.copy(alloc)?,
-            mode: parameter.mode,
-            section: parameter.section,
-            denoter: type_denoter(alloc, parameter.of.name),
-        })?;
-    }
-    Ok(all)
-}
 
 impl Block {
     /// The formal parameters of a routine of this name with these sections.

@@ -2,154 +2,27 @@
 
 ghost use Rattle.std.specs.Option.{option_map};
 ghost use Rattle.std.specs.Prelude.{◌≡◌, Some, IfOk, map};
-ghost use Rattle.ep_typed.specs.Viewed.{stmt_of};
-ghost use Rattle.ep_check_stmt.specs.Answers.{AnswersForm, passed, result_of, stmts_of};
+ghost use Rattle.ep_rules.specs.Answers.{AnswersForm};
+ghost use Rattle.ep_check_stmt.specs.Answers.{passed, result_of, stmts_of};
 ghost use Rattle.ep_check_unit.specs.Answers.{AnswersBlock, AnswersGiven};
-ghost use Rattle.ep_check_unit.specs.Blocks.{block_of, routine_form};
+ghost use Rattle.ep_check_unit.specs.Blocks.{block_of};
 ghost use Rattle.ep_check_unit.specs.Functions as spec;
-ghost use Rattle.ep_check_unit.specs.Functions.{assigned_function, has_unknown, in_block, is_empty, is_function, is_named, is_that_function, own_name_entered, own_result, routine_declaration, row_gives, same_own_name, same_result, typed_result};
+ghost use Rattle.ep_check_unit.specs.Functions.{assigned_function, is_named, own_name_entered, row_gives};
 ghost use Rattle.ep_check_unit.specs.Routines.{given_among, part_judged, result_judged, routine_judged};
-ghost use Rattle.ep_scope.specs.Meanings.{meant_by};
 
-use crate::block::{Block, OwnResult, has_number};
-use crate::distinct::DistinctParameters;
-use crate::giving::gives;
-use crate::types::type_denoter;
+use crate::block::Block;
 use ep_base::{Line, List, Name, NoMemory};
-use ep_check_stmt::{
-    CheckRefusal, Entire, FunctionResult, Outcome, assigns, inner_threatens, refused_at, threatens,
-};
+use ep_check_stmt::{CheckRefusal, FunctionResult, Outcome, refused_at};
 use ep_rules::Refusal;
-use ep_scope::{
-    Declaration, FormalParameters, Kind, Meaning, Protection, WrittenType, meaning_of, rule,
-    same_type,
-};
+use ep_scope::{Declaration, Protection, meaning_of, rule};
+use ep_threats::{Entire, inner_threatens, threatens};
 use ep_tree::{Compound, Part, QualifiedName, Routine, RoutineBody};
-use ep_typed::{RoutineResult, TypedStmt, TypedStmts, UnitRoutine};
+use ep_typed::{TypedStmt, TypedStmts};
+use ep_unit_rules::{
+    DistinctParameters, HeadingResult, OwnResult, copied_name, has_unknown, is_that_function,
+    text_gives,
+};
 use std::alloc::{AllocError, Global};
-
-/// The result of a function, as its heading gives it.
-pub(crate) struct HeadingResult {
-    /// The name of its own, where it has one.
-    pub(crate) name: Option<Name>,
-    /// Its type.
-    pub(crate) of: WrittenType,
-    /// The kind of the type.
-    pub(crate) kind: Kind,
-}
-
-impl Drop for HeadingResult {
-    fn drop(self) {
-        let HeadingResult {
-            name: _,
-            of: _,
-            kind: _,
-        } = self;
-    }
-}
-
-/// An equal name, where there is one.
-pub(crate) fn copied_name(alloc: Global, name: &Option<Name>) -> Result<Option<Name>, NoMemory>
-    ensures { IfOk result (λ copy. copy ≡ name.now) }
-{
-    match name {
-        None => Ok(None),
-        Some(name) => Ok(Some(name.copy(alloc)?)),
-    }
-}
-
-/// The name by which the text of a function with this name gives the result.
-pub(crate) fn result_name<'a>(function: &'a Name, given: &'a Option<HeadingResult>) -> &'a Name
-    ensures { result.now ≡ spec.result_name function.now given.now }
-{
-    match given {
-        None => function,
-        Some(given) => match &given.name {
-            None => function,
-            Some(own) => own,
-        },
-    }
-}
-
-/// Whether both have no name of their own, or the same one.
-fn same_own_name(left: &Option<Name>, right: &Option<Name>) -> bool
-    ensures { result ≡ same_own_name left.now right.now }
-{
-    match (left, right) {
-        (None, None) => true,
-        (Some(name), Some(other)) => name.bytes() == other.bytes(),
-        _ => false,
-    }
-}
-
-/// Whether a heading that is given again has the result of the first one, or none as the first one.
-pub(crate) fn same_result(given: &Option<HeadingResult>, first: &Option<HeadingResult>) -> bool
-    ensures { result ≡ same_result given.now first.now }
-{
-    match (given, first) {
-        (None, None) => true,
-        (Some(left), Some(right)) => {
-            same_own_name(&left.name, &right.name) && same_type(left.of.is, right.of.is)
-        }
-        _ => false,
-    }
-}
-
-/// The result of a typed routine.
-pub(crate) fn typed_result(
-    alloc: Global,
-    given: &Option<HeadingResult>,
-) -> Result<Option<RoutineResult>, NoMemory>
-    ensures { IfOk result (λ r. r ≡ typed_result given.now) }
-{
-    match given {
-        None => Ok(None),
-        Some(given) => Ok(Some(RoutineResult {
-            name: copied_name(alloc, &given.name)?,
-            denoter: type_denoter(alloc, given.of.name),
-        })),
-    }
-}
-
-/// What the name of a routine with these formal parameters and this result stands for.
-pub(crate) fn routine_declaration(
-    parameters: FormalParameters,
-    given: &Option<HeadingResult>,
-) -> Declaration
-    ensures { result ≡ routine_declaration parameters given.now }
-{
-    match given {
-        None => Declaration::Procedure(parameters),
-        Some(given) => Declaration::Function(parameters, given.of, given.kind),
-    }
-}
-
-/// The result of the function of this number in its block, by the number of the variable that has it.
-pub(crate) fn in_block(function: u32, variable: u32, given: &HeadingResult) -> OwnResult
-    ensures { result ≡ in_block function variable given.now }
-{
-    OwnResult {
-        function,
-        variable,
-        of: given.of,
-        kind: given.kind,
-        named: given.name.is_some(),
-    }
-}
-
-/// The same of a routine, which may have no result.
-pub(crate) fn own_result(
-    function: u32,
-    variable: u32,
-    given: &Option<HeadingResult>,
-) -> Option<OwnResult>
-    ensures { result ≡ own_result function variable given.now }
-{
-    match given {
-        None => None,
-        Some(given) => Some(in_block(function, variable, given)),
-    }
-}
 
 /// A rule fails at the declaration of a function on this line, unless its block gives the result.
 pub(crate) fn if_given(line: Line, given: bool) -> Result<(), CheckRefusal>
@@ -160,51 +33,6 @@ pub(crate) fn if_given(line: Line, given: bool) -> Result<(), CheckRefusal>
     } else {
         Err(refused_at(line, Refusal::Rule(rule::NO_RESULT)))
     }
-}
-
-fn is_function(what: &Declaration) -> bool
-    ensures { result ≡ is_function what.now }
-{
-    match what {
-        Declaration::Function(_, _, _) => true,
-        _ => false,
-    }
-}
-
-/// Whether a name means the function of this number of a unit.
-fn is_that_function(unit: &Name, number: u32, meaning: &Meaning<'_>) -> bool
-    ensures { result ≡ is_that_function unit.now number (meant_by meaning.now) }
-{
-    match meaning {
-        Meaning::Declared(declared) => {
-            is_function(&declared.what)
-                && declared.unit.bytes() == unit.bytes()
-                && declared.number == number
-        }
-        _ => false,
-    }
-}
-
-/// Whether a statement is the one that a routine has until its block is known.
-fn is_empty(s: &TypedStmt) -> bool
-    ensures { result ≡ is_empty (stmt_of s.now) }
-{
-    match s {
-        TypedStmt::Empty => true,
-        _ => false,
-    }
-}
-
-/// Whether a routine in the one of this number, however deep, has no block that is known.
-fn has_unknown(number: u32, routines: &[UnitRoutine]) -> bool
-    ensures { result ≡ has_unknown number (map routine_form routines.now) }
-{
-    for routine in routines {
-        if has_number(number, routine.around.items()) && is_empty(&routine.block) {
-            return true;
-        }
-    }
-    false
 }
 
 impl Block {
@@ -281,7 +109,7 @@ impl Block {
     {
         match (self.own.result, found) {
             (Some(own), Outcome::Passes(statements)) => {
-                if self.waits.is_some() && has_unknown(own.function, &self.routines) {
+                if self.waits.is_some() && has_unknown(own.function, self.routines.items()) {
                     return Ok(true);
                 }
                 self.is_threatened(own, statements.items())
@@ -295,7 +123,11 @@ impl Block {
         ensures { IfOk result (λ threatened. threatened ≡ spec.is_threatened (Some own)
             (block_of self.now).routines (stmts_of statements.now)) }
     {
-        if threatens(&self.routines, Entire::Own(0, own.variable), statements) {
+        if threatens(
+            self.routines.items(),
+            Entire::Own(0, own.variable),
+            statements,
+        ) {
             return Ok(true);
         }
         inner_threatens(own.function, &self.routines, own.variable)
@@ -337,17 +169,6 @@ fn assigned_function(level: u32, given: Option<OwnResult>) -> Option<FunctionRes
         variable: own.variable,
         kind: own.kind,
     })
-}
-
-/// Whether the text of statements gives a result by this name, of its own or not.
-fn text_gives(named: bool, name: &Name, body: &Compound) -> bool
-    ensures { result ≡ spec.text_gives named name.now body.now }
-{
-    if named {
-        gives(name, body)
-    } else {
-        assigns(name, body)
-    }
 }
 
 /// Whether the text of statements in one of these parts gives a result by this name, of its own or not.

@@ -2,95 +2,24 @@
 
 ghost use Rattle.std.specs.Prelude.{◌≡◌, ◌∷◌, ◌++◌, [], None, IfOk, OnOk, map, slice_get};
 ghost use Rattle.ep_built.specs.Built.{first_in, section_unbuilt, start_unbuilt};
-ghost use Rattle.ep_check_stmt.specs.Answers.{AnswersForm};
+ghost use Rattle.ep_rules.specs.Answers.{AnswersForm};
 ghost use Rattle.ep_check_unit.specs.Answers.{AnswersBlock, headed_in};
-ghost use Rattle.ep_check_unit.specs.Blocks.{around_of, block_of, routine_form};
+ghost use Rattle.ep_check_unit.specs.Blocks.{block_of, routine_form};
 ghost use Rattle.ep_check_unit.specs.Functions.{own_name_at};
-ghost use Rattle.ep_check_unit.specs.Routines.{function_headed, function_identified, has_body, headed_first, headed_form, headed_over, heading_entered, own_variables, procedure_headed, routine_there, start_headed, start_name};
+ghost use Rattle.ep_check_unit.specs.Routines.{function_headed, function_identified, has_body, headed_first, headed_form, headed_over, heading_entered, procedure_headed, routine_there, start_headed};
 ghost use Rattle.ep_scope.specs.Required.{look_up};
-ghost use Rattle.ep_rules.specs.Judgements.{Accepts};
 
-use crate::block::{Block, Enclosing, OwnVariables, number};
-use crate::formals::{formals, is_repeated};
-use crate::functions::{
-    HeadingResult, copied_name, in_block, own_result, routine_declaration, same_result,
-    typed_result,
-};
+use crate::block::Block;
 use ep_base::{Line, List, Name, NoMemory};
 use ep_rules::Refusal;
 use ep_scope::{Declaration, FormalParameter, FormalParameters, Thing, copied_parameters, rule};
 use ep_tree::{FormalSection, QualifiedName, RoutineHeading, RoutineStart};
-use ep_typed::{RoutineNumbers, TypedStmt, UnitRoutine};
-use std::alloc::{AllocError, Global};
-
-/// A routine that is declared.
-pub(crate) struct Heading {
-    /// Its number among the routines.
-    pub(crate) number: u32,
-    /// Its formal parameters.
-    pub(crate) parameters: FormalParameters,
-    /// Its result, where it is a function.
-    pub(crate) result: Option<HeadingResult>,
-}
-
-impl Drop for Heading {
-    fn drop(self) {
-        let Heading {
-            number: _,
-            parameters: _,
-            result: _,
-        } = self;
-    }
-}
-
-impl Heading {
-    /// The variables with which the block of the routine begins, in these blocks.
-    pub(crate) fn own_variables(
-        &self,
-        alloc: Global,
-        around: &[Enclosing],
-    ) -> Result<OwnVariables, Refusal>
-        ensures { AnswersForm (λ own. own) result (Accepts
-            (own_variables self.now.number self.now.parameters self.now.result around.now)) }
-    {
-        let variable = number(self.parameters.items().len())?;
-        let parameters = copied_parameters(alloc, self.parameters.items())?;
-        let given = own_result(self.number, variable, &self.result);
-        let inner = Enclosing {
-            number: self.number,
-            result: given,
-        };
-        let enclosing = one_more(alloc, inner, around)?;
-        Ok(OwnVariables::new(alloc, parameters, given, enclosing))
-    }
-}
-
-/// A routine before those whose blocks are around its own.
-fn one_more(
-    alloc: Global,
-    inner: Enclosing,
-    around: &[Enclosing],
-) -> Result<List<Enclosing>, NoMemory>
-    ensures { IfOk result (λ all. all ≡ inner ∷ around.now) }
-{
-    let mut all = List::new(alloc);
-    all.push(inner)?;
-    for other in around {
-        all.push(*other)?;
-    }
-    Ok(all)
-}
-
-/// The numbers of routines whose blocks are under way.
-fn numbers(alloc: Global, enclosing: &[Enclosing]) -> Result<RoutineNumbers, NoMemory>
-    ensures { IfOk result (λ all. all ≡ around_of enclosing.now) }
-{
-    let mut all = List::new(alloc);
-    for one in enclosing {
-        all.push(one.number)?;
-    }
-    Ok(all)
-}
+use ep_typed::{TypedStmt, UnitRoutine};
+use ep_unit_rules::{
+    Enclosing, Heading, HeadingResult, copied_name, in_block, is_repeated, number,
+    routine_declaration, routine_numbers, same_result, typed_formals, typed_result,
+};
+use std::alloc::Global;
 
 /// A routine that does nothing, without variables, in the blocks of those around.
 fn routine(
@@ -105,9 +34,9 @@ fn routine(
         ≡ headed_form name.now line parameters.now given.now around.now) }
 {
     let name = name.copy(alloc)?;
-    let formals = formals(alloc, parameters)?;
+    let formals = typed_formals(alloc, parameters)?;
     let result = typed_result(alloc, given)?;
-    let around = numbers(alloc, around)?;
+    let around = routine_numbers(alloc, around)?;
     Ok(UnitRoutine {
         name,
         line,
@@ -119,27 +48,14 @@ fn routine(
     })
 }
 
-/// The name of a routine.
-pub(crate) fn start_name(start: &RoutineStart) -> &Name
-    ensures { result.now ≡ start_name start.now }
-{
-    match start {
-        RoutineStart::Heading(RoutineHeading::Procedure(_, name, _)) => name,
-        RoutineStart::Heading(RoutineHeading::Function(_, name, _, _, _)) => name,
-        RoutineStart::Function(_, name) => name,
-    }
-}
-
 impl Block {
     /// One routine more.
     fn add_routine(&mut self, routine: UnitRoutine) -> Result<(), NoMemory>
         ensures { OnOk result (block_of self.new ≡ record (block_of self.old)
             { routines = (block_of self.old).routines ++ routine_form routine ∷ [] }) }
     {
-        match self.routines.push(routine) {
-            Ok(()) => Ok(()),
-            Err(refused) => Err(AllocError::from(refused)),
-        }
+        self.routines.push(routine)?;
+        Ok(())
     }
 
     /// The first declaration of a routine on this line.
@@ -173,7 +89,7 @@ impl Block {
         ensures { IfOk result (λ name. name
             ≡ own_name_at (slice_get (block_of self.now).routines number)) }
     {
-        match self.routines.get(number as usize) {
+        match self.routines.items().get(number as usize) {
             None => Ok(None),
             Some(routine) => match &routine.result {
                 None => Ok(None),

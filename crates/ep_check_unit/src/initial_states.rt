@@ -2,33 +2,20 @@
 
 ghost use Rattle.std.specs.Prelude.{◌≡◌, None};
 ghost use Rattle.ep_built.specs.Built.{component_value_unbuilt};
-ghost use Rattle.ep_check_stmt.specs.Answers.{AnswersForm};
+ghost use Rattle.ep_rules.specs.Answers.{AnswersForm};
 ghost use Rattle.ep_check_unit.specs.Answers.{named_in, written_in};
 ghost use Rattle.ep_check_unit.specs.Blocks.{block_of};
-ghost use Rattle.ep_check_unit.specs.Declarations.{begun_with, may_begin};
+ghost use Rattle.ep_check_unit.specs.Declarations.{begun_with};
 
 use crate::block::Block;
-use crate::types::{NamedType, Written, counted, type_denoter};
 use ep_base::{Boxed, Line};
 use ep_check_expr::{asked_by, initial_state_value};
 use ep_rules::Refusal;
-use ep_scope::{Kind, rule, same_host};
+use ep_scope::rule;
 use ep_tree::ComponentValue;
 use ep_typed::Denoter;
+use ep_unit_rules::{NamedType, Written, counted, may_begin, type_denoter};
 use std::alloc::Global;
-
-/// Whether a constant of the one kind may be the initial state of a type of the other.
-fn may_begin(constant: Kind, of: Kind) -> bool
-    ensures { result ≡ may_begin constant of }
-{
-    match (constant, of) {
-        (Kind::Ordinal(given), Kind::Ordinal(host)) => same_host(host, given),
-        (Kind::Structured(given), Kind::Structured(number)) => given == number,
-        (Kind::Set(given), Kind::Set(host)) => same_host(host, given),
-        (Kind::EmptySet, Kind::Set(_)) => true,
-        _ => false,
-    }
-}
 
 impl Block {
     /// A type, by its name, with an initial state, in an item on this line.

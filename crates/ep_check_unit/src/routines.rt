@@ -4,40 +4,27 @@ ghost use Rattle.std.specs.Prelude.{◌≡◌, None, true, false, IfOk, map};
 ghost use Rattle.ep_built.specs.Built.{compound_unbuilt, first_in, part_unbuilt, routine_unbuilt, start_unbuilt};
 ghost use Rattle.ep_typed.specs.Trees as tree;
 ghost use Rattle.ep_check_stmt.specs.Answers.{AnswersRow, locals_of as locals_view, passed, stmts_of};
-ghost use Rattle.ep_check_unit.specs.Answers.{AnswersLocals, AnswersNumber, AnswersStanding, headed_in};
-ghost use Rattle.ep_check_unit.specs.Blocks.{block_of, routine_form};
+ghost use Rattle.ep_unit_rules.specs.Numbers.{AnswersNumber};
+ghost use Rattle.ep_check_unit.specs.Answers.{AnswersLocals, AnswersStanding, headed_in};
+ghost use Rattle.ep_check_unit.specs.Blocks.{block_of};
 ghost use Rattle.ep_check_unit.specs.Declarations.{Stands};
-ghost use Rattle.ep_check_unit.specs.Routines.{all_declared, block_declared, body_closed, body_declared, forwarded, has_bounds, headed_then, inside_declared, locals_of, members_of, part_judged, routine_judged, start_headed, start_name, statements_judged, with_block, with_its_block, withs_behind};
+ghost use Rattle.ep_unit_rules.specs.Headings.{start_name};
+ghost use Rattle.ep_check_unit.specs.Routines.{all_declared, block_declared, body_closed, body_declared, forwarded, has_bounds, headed_then, inside_declared, locals_of, members_of, part_judged, routine_judged, start_headed, statements_judged, with_block, withs_behind};
 
-use crate::block::{Block, Forward, OwnVariables, number};
-use crate::functions::{if_given, result_name};
-use crate::headings::{Heading, start_name};
+use crate::block::{Block, Forward};
+use crate::functions::if_given;
 use ep_base::{Line, Name, NoMemory};
 use ep_check_stmt::{
     CheckRefusal, Context, Locals, Outcome, assigns_tag, has_for, has_for_in, refused_at,
 };
 use ep_rules::Refusal;
 use ep_scope::View;
+use ep_threats::{RoutineTable, Routines};
 use ep_tree::{Compound, Part, Routine, RoutineBody, RoutineStart};
-use ep_typed::{TypedStmt, TypedStmts, UnitRoutine, UnitVariables};
+use ep_typed::{TypedStmts, UnitVariables};
+use ep_unit_rules::{Heading, OwnVariables, number, result_name, start_name};
 use std::alloc::Global;
 use std::mem;
-
-/// A routine gets the block of a declaration on this line, with the variables that are declared there.
-fn take_block(
-    routine: &mut UnitRoutine,
-    line: Line,
-    variables: UnitVariables,
-    statements: TypedStmts,
-)
-    ensures { routine_form routine.new
-        ≡ with_its_block line variables (tree.Compound (stmts_of statements)) (routine_form routine.old) }
-{
-    // What was there goes by a call each, since the walk over all forms of a statement takes longer to check.
-    drop(mem::replace(&mut routine.block, TypedStmt::Compound(statements)));
-    drop(mem::replace(&mut routine.variables, variables));
-    routine.line = line;
-}
 
 /// How many auxiliary variables `for` statements with bounds and assignments to tags have (ISO 10206, 6.9.3.9.2 and 6.5.3.3).
 const BOUNDS: u32 = 2;
@@ -87,6 +74,25 @@ fn withs_behind(members: u32, statements: &Compound) -> Result<u32, Refusal>
     match members.checked_add(1) {
         None => Err(Refusal::NoMemory),
         Some(number) => Ok(number),
+    }
+}
+
+/// The routines of the unit as the statements of a block with these variables see them. Where these have a `for`, it is
+/// gathered once which of the variables are threatened, since each `for` asks it of one.
+fn known_routines<'a>(
+    alloc: Global,
+    locals: Locals<'a>,
+    routines: &'a RoutineTable,
+    statements: &Compound,
+) -> Result<Routines<'a>, NoMemory>
+    ensures { IfOk result (λ known. known ≡ routines.now) }
+{
+    if !has_for(statements) && !has_for_in(statements) {
+        return Ok(Routines::new(alloc, routines));
+    }
+    match locals {
+        Locals::Unit(unit, _) => Routines::of_unit(alloc, unit, routines),
+        Locals::Routine(routine, _, _) => Routines::of_routine(alloc, routine, routines),
     }
 }
 
@@ -287,6 +293,7 @@ impl Block {
             Err(refusal) => return Err(refused_at(body.line, refusal)),
         };
         let results = self.assigned_functions(alloc)?;
+        let routines = known_routines(alloc, locals, &self.routines, body)?;
         let context = Context {
             alloc,
             unit: &self.unit,
@@ -295,7 +302,7 @@ impl Block {
             results: results.items(),
             locals,
             members,
-            routines: self.routines.as_slice(),
+            routines: &routines,
             withs,
         };
         context.compound(body)
@@ -352,8 +359,6 @@ impl Block {
         ensures { block_of self.new
             ≡ with_block line number variables (tree.Compound (stmts_of statements)) (block_of self.old) }
     {
-        if let Some(routine) = self.routines.get_mut(number as usize) {
-            take_block(routine, line, variables, statements);
-        }
+        self.routines.set_block(number, line, variables, statements);
     }
 }

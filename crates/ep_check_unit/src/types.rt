@@ -1,53 +1,43 @@
 //! Types as an item writes them.
 
-ghost use Rattle.std.specs.Prelude.{◌≡◌, ◌&&◌, ℕ, List, [], None, IfOk, IsTrue, map};
+ghost use Rattle.std.specs.Prelude.{◌≡◌, ℕ, List, [], None, IsTrue, map};
 ghost use Rattle.std.specs.Option.{option_map};
 ghost use Rattle.ep_built.specs.Built.{core_unbuilt, expression_unbuilt, field_section_unbuilt, fields_unbuilt, first_if, first_in, plain_unbuilt, structure_unbuilt, type_denoter_unbuilt, variant_part_unbuilt, variant_unbuilt};
 ghost use Rattle.ep_scope.specs.Meanings.{meant_by};
 ghost use Rattle.ep_check_expr.specs.Constants.{bound_judged};
 ghost use Rattle.ep_rules.specs.Judgements.{Accepts, both, when_accepted};
-ghost use Rattle.ep_check_stmt.specs.Answers.{AnswersForm, fails_among};
-ghost use Rattle.ep_check_unit.specs.Answers.{AnswersBlock, arrays_below, fields_in, gathered_in, index_of, indexes_written, listed_in, named_in, written_in};
+ghost use Rattle.ep_rules.specs.Answers.{AnswersForm, fails_among};
+ghost use Rattle.ep_unit_rules.specs.Answers.{index_of};
+ghost use Rattle.ep_check_unit.specs.Answers.{AnswersBlock, arrays_below, fields_in, gathered_in, indexes_written, listed_in, named_in, written_in};
 ghost use Rattle.ep_check_unit.specs.Declarations as spec;
 ghost use Rattle.ep_check_unit.specs.Blocks.{Block as BlockNow, block_of};
-ghost use Rattle.ep_check_unit.specs.Declarations.{array_over, common_host, core_part, core_written, counted, unless_large, index_host, index_values, plain_part, settled, settled_part, settled_type, structure_part, type_written, completing_written, fields_judged, none_gathered, record_written, section_part, variant_judged, variant_written, variants_judged, variants_written, sections_written, enumerated, enumeration, host_denoter, next_type, number_in, ordered, range, required_host, scopes_of, subrange_denoter, type_denoter, type_meant, written_by};
+ghost use Rattle.ep_unit_rules.specs.Types.{type_denoter};
+ghost use Rattle.ep_check_unit.specs.Declarations.{array_over, core_part, core_written, unless_large, index_values, plain_part, settled, settled_part, settled_type, structure_part, type_written, completing_written, fields_judged, none_gathered, record_written, section_part, variant_judged, variant_written, variants_judged, variants_written, sections_written, enumerated, enumeration, next_type, range, scopes_of, type_meant};
 
-use crate::block::{Block, number};
-use crate::distinct::WrittenFields;
-use crate::labels::{TagValues, tag_values};
-use crate::records::{Listing, WrittenField, add_fields, plain_list};
+use crate::block::Block;
+use crate::records::plain_list;
 use crate::variants::{Gathered, variant_list};
-use ep_base::{Boxed, Line, List, Name, Names, NoMemory};
-use ep_check_expr::{ConstantForm, bound_value};
+use ep_base::{Boxed, Line, List, Name};
+use ep_check_expr::bound_value;
 use ep_rules::{Refusal, undeclared};
 use ep_scope::{
     ArrayType, Composition, Declaration, Enumeration, Host, Kind, Meaning, Required,
-    StructuredType, TypeName, WrittenType, meaning_in, meaning_of, rule, same_host,
+    StructuredType, TypeName, meaning_in, meaning_of, rule,
 };
 use ep_tree::{
     Core, Expression, FieldSection, Fields, Plain, QualifiedName, Structure, TypeDenoter, Variant,
     VariantPart,
 };
-use ep_typed::{Bound, Denoter, RequiredType, Value};
+use ep_typed::{Denoter, Value};
+use ep_unit_rules::{
+    IndexType, Listing, NamedType, TYPE_NODES, TagValues, Written, WrittenField, WrittenFields,
+    add_fields, are_built, common_host, copied_names, counted, index_host, number, ordered,
+    required_host, subrange, tag_values, type_denoter,
+};
 use std::alloc::Global;
-
-/// The most nodes that a type may have, with the names in it replaced by what they name.
-pub const TYPE_NODES: u32 = 1_048_576;
 
 /// The nodes of a subrange: itself, its host and its bounds.
 const SUBRANGE_NODES: u32 = 4;
-
-/// Nodes of a type, counted up to one more than a type may have.
-pub(crate) fn counted(nodes: u32, more: u32) -> u32
-    ensures { result ≡ counted nodes more }
-{
-    let sum = nodes as u64 + more as u64;
-    if sum <= TYPE_NODES as u64 {
-        sum as u32
-    } else {
-        TYPE_NODES + 1
-    }
-}
 
 /// A type has not too many nodes.
 fn unless_large(written: Written) -> Result<Written, Refusal>
@@ -57,113 +47,6 @@ fn unless_large(written: Written) -> Result<Written, Refusal>
         Ok(written)
     } else {
         Err(Refusal::Rule(rule::LARGE_TYPE))
-    }
-}
-
-/// A type by its name.
-#[derive(Clone, Copy, Drop)]
-pub(crate) struct NamedType {
-    /// The name.
-    pub(crate) name: TypeName,
-    /// Which type it is, whatever its name.
-    pub(crate) of: TypeName,
-    /// Its kind.
-    pub(crate) kind: Kind,
-    /// How many nodes it has.
-    pub(crate) nodes: u32,
-}
-
-impl NamedType {
-    /// The name, and which type it is.
-    pub(crate) fn written(self) -> WrittenType
-        ensures { result ≡ written_by self.of (type_denoter self.name) }
-    {
-        WrittenType {
-            name: self.name,
-            is: self.of,
-        }
-    }
-}
-
-/// An index type of an array (ISO 10206, 6.4.3.2).
-#[derive(Clone, Copy, Drop)]
-pub(crate) struct IndexType {
-    /// Its name.
-    pub(crate) name: TypeName,
-    /// Its values.
-    pub(crate) values: TagValues,
-    /// How many nodes it has.
-    pub(crate) nodes: u32,
-}
-
-/// A type that is written.
-pub(crate) struct Written {
-    /// The denoter.
-    pub(crate) denoter: Denoter,
-    /// Which type it is.
-    pub(crate) of: TypeName,
-    /// Its kind.
-    pub(crate) kind: Kind,
-    /// How many nodes it has.
-    pub(crate) nodes: u32,
-}
-
-impl Drop for Written {
-    fn drop(self) {
-        let Written {
-            denoter: _,
-            of: _,
-            kind: _,
-            nodes: _,
-        } = self;
-    }
-}
-
-impl Written {
-    /// The denoter alone.
-    pub(crate) fn into_denoter(self) -> Denoter
-        ensures { result ≡ self.denoter }
-    {
-        let Written {
-            denoter,
-            of: _,
-            kind: _,
-            nodes: _,
-        } = self;
-        denoter
-    }
-}
-
-/// A type as a denoter. It takes no memory.
-pub(crate) fn type_denoter(alloc: Global, name: TypeName) -> Denoter
-    ensures { result ≡ type_denoter name }
-{
-    match name {
-        TypeName::Required(required) => Denoter::Required(required),
-        TypeName::Entry(number) => Denoter::Named(number, List::new(alloc)),
-    }
-}
-
-/// The type that is a host.
-pub(crate) fn host_type(host: Host) -> TypeName
-    ensures { type_denoter result ≡ host_denoter host }
-{
-    match host {
-        Host::Integer => TypeName::Required(RequiredType::Integer),
-        Host::Char => TypeName::Required(RequiredType::Char),
-        Host::Boolean => TypeName::Required(RequiredType::Boolean),
-        Host::Enumeration(e) => TypeName::Entry(e.number),
-    }
-}
-
-/// The host of a required type.
-fn required_host(required: RequiredType) -> Host
-    ensures { result ≡ required_host required }
-{
-    match required {
-        RequiredType::Integer => Host::Integer,
-        RequiredType::Char => Host::Char,
-        RequiredType::Boolean => Host::Boolean,
     }
 }
 
@@ -191,70 +74,6 @@ fn type_meant(meaning: &Meaning<'_>, missing: u32) -> Result<NamedType, Refusal>
         Meaning::Nothing => Err(Refusal::Rule(missing)),
         _ => Err(Refusal::Rule(rule::OTHER_THING)),
     }
-}
-
-/// The host of two bounds.
-fn common_host(low: Kind, high: Kind) -> Result<Host, Refusal>
-    ensures { AnswersForm (λ h. h) result (common_host low high) }
-{
-    match (low, high) {
-        (Kind::Ordinal(left), Kind::Ordinal(right)) if same_host(left, right) => Ok(left),
-        _ => Err(Refusal::Rule(rule::HOSTS)),
-    }
-}
-
-/// The number of a value.
-fn number_in(value: &Value) -> i64
-    ensures { result ≡ number_in value.now }
-{
-    match value {
-        Value::Word(word) => *word,
-        Value::Text(_) | Value::Set(_) | Value::Structured(..) => 0,
-    }
-}
-
-/// Whether two bounds are built.
-fn are_built(low: &ConstantForm, high: &ConstantForm) -> bool
-    ensures { result ≡ (low.now.built && high.now.built) }
-{
-    low.built && high.built
-}
-
-/// Two bounds are in order.
-fn ordered(low: &ConstantForm, high: &ConstantForm) -> Result<(), Refusal>
-    ensures { AnswersForm (λ done. done) result (ordered low.now high.now) }
-{
-    if are_built(low, high) && number_in(&low.value) > number_in(&high.value) {
-        Err(Refusal::Rule(rule::EMPTY_RANGE))
-    } else {
-        Ok(())
-    }
-}
-
-/// The denoter of a subrange of this host.
-fn subrange(
-    alloc: Global,
-    host: Host,
-    low: &ConstantForm,
-    high: &ConstantForm,
-) -> Result<Denoter, NoMemory>
-    ensures { IfOk result (λ d. d ≡ subrange_denoter host low.now high.now) }
-{
-    let of = Boxed::new(alloc, type_denoter(alloc, host_type(host)))?;
-    let least = Bound::Constant(number_in(&low.value));
-    let greatest = Bound::Constant(number_in(&high.value));
-    Ok(Denoter::Subrange(of, least, greatest))
-}
-
-/// Equal names.
-fn copied(alloc: Global, names: &[Name]) -> Result<Names, NoMemory>
-    ensures { IfOk result (λ copy. copy ≡ names.now) }
-{
-    let mut copy = List::new(alloc);
-    for name in names {
-        copy.push(name.copy(alloc)?)?;
-    }
-    Ok(copy)
 }
 
 impl Block {
@@ -339,7 +158,7 @@ impl Block {
         });
         let of = self.next_type()?;
         self.enumerate(alloc, host, names)?;
-        let denoter = Denoter::Enumeration(copied(alloc, names)?);
+        let denoter = Denoter::Enumeration(copied_names(alloc, names)?);
         Ok(Written {
             denoter,
             of,
@@ -755,15 +574,5 @@ impl Block {
             below = self.settle(alloc, line, written)?;
         }
         Ok(below)
-    }
-}
-
-/// The host of an index type (ISO 10206, 6.4.3.2) or of a base type (ISO 10206, 6.4.3.5), which are ordinal.
-pub(crate) fn index_host(kind: Kind) -> Result<Host, Refusal>
-    ensures { AnswersForm (λ h. h) result (index_host kind) }
-{
-    match kind {
-        Kind::Ordinal(host) => Ok(host),
-        _ => Err(Refusal::Rule(rule::ORDINAL)),
     }
 }

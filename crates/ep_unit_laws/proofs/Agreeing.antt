@@ -36,13 +36,15 @@ use Rattle.ep_scope.specs.declared.thing.Thing.TheVariants as thing
 use Rattle.ep_expr_laws.specs.Agreement.{Agrees, AgreesBy, AreInterfaces, AreOpen, AreParameters, AreThings, Arrays, HasKind, HoldsStructure, IsConstantIn, IsConstantOf, IsDeclaration, IsDenoterOf, IsKind, IsListed, IsMadeOf, Records, Structure, IsFunctionWith, IsOfType, IsStoredIn, IsThing, structures_of}
 use Rattle.ep_rules.specs.Arguments.{callee_at, callee_levels}
 use Rattle.ep_rules.specs.Hosts.{typed_host}
-use Rattle.ep_check_unit.specs.Declarations.{scopes_of, type_denoter}
-use Rattle.ep_check_unit.specs.Routines.{formal_of}
+use Rattle.ep_unit_rules.specs.Types.{type_denoter}
+use Rattle.ep_check_unit.specs.Declarations.{scopes_of}
+use Rattle.ep_unit_rules.specs.Formals.{formal_of}
 use Rattle.ep_stmt_laws.specs.Laws.{IsResultAt, ResultsAreThere}
-use Rattle.ep_check_unit.specs.Blocks.{Block, around_of}
+use Rattle.ep_unit_rules.specs.Own.{around_of}
+use Rattle.ep_check_unit.specs.Blocks.{Block}
 use Rattle.ep_check_unit.specs.Functions.{assigned_function, assigned_functions, function_before}
-use Rattle.ep_check_unit.specs.declared.block.Enclosing.{Enclosing}
-use Rattle.ep_check_unit.specs.declared.block.OwnResult.{OwnResult}
+use Rattle.ep_unit_rules.specs.declared.own.Enclosing.{Enclosing}
+use Rattle.ep_unit_rules.specs.declared.own.OwnResult.{OwnResult}
 use Rattle.ep_unit_laws.proofs.Open.{IsOpen, around_length}
 use Rattle.ep_unit_laws.proofs.Denoting.{DenotesKind, kind_had, kind_type, set_of_kind}
 use Rattle.ep_unit_laws.proofs.Prefixes.{front_get}

@@ -19,7 +19,8 @@ use Rattle.ep_rules.specs.Hosts.{typed_host}
 use Rattle.ep_rules.specs.Judgements.{Accepts, when_accepted}
 use Rattle.ep_check_stmt.proofs.public.judged.Fits.{Fits, fits_then}
 use Rattle.ep_check_unit.specs.Blocks.{Block}
-use Rattle.ep_check_unit.specs.Declarations.{Part, Written, array_over, array_written, index_values, settled_part, value_of}
+use Rattle.ep_unit_rules.specs.OrdinalTypes.{value_of}
+use Rattle.ep_check_unit.specs.Declarations.{Part, Written, array_over, array_written, index_values, settled_part}
 use Rattle.ep_unit_laws.proofs.Denoting.{Denotes, DenotesStructured, array_there, denotes_array, denotes_hosted, kind_bare, kind_more, kind_valued, kind_valid}
 use Rattle.ep_unit_laws.proofs.Holds.{HasTypeHere, Holds, HoldsElements, HoldsStructuredType, ListsKind, has_type_more, holds_more, lists_more, lists_kind_more, lists_kind_small, type_values}
 use Rattle.ep_unit_laws.proofs.Leading.{Extends, Grows, extends_before, grows_trans}

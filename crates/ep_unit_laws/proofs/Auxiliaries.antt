@@ -24,9 +24,10 @@ use Rattle.ep_scope.specs.Scopes.{Region}
 use Rattle.ep_check_stmt.specs.Auxiliaries.{has_for_in}
 use Rattle.ep_stmt_laws.specs.Laws.{AuxiliariesAreThere, MembersAreThere, WithsAreThere}
 use Rattle.ep_check_stmt.specs.Statements.{Locals, OfRoutine, OfUnit, block_variable}
-use Rattle.ep_check_unit.specs.Blocks.{Block, own_count}
+use Rattle.ep_unit_rules.specs.Own.{own_count}
+use Rattle.ep_check_unit.specs.Blocks.{Block}
 use Rattle.ep_check_unit.specs.Routines.{first_auxiliary, has_bounds, locals_in, locals_of, members_of, withs_of}
-use Rattle.ep_check_unit.specs.declared.block.Enclosing.{Enclosing}
+use Rattle.ep_unit_rules.specs.declared.own.Enclosing.{Enclosing}
 use Rattle.ep_unit_laws.proofs.Agreeing.{types_own, variables_own, within}
 use Rattle.ep_unit_laws.proofs.Holds.{innermost, levels_at}
 use Rattle.ep_unit_laws.proofs.Items.{own_length}

@@ -44,8 +44,11 @@ use Rattle.ep_rules.specs.Judgements.{Judged, Accepts, Breaks}
 use Rattle.ep_expr_laws.specs.Laws.{ConstantsAreSound, ConstantsAreKnown}
 use Rattle.ep_check_expr.specs.declared.constants.ConstantForm.{ConstantForm}
 use Rattle.ep_check_stmt.proofs.public.judged.Fits.{Any, Fits, fits_any, fits_both, fits_is, fits_then}
-use Rattle.ep_check_unit.specs.Declarations.{are_all_members, constant_definition, constant_entered, constant_fitting, entry_denoter, enumerated, host_denoter, members_denoter, own_thing, scopes_of, set_denoter, unused, with_constant, with_entry}
-use Rattle.ep_check_unit.specs.FittingConstants.{fits, unless_outside}
+use Rattle.ep_unit_rules.specs.Constants.{entry_denoter, with_entry}
+use Rattle.ep_unit_rules.specs.Sets.{are_all_members, members_denoter, set_denoter}
+use Rattle.ep_unit_rules.specs.Types.{host_denoter}
+use Rattle.ep_check_unit.specs.Declarations.{constant_definition, constant_entered, constant_fitting, enumerated, own_thing, scopes_of, unused, with_constant}
+use Rattle.ep_unit_rules.specs.FittingConstants.{fits, unless_outside}
 use Rattle.ep_check_unit.specs.Blocks.{Block}
 use Rattle.ep_unit_laws.proofs.Agreeing.{block_agrees, holds_agrees, within}
 use Rattle.ep_unit_laws.proofs.Denoting.{Denotes, DenotesSet, bare_takes, denotes_set, denotes_subrange, full_type, kind_bare, kind_has_values}

@@ -36,9 +36,9 @@ use Rattle.ep_rules.specs.VariantSteps.{field_steps, part_steps}
 use Rattle.ep_expr_laws.proofs.public.Betweens.{between_all}
 use Rattle.ep_expr_laws.proofs.public.Leading.{among_bare, leads_once, record_among, step_leads}
 use Rattle.ep_expr_laws.proofs.public.Listed.{structure_in-listed}
-use Rattle.ep_check_unit.specs.FittingConstants.{are_in, are_members_in, base_value, element_type, field_type, is_in, is_number_in, is_plain_in, members_of, type_among as field_among}
-use Rattle.ep_check_unit.specs.Definitions.{followed, followed_step, followed_within, without_states}
-use Rattle.ep_check_unit.specs.OrdinalTypes.{bare_ordinal, ordinal_of, value_of}
+use Rattle.ep_unit_rules.specs.FittingConstants.{are_in, are_members_in, base_value, element_type, field_type, is_in, is_number_in, is_plain_in, members_of, type_among as field_among}
+use Rattle.ep_unit_rules.specs.Definitions.{followed, followed_step, followed_within, without_states}
+use Rattle.ep_unit_rules.specs.OrdinalTypes.{bare_ordinal, ordinal_of, value_of}
 use Rattle.ep_unit_laws.proofs.Holds.{named_tree}
 use Rattle.ep_unit_laws.proofs.Prefixes.{prefix_get}
 use Rattle.ep_unit_laws.proofs.Ordinals.{definition_is, required_is, value_is}

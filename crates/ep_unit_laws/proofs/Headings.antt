@@ -28,12 +28,17 @@ use Rattle.ep_scope.specs.declared.thing.Thing.{Thing}
 use Rattle.ep_scope.specs.declared.thing.Thing.TheVariants as thing
 use Rattle.ep_rules.specs.Judgements.{Judged, Accepts, Breaks}
 use Rattle.ep_check_stmt.proofs.public.judged.Fits.{Any, Fits, fits_any, fits_then, fits_weaker}
-use Rattle.ep_check_unit.specs.Blocks.{Block, RoutineForm, around_of}
-use Rattle.ep_check_unit.specs.Declarations.{Standing, Written, entered, own_thing, type_denoter, type_named, unused, with_name, written_type}
-use Rattle.ep_check_unit.specs.Functions.{own_name_at, own_result, routine_declaration, same_result, typed_result}
-use Rattle.ep_check_unit.specs.Routines.{Headed, declared_routine, formal_of, forwarded, has_body, has_number, headed_again, headed_first, headed_form, headed_over, headed_then, hidden_type, identified_again, identified_over, is_parameter, is_repeated, parameter_added, parameter_type, parameters_added, result_headed, result_judged, routine_there, section_judged, section_mode, section_type, sections_judged, start_headed, with_routine}
-use Rattle.ep_check_unit.specs.declared.block.Enclosing.{Enclosing}
-use Rattle.ep_check_unit.specs.declared.functions.HeadingResult.{HeadingResult}
+use Rattle.ep_unit_rules.specs.Own.{around_of}
+use Rattle.ep_check_unit.specs.Blocks.{Block, RoutineForm}
+use Rattle.ep_unit_rules.specs.Types.{type_denoter}
+use Rattle.ep_check_unit.specs.Declarations.{Standing, Written, entered, own_thing, type_named, unused, with_name, written_type}
+use Rattle.ep_unit_rules.specs.Functions.{own_result, routine_declaration, same_result, typed_result}
+use Rattle.ep_check_unit.specs.Functions.{own_name_at}
+use Rattle.ep_unit_rules.specs.Formals.{formal_of, is_parameter, is_repeated, parameter_added, parameters_added, section_mode}
+use Rattle.ep_unit_rules.specs.Numbers.{has_number}
+use Rattle.ep_check_unit.specs.Routines.{Headed, declared_routine, forwarded, has_body, headed_again, headed_first, headed_form, headed_over, headed_then, hidden_type, identified_again, identified_over, parameter_type, result_headed, result_judged, routine_there, section_judged, section_type, sections_judged, start_headed, with_routine}
+use Rattle.ep_unit_rules.specs.declared.own.Enclosing.{Enclosing}
+use Rattle.ep_unit_rules.specs.declared.functions.HeadingResult.{HeadingResult}
 use Rattle.ep_check_unit.proofs.public.Forms.{each_push}
 use Rattle.ep_unit_laws.proofs.Denoting.{DenotesKind, kind_has_values}
 use Rattle.ep_unit_laws.proofs.Holds.{HasTypeHere, Holds, HoldsDeclaration, HoldsParameter, HoldsResult, HoldsRoutine, HoldsThings, HoldsThing, ListsKind, around_innermost, formals_valid, head_of, headed_around, name_denotes, named_tree}

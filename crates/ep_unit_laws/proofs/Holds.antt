@@ -46,12 +46,14 @@ use Rattle.ep_scope.specs.declared.thing.Thing.TheVariants as thing
 use Rattle.ep_expr_laws.specs.Agreement.{AreFields, Arrays, HasStructure, IsConstantOf, IsHost, IsKind, IsValueMadeOf, Records, Structure, TypeValues}
 use Rattle.ep_rules.specs.Hosts.{typed_host}
 use Rattle.ep_expr_laws.specs.Origins.{IsKnownHost, IsKnownKind, IsRequiredHost, HasHost, DeclaresHost, ThingHasHost, CompositionHasHost, FieldsHaveHost, StructuresHaveHost, EntriesHaveHost, InterfacesHaveHost, RecordsHaveHost, ScopesHaveHost}
-use Rattle.ep_check_unit.specs.Declarations.{host_denoter, scopes_of, type_denoter}
-use Rattle.ep_check_unit.specs.Routines.{formal_of}
-use Rattle.ep_check_unit.specs.Blocks.{Block, RoutineForm, around_of}
-use Rattle.ep_check_unit.specs.declared.block.Enclosing.{Enclosing}
-use Rattle.ep_check_unit.specs.declared.block.OwnResult.{OwnResult}
-use Rattle.ep_check_unit.specs.declared.block.OwnVariables.{OwnVariables}
+use Rattle.ep_unit_rules.specs.Types.{host_denoter, type_denoter}
+use Rattle.ep_check_unit.specs.Declarations.{scopes_of}
+use Rattle.ep_unit_rules.specs.Formals.{formal_of}
+use Rattle.ep_unit_rules.specs.Own.{around_of}
+use Rattle.ep_check_unit.specs.Blocks.{Block, RoutineForm}
+use Rattle.ep_unit_rules.specs.declared.own.Enclosing.{Enclosing}
+use Rattle.ep_unit_rules.specs.declared.own.OwnResult.{OwnResult}
+use Rattle.ep_unit_rules.specs.declared.own.OwnVariables.{OwnVariables}
 use Rattle.ep_unit_laws.proofs.Open.{AreUnderWay}
 use Rattle.ep_unit_laws.proofs.Denoting.{Denotes, DenotesKind, IsSmall, bare_takes, full_type, denotes_more, denotes_required, kind_bare, kind_has_values, kind_more, kind_valid}
 

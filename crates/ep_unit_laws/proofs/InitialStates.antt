@@ -32,8 +32,9 @@ use Rattle.ep_check_expr.specs.declared.constants.ConstantForm.{ConstantForm}
 use Rattle.ep_expr_laws.proofs.public.SameHost.{host_same}
 use Rattle.ep_check_stmt.proofs.public.judged.Fits.{Fits, fits_is, fits_then}
 use Rattle.ep_check_unit.specs.Blocks.{Block}
-use Rattle.ep_check_unit.specs.declared.block.Enclosing.{Enclosing}
-use Rattle.ep_check_unit.specs.Declarations.{Part, Written, begun_with, fitting_state, initial_written, may_begin, noted, scopes_of, settled_part, with_initial_state}
+use Rattle.ep_unit_rules.specs.declared.own.Enclosing.{Enclosing}
+use Rattle.ep_unit_rules.specs.InitialStates.{may_begin}
+use Rattle.ep_check_unit.specs.Declarations.{Part, Written, begun_with, fitting_state, initial_written, noted, scopes_of, settled_part, with_initial_state}
 use Rattle.ep_unit_laws.proofs.Agreeing.{holds_agrees, within}
 use Rattle.ep_unit_laws.proofs.Denoting.{Denotes, DenotesKind, DenotesSet, HasBare, IsMadeWithin, kind_more}
 use Rattle.ep_unit_laws.proofs.Holds.{holds_more, lists_kind_more, named_tree, type_values}

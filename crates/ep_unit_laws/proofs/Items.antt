@@ -24,14 +24,15 @@ use Rattle.ep_rules.specs.Judgements.{Judged, Accepts, Breaks, when_accepted}
 use Rattle.ep_expr_laws.specs.Laws.{BoundsAreKnown, BoundsAreSound, ConstantsAreKnown, ConstantsAreSound, InitialStatesAreSound}
 use Rattle.ep_check_stmt.proofs.public.judged.Fits.{Any, Fits, fits_any, fits_then}
 use Rattle.ep_scope.specs.declared.rule.TheConstants as rule
-use Rattle.ep_check_unit.specs.declared.types.TheConstants as limit
+use Rattle.ep_unit_rules.specs.declared.types.TheConstants as limit
 use Rattle.ep_check_unit.specs.Declarations.{Standing, Stands, Falls, Written, all_variables_declared, and_then, at_line, constant_definition, constants_declared, declaration_ended, is_outermost, new_variable, own_thing, settled_type, unless_large, type_definition, type_definitions, type_entered, type_written, unused, variable_declaration, variable_entered, variables_declared, variables_entered, with_name, with_own_variable, with_type, with_unit_variable, with_variable}
-use Rattle.ep_check_unit.specs.Routines.{formal_of}
+use Rattle.ep_unit_rules.specs.Formals.{formal_of}
 use Rattle.ep_check_unit.specs.Units.{parameter_entered, parameters_entered, standard_file}
-use Rattle.ep_check_unit.specs.Blocks.{Block, own_count, result_count}
-use Rattle.ep_check_unit.specs.declared.block.Enclosing.{Enclosing}
-use Rattle.ep_check_unit.specs.declared.block.OwnResult.{OwnResult}
-use Rattle.ep_check_unit.specs.declared.block.OwnVariables.{OwnVariables}
+use Rattle.ep_unit_rules.specs.Own.{own_count, result_count}
+use Rattle.ep_check_unit.specs.Blocks.{Block}
+use Rattle.ep_unit_rules.specs.declared.own.Enclosing.{Enclosing}
+use Rattle.ep_unit_rules.specs.declared.own.OwnResult.{OwnResult}
+use Rattle.ep_unit_rules.specs.declared.own.OwnVariables.{OwnVariables}
 use Rattle.ep_unit_laws.proofs.Constants.{constant_definition-leads}
 use Rattle.ep_unit_laws.proofs.Denoters.{settled_type-settles, type_written-writes}
 use Rattle.ep_unit_laws.proofs.Denoting.{DenotesKind, kind_valid}

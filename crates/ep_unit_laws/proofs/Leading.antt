@@ -8,12 +8,14 @@ use Rattle.ep_typed.specs.declared.unit.UnitVariable.{UnitVariable}
 use Rattle.ep_scope.specs.declared.thing.Thing.{Thing}
 use Rattle.ep_rules.specs.Judgements.{Judged, Accepts, Breaks, when_accepted}
 use Rattle.ep_check_stmt.proofs.public.judged.Fits.{Any, Fits, fits_any, fits_then}
-use Rattle.ep_check_unit.specs.Declarations.{entered, noted, type_denoter, unused, with_name}
-use Rattle.ep_check_unit.specs.Routines.{formal_of, has_number}
+use Rattle.ep_unit_rules.specs.Types.{type_denoter}
+use Rattle.ep_check_unit.specs.Declarations.{entered, noted, unused, with_name}
+use Rattle.ep_unit_rules.specs.Formals.{formal_of}
+use Rattle.ep_unit_rules.specs.Numbers.{has_number}
 use Rattle.ep_check_unit.specs.Blocks.{Block, RoutineForm, routine_form}
 use Rattle.ep_check_unit.specs.declared.block.Forward.{Forward}
-use Rattle.ep_check_unit.specs.declared.block.OwnResult.{OwnResult}
-use Rattle.ep_check_unit.specs.declared.block.OwnVariables.{OwnVariables}
+use Rattle.ep_unit_rules.specs.declared.own.OwnResult.{OwnResult}
+use Rattle.ep_unit_rules.specs.declared.own.OwnVariables.{OwnVariables}
 use Rattle.ep_unit_laws.proofs.Holds.{Head, Holds, HoldsThing, head_of, innermost, levels_at, things_push}
 use Rattle.ep_unit_laws.proofs.Prefixes.{prefix_front, prefix_refl, prefix_trans}
 use Rattle.ep_unit_laws.proofs.Open.{IsOpen, IsThingOf, KeepsBodies, open_push}

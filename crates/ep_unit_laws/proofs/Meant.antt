@@ -10,7 +10,7 @@ use Rattle.ep_scope.specs.declared.thing.Thing.{Thing}
 use Rattle.ep_scope.specs.declared.thing.Thing.TheVariants as thing
 use Rattle.ep_check_unit.specs.Declarations.{scopes_of}
 use Rattle.ep_check_unit.specs.Blocks.{Block}
-use Rattle.ep_check_unit.specs.declared.block.Enclosing.{Enclosing}
+use Rattle.ep_unit_rules.specs.declared.own.Enclosing.{Enclosing}
 use Rattle.ep_unit_laws.proofs.Holds.{Holds, HoldsDeclaration, HoldsScopes, HoldsThing, HoldsThings, holds_scopes}
 
 module _ (u : TypedUnit) (es : List Enclosing) (i : ℕ) where

@@ -11,8 +11,8 @@ use Rattle.ep_scope.specs.declared.thing.Declared.{Declared}
 use Rattle.ep_scope.specs.declared.thing.Thing.{Thing}
 use Rattle.ep_scope.specs.declared.thing.Thing.TheVariants as thing
 use Rattle.ep_check_unit.specs.Blocks.{Block, RoutineForm}
-use Rattle.ep_check_unit.specs.Routines.{has_number}
-use Rattle.ep_check_unit.specs.declared.block.Enclosing.{Enclosing}
+use Rattle.ep_unit_rules.specs.Numbers.{has_number}
+use Rattle.ep_unit_rules.specs.declared.own.Enclosing.{Enclosing}
 
 -- the numbers of the routines that are declared in the innermost of these blocks begin here
 abbrev pub floor : List Enclosing → ℕ

@@ -16,8 +16,10 @@ use Rattle.ep_scope.specs.declared.parameter.TypeName.{TypeName}
 use Rattle.ep_scope.specs.declared.parameter.TypeName.TheVariants as type_name
 use Rattle.ep_rules.specs.Judgements.{Accepts, when_accepted}
 use Rattle.ep_check_stmt.proofs.public.judged.Fits.{Fits}
-use Rattle.ep_check_unit.specs.Declarations.{Written, index_host, index_values, ordinal_value, value_of}
-use Rattle.ep_check_unit.specs.Labels.{tag_values}
+use Rattle.ep_unit_rules.specs.OrdinalTypes.{ordinal_value, value_of}
+use Rattle.ep_unit_rules.specs.Types.{index_host}
+use Rattle.ep_check_unit.specs.Declarations.{Written, index_values}
+use Rattle.ep_unit_rules.specs.Labels.{tag_values}
 use Rattle.ep_unit_laws.proofs.Holds.{named_tree}
 use Rattle.ep_unit_laws.proofs.Prefixes.{prefix_get}
 

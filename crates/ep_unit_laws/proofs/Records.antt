@@ -21,7 +21,8 @@ use Rattle.ep_expr_laws.specs.Agreement.{AreFieldValues, AreFields, IsFieldOf, I
 use Rattle.ep_rules.specs.Judgements.{Accepts, Breaks, when_accepted}
 use Rattle.ep_check_stmt.proofs.public.judged.Fits.{Fits, fits_then, fits_weaker}
 use Rattle.ep_check_unit.specs.Blocks.{Block}
-use Rattle.ep_check_unit.specs.Declarations.{Field, Fielded, ListJudged, Listed, Section, Written, field_of, field_part, fields_named, has_field, own_fields, plain_list, record_field, record_over, record_written, section_written, sections_written, settled_part}
+use Rattle.ep_unit_rules.specs.Records.{Field, field_part, fields_named, has_field, own_fields, record_field}
+use Rattle.ep_check_unit.specs.Declarations.{Fielded, ListJudged, Listed, Section, Written, field_of, plain_list, record_over, record_written, section_written, sections_written, settled_part}
 use Rattle.ep_check_unit.proofs.public.Denoters.{AreKept}
 use Rattle.ep_unit_laws.proofs.Denoting.{AreDenoted, DenotesStructured, bare_more, denotes_record, kind_bare, kind_valid, kind_valued, record_there}
 use Rattle.ep_unit_laws.proofs.Agreeing.{denoter_holds}

@@ -37,13 +37,20 @@ use Rattle.ep_stmt_laws.specs.Laws.{StatementsAreSound}
 use Rattle.ep_check_stmt.specs.Statements.{Judgement, Passes, Waits, Fails}
 use Rattle.ep_stmt_laws.proofs.public.judged.Auxiliaries.{bounded_there, members_there}
 use Rattle.ep_check_stmt.proofs.public.judged.Fits.{Fits, fits_then}
-use Rattle.ep_check_unit.specs.Blocks.{Block, RoutineForm, around_of, own_count, result_count, routine_form}
-use Rattle.ep_check_unit.specs.Declarations.{Standing, Stands, Falls, and_then, at_line, entered, own_thing, scopes_of, type_definitions, type_denoter}
-use Rattle.ep_check_unit.specs.Functions.{if_given, in_block, is_assigned, is_in_view, is_named, own_name_entered, own_result, result_entered, result_name as given_name, row_gives}
-use Rattle.ep_check_unit.specs.Routines.{BodyJudged, Headed, PartJudged, all_declared, block_declared, body_closed, body_declared, body_ended, context_of, first_auxiliary, formal_of, formals_entered, forwarded, given_among, has_number, heading_entered, inside_declared, locals_in, locals_of, of_body, of_part, of_routine, part_judged, parts_declared, routine_body_judged, routine_judged, scope_opened, set_to, start_headed, start_name, statements_judged, with_its_block}
-use Rattle.ep_check_unit.specs.declared.block.Enclosing.{Enclosing}
-use Rattle.ep_check_unit.specs.declared.block.OwnResult.{OwnResult}
-use Rattle.ep_check_unit.specs.declared.functions.HeadingResult.{HeadingResult}
+use Rattle.ep_unit_rules.specs.Own.{around_of, own_count, result_count}
+use Rattle.ep_check_unit.specs.Blocks.{Block, RoutineForm, routine_form}
+use Rattle.ep_unit_rules.specs.Types.{type_denoter}
+use Rattle.ep_check_unit.specs.Declarations.{Standing, Stands, Falls, and_then, at_line, entered, own_thing, scopes_of, type_definitions}
+use Rattle.ep_unit_rules.specs.Functions.{in_block, own_result, result_name as given_name}
+use Rattle.ep_check_unit.specs.Functions.{if_given, is_assigned, is_in_view, is_named, own_name_entered, result_entered, row_gives}
+use Rattle.ep_unit_rules.specs.Formals.{formal_of}
+use Rattle.ep_unit_rules.specs.Headings.{start_name}
+use Rattle.ep_unit_rules.specs.Numbers.{has_number}
+use Rattle.ep_threats.specs.RoutineForms.{set_to, with_its_block}
+use Rattle.ep_check_unit.specs.Routines.{BodyJudged, Headed, PartJudged, all_declared, block_declared, body_closed, body_declared, body_ended, context_of, first_auxiliary, formals_entered, forwarded, given_among, heading_entered, inside_declared, locals_in, locals_of, of_body, of_part, of_routine, part_judged, parts_declared, routine_body_judged, routine_judged, scope_opened, start_headed, statements_judged}
+use Rattle.ep_unit_rules.specs.declared.own.Enclosing.{Enclosing}
+use Rattle.ep_unit_rules.specs.declared.own.OwnResult.{OwnResult}
+use Rattle.ep_unit_rules.specs.declared.functions.HeadingResult.{HeadingResult}
 use Rattle.ep_check_unit.proofs.public.Forms.{each_set}
 use Rattle.ep_unit_laws.proofs.Auxiliaries.{AreBehind, IsUnmadeFrom, auxiliaries_of, for_auxiliaries, for_in_auxiliaries, own_behind, own_unmade, with_auxiliaries}
 use Rattle.ep_unit_laws.proofs.Denoting.{DenotesKind}

@@ -24,7 +24,10 @@ use Rattle.ep_rules.specs.Hosts.{typed_host}
 use Rattle.ep_rules.specs.Judgements.{Accepts, Breaks, when_accepted}
 use Rattle.ep_check_stmt.proofs.public.judged.Fits.{Fits, fits_is, fits_then}
 use Rattle.ep_check_unit.specs.Blocks.{Block}
-use Rattle.ep_check_unit.specs.Declarations.{Part, Written, are_members, index_host, ordinal_value, set_on, set_over, set_written, settled_part, unless_wide, value_of}
+use Rattle.ep_unit_rules.specs.OrdinalTypes.{ordinal_value, value_of}
+use Rattle.ep_unit_rules.specs.Sets.{are_members}
+use Rattle.ep_unit_rules.specs.Types.{index_host}
+use Rattle.ep_check_unit.specs.Declarations.{Part, Written, set_on, set_over, set_written, settled_part, unless_wide}
 use Rattle.ep_unit_laws.proofs.Denoting.{Denotes, DenotesSet, denotes_bounds, denotes_set}
 use Rattle.ep_unit_laws.proofs.Holds.{HasTypeHere, Holds, ListsKind, holds_more, lists_kind_more, named_tree}
 use Rattle.ep_unit_laws.proofs.Leading.{Extends}

@@ -35,9 +35,12 @@ use Rattle.ep_rules.specs.Hosts.{typed_host}
 use Rattle.ep_rules.specs.Judgements.{Accepts, Breaks, when_accepted}
 use Rattle.ep_check_stmt.proofs.public.judged.Fits.{Any, Fits, fits_any, fits_then, fits_weaker}
 use Rattle.ep_check_unit.specs.Blocks.{Block}
-use Rattle.ep_check_unit.specs.Declarations.{Field, Fielded, Gathered, Labelled, ListJudged, Listed, PartJudged, Section, Tag, VariantJudged, Written, all_fields, completing_added, completing_written, field_part, fields_joined, index_values, inside, is_among_fields, labels_noted, list_ended, list_written, none_gathered, noted, own_fields, record_field, scopes_of, sections_written, selection_of, tag_field, tag_named, tag_of, tag_written, type_named, unless_left_out, value_of, variant_added, variant_list, variant_listing, variant_part, variant_part_written, variant_written, variants_after, variants_joined, variants_written}
-use Rattle.ep_check_unit.specs.Labels.{completed, variant_labelled}
-use Rattle.ep_check_unit.specs.declared.labels.Labels.{Labels}
+use Rattle.ep_unit_rules.specs.OrdinalTypes.{value_of}
+use Rattle.ep_unit_rules.specs.Records.{Field, field_part, own_fields, record_field}
+use Rattle.ep_unit_rules.specs.Variants.{Tag, all_fields, fields_joined, inside, is_among_fields, tag_field, variants_joined}
+use Rattle.ep_check_unit.specs.Declarations.{Fielded, Gathered, Labelled, ListJudged, Listed, PartJudged, Section, VariantJudged, Written, completing_added, completing_written, index_values, labels_noted, list_ended, list_written, none_gathered, noted, scopes_of, sections_written, selection_of, tag_named, tag_of, tag_written, type_named, unless_left_out, variant_added, variant_list, variant_listing, variant_part, variant_part_written, variant_written, variants_after, variants_written}
+use Rattle.ep_unit_rules.specs.Labels.{completed, variant_labelled}
+use Rattle.ep_unit_rules.specs.declared.labels.Labels.{Labels}
 use Rattle.ep_check_unit.proofs.public.Denoters.{AreKept, AreVariantsKept, IsKeptIf}
 use Rattle.ep_check_unit.proofs.public.Forms.{map_push}
 use Rattle.ep_unit_laws.proofs.Agreeing.{denoter_holds}

@@ -8,9 +8,9 @@ use Rattle.ep_scope.specs.declared.thing.Thing.{Thing}
 use Rattle.ep_rules.specs.Judgements.{Accepts, when_accepted}
 use Rattle.ep_check_unit.specs.Blocks.{Block, RoutineForm, routine_form}
 use Rattle.ep_check_unit.specs.Declarations.{entered, own_thing}
-use Rattle.ep_check_unit.specs.Functions.{routine_declaration}
-use Rattle.ep_check_unit.specs.Routines.{headed_first, headed_form, set_to, with_routine}
-use Rattle.ep_check_unit.specs.declared.functions.HeadingResult.{HeadingResult}
+use Rattle.ep_unit_rules.specs.Functions.{routine_declaration}
+use Rattle.ep_check_unit.specs.Routines.{headed_first, headed_form, with_routine}
+use Rattle.ep_unit_rules.specs.declared.functions.HeadingResult.{HeadingResult}
 
 -- something holds of each item by its place
 abbrev pub Each : {X : Type 0} → (ℕ → X → Type 0) → List X → Type 0
@@ -38,23 +38,6 @@ map_push f (y ∷ ys) x = ap (λ zs. f y ∷ zs) (map_push f ys x)
 pub length_forms : (rs : List UnitRoutine) → length (map routine_form rs) ≡ length rs
 length_forms [] = refl
 length_forms (r ∷ rs) = ap suc (length_forms rs)
-
--- what a list has at a place of its own
-pub get_there : {X : Type 0} (xs : List X) (n : ℕ) (x : X) → n < length xs → ((d : X) → x ≡ get_or xs n d) → slice_get xs n ≡ Some x
-get_there [] n x lt h = absurd (omega (arith, lt))
-get_there (y ∷ ys) zero x lt h = ap Some (sym (h x))
-get_there (y ∷ ys) (suc n) x lt h = get_there ys n x (omega (arith, lt)) h
-
--- one routine in another form
-module _ (f : RoutineForm → RoutineForm) where
-  pub form_set : (rs : List UnitRoutine) (n : ℕ) (r new : UnitRoutine) → slice_get rs n ≡ Some r → routine_form new ≡ f (routine_form r) → map routine_form (slice_set rs n new) ≡ set_to (map routine_form rs) n f (slice_get (map routine_form rs) n)
-  form_set [] n r new h e = cc
-  form_set (x ∷ rs) zero r new h e = let same : x ≡ r = cc in rw same (ap (λ y. y ∷ map routine_form rs) e)
-  form_set (x ∷ rs) (suc n) r new h e = at (slice_get (map routine_form rs) n) (form_set rs n r new h e)
-    where
-      at : (o : Option RoutineForm) → map routine_form (slice_set rs n new) ≡ set_to (map routine_form rs) n f o → routine_form x ∷ map routine_form (slice_set rs n new) ≡ set_to (routine_form x ∷ map routine_form rs) (suc n) f o
-      at None e = ap (λ xs. routine_form x ∷ xs) e
-      at (Some y) e = ap (λ xs. routine_form x ∷ xs) e
 
 -- the first declaration of a routine, by the steps of its function
 pub first_headed : (name : List ℕ) (line : ℕ) (ps : List FormalParameter) (r : Option HeadingResult) (b added : Block) (form : RoutineForm) (number : ℕ) (t : Thing) (new : Block)

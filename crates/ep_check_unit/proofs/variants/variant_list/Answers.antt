@@ -1,6 +1,9 @@
 use Rattle.std.proofs.Common.{◌≡◌, map, length}
-use Rattle.ep_check_unit.specs.Answers.{field_in, gathered_in, tag_in}
-use Rattle.ep_check_unit.specs.Declarations.{counted, fields_nodes, selection_of, variant_part}
+use Rattle.ep_unit_rules.specs.Answers.{field_in, tag_in}
+use Rattle.ep_check_unit.specs.Answers.{gathered_in}
+use Rattle.ep_unit_rules.specs.Records.{fields_nodes}
+use Rattle.ep_unit_rules.specs.Types.{counted}
+use Rattle.ep_check_unit.specs.Declarations.{selection_of, variant_part}
 use Rattle.ep_check_unit.proofs.VariantParts.{list_made, map_length}
 use Rattle.ep_check_unit.proofs.variants.variant_list.Goals as goal
 

@@ -4,7 +4,8 @@ use Rattle.std.proofs.lemmas.Result.{err_from_is_err_and}
 use Rattle.ep_built.specs.Built.{field_section_unbuilt, plain_unbuilt}
 use Rattle.ep_check_stmt.proofs.public.judged.Rounds.{rest_built}
 use Rattle.ep_rules.specs.Judgements.{Accepts, when_accepted}
-use Rattle.ep_check_unit.specs.Answers.{fields_in, gathered_in, labelled_in, listed_in, named_in, tag_in, written_in}
+use Rattle.ep_unit_rules.specs.Answers.{tag_in}
+use Rattle.ep_check_unit.specs.Answers.{fields_in, gathered_in, labelled_in, listed_in, named_in, written_in}
 use Rattle.ep_check_unit.specs.Blocks.{block_of}
 use Rattle.ep_check_unit.specs.Declarations.{completing_added, completing_written, core_part, fields_judged, variant_judged, variants_written}
 use Rattle.ep_check_unit.proofs.FieldSections.{names_refused, next_section}

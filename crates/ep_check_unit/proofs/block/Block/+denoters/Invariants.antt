@@ -1,6 +1,7 @@
 use Rattle.std.proofs.Common.{◌≡◌, None, [], map, drop}
 use Rattle.ep_built.specs.Built.{field_section_unbuilt, first_in, plain_unbuilt, variant_unbuilt}
-use Rattle.ep_check_unit.specs.Answers.{fields_in, gathered_in, index_of, indexes_written}
+use Rattle.ep_unit_rules.specs.Answers.{index_of}
+use Rattle.ep_check_unit.specs.Answers.{fields_in, gathered_in, indexes_written}
 use Rattle.ep_check_unit.specs.Blocks.{block_of}
 use Rattle.ep_check_unit.specs.Declarations.{none_gathered, plain_part, section_part, sections_written, variant_judged, variants_written}
 use Rattle.ep_check_unit.proofs.Indexes.{behind}

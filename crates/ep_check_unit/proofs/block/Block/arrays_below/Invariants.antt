@@ -1,5 +1,6 @@
 use Rattle.std.proofs.Common.{◌≡◌, map, take}
-use Rattle.ep_check_unit.specs.Answers.{arrays_below, index_of, named_in}
+use Rattle.ep_unit_rules.specs.Answers.{index_of}
+use Rattle.ep_check_unit.specs.Answers.{arrays_below, named_in}
 use Rattle.ep_check_unit.specs.Blocks.{block_of}
 use Rattle.ep_check_unit.proofs.block.Block.arrays_below.Given as goal
 

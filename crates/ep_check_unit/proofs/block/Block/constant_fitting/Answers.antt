@@ -5,7 +5,7 @@ use Rattle.std.specs.Prelude.{if◌then◌else◌}
 use Rattle.ep_scope.specs.declared.rule.TheConstants as rule
 use Rattle.ep_rules.specs.Judgements.{Accepts, Breaks, breaks}
 use Rattle.ep_check_unit.specs.Blocks.{block_of}
-use Rattle.ep_check_unit.specs.FittingConstants.{fits}
+use Rattle.ep_unit_rules.specs.FittingConstants.{fits}
 use Rattle.ep_check_unit.proofs.Defined.{value_judged, value_tried}
 use Rattle.ep_check_unit.proofs.block.Block.constant_fitting.Goals as goal
 

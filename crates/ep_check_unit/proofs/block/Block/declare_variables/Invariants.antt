@@ -1,5 +1,6 @@
 use Rattle.std.proofs.Common.{◌≡◌, drop}
-use Rattle.ep_check_unit.specs.Declarations.{type_denoter, variables_entered}
+use Rattle.ep_unit_rules.specs.Types.{type_denoter}
+use Rattle.ep_check_unit.specs.Declarations.{variables_entered}
 use Rattle.ep_check_unit.specs.Blocks.{block_of}
 use Rattle.ep_check_unit.proofs.block.Block.declare_variables.Given as goal
 

@@ -1,6 +1,6 @@
 use Rattle.std.proofs.Common.{refl, sym, subst, ◌∙◌}
 use Rattle.std.proofs.lemmas.Result.{err_from_is_err_and}
-use Rattle.ep_check_stmt.specs.Answers.{Refuses}
+use Rattle.ep_rules.specs.Answers.{Refuses}
 use Rattle.ep_check_unit.specs.Units.{parameter_entered, parameters_entered, standard_file}
 use Rattle.ep_check_unit.proofs.Parameters.{next_is_file}
 use Rattle.ep_check_unit.proofs.Rounds.{item_refused}

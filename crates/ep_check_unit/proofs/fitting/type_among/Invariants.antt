@@ -1,6 +1,0 @@
-use Rattle.std.proofs.Common.{◌≡◌, drop}
-use Rattle.ep_check_unit.specs.FittingConstants.{type_among}
-use Rattle.ep_check_unit.proofs.fitting.type_among.Given as goal
-
-abbrev pub invariant-loop-field : goal.invariant-loop-field
-invariant-loop-field l = type_among (drop l.field-index l.fields) l.steps ≡ type_among l.fn.fields l.fn.steps

@@ -1,7 +1,0 @@
-use Rattle.std.proofs.Common.{◌≡◌, drop, map}
-use Rattle.ep_check_unit.specs.Blocks.{routine_form}
-use Rattle.ep_check_unit.specs.Functions.{has_unknown}
-use Rattle.ep_check_unit.proofs.functions.has_unknown.Given as goal
-
-abbrev pub invariant-loop-routine : goal.invariant-loop-routine
-invariant-loop-routine l = has_unknown l.number (map routine_form (drop l.routine-index l.routines)) ≡ has_unknown l.number (map routine_form l.routines)

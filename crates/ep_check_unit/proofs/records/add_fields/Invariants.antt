@@ -1,7 +1,0 @@
-use Rattle.std.proofs.Common.{◌≡◌, drop, map}
-use Rattle.ep_check_unit.specs.Answers.{field_in, field_named}
-use Rattle.ep_check_unit.specs.Declarations.{fields_named}
-use Rattle.ep_check_unit.proofs.records.add_fields.Given as goal
-
-abbrev pub invariant-loop-name : goal.invariant-loop-name
-invariant-loop-name l = fields_named (field_named l.of) (drop l.name-index l.names) (map field_in l.all) ≡ fields_named (field_named l.of) l.names (map field_in l.fn.before)

@@ -1,9 +1,0 @@
-use Rattle.std.proofs.Common.{◌+◌, drop, sym, ap, ◌∙◌}
-use Rattle.ep_check_unit.specs.Declarations.{bounds_nodes}
-use Rattle.ep_check_unit.proofs.VariantParts.{next_bounds}
-use Rattle.ep_check_unit.proofs.variants.bounds_nodes.Goals as goal
-
-pub loop-range-preserved : goal.loop-range-preserved
-loop-range-preserved c =
-    ap (λ n. bounds_nodes n (drop (c.loop-range._range-index + 1) c.args.ranges.now)) c.counted-all.ensures
-    ∙ (sym (next_bounds c.loop-range.all c.args.ranges.now c.loop-range._range-index c.loop-range-test.true) ∙ c.loop-range.invariant)

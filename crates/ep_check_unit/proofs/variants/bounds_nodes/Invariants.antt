@@ -1,6 +1,0 @@
-use Rattle.std.proofs.Common.{◌≡◌, drop}
-use Rattle.ep_check_unit.specs.Declarations.{bounds_nodes}
-use Rattle.ep_check_unit.proofs.variants.bounds_nodes.Given as goal
-
-abbrev pub invariant-loop-range : goal.invariant-loop-range
-invariant-loop-range l = bounds_nodes l.all (drop l._range-index l.ranges) ≡ bounds_nodes l.nodes l.ranges

@@ -1,5 +1,0 @@
-use Rattle.std.proofs.Common.{◌≡◌, ◌∷◌, take}
-use Rattle.ep_check_unit.proofs.variants.one_more.Given as goal
-
-abbrev pub invariant-loop-step : goal.invariant-loop-step
-invariant-loop-step l = l.all ≡ record { selection = l.selection; variant = l.variant } ∷ take l.step-index l.path

@@ -1,0 +1,9 @@
+mod Emptiness
+mod Following
+mod FoundNames
+mod GivenLoops
+mod GivenParts
+mod KnownValues
+mod OwnFields
+mod TakenLabels
+mod VariantParts

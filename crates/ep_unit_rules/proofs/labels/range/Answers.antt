@@ -1,0 +1,17 @@
+use Rattle.std.proofs.Common.{◌≡◌, Some}
+use Rattle.std.proofs.lemmas.Result.{err_from_is_err_and}
+use Rattle.ep_tree.specs.declared.expression.Label.{out-Label}
+use Rattle.ep_unit_rules.proofs.VariantParts.{high_refused, low_refused}
+use Rattle.ep_unit_rules.proofs.labels.range.Goals as goal
+
+pub returns-in_err-low : goal.returns-in_err-low
+returns-in_err-low c =
+    let p = err_from_is_err_and c.from_residual.result c.from_residual.ensures.1 in
+    rw (p.1, p.2) (low_refused c.args.scopes.now c.args.values c.in_err-low.field-0.0 (out-Label c.args.label.now).low (out-Label c.args.label.now).high (rw c.get.ensures at c.in_err-low.ensures))
+
+pub returns-in_err-end-in-Some : goal.returns-in_err-end-in-Some
+returns-in_err-end-in-Some c =
+    let p = err_from_is_err_and c.from_residual-in_err-end-in-Some.result c.from_residual-in_err-end-in-Some.ensures.1 in
+    let there : (out-Label c.args.label.now).high ≡ Some c.get-in-Some.result.now = cc in
+    rw (p.1, p.2)
+    (high_refused c.args.scopes.now c.args.values c.in_err-end-in-Some.field-0.0 (out-Label c.args.label.now).low (out-Label c.args.label.now).high c.get-in-Some.result.now c.in_ok-low.low there (rw c.get.ensures at c.in_ok-low.ensures) c.in_err-end-in-Some.ensures)
