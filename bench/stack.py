@@ -138,7 +138,7 @@ SHAPES = {
         CHAIN + "\n".join(f"t{k:06} = record x: t{k - 1:06} end;" for k in range(1, 30000)) + "var v: t029999;", ""
     ),
     "a variable of arrays in arrays": lambda: unit(
-        CHAIN + "\n".join(f"t{k:06} = array [1..1] of t{k - 1:06};" for k in range(1, 30000)) + "var v: t029999;", ""
+        CHAIN + "\n".join(f"t{k:06} = array [1..1] of t{k - 1:06};" for k in range(1, 25000)) + "var v: t024999;", ""
     ),
     "a constant of arrays in arrays": lambda: unit(
         "type t000000 = array [1..1] of integer; const c000000 = t000000[1: 1];\n"
