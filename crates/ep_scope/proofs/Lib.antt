@@ -1,4 +1,5 @@
 mod Found
+mod Layers
 mod Opened
 mod Parameters
 mod Places

@@ -2,6 +2,7 @@ pub mod Entering
 pub mod Fields
 pub mod Keys
 pub mod Kinds
+pub mod Layers
 pub mod Meanings
 pub mod Numbers
 pub mod Parameters

@@ -6,13 +6,15 @@
 //! To change what a name means: specs/Scopes.antt, src/meaning.rt, src/scopes.rt, and src/view.rt for what code sees.
 //! A required identifier: specs/Required.antt, src/required.rt. The number of a static rule: src/rule.rt. What is
 //! declared of a name: src/thing.rt, of parameters src/parameter.rt, of structured types src/structure.rt, and how they
-//! and the fields of records are found src/structures.rt and src/fields.rt with specs/Numbers.antt and specs/Fields.antt. Kinds: src/kind.rt, specs/Kinds.antt. Records that `with` opens: src/record.rt,
-//! specs/Records.antt.
+//! and the fields of records are found src/structures.rt and src/fields.rt with specs/Numbers.antt and specs/Fields.antt.
+//! Kinds: src/kind.rt, specs/Kinds.antt. Records that `with` opens: src/record.rt, specs/Records.antt, and how their
+//! fields are found src/layer.rt, specs/Layers.antt.
 #![tactic(auto)]
 
 mod entries;
 mod fields;
 mod kind;
+mod layer;
 mod meaning;
 mod parameter;
 mod record;

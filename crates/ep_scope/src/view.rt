@@ -6,24 +6,28 @@ ghost use Rattle.ep_scope.specs.Meanings.{meant_by};
 ghost use Rattle.ep_scope.specs.Records.{open_of};
 ghost use Rattle.ep_scope.specs.Scopes.{depth_in, meant, meant_in, structure_in, within};
 
+use crate::layer::{FieldTable, Layer, field_in, layers_in};
 use crate::meaning::{Meaning, meaning_after, meaning_among};
-use crate::record::{OpenRecord, field_among, one_more};
+use crate::record::OpenRecord;
 use crate::scope::Scope;
 use crate::structure::{Composition, structure_among};
 use ep_base::{List, Name, NoMemory};
 use std::alloc::{AllocError, Global};
 use std::marker::Model;
 
-/// The scopes in view, the innermost first, and the records that are open inside of them, alike.
+/// The scopes in view, the innermost first, and the records that are open inside of them, in a layer for each `with`.
 #[derive(Drop)]
 pub struct View<'a> {
-    records: &'a [OpenRecord<'a>],
+    /// The records of the innermost `with`, where there is one.
+    open: Option<Layer<'a>>,
+    /// Those of the others, the innermost first.
+    around: &'a [Layer<'a>],
     scopes: &'a [Scope],
 }
 
 impl<'a> Model for View<'a> {
-    ghost use Rattle.std.specs.Prelude.{List, map};
-    ghost use Rattle.ep_scope.specs.Records.{open_of};
+    ghost use Rattle.std.specs.Prelude.{List};
+    ghost use Rattle.ep_scope.specs.Layers.{AreLayers, layers_in, records_of};
     ghost use Rattle.ep_scope.specs.Scopes.{Region, within_all};
     ghost use Rattle.std.specs.Coded.{codes};
     ghost use Rattle.ep_typed.specs.contracts.value.Value as value;
@@ -32,7 +36,9 @@ impl<'a> Model for View<'a> {
 
     ghost coded = { Prim.hlevel (codes, value.the_row.coded) };
 
-    ghost view = { λ v. within_all (map open_of v.records.now) v.scopes.now };
+    ghost view = { λ v. within_all (records_of (layers_in v.open v.around.now)) v.scopes.now };
+
+    ghost invariant = { λ v. AreLayers (layers_in v.open v.around.now) };
 }
 
 impl<'a> View<'a> {
@@ -41,7 +47,8 @@ impl<'a> View<'a> {
         ensures { result ≡ scopes.now }
     {
         View {
-            records: &[],
+            open: None,
+            around: &[],
             scopes,
         }
     }
@@ -51,7 +58,9 @@ impl<'a> View<'a> {
         ensures { IfOk result (λ inner. inner ≡ self.now) }
     {
         Ok(Inner {
-            records: List::from_slice(alloc, self.records)?,
+            records: List::new(alloc),
+            table: FieldTable::new(alloc),
+            around: layers_in(alloc, self.open, self.around)?,
             scopes: self.scopes,
         })
     }
@@ -59,13 +68,18 @@ impl<'a> View<'a> {
 
 /// The scopes in view in the statement of a `with`, whose records are open inside of them.
 pub struct Inner<'a> {
+    /// The records, of which the last one is the innermost.
     records: List<OpenRecord<'a>>,
+    /// How their fields are found.
+    table: FieldTable,
+    /// The records of the `with` statements around, the innermost first.
+    around: List<Layer<'a>>,
     scopes: &'a [Scope],
 }
 
 impl<'a> Model for Inner<'a> {
-    ghost use Rattle.std.specs.Prelude.{List, map};
-    ghost use Rattle.ep_scope.specs.Records.{open_of};
+    ghost use Rattle.std.specs.Prelude.{List};
+    ghost use Rattle.ep_scope.specs.Layers.{AreLayers, IsTable, inside_out, records_of};
     ghost use Rattle.ep_scope.specs.Scopes.{Region, within_all};
     ghost use Rattle.std.specs.Coded.{codes};
     ghost use Rattle.ep_typed.specs.contracts.value.Value as value;
@@ -74,13 +88,17 @@ impl<'a> Model for Inner<'a> {
 
     ghost coded = { Prim.hlevel (codes, value.the_row.coded) };
 
-    ghost view = { λ v. within_all (map open_of v.records) v.scopes.now };
+    ghost view = { λ v. within_all (inside_out v.records (records_of v.around)) v.scopes.now };
+
+    ghost invariant = { λ v. IsTable v.records v.table × AreLayers v.around };
 }
 
 impl<'a> Drop for Inner<'a> {
     fn drop(self) {
         let Inner {
             records: _,
+            table: _,
+            around: _,
             scopes: _,
         } = self;
     }
@@ -91,9 +109,20 @@ impl<'a> Inner<'a> {
     pub fn within(self, alloc: Global, opened: OpenRecord<'a>) -> Result<Inner<'a>, NoMemory>
         ensures { IfOk result (λ inner. inner ≡ within (open_of opened.entry) self.entry) }
     {
+        let Inner {
+            records,
+            table,
+            around,
+            scopes,
+        } = self;
+        let mut records = records;
+        let table = table.with(alloc, records.items().len(), opened.fields)?;
+        records.push(opened)?;
         Ok(Inner {
-            records: one_more(alloc, opened, self.records.items())?,
-            scopes: self.scopes,
+            records,
+            table,
+            around,
+            scopes,
         })
     }
 
@@ -102,7 +131,11 @@ impl<'a> Inner<'a> {
         ensures { result ≡ self.now }
     {
         View {
-            records: self.records.items(),
+            open: Some(Layer {
+                records: self.records.items(),
+                table: &self.table,
+            }),
+            around: self.around.items(),
             scopes: self.scopes,
         }
     }
@@ -123,7 +156,7 @@ pub fn depth_in(view: &View<'_>) -> Result<u32, NoMemory>
 pub fn meaning_of<'a>(view: &View<'a>, name: &Name) -> Meaning<'a>
     ensures { meant_by result ≡ meant view.now name.now }
 {
-    match field_among(view.records, name) {
+    match field_in(view.open, view.around, name) {
         Some(field) => Meaning::Field(field),
         None => meaning_among(view.scopes, name),
     }
@@ -133,7 +166,7 @@ pub fn meaning_of<'a>(view: &View<'a>, name: &Name) -> Meaning<'a>
 pub fn meaning_in<'a>(view: &View<'a>, interface: &Name, name: &Name) -> Meaning<'a>
     ensures { meant_by result ≡ meant_in view.now interface.now name.now }
 {
-    match field_among(view.records, interface) {
+    match field_in(view.open, view.around, interface) {
         Some(_) => Meaning::Nothing,
         None => meaning_after(view.scopes, interface, name),
     }
