@@ -5,6 +5,7 @@ pub mod formers
 pub mod Hosts
 pub mod Laws
 pub mod Nodes
+pub mod Parts
 pub mod Routines
 pub mod Selections
 pub mod Trees

@@ -2,11 +2,14 @@
 
 ghost use Rattle.std.specs.Prelude.{◌≡◌, IfOk, codes, length, map, min};
 ghost use Rattle.ep_typed.specs.Auxiliaries as spec;
+ghost use Rattle.ep_typed.specs.Parts as parts;
 ghost use Rattle.ep_typed.specs.Trees as tree;
 ghost use Rattle.ep_typed.specs.Trees.{stmts};
 ghost use Rattle.ep_typed.specs.Viewed.{arm_of, stmt_of};
+ghost use Rattle.ep_typed.specs.declared.tree.TypedStmt.{out-TypedStmt};
 
 use crate::denoter::{Bound, Denoter, RequiredType};
+use crate::parts::parts_of;
 use crate::tree::{CaseArm, TypedStmt};
 use crate::unit::{UnitVariable, UnitVariables};
 use ep_base::{Boxed, Line, List, Name, NameRefusal, NoMemory};
@@ -102,31 +105,23 @@ fn auxiliary_name(alloc: Global) -> Result<Name, NoMemory>
 
 /// The line of the first `for` with bounds or assignment to a tag in a statement, where it has one.
 #[cycle(for_statements)]
+#[tactic(auto, using(crate::proofs::Walks::first_for_is))]
 pub fn first_for(s: &TypedStmt) -> Option<Line>
     ensures { result ≡ spec.first_for (stmt_of s.now) }
 {
+    let parts = parts_of(s);
+    bounds_line(s)
+        .or(first_for_of(parts.first))
+        .or(first_for_arms(parts.arms))
+        .or(first_for_of(parts.last))
+}
+
+fn bounds_line(s: &TypedStmt) -> Option<Line>
+    ensures { result ≡ parts.bounds_line (out-TypedStmt s.now) }
+{
     match s {
-        TypedStmt::Compound(all) => first_for_of(all.items()),
-        TypedStmt::If(_, _, then_part, else_part) => {
-            first_for(then_part.get()).or(first_for(else_part.get()))
-        }
-        TypedStmt::While(_, _, body) => first_for(body.get()),
-        TypedStmt::Repeat(_, all, _) => first_for_of(all.items()),
         TypedStmt::For(line, _, _, _, _) | TypedStmt::AssignTag(line, _, _, _, _) => Some(*line),
-        TypedStmt::ForIn(_, _, _, body) => first_for(body.get()),
-        TypedStmt::With(_, _, body) => first_for(body.get()),
-        TypedStmt::Case(_, _, arms, other) => {
-            let rest = match other {
-                None => None,
-                Some(all) => first_for_of(all.items()),
-            };
-            first_for_arms(arms.items()).or(rest)
-        }
-        TypedStmt::Empty
-        | TypedStmt::Assign(_, _, _)
-        | TypedStmt::Procedure(_, _, _)
-        | TypedStmt::Halt(_)
-        | TypedStmt::Write(_, _, _) => None,
+        _ => None,
     }
 }
 
@@ -158,32 +153,23 @@ fn first_for_arms(all: &[CaseArm]) -> Option<Line>
 
 /// The line of the first `for` over members in a statement, where it has one.
 #[cycle(member_statements)]
+#[tactic(auto, using(crate::proofs::Walks::first_for_in_is))]
 pub fn first_for_in(s: &TypedStmt) -> Option<Line>
     ensures { result ≡ spec.first_for_in (stmt_of s.now) }
 {
+    let parts = parts_of(s);
+    members_line(s)
+        .or(first_for_in_of(parts.first))
+        .or(first_for_in_arms(parts.arms))
+        .or(first_for_in_of(parts.last))
+}
+
+fn members_line(s: &TypedStmt) -> Option<Line>
+    ensures { result ≡ parts.members_line (out-TypedStmt s.now) }
+{
     match s {
-        TypedStmt::Compound(all) => first_for_in_of(all.items()),
-        TypedStmt::If(_, _, then_part, else_part) => {
-            first_for_in(then_part.get()).or(first_for_in(else_part.get()))
-        }
-        TypedStmt::While(_, _, body) => first_for_in(body.get()),
-        TypedStmt::Repeat(_, all, _) => first_for_in_of(all.items()),
-        TypedStmt::For(_, _, _, _, body) => first_for_in(body.get()),
         TypedStmt::ForIn(line, _, _, _) => Some(*line),
-        TypedStmt::With(_, _, body) => first_for_in(body.get()),
-        TypedStmt::Case(_, _, arms, other) => {
-            let rest = match other {
-                None => None,
-                Some(all) => first_for_in_of(all.items()),
-            };
-            first_for_in_arms(arms.items()).or(rest)
-        }
-        TypedStmt::Empty
-        | TypedStmt::Assign(_, _, _)
-        | TypedStmt::AssignTag(_, _, _, _, _)
-        | TypedStmt::Procedure(_, _, _)
-        | TypedStmt::Halt(_)
-        | TypedStmt::Write(_, _, _) => None,
+        _ => None,
     }
 }
 
@@ -216,34 +202,23 @@ fn first_for_in_arms(all: &[CaseArm]) -> Option<Line>
 /// How many records the `with` statements in a statement open, each of which has a variable of its own, at most the greatest
 /// `usize`.
 #[cycle(with_statements)]
+#[tactic(auto, using(crate::proofs::Walks::with_count_is))]
 pub fn with_count(s: &TypedStmt) -> usize
     ensures { result ≡ min (length (spec.with_variables (stmt_of s.now))) usize.MAX }
 {
+    let parts = parts_of(s);
+    with_count_of(parts.first)
+        .saturating_add(with_count_in(parts.arms))
+        .saturating_add(with_count_of(parts.last))
+        .saturating_add(records_count(s))
+}
+
+fn records_count(s: &TypedStmt) -> usize
+    ensures { result ≡ parts.records_count (out-TypedStmt s.now) }
+{
     match s {
-        TypedStmt::Compound(all) => with_count_of(all.items()),
-        TypedStmt::If(_, _, then_part, else_part) => {
-            with_count(then_part.get()).saturating_add(with_count(else_part.get()))
-        }
-        TypedStmt::While(_, _, body) => with_count(body.get()),
-        TypedStmt::Repeat(_, all, _) => with_count_of(all.items()),
-        TypedStmt::For(_, _, _, _, body) => with_count(body.get()),
-        TypedStmt::ForIn(_, _, _, body) => with_count(body.get()),
-        TypedStmt::With(_, records, body) => {
-            with_count(body.get()).saturating_add(records.items().len())
-        }
-        TypedStmt::Case(_, _, arms, other) => {
-            let rest = match other {
-                None => 0,
-                Some(all) => with_count_of(all.items()),
-            };
-            with_count_in(arms.items()).saturating_add(rest)
-        }
-        TypedStmt::Empty
-        | TypedStmt::Assign(_, _, _)
-        | TypedStmt::AssignTag(_, _, _, _, _)
-        | TypedStmt::Procedure(_, _, _)
-        | TypedStmt::Halt(_)
-        | TypedStmt::Write(_, _, _) => 0,
+        TypedStmt::With(_, records, _) => records.items().len(),
+        _ => 0,
     }
 }
 

@@ -3,7 +3,8 @@
 //! Promise: `unit_nodes` counts exactly the nodes that specs/Nodes.antt counts, and by `laws_of_denoters` a denoter
 //! has at most one type value. It stands on ep_values for types and operations, and says nothing of meaning, so that
 //! an edit of the meaning proves no static rule anew. Open specs/Trees.antt first, with src/tree.rt beside it.
-//! To change a typed form: src/tree.rt, specs/Trees.antt, Viewed.antt, Nodes.antt with src/nodes.rt. A denoter:
+//! To change a typed form: src/tree.rt, specs/Trees.antt, Viewed.antt, Nodes.antt with src/nodes.rt; a statement also
+//! specs/Parts.antt with src/parts.rt, which all walks over statements go by. A denoter:
 //! src/denoter.rt, specs/Denoters.antt, and Hosts.antt for hosts. Units and interfaces: src/unit.rt, src/interface.rt.
 //! The numbers of a routine's variables: specs/Routines.antt; the auxiliary ones: Auxiliaries.antt, src/auxiliary.rt.
 //! Constants that share their elements, and uses of variants that share their labels: src/value.rt, src/shared.rt,
@@ -15,6 +16,7 @@ mod denoter;
 mod interface;
 mod laws;
 mod nodes;
+mod parts;
 mod selection;
 mod shared;
 mod tree;

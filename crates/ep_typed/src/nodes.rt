@@ -2,12 +2,15 @@
 
 ghost use Rattle.std.specs.Prelude.{◌≡◌, ◌∷◌, [], min, map, sum};
 ghost use Rattle.ep_typed.specs.Nodes as nodes;
+ghost use Rattle.ep_typed.specs.Parts as parts;
 ghost use Rattle.ep_typed.specs.Viewed.{actual_of, arm_of, designator_of, element_of, entire_of, expr_of, item_of, place_of, stmt_of, with_record_of};
 ghost use Rattle.ep_typed.specs.Trees as tree;
 ghost use Rattle.ep_typed.specs.Trees.{stmts};
+ghost use Rattle.ep_typed.specs.declared.tree.TypedStmt.{out-TypedStmt};
 
 use crate::denoter::{Denoter, FieldPart, RecordField, Selector, Variant, VariantPart};
 use crate::interface::{ConstantEntry, Formal, RoutineResult, SchemaFormal};
+use crate::parts::parts_of;
 use crate::tree::{
     Actual, CaseArm, Element, EntireVariable, MemberDesignator, TypedExpr, TypedPlace, TypedStmt,
     WithRecord, WriteItem,
@@ -247,13 +250,24 @@ fn variant(v: &Variant) -> u64
 }
 
 #[cycle(statements)]
+#[tactic(auto, using(crate::proofs::Walks::stmt_nodes_is))]
 fn statement(s: &TypedStmt) -> u64
     ensures { result ≡ min (nodes.stmt_nodes (stmt_of s.now)) u64.MAX }
 {
+    let parts = parts_of(s);
+    own_nodes(s)
+        .saturating_add(statements(parts.first))
+        .saturating_add(arms(parts.arms))
+        .saturating_add(statements(parts.last))
+}
+
+/// The nodes of a statement that are in no statement of it.
+fn own_nodes(s: &TypedStmt) -> u64
+    ensures { result ≡ min (parts.own_nodes (out-TypedStmt s.now)) u64.MAX }
+{
     match s {
-        TypedStmt::Empty | TypedStmt::Halt(_) => 1,
+        TypedStmt::Empty | TypedStmt::Halt(_) | TypedStmt::Compound(_) => 1,
         TypedStmt::Procedure(_, _, given) => actuals(given.items()).saturating_add(1),
-        TypedStmt::Compound(all) => statements(all.items()).saturating_add(1),
         TypedStmt::Assign(_, p, value) => {
             place(p)
                 .saturating_add(expression(value.get()))
@@ -265,48 +279,22 @@ fn statement(s: &TypedStmt) -> u64
                 .saturating_add(expression(value.get()))
                 .saturating_add(2)
         }
-        TypedStmt::If(_, condition, then_part, else_part) => {
-            expression(condition.get())
-                .saturating_add(statement(then_part.get()))
-                .saturating_add(statement(else_part.get()))
-                .saturating_add(1)
-        }
-        TypedStmt::While(_, condition, body) => {
-            expression(condition.get())
-                .saturating_add(statement(body.get()))
-                .saturating_add(1)
-        }
-        TypedStmt::Repeat(_, all, condition) => {
-            statements(all.items())
-                .saturating_add(expression(condition.get()))
-                .saturating_add(1)
-        }
-        TypedStmt::ForIn(_, control, set, body) => {
+        TypedStmt::If(_, condition, _, _)
+        | TypedStmt::While(_, condition, _)
+        | TypedStmt::Repeat(_, _, condition)
+        | TypedStmt::Case(_, condition, _, _) => expression(condition.get()).saturating_add(1),
+        TypedStmt::ForIn(_, control, set, _) => {
             entire(&control.variable)
                 .saturating_add(expression(set.get()))
-                .saturating_add(statement(body.get()))
                 .saturating_add(1)
         }
-        TypedStmt::For(_, control, initial, last, body) => {
+        TypedStmt::For(_, control, initial, last, _) => {
             entire(&control.variable)
                 .saturating_add(expression(initial.get()))
                 .saturating_add(expression(last.get()))
-                .saturating_add(statement(body.get()))
                 .saturating_add(1)
         }
-        TypedStmt::With(_, all, body) => {
-            records(all.items()).saturating_add(statement(body.get()))
-        }
-        TypedStmt::Case(_, selector, all, other) => {
-            let otherwise = match other {
-                None => 0,
-                Some(all) => statements(all.items()),
-            };
-            expression(selector.get())
-                .saturating_add(arms(all.items()))
-                .saturating_add(otherwise)
-                .saturating_add(1)
-        }
+        TypedStmt::With(_, all, _) => records(all.items()),
         TypedStmt::Write(_, all, _) => items(all.items()).saturating_add(1),
     }
 }
