@@ -100,6 +100,7 @@ pub fn typed_value(
 }
 
 /// `"[" values "]"`, of the structured type of this number
+#[inline(never)]
 #[cycle(typed)]
 fn structured(
     alloc: Global,
@@ -118,6 +119,7 @@ fn structured(
 }
 
 /// `values`, of an array
+#[inline(never)]
 #[cycle(typed)]
 fn array(
     alloc: Global,
@@ -279,6 +281,7 @@ fn with_range(
 }
 
 /// `values`, of a record
+#[inline(never)]
 #[cycle(typed)]
 fn record(
     alloc: Global,
@@ -417,6 +420,7 @@ fn simple(alloc: Global, s: &Simple, scopes: &View<'_>) -> Result<Typed, Refusal
 }
 
 /// `{ adding-operator term }`, after the terms before it
+#[inline(never)]
 #[cycle(typed)]
 fn addends(alloc: Global, first: Typed, all: &[Addend], scopes: &View<'_>) -> Result<Typed, Refusal>
     requires operands { lines_in (map addend_belonging all.now) ≡ None }
@@ -441,6 +445,7 @@ fn term(alloc: Global, t: &Term, scopes: &View<'_>) -> Result<Typed, Refusal>
 }
 
 /// `{ multiplying-operator factor }`, after the factors before it
+#[inline(never)]
 #[cycle(typed)]
 fn multipliers(
     alloc: Global,
@@ -488,6 +493,7 @@ fn factor(alloc: Global, f: &Factor, scopes: &View<'_>) -> Result<Typed, Refusal
 }
 
 /// `"[" [ label { "," label } ] "]"`
+#[inline(never)]
 #[cycle(typed)]
 fn set(alloc: Global, all: &[Label], scopes: &View<'_>) -> Result<Typed, Refusal>
     requires built { first_in (map label_unbuilt all.now) ≡ None }
@@ -501,6 +507,7 @@ fn set(alloc: Global, all: &[Label], scopes: &View<'_>) -> Result<Typed, Refusal
 }
 
 /// `label`, after those before it
+#[inline(never)]
 #[cycle(typed)]
 fn with_label(
     alloc: Global,
@@ -523,6 +530,7 @@ fn with_label(
 }
 
 /// A character string.
+#[inline(never)]
 pub(crate) fn string(alloc: Global, bytes: &[u8]) -> Result<Typed, Refusal>
     ensures { AnswersTyped result (string_judged bytes.now) }
 {
@@ -555,6 +563,7 @@ fn access(alloc: Global, a: &Access, scopes: &View<'_>) -> Result<Typed, Refusal
 }
 
 /// `{ "[" expr { "," expr } "]" | "." id }`, after what has these indexes and fields
+#[inline(never)]
 #[cycle(typed)]
 fn selected(
     alloc: Global,
@@ -579,6 +588,7 @@ fn selected(
 }
 
 /// `expr { "," expr }` in brackets, after what has these indexes
+#[inline(never)]
 #[cycle(typed)]
 fn with_indexes(
     alloc: Global,
@@ -599,6 +609,7 @@ fn with_indexes(
 }
 
 /// `id "(" arg { "," arg } ")"`
+#[inline(never)]
 #[cycle(typed)]
 fn call(
     alloc: Global,
@@ -624,6 +635,7 @@ fn call(
 }
 
 /// A call of a required function.
+#[inline(never)]
 #[cycle(typed)]
 fn application(
     alloc: Global,
@@ -652,6 +664,7 @@ fn application(
 }
 
 /// What is declared, called with arguments (ISO 10206, 6.8.5).
+#[inline(never)]
 #[cycle(typed)]
 fn designator(
     alloc: Global,

@@ -9,6 +9,8 @@
 //! values: specs/StructuredValues.antt, src/structured.rt, arranged.rt for arrays, filled.rt for records, chosen.rt
 //! for variants. Constant expressions: specs/Constants.antt, StructuredConstants.antt, src/constants.rt,
 //! src/structured_constants.rt.
+//! Functions of the walk that nest are `inline(never)`, so that a level has the frames of its own productions alone
+//! (docs/PROMISES.md, 'What is known of the stack').
 #![tactic(auto)]
 
 mod arranged;

@@ -175,6 +175,7 @@ impl Taken {
     }
 
     /// The same, and then a value for one parameter more.
+    #[inline(never)]
     pub fn with(self, parameter: &FormalParameter, value: Typed) -> Result<Taken, Refusal>
         requires { IsReading value.access (option_map expr_of value.form) }
         ensures { AnswersJudged taken_of result

@@ -124,6 +124,7 @@ impl Members {
     }
 
     /// The same with one value.
+    #[inline(never)]
     pub fn with_single(self, value: Typed) -> Result<Members, Refusal>
         ensures { AnswersJudged members_of result (with_single (members_of self) (typed_of value)) }
     {
@@ -137,6 +138,7 @@ impl Members {
     }
 
     /// The same with the values from one to another of the same host.
+    #[inline(never)]
     pub fn with_range(self, low: Typed, high: Typed) -> Result<Members, Refusal>
         ensures { AnswersJudged members_of result
             (with_range (members_of self) (typed_of low) (typed_of high)) }
@@ -154,6 +156,7 @@ impl Members {
     }
 
     /// The set of these members.
+    #[inline(never)]
     pub fn constructed(self, alloc: Global) -> Result<Typed, Refusal>
         ensures { AnswersTyped result (constructed (members_of self)) }
     {

@@ -232,6 +232,7 @@ fn field(alloc: Global, field: &FieldType, whole: Typed) -> Result<Typed, Refusa
 }
 
 /// The field of this name of a value, which is a record.
+#[inline(never)]
 pub fn designated(
     alloc: Global,
     name: &Name,

@@ -161,6 +161,7 @@ impl Typed {
     }
 
     /// A number or a character as the text spells it.
+    #[inline(never)]
     pub fn spelled(alloc: Global, value: i64, host: Host) -> Result<Typed, Refusal>
         requires { IsTrue (hosts.is_of_host (typed_host host) value) }
         ensures { AnswersTyped result (spelled host value) }
@@ -169,6 +170,7 @@ impl Typed {
     }
 
     /// A text that is no char.
+    #[inline(never)]
     pub fn text(alloc: Global, bytes: &[u8]) -> Result<Typed, Refusal>
         ensures { AnswersTyped result (leaf (Text bytes.now) kind.Text access.Value) }
     {
@@ -340,6 +342,7 @@ impl Typed {
     }
 
     /// A call of a function, whose result is of this kind, in code of a depth. It is built where that is ordinal, structured or a set.
+    #[inline(never)]
     pub fn function(
         alloc: Global,
         depth: u32,

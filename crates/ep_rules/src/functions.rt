@@ -87,6 +87,7 @@ fn cardinality(alloc: Global, x: Typed) -> Result<Typed, Refusal>
 }
 
 /// A call of one argument.
+#[inline(never)]
 pub fn applied_to_one(alloc: Global, function: Function, x: Typed) -> Result<Typed, Refusal>
     ensures { AnswersTyped result (applied_one function (typed_of x)) }
 {
@@ -104,6 +105,7 @@ pub fn applied_to_one(alloc: Global, function: Function, x: Typed) -> Result<Typ
 }
 
 /// A call of two arguments.
+#[inline(never)]
 pub fn applied_to_two(
     alloc: Global,
     function: Function,

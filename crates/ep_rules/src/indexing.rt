@@ -130,6 +130,7 @@ fn indexed_text(text: Typed, index: Typed) -> Result<Typed, Refusal>
 }
 
 /// What an index gives of a value.
+#[inline(never)]
 pub fn indexed(
     alloc: Global,
     value: Typed,

@@ -9,6 +9,8 @@
 //! ep_expr_laws. What is known of constants: specs/Folding.antt, SetFolding.antt, src/folding.rt, src/sets.rt;
 //! components of constants: specs/ConstantAccesses.antt, KnownFields.antt. Levels of calls and variables:
 //! src/levels.rt.
+//! What the walk calls at each level is `inline(never)`: a frame of the walk would hold what all of the inlined hold,
+//! and the walk goes a hundred levels down.
 #![tactic(auto)]
 
 mod access;

@@ -140,6 +140,7 @@ fn value_of(alloc: Global, depth: u32, name: &Name, meaning: Meaning<'_>) -> Res
 }
 
 /// A name as a value.
+#[inline(never)]
 pub fn named(alloc: Global, name: &Name, scopes: &View<'_>) -> Result<Typed, Refusal>
     ensures { AnswersTyped result (value_named (depth_in scopes.now) name.now (meant scopes.now name.now)) }
 {
@@ -147,6 +148,7 @@ pub fn named(alloc: Global, name: &Name, scopes: &View<'_>) -> Result<Typed, Ref
 }
 
 /// `i.a` as a value: a name that an interface has, or else a field.
+#[inline(never)]
 pub fn qualified(
     alloc: Global,
     first: &Name,

@@ -88,6 +88,7 @@ fn may_be_in(x: Kind, y: Kind) -> bool
 }
 
 /// `[ sign ] term`
+#[inline(never)]
 pub fn signed(alloc: Global, sign: Option<Sign>, x: Typed) -> Result<Typed, Refusal>
     ensures { AnswersTyped result (signed sign (typed_of x)) }
 {
@@ -105,6 +106,7 @@ pub fn signed(alloc: Global, sign: Option<Sign>, x: Typed) -> Result<Typed, Refu
 }
 
 /// `not factor`
+#[inline(never)]
 pub fn negated(alloc: Global, x: Typed) -> Result<Typed, Refusal>
     ensures { AnswersTyped result (negated (typed_of x)) }
 {
@@ -215,6 +217,7 @@ fn added_sets(alloc: Global, operator: AddingOperator, x: Typed, y: Typed) -> Re
 }
 
 /// `simple adding-operator term`
+#[inline(never)]
 pub fn added(alloc: Global, operator: AddingOperator, x: Typed, y: Typed) -> Result<Typed, Refusal>
     ensures { AnswersTyped result (added operator (typed_of x) (typed_of y)) }
 {
@@ -242,6 +245,7 @@ fn product(alloc: Global, x: Typed, y: Typed) -> Result<Typed, Refusal>
 }
 
 /// `term multiplying-operator factor`
+#[inline(never)]
 pub fn multiplied(
     alloc: Global,
     operator: MultiplyingOperator,
@@ -278,6 +282,7 @@ fn related(
 }
 
 /// `simple relational-operator simple`
+#[inline(never)]
 pub fn compared(
     alloc: Global,
     operator: RelationalOperator,
