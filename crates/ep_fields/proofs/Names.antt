@@ -1,13 +1,12 @@
 -- Which texts are names.
-use Rattle.std.proofs.Common.{◌≡◌, ℕ, ◌+◌, ◌<◌, ◌≤◌, ◌&&◌, Bool, true, false, List, length, Option, Some, None, Result, Ok, Err, refl, sym, ap, ◌∙◌, subst, arith, cond}
+use Rattle.std.proofs.Common.{◌≡◌, ℕ, ◌+◌, ◌<◌, ◌&&◌, Bool, true, false, List, length, Some, None, Ok, Err, refl, ap, arith, cond}
 use Rattle.std.specs.Str.{bytes_eq}
 use Rattle.std.proofs.lemmas.Bool.{lt-leb}
 use Rattle.std.specs.Prelude.{nat_le}
 use Rattle.ep_base.specs.Identifiers.{is_identifier, is_name, lower_case}
 use Rattle.ep_base.specs.declared.name.TheConstants as limit
-use Rattle.ep_fields.specs.Fields.{Position, Reading, behind, field_of, name_at, name_or_bad}
+use Rattle.ep_fields.specs.Fields.{Position, Reading, behind, field_of, name_at}
 use Rattle.ep_fields.specs.Names.{name_if}
-use Rattle.ep_fields.specs.declared.refusal.FieldRefusal.{FieldRefusal}
 use Rattle.ep_fields.specs.declared.refusal.FieldRefusal.TheVariants.{Bad}
 
 -- a text that is no identifier is no name

@@ -1,6 +1,6 @@
 -- A field that is read is the one that was written, and what was written is read again.
-use Rattle.std.proofs.Common.{◌≡◌, ℕ, ℤ, ◌+◌, ◌^◌, ◌<◌, ◌≤◌, Bool, true, false, ◌&&◌, cond, ltb, bytes_eq, List, [], ◌∷◌, ◌++◌, FitsSigned, length, get_or, take, drop, Option, Some, None, Result, Ok, Err, refl, sym, ap, subst, ◌∙◌, append_assoc, arith, inl, inr}
-use Rattle.std.specs.Int.{Width, w8, w32, w64, from_be_bytes, to_be_bytes, cast_signed, cast_unsigned}
+use Rattle.std.proofs.Common.{◌≡◌, ℕ, ℤ, ◌+◌, ◌^◌, ◌<◌, ◌≤◌, Bool, true, false, ◌&&◌, cond, ltb, bytes_eq, List, [], ◌∷◌, ◌++◌, FitsSigned, length, take, drop, Option, Some, None, Result, Ok, Err, refl, sym, ap, subst, ◌∙◌, append_assoc, arith, inl, inr}
+use Rattle.std.specs.Int.{w8, w32, w64, from_be_bytes, to_be_bytes, cast_signed, cast_unsigned}
 use Rattle.std.proofs.lemmas.Bool.{and_parts, cases_lt, leb-true, ltb-false, le-ltb}
 use Rattle.std.proofs.Math.Facts.{Fits-lt-pow, Fits-of_lt, Fits-of_z, sfits_to_z}
 use Rattle.std.proofs.lemmas.Int.{to_z-of_z, of_z-to_z}
@@ -10,7 +10,7 @@ use Rattle.ep_base.specs.Identifiers.{is_identifier, is_name, lower_case}
 use Rattle.ep_base.specs.declared.name.TheConstants as limit
 use Rattle.ep_fields.specs.declared.refusal.FieldRefusal.{FieldRefusal}
 use Rattle.ep_fields.specs.declared.refusal.FieldRefusal.TheVariants.{Short, Bad}
-use Rattle.ep_fields.specs.Fields.{Position, Reading, ◌>>=◌, behind, byte_at, byte_field, byte_field_at, bytes_at, field_of, field_or_short, integer, integer_at, name_at, name_or_bad, number, number_at}
+use Rattle.ep_fields.specs.Fields.{Position, ◌>>=◌, behind, byte_at, byte_field, byte_field_at, bytes_at, field_of, field_or_short, integer, integer_at, name_at, name_or_bad, number, number_at}
 use Rattle.ep_fields.specs.Laws.{AreBytes, FieldLaws, IsReadAgain, IsSpelled, Stood}
 
 -- ---- steps of a reading

@@ -1,7 +1,7 @@
 -- How fields are spelled, and how they are read from left to right. Numbers are big-endian, those with a sign in two's
 -- complement; a byte field is a count of four bytes and so many bytes; a name is a byte field that holds an identifier
 -- in lower case.
-use Rattle.std.specs.Prelude.{◌≡◌, ℕ, ℤ, ◌+◌, List, [], ◌∷◌, ◌++◌, length, take, drop, Option, Some, None, Result, Ok, Err}
+use Rattle.std.specs.Prelude.{◌≡◌, ℕ, ℤ, ◌+◌, List, ◌++◌, length, take, drop, Option, Some, None, Result, Ok, Err}
 use Rattle.std.specs.Prelude.{nat_lt, if◌then◌else◌}
 use Rattle.std.specs.Int.{w8, w32, w64, from_be_bytes, to_be_bytes, cast_signed, cast_unsigned}
 use Rattle.ep_base.specs.Identifiers.{is_name}

@@ -1,4 +1,4 @@
-use Rattle.std.proofs.Common.{◌≡◌, ◌∙◌, ◌+◌, length, Some, Ok, drop, sym, ap, refl}
+use Rattle.std.proofs.Common.{◌≡◌, ◌∙◌, ◌+◌, length, Ok, drop, sym, ap}
 use Rattle.std.proofs.lemmas.List.{drop-drop}
 use Rattle.ep_fields.proofs.Names.{named}
 use Rattle.ep_fields.specs.Fields.{behind, field_of}
