@@ -9,4 +9,5 @@ pub mod public
 mod Reading
 mod Selectors
 mod SetExamples
+mod Settled
 mod VariantExamples

@@ -1,8 +1,9 @@
 -- What a typed form is as a constant that may be an array or a record (ISO 10206, 6.6, 6.8.2 and 6.8.7): its
 -- components are such constants.
 use Rattle.std.specs.Prelude.{ℕ, ℤ, int_le, ◌&&◌, List, [], ◌∷◌, ◌++◌, Option, Some, None, option_to_list, Result, Ok}
-use Rattle.std.specs.Prelude.{Err, if◌then◌else◌}
+use Rattle.std.specs.Prelude.{Err, if◌then◌else◌, ◌≡◌, map}
 use Rattle.ep_typed.specs.Trees as tree
+use Rattle.ep_typed.specs.Viewed.{element_of, expr_of}
 use Rattle.ep_typed.specs.Trees.{Expr, AtIndex, AtField, SameField, AtRanges, AtIndexes, Elements, no_element}
 use Rattle.ep_typed.specs.Trees.{next_element, no_member, next_member}
 use Rattle.ep_typed.specs.declared.tree.CaseRange.{CaseRange}
@@ -139,3 +140,16 @@ module _ (scopes : List Region) where
     pub elements_constancy : Option ArrayType → Elements → Constancy (List Element)
     elements_constancy of no_element = Ok []
     elements_constancy of (next_element e more) = with_first (element_constancy of e) (elements_constancy of more)
+
+-- A form is a constant as it stands, whatever is known of types: what a component is given of it is the form itself.
+abbrev pub IsSettled : TypedExpr → Type 0
+IsSettled x = (scopes : List Region) → of_one form_in (constancy scopes (expr_of x)) ≡ Ok x
+
+abbrev pub IsSettledElement : Element → Type 0
+IsSettledElement e =
+    (scopes : List Region) (of : Option ArrayType) → element_constancy scopes of (element_of e) ≡ Ok (Some e)
+
+abbrev pub AreSettled : List Element → Type 0
+AreSettled es =
+    (scopes : List Region) (of : Option ArrayType)
+    → elements_constancy scopes of (tree.elements (map element_of es)) ≡ Ok es

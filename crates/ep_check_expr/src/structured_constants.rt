@@ -1,6 +1,6 @@
 //! What typed forms are as constants that may be arrays or records (ISO 10206, 6.6, 6.8.2 and 6.8.7).
 
-ghost use Rattle.std.specs.Prelude.{◌≡◌, [], IfOk, Ok, Some, map};
+ghost use Rattle.std.specs.Prelude.{◌≡◌, [], IfOk, IsTrue, Ok, Some, map};
 ghost use Rattle.ep_scope.specs.Scopes.{structure_in};
 ghost use Rattle.ep_typed.specs.Trees as tree;
 ghost use Rattle.ep_typed.specs.Viewed.{element_of, expr_of};
@@ -66,6 +66,9 @@ pub(crate) fn constancy(
 {
     match e {
         TypedExpr::Structured(number, given) => {
+            if are_settled(given.get().items()) {
+                return Ok(Ok(ConstantValue::Structured(*number, given.share()?)));
+            }
             let of = array_of(scopes, *number);
             let given = elements(alloc, of, given.get().items(), scopes)?;
             structured(alloc, *number, given)
@@ -126,6 +129,44 @@ fn element(
             }
         }
     }
+}
+
+/// Whether a form is a constant as it stands, whose components need not be made anew.
+#[cycle(settled)]
+fn is_settled(e: &TypedExpr) -> bool
+    ensures { IsTrue result → spec.IsSettled e.now }
+{
+    match e {
+        TypedExpr::Constant(_) | TypedExpr::SetConstant(_) => true,
+        TypedExpr::Structured(_, given) => are_settled(given.get().items()),
+        _ => false,
+    }
+}
+
+/// Alike, of what a component is given.
+#[cycle(settled)]
+fn is_settled_element(e: &Element) -> bool
+    ensures { IsTrue result → spec.IsSettledElement e.now }
+{
+    match e {
+        Element::AtRanges(_, value) => is_settled(value.get()),
+        Element::AtField(_, value) => is_settled(value.get()),
+        Element::SameField(_, _) => true,
+        Element::AtIndex(_, _) | Element::AtIndexes(_, _) => false,
+    }
+}
+
+/// Alike, of what components are given.
+#[cycle(settled)]
+fn are_settled(all: &[Element]) -> bool
+    ensures { IsTrue result → spec.AreSettled all.now }
+{
+    for one in all {
+        if !is_settled_element(one) {
+            return false;
+        }
+    }
+    true
 }
 
 /// The array type of this number, where it is one.

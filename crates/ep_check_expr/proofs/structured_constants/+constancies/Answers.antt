@@ -1,9 +1,18 @@
-use Rattle.std.proofs.Common.{◌∙◌, Ok, ap, map}
+use Rattle.std.proofs.Common.{◌≡◌, ◌∙◌, Ok, ap, map, subst, sym}
 use Rattle.ep_typed.specs.Trees.{elements}
-use Rattle.ep_typed.specs.Viewed.{element_of}
-use Rattle.ep_check_expr.specs.StructuredConstants.{elements_constancy, joined}
+use Rattle.ep_typed.specs.Viewed.{element_of, expr_of}
+use Rattle.ep_check_expr.specs.StructuredConstants.{constancy, elements_constancy, joined, structured, AreSettled}
 use Rattle.ep_check_expr.proofs.Joining.{joined_none, joined_step, varies_at}
+use Rattle.ep_check_expr.proofs.Settled.{constant_settled}
 use Rattle.ep_check_expr.proofs.structured_constants.+constancies.Goals as goal
+
+-- a constant that stands as it is is shared
+pub constancy-returns-then-are_settled : goal.constancy-returns-then-are_settled
+constancy-returns-then-are_settled t c =
+    let x = c.in-Structured in
+    let all : AreSettled x.given = subst AreSettled (c.items.ensures ∙ c.get.ensures) (c.are_settled.ensures c.if-are_settled.true) in
+    let kept : structured x.number (Ok c.in_ok-share-in-Structured.field-0) ≡ structured x.number (Ok x.given) = ap (λ g. structured x.number (Ok g)) c.in_ok-share-in-Structured.ensures in
+    kept ∙ sym (ap (λ e. constancy c.args.scopes.now (expr_of e)) x.is ∙ constant_settled x.number x.given all c.args.scopes.now)
 
 pub elements-loop-one-init : goal.elements-loop-one-init
 elements-loop-one-init t c =
