@@ -13,10 +13,11 @@ use Rattle.std.specs.declared.vec.Vec.{Vec}
 use Rattle.std.specs.declared.alloc.Global.{Global}
 use Rattle.ep_object.specs.Placing.{Placement, placement_of}
 use Rattle.ep_object.specs.declared.code.Object.{Object}
-use Rattle.ep_link.specs.Placements.{bases_behind, nameless, placement_at, placements_at}
+use Rattle.ep_link.specs.Placements.{nameless, placement_at}
 use Rattle.ep_link.specs.Units.{if_none, with_first}
 use Rattle.ep_link.specs.declared.placement.Bases.{Bases}
 use Rattle.ep_link.specs.declared.placement.Placement.{Placement as Nameless}
+use Rattle.ep_link.proofs.Placed.{bases_behind, placements_at}
 
 -- what the map has at these bytes
 abbrev pub at_bytes : {X : Type 0} → BTreeMap (Vec ℕ Global) X → List ℕ → Option X

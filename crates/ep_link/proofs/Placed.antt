@@ -11,12 +11,21 @@ use Rattle.ep_object.specs.declared.code.Object.{Object}
 use Rattle.ep_object.specs.declared.code.Reference.{Reference}
 use Rattle.ep_link.specs.Instrs.{placed_op, placed_instr, call_of, slot_of, slot_or_file}
 use Rattle.ep_link.specs.Parts.{object_part}
-use Rattle.ep_link.specs.Placements.{bases_behind, first_bases, nameless, placement_at, placements_at}
+use Rattle.ep_link.specs.Placements.{bases_after, first_bases, nameless, placement_at}
 use Rattle.ep_link.specs.Targets.{target_of, target_at, target_in}
 use Rattle.ep_link.specs.Units.{unit_named}
 use Rattle.ep_link.specs.declared.placement.Bases.{Bases}
 use Rattle.ep_link.specs.declared.target.Target.{Target}
 use Rattle.ep_link.specs.declared.units.Units.{Units}
+
+-- what stands before the object behind one
+abbrev pub bases_behind : Bases → Object → Bases
+bases_behind b o = bases_after (nameless (placement_at b o))
+
+-- the placements of objects with these parts before those of the first
+abbrev pub placements_at : Bases → List Object → List Placement
+placements_at b [] = []
+placements_at b (o ∷ os) = placement_at b o ∷ placements_at (bases_behind b o) os
 
 placed_behind : (b : Bases) (o : Object) (os : List Object)
     → placements_after (placement_at b o) os ≡ placements_at (bases_behind b o) os

@@ -1,5 +1,5 @@
 -- The placement of an object, by what stands in the image before it.
-use Rattle.std.specs.Prelude.{ℕ, ◌+◌, List, [], ◌∷◌, cond, ltb, length}
+use Rattle.std.specs.Prelude.{ℕ, ◌+◌, cond, ltb, length}
 use Rattle.ep_object.specs.Placing.{Placement, missing}
 use Rattle.ep_object.specs.declared.code.Object.{Object}
 use Rattle.ep_link.specs.declared.placement.Bases.{Bases}
@@ -45,15 +45,6 @@ bases_after p =
       instructions = p.instructions.before + p.instructions.own;
     }
 
--- the same, behind an object
-abbrev pub bases_behind : Bases → Object → Bases
-bases_behind b o = bases_after (nameless (placement_at b o))
-
 -- a slot of a unit
 abbrev pub unit_slot : Nameless → ℕ → ℕ
 unit_slot p n = cond (ltb n p.slots) n missing
-
--- the placements of objects with these parts before those of the first
-abbrev pub placements_at : Bases → List Object → List Placement
-placements_at b [] = []
-placements_at b (o ∷ os) = placement_at b o ∷ placements_at (bases_behind b o) os

@@ -16,9 +16,9 @@ use Rattle.ep_object.specs.declared.code.Object.{Object}
 use Rattle.ep_object.specs.declared.code.Reference.{Reference}
 use Rattle.ep_link.specs.Laws.{LinkedStand, LinkedAreDistinct, LinkedHasAllUnits}
 use Rattle.ep_link.specs.Linking.{AreDistinct}
-use Rattle.ep_link.specs.Placements.{bases_behind, first_bases, placement_at, placements_at}
+use Rattle.ep_link.specs.Placements.{first_bases, placement_at}
 use Rattle.ep_link.specs.declared.placement.Bases.{Bases}
-use Rattle.ep_link.proofs.Placed.{placed_from_first}
+use Rattle.ep_link.proofs.Placed.{bases_behind, placed_from_first, placements_at}
 
 -- ---- lists one after another
 

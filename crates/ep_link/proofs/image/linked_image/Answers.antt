@@ -2,9 +2,9 @@ use Rattle.std.proofs.Common.{◌≡◌, ◌∷◌, ◌+◌, ◌∙◌, drop, sy
 use Rattle.ep_object.specs.Placing.{empty_image, image_part, joined, parts_of, placements}
 use Rattle.ep_link.specs.Linking.{in_order}
 use Rattle.ep_link.specs.Parts.{object_part}
-use Rattle.ep_link.specs.Placements.{nameless, placement_at, placements_at, bases_after, bases_behind}
+use Rattle.ep_link.specs.Placements.{placement_at, bases_after}
 use Rattle.ep_link.proofs.Ordered.{ordered-more}
-use Rattle.ep_link.proofs.Placed.{placed_from_first, part_is}
+use Rattle.ep_link.proofs.Placed.{bases_behind, placed_from_first, placements_at, part_is}
 use Rattle.ep_link.proofs.public.Linked.{regroup}
 use Rattle.ep_link.proofs.image.linked_image.Goals as goal
 

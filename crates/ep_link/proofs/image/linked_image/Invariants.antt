@@ -1,7 +1,7 @@
 use Rattle.std.proofs.Common.{◌≡◌, drop}
 use Rattle.ep_object.specs.Placing.{joined, linked, parts_of, placements}
 use Rattle.ep_link.specs.Linking.{in_order}
-use Rattle.ep_link.specs.Placements.{placements_at}
+use Rattle.ep_link.proofs.Placed.{placements_at}
 use Rattle.ep_link.proofs.image.linked_image.Given as goal
 
 abbrev pub invariant-loop-place : goal.invariant-loop-place

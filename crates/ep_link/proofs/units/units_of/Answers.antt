@@ -2,11 +2,11 @@ use Rattle.std.proofs.Common.{◌≡◌, ◌∷◌, ◌+◌, ◌∙◌, drop, sy
 use Rattle.std.specs.Option.{option_map}
 use Rattle.ep_object.specs.Placing.{placement_of}
 use Rattle.ep_link.specs.Linking.{in_order}
-use Rattle.ep_link.specs.Placements.{nameless, placement_at, bases_after, bases_behind}
+use Rattle.ep_link.specs.Placements.{nameless, placement_at, bases_after}
 use Rattle.ep_link.specs.Units.{unit_named, if_none, with_first}
 use Rattle.ep_link.proofs.Named.{found_at, found-more, found-all}
 use Rattle.ep_link.proofs.Ordered.{ordered-more, ordered-all}
-use Rattle.ep_link.proofs.Placed.{placed_from_first}
+use Rattle.ep_link.proofs.Placed.{bases_behind, placed_from_first}
 use Rattle.ep_link.proofs.units.units_of.Goals as goal
 
 pub loop-place-preserved : goal.loop-place-preserved
