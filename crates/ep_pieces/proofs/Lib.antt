@@ -1,0 +1,9 @@
+pub mod public
+mod Canonical
+mod Comments
+mod Fronts
+mod Gaps
+mod Joints
+mod Once
+mod Rows
+mod Spellings

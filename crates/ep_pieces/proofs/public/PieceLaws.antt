@@ -1,0 +1,11 @@
+-- A text has one list of pieces, and a text that has the pieces of another with spaces between them has the same.
+use Rattle.ep_pieces.specs.Pieces.{OneListOfPieces}
+use Rattle.ep_pieces.specs.Joining.{GapsKeepPieces}
+use Rattle.ep_pieces.proofs.Once as once
+use Rattle.ep_pieces.proofs.Gaps as gaps
+
+pub pieces-one : OneListOfPieces
+pieces-one = once.pieces-one
+
+pub gaps-keep-pieces : GapsKeepPieces
+gaps-keep-pieces = gaps.gaps-keep-pieces
