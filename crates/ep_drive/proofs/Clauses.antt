@@ -4,7 +4,7 @@ use Rattle.ep_drive.specs.Calls.{Answers, AnswersAs, Refuses, Begins, IsRefusedS
 use Rattle.ep_drive.specs.Jobs.{Finishes, Means, Settles}
 use Rattle.ep_drive.specs.Refusals.{Refusal, Usage, Missing, TooLong, InSource, source_status, AreAlike}
 use Rattle.ep_drive.specs.Seen.{Seen, Untouched, Unread, NoneFell}
-use Rattle.ep_drive.specs.Statuses.{Kind, Finished, Refused, Faulted, Starved, kind_of, IsStop, Rose}
+use Rattle.ep_drive.specs.Statuses.{StatusKind, Finished, Refused, Faulted, Starved, kind_of, IsStop, Rose}
 use Rattle.ep_drive.specs.Verdicts.{Job, Verdict, Refuse, Begin, IsSameVerdict, HasVerdict, MustHaveVerdict}
 use Rattle.ep_drive.specs.declared.source.SourceRefusal.{SourceRefusal}
 use Rattle.ep_drive.specs.declared.source.SourceRefusal.TheVariants as source
@@ -34,7 +34,7 @@ no_job (InSource file why) job e = cc
 -- ---- by kinds
 
 module _ (answer : Status) (words : List (List ℕ)) (before after : Seen) where
-  of_kind : (k : Kind) → kind_of answer ≡ k → Answers answer words before after → AnswersAs k answer words before after
+  of_kind : (k : StatusKind) → kind_of answer ≡ k → Answers answer words before after → AnswersAs k answer words before after
   of_kind k e a = subst (λ x. AnswersAs x answer words before after) e a
 
   refused : kind_of answer ≡ Refused → Answers answer words before after → Refuses words before.files (λ refusal. IsRefusedSo answer before after refusal)
@@ -56,7 +56,7 @@ module _ (answer : Status) (words : List (List ℕ)) (before after : Seen) where
   -- the kind of a status, where something is to be shown of each
   by_kind : {P : Type 0} → (kind_of answer ≡ Refused → P) → (kind_of answer ≡ Finished → P) → (IsStop answer → P) → P
   by_kind {P = P} f g h = of (kind_of answer) refl where
-    of : (k : Kind) → kind_of answer ≡ k → P
+    of : (k : StatusKind) → kind_of answer ≡ k → P
     of Refused e = f e
     of Finished e = g e
     of Faulted e = h (inl e)

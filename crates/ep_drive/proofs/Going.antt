@@ -10,7 +10,7 @@ use Rattle.ep_drive.specs.Commands.{Go, WordsOf, IsWordRow, option, joined, name
 use Rattle.ep_drive.specs.GoRuns.{Ran, IsRun, IsBeginning, IsUnwritten, IsUntold, GoPart}
 use Rattle.ep_drive.specs.Jobs.{AnswersJob}
 use Rattle.ep_drive.specs.Seen.{Seen, Unread, Unreported, outside_of, seen}
-use Rattle.ep_drive.specs.Statuses.{Kind, Finished, Refused, Faulted, Starved}
+use Rattle.ep_drive.specs.Statuses.{StatusKind, Finished, Refused, Faulted, Starved}
 use Rattle.ep_drive.specs.Verdicts as job
 use Rattle.ep_drive.specs.declared.words.Command.{Command as ReadCommand}
 use Rattle.ep_drive.specs.declared.words.Command.TheVariants as read
@@ -95,7 +95,7 @@ module _ (output : Option (List ℕ)) (old files : Option Directory) (kept : Kee
       (λ us g x. (beginning_since DoesPart part_since budget us g x.0, stopped_since g x.1)) p
   go_part-since budget texts _ p = absurd p
 
-  pub job-since : (k : Kind) (budget : ℕ) (texts : List (List ℕ)) (answer : Status) → AnswersJob k (job.Go budget texts) answer here after → AnswersJob k (job.Go budget texts) answer before after
+  pub job-since : (k : StatusKind) (budget : ℕ) (texts : List (List ℕ)) (answer : Status) → AnswersJob k (job.Go budget texts) answer here after → AnswersJob k (job.Go budget texts) answer before after
   job-since Finished budget texts answer x =
       ran_since (λ us g. IsRun answer here after g) (λ us g. IsRun answer before after g) (λ us g. run_since answer g) x
   job-since Refused budget texts answer x = absurd x

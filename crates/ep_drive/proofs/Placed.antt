@@ -8,6 +8,7 @@ use Rattle.ep_object.specs.declared.code.Instr.{Instr}
 use Rattle.ep_object.specs.declared.code.Object.{Object}
 use Rattle.ep_object.specs.declared.code.Reference.{Reference}
 use Rattle.ep_drive.specs.Images.{placed_in, placements_in}
+use Rattle.std.proofs.lemmas.Bool.{and_parts}
 
 -- one more item that a loop over a list appends
 pub map-more : {A B : Type 0} (f : A → B) (xs : List A) (i : ℕ) (x : A) → i < length xs → x ≡ get_or xs i x → map f (take i xs) ++ f x ∷ [] ≡ map f (take (i + 1) xs)
@@ -47,10 +48,6 @@ abbrev pub fits : ℕ → List Op → Bool
 fits code [] = true
 fits code (o ∷ os) = (not (moves (Some o)) || is_placed code) && fits (suc code) os
 
-both : (a b : Bool) → (a && b) ≡ true → (a ≡ true) × (b ≡ true)
-both true b h = (refl, h)
-both false b h = absurd cc
-
 either : (a b : Bool) → (not a || b) ≡ true → a ≡ true → b ≡ true
 either true b h e = h
 either false b h e = absurd cc
@@ -58,11 +55,11 @@ either false b h e = absurd cc
 fits_at : (code : ℕ) (os : List Op) → fits code os ≡ true → (n : ℕ) → moves (slice_get os n) ≡ true → is_placed (n + code) ≡ true
 fits_at code [] h n m = absurd cc
 fits_at code (o ∷ os) h zero m =
-    let p = both (not (moves (Some o)) || is_placed code) (fits (suc code) os) h in
+    let p = and_parts (not (moves (Some o)) || is_placed code) (fits (suc code) os) h in
     let same : code ≡ zero + code = omega arith in
     subst (λ (k : ℕ). is_placed k ≡ true) same (either (moves (Some o)) (is_placed code) p.0 m)
 fits_at code (o ∷ os) h (suc n) m =
-    let p = both (not (moves (Some o)) || is_placed code) (fits (suc code) os) h in
+    let p = and_parts (not (moves (Some o)) || is_placed code) (fits (suc code) os) h in
     let same : n + suc code ≡ suc n + code = omega arith in
     subst (λ (k : ℕ). is_placed k ≡ true) same (fits_at (suc code) os p.1 n m)
 

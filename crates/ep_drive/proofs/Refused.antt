@@ -5,7 +5,7 @@ use Rattle.ep_drive.specs.Jobs.{AnswersJob, Finishes, Part, Front}
 use Rattle.ep_drive.specs.Outcomes.{IsToldAs, whole, fault, nothing}
 use Rattle.ep_drive.specs.Refusals.{Refusal, Usage, Missing, TooLong, InSource, status_of, source_status, report_of}
 use Rattle.ep_drive.specs.Seen.{Seen, Untouched}
-use Rattle.ep_drive.specs.Statuses.{Kind, Finished, Refused, Faulted, Starved, kind_of}
+use Rattle.ep_drive.specs.Statuses.{StatusKind, Finished, Refused, Faulted, Starved, kind_of}
 use Rattle.ep_drive.specs.Verdicts.{Job, Refuse, Begin, HasVerdict}
 use Rattle.ep_drive.specs.declared.source.SourceRefusal.{SourceRefusal}
 use Rattle.ep_drive.specs.declared.source.SourceRefusal.TheVariants as source
@@ -57,7 +57,7 @@ module _ (words : List (List ℕ)) (job : Job) (before after : Seen) (v : HasVer
   -- the job is the verdict
   pub answers-job : (answer : Status) → AnswersJob (kind_of answer) job answer before after → Answers answer words before after
   answers-job answer = of (kind_of answer) refl where
-    of : (k : Kind) → kind_of answer ≡ k → AnswersJob k job answer before after → AnswersAs k answer words before after
+    of : (k : StatusKind) → kind_of answer ≡ k → AnswersJob k job answer before after → AnswersAs k answer words before after
     of Finished e p = begins (λ j. Finishes j answer before after) p
     of Refused e p = absurd p
     of Faulted e p = (part_rose job answer before after p, faulted answer e p)

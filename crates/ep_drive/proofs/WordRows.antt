@@ -16,6 +16,7 @@ use Rattle.ep_drive.specs.Numbers.{value_of, number_of}
 use Rattle.ep_drive.specs.WordReading.{◌>>=◌, Gives, Taken, taken, as_ticks, ticks_of, after_front, take_ticks, take_source, take_other, take_any, take_word, take_words, asked, asked_with, nothing_taken, read_row, read_words}
 use Rattle.ep_drive.specs.declared.words.Expected.{Expected}
 use Rattle.ep_drive.specs.declared.words.Expected.TheVariants.{Any, Ticks, Source}
+use Rattle.std.proofs.lemmas.Bool.{and_parts}
 
 -- a test that was made first
 chosen : {A : Type 0} (b : Bool) (x y z : A) → cond b x y ≡ z → ((b ≡ true) × (x ≡ z)) ⊎ ((b ≡ false) × (y ≡ z))
@@ -44,10 +45,6 @@ bound : {A B P : Type 0} (o : Option A) (f : A → Option B) (y : B) → (o >>= 
 bound None f y e k = absurd cc
 bound (Some x) f y e k = k x refl e
 
-both : (a b : Bool) → (a && b) ≡ true → (a ≡ true) × (b ≡ true)
-both true b h = (refl, h)
-both false b h = absurd cc
-
 word_is : (word text : List ℕ) → bytes_eq word text ≡ true → word ≡ text
 word_is word text h = (bytes_eq-Decides word text).0 h
 
@@ -59,10 +56,10 @@ number_is text n e = (cond_some (nat_lt (value_of text) (2 ^ 63)) (value_of text
 ticks-are : (text : List ℕ) (n : ℕ) → ticks_of text ≡ Some n → IsTicks text n
 ticks-are text n e =
     let c = cond_some_of (list_all is_ascii_digit text && nat_le (length text) 10) (number_of text >>= as_ticks) n e in
-    let d = both (list_all is_ascii_digit text) (nat_le (length text) 10) c.0 in
+    let d = and_parts (list_all is_ascii_digit text) (nat_le (length text) 10) c.0 in
     bound (number_of text) as_ticks n c.1 (λ m m_is e1.
     let a = cond_some (nat_lt 0 m && nat_lt m (10 ^ 10)) m n e1 in
-    let r = both (nat_lt 0 m) (nat_lt m (10 ^ 10)) a.0 in
+    let r = and_parts (nat_lt 0 m) (nat_lt m (10 ^ 10)) a.0 in
     record {
       digits = d.0;
       short = short (length text) d.1;
@@ -256,7 +253,7 @@ words-are [] (Go budget sources) h = absurd cc
 words-are (word ∷ words) (Go budget sources) h =
     elim (chosen (bytes_eq word (codes "go") && nat_lt (length (word ∷ words)) (2 ^ 32)) (read_row words) None (Some (Go budget sources)) h) [
       | inl c ↦
-          let d = both (bytes_eq word (codes "go")) (nat_lt (length (word ∷ words)) (2 ^ 32)) c.0 in
+          let d = and_parts (bytes_eq word (codes "go")) (nat_lt (length (word ∷ words)) (2 ^ 32)) c.0 in
           let row = row-asks words budget sources c.1 in
           let first : word ≡ codes "go" = word_is word (codes "go") d.0 in
           record { row = words; ticks = row.ticks; words_are = ap (λ (w : List ℕ). w ∷ words) first; row_is = row.row_is; one = row.one; budget_is = row.budget_is; few = ltb-true (length (word ∷ words)) (2 ^ 32) d.1 }

@@ -4,7 +4,7 @@ use Rattle.ep_outside.specs.Known.{Directory, Appends, AppendsFront}
 use Rattle.ep_drive.specs.Jobs.{Finishes, Part, Front, Means, Settles}
 use Rattle.ep_drive.specs.Refusals.{Refusal, status_of, report_of}
 use Rattle.ep_drive.specs.Seen.{Seen, Untouched, Unread, Unreported, NoneFell}
-use Rattle.ep_drive.specs.Statuses.{Kind, Finished, Refused, Faulted, Starved, kind_of, IsStop, Rose}
+use Rattle.ep_drive.specs.Statuses.{StatusKind, Finished, Refused, Faulted, Starved, kind_of, IsStop, Rose}
 use Rattle.ep_drive.specs.Verdicts.{Job, Verdict, Refuse, Begin, HasVerdict, MustHaveVerdict}
 use Rattle.ep_drive.specs.declared.status.Status.{Status}
 use Rattle.ep_drive.specs.declared.status.Status.TheVariants as status
@@ -89,7 +89,7 @@ pub record IsCall (answer : Status) (words : List (List ℕ)) (before after : Se
 
 -- ---- the same, in one sentence for each kind of status
 
-abbrev pub AnswersAs : Kind → Status → List (List ℕ) → Seen → Seen → Type 0
+abbrev pub AnswersAs : StatusKind → Status → List (List ℕ) → Seen → Seen → Type 0
 AnswersAs Refused answer words before after =
     Refuses words before.files (λ refusal. Untouched before after × IsRefusedSo answer before after refusal)
 AnswersAs Finished answer words before after = Begins words before.files (λ job. Finishes job answer before after)

@@ -1,7 +1,7 @@
 -- What a job comes to, one row for each job.
 use Rattle.ep_drive.specs.GoRuns.{GoFinishes, GoPart, GoFront, GoMeans, GoSettles}
 use Rattle.ep_drive.specs.Seen.{Seen}
-use Rattle.ep_drive.specs.Statuses.{Kind, Finished, Refused, Faulted, Starved}
+use Rattle.ep_drive.specs.Statuses.{StatusKind, Finished, Refused, Faulted, Starved}
 use Rattle.ep_drive.specs.Verdicts.{Job, Go}
 use Rattle.ep_drive.specs.declared.status.Status.{Status}
 
@@ -26,7 +26,7 @@ abbrev pub Settles : Job → Status → Type 0
 Settles (Go budget texts) answer = GoSettles budget texts answer
 
 -- what each kind of status says of a job that was begun
-abbrev pub AnswersJob : Kind → Job → Status → Seen → Seen → Type 0
+abbrev pub AnswersJob : StatusKind → Job → Status → Seen → Seen → Type 0
 AnswersJob Finished job answer before after = Finishes job answer before after
 AnswersJob Refused job answer before after = ⊥
 AnswersJob Faulted job answer before after = Part job answer before after

@@ -1,6 +1,9 @@
 -- What is seen of the outside at one moment of a call, and what a call may leave as it was.
 use Rattle.std.specs.Prelude.{◌≡◌, ℕ, ◌≤◌, List, Option}
 use Rattle.ep_outside.specs.Known.{Directory, Keeps}
+use Rattle.ep_outside.specs.declared.traits.Files.{Ghosts as FilesTell}
+use Rattle.ep_outside.specs.declared.traits.Sink.{Ghosts as SinkTells}
+use Rattle.ep_outside.specs.declared.traits.Source.{Ghosts as SourceTells}
 use Rattle.ep_values.specs.Events.{Outside, Same}
 
 -- what the output, the files, the input and the report tell of their bytes, and how many faults each has had
@@ -26,6 +29,13 @@ seen output files left report output_faults file_faults input_faults report_faul
   input_faults = input_faults;
   report_faults = report_faults;
 }
+
+-- what these objects tell, by what their types say of them
+abbrev pub seen_of : {F I O R : Type 0} → FilesTell F → SourceTells I → SinkTells O → SinkTells R
+    → F → I → O → R → Seen
+seen_of f i o r files input output report =
+    seen (o.held output) (f.files files) (i.left input) (r.held report) (o.faults output) (f.faults files)
+    (i.faults input) (r.faults report)
 
 -- what events change: the output and the files
 abbrev pub outside_of : Seen → Outside

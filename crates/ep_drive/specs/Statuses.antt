@@ -6,13 +6,13 @@ use Rattle.ep_drive.specs.declared.status.Status.TheVariants as status
 
 -- a job came to its end or to the end of its budget; the call was refused; a call of the outside had a fault; memory
 -- is wanting
-pub data Kind : Type 0 where
-  Finished : Kind
-  Refused : Kind
-  Faulted : Kind
-  Starved : Kind
+pub data StatusKind : Type 0 where
+  Finished : StatusKind
+  Refused : StatusKind
+  Faulted : StatusKind
+  Starved : StatusKind
 
-abbrev pub kind_of : Status → Kind
+abbrev pub kind_of : Status → StatusKind
 kind_of status.Done = Finished
 kind_of status.Halted = Finished
 kind_of status.RunError = Finished

@@ -10,7 +10,7 @@ ghost use Rattle.ep_drive.specs.GoRuns.{run_within};
 ghost use Rattle.ep_drive.specs.Jobs.{AnswersJob};
 ghost use Rattle.ep_drive.specs.ProgramTexts.{Joins};
 ghost use Rattle.ep_drive.specs.Refusals.{StopsText};
-ghost use Rattle.ep_drive.specs.Seen.{NoneFell, seen};
+ghost use Rattle.ep_drive.specs.Seen.{NoneFell, seen_of};
 ghost use Rattle.ep_drive.specs.Statuses.{kind_of};
 ghost use Rattle.ep_drive.specs.Verdicts.{Go};
 
@@ -40,17 +40,13 @@ pub fn run_and_tell<F: Files, I: Source, O: Sink, R: Sink>(
     requires { budget < 2 ^ 61 }
     ensures answers { (texts : List (List ℕ)) (units : List TypedUnit) → Joins texts units → Implements image.now units
         → AnswersJob (kind_of result) (Go budget texts) result
-        (seen (O.held output.old) (F.files files.old) (I.left input.old) (R.held report.old)
-        (O.faults output.old) (F.faults files.old) (I.faults input.old) (R.faults report.old))
-        (seen (O.held output.new) (F.files files.new) (I.left input.new) (R.held report.new)
-        (O.faults output.new) (F.faults files.new) (I.faults input.new) (R.faults report.new)) }
+        (seen_of F.Files I.Source O.Sink R.Sink files.old input.old output.old report.old)
+        (seen_of F.Files I.Source O.Sink R.Sink files.new input.new output.new report.new) }
     ensures files { files.new ≡ files.old }
     ensures input { input.new ≡ input.old }
     ensures counts { NoneFell
-        (seen (O.held output.old) (F.files files.old) (I.left input.old) (R.held report.old)
-        (O.faults output.old) (F.faults files.old) (I.faults input.old) (R.faults report.old))
-        (seen (O.held output.new) (F.files files.new) (I.left input.new) (R.held report.new)
-        (O.faults output.new) (F.faults files.new) (I.faults input.new) (R.faults report.new)) }
+        (seen_of F.Files I.Source O.Sink R.Sink files.old input.old output.old report.old)
+        (seen_of F.Files I.Source O.Sink R.Sink files.new input.new output.new report.new) }
 {
     match run_image(alloc, image, budget, files, input, output) {
         End::WriteFault => Status::WriteFault,

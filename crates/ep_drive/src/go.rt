@@ -4,7 +4,7 @@ ghost use Rattle.std.specs.Prelude.{◌<◌, ◌≤◌, ◌^◌, ◌∷◌, [], 
 ghost use Rattle.ep_outside.specs.Known.{Directory, KeepsFiles, HasFile};
 ghost use Rattle.ep_drive.specs.Calls.{Answers};
 ghost use Rattle.ep_drive.specs.Commands.{Go, WordsOf};
-ghost use Rattle.ep_drive.specs.Seen.{NoneFell, seen};
+ghost use Rattle.ep_drive.specs.Seen.{NoneFell, seen_of};
 
 use crate::execution::{run_and_tell, text_image};
 use crate::report::{Refusal, refuse};
@@ -26,15 +26,11 @@ pub fn go<F: Files, I: Source, O: Sink, R: Sink>(
 ) -> Status
     requires { budget < 2 ^ 61 }
     ensures answers { (words : List (List ℕ)) → WordsOf words (Go budget (source.now ∷ [])) → Answers result words
-        (seen (O.held output.old) (F.files files.old) (I.left input.old) (R.held report.old)
-        (O.faults output.old) (F.faults files.old) (I.faults input.old) (R.faults report.old))
-        (seen (O.held output.new) (F.files files.new) (I.left input.new) (R.held report.new)
-        (O.faults output.new) (F.faults files.new) (I.faults input.new) (R.faults report.new)) }
+        (seen_of F.Files I.Source O.Sink R.Sink files.old input.old output.old report.old)
+        (seen_of F.Files I.Source O.Sink R.Sink files.new input.new output.new report.new) }
     ensures counts { NoneFell
-        (seen (O.held output.old) (F.files files.old) (I.left input.old) (R.held report.old)
-        (O.faults output.old) (F.faults files.old) (I.faults input.old) (R.faults report.old))
-        (seen (O.held output.new) (F.files files.new) (I.left input.new) (R.held report.new)
-        (O.faults output.new) (F.faults files.new) (I.faults input.new) (R.faults report.new)) }
+        (seen_of F.Files I.Source O.Sink R.Sink files.old input.old output.old report.old)
+        (seen_of F.Files I.Source O.Sink R.Sink files.new input.new output.new report.new) }
 {
     let mut text = Vec::new(alloc);
     match files.load(source.as_bytes(), MAX_SOURCE as u32, &mut text) {
@@ -73,15 +69,14 @@ fn go_text<F: Files, I: Source, O: Sink, R: Sink>(
     ensures answers { (words : List (List ℕ)) (before : Option Directory) (n : ℕ)
         → WordsOf words (Go budget (source.now ∷ [])) → HasFile before source.now (Some text.now) → KeepsFiles before (F.files files.old)
         → Answers result words
-        (seen (O.held output.old) before (I.left input.old) (R.held report.old)
-        (O.faults output.old) n (I.faults input.old) (R.faults report.old))
-        (seen (O.held output.new) (F.files files.new) (I.left input.new) (R.held report.new)
-        (O.faults output.new) (F.faults files.new) (I.faults input.new) (R.faults report.new)) }
+        (record (seen_of F.Files I.Source O.Sink R.Sink files.old input.old output.old report.old) {
+          files = before;
+          file_faults = n;
+        })
+        (seen_of F.Files I.Source O.Sink R.Sink files.new input.new output.new report.new) }
     ensures counts { NoneFell
-        (seen (O.held output.old) (F.files files.old) (I.left input.old) (R.held report.old)
-        (O.faults output.old) (F.faults files.old) (I.faults input.old) (R.faults report.old))
-        (seen (O.held output.new) (F.files files.new) (I.left input.new) (R.held report.new)
-        (O.faults output.new) (F.faults files.new) (I.faults input.new) (R.faults report.new)) }
+        (seen_of F.Files I.Source O.Sink R.Sink files.old input.old output.old report.old)
+        (seen_of F.Files I.Source O.Sink R.Sink files.new input.new output.new report.new) }
 {
     let image = match text_image(alloc, text) {
         Ok(image) => image,

@@ -2,7 +2,7 @@
 
 ghost use Rattle.ep_drive.specs.Calls.{Answers, IsCall};
 ghost use Rattle.ep_drive.specs.Commands.{bytes_of};
-ghost use Rattle.ep_drive.specs.Seen.{NoneFell, seen};
+ghost use Rattle.ep_drive.specs.Seen.{NoneFell, seen, seen_of};
 
 use crate::go::go;
 use crate::report::{Refusal, refuse};
@@ -45,15 +45,11 @@ fn carry_out<F: Files, I: Source, O: Sink, R: Sink>(
     report: &mut R,
 ) -> Status
     ensures answers { Answers result (bytes_of words.now)
-        (seen (O.held output.old) (F.files files.old) (I.left input.old) (R.held report.old)
-        (O.faults output.old) (F.faults files.old) (I.faults input.old) (R.faults report.old))
-        (seen (O.held output.new) (F.files files.new) (I.left input.new) (R.held report.new)
-        (O.faults output.new) (F.faults files.new) (I.faults input.new) (R.faults report.new)) }
+        (seen_of F.Files I.Source O.Sink R.Sink files.old input.old output.old report.old)
+        (seen_of F.Files I.Source O.Sink R.Sink files.new input.new output.new report.new) }
     ensures counts { NoneFell
-        (seen (O.held output.old) (F.files files.old) (I.left input.old) (R.held report.old)
-        (O.faults output.old) (F.faults files.old) (I.faults input.old) (R.faults report.old))
-        (seen (O.held output.new) (F.files files.new) (I.left input.new) (R.held report.new)
-        (O.faults output.new) (F.faults files.new) (I.faults input.new) (R.faults report.new)) }
+        (seen_of F.Files I.Source O.Sink R.Sink files.old input.old output.old report.old)
+        (seen_of F.Files I.Source O.Sink R.Sink files.new input.new output.new report.new) }
 {
     match command_of(words) {
         Some(Command::Go { budget, source }) => {

@@ -41,6 +41,7 @@ use Rattle.ep_rules.specs.declared.forms.TheConstants as limit
 use Rattle.ep_check_expr.proofs.public.Keeping.{Satisfies}
 use Rattle.ep_expr_laws.proofs.public.SameHost.{host_same}
 use Rattle.ep_expr_laws.proofs.SetForms.{IsCombining, IsRelating, card-form, combined-form, empty_card-form, membership-form, related-form}
+use Rattle.ep_check_expr.proofs.public.Rows.{and_first, and_second}
 
 -- the kind of a typed tree
 abbrev of_host : Host → valid.Kind
@@ -91,14 +92,6 @@ module _ (declared : Declarations) (types : TypeValues) (structures : List Struc
   as_boolean kind.EmptySet form e f = cc
   as_boolean kind.Text form e f = cc
   as_boolean kind.File form e f = cc
-
-  and_first : (a b : Bool) → (a && b) ≡ true → a ≡ true
-  and_first true b e = refl
-  and_first false b e = e
-
-  and_second : (a b : Bool) → (a && b) ≡ true → b ≡ true
-  and_second true b e = e
-  and_second false b e = cc
 
   unary-fits : (operation : Unary) (h r : Host) → IsUnary operation (of_host h) (of_host r) → IsHost r → (x : Typed) → IsFormOf declared types structures (kind.Ordinal h) x.form → Fits (unary_typed operation (kind.Ordinal r) x)
   unary-fits operation h r u s x f = within_depth-fits (option_map (One operation) x.form) (kind.Ordinal r) (suc x.depth) (one-form operation h r u s x.form f)

@@ -26,6 +26,10 @@ pub const SPREAD: u32 = 3;
 /// The first of the references to the routines that elaborate types.
 const TYPES: u32 = 4;
 
+/// How many routines of an object stand between those of its unit and the first one to which these lead: the start and the
+/// stop.
+const START_AND_STOP: u64 = 2;
+
 /// The reference to the routine that elaborates the type with this number.
 pub fn type_reference(number: u32) -> i64
     ensures { result ≡ pos (type_reference number) }
@@ -43,7 +47,7 @@ pub fn first_references(alloc: Global, unit: &Unit) -> Result<ReferenceTable, No
         unit.now.types))) }
     ensures small { IfOk result (λ references. IsTable references) }
 {
-    let first = field_number(unit.routines.items().len())? as u64 + 2;
+    let first = field_number(unit.routines.items().len())? as u64 + START_AND_STOP;
     let count = TYPES as u64 + field_number(unit.types.items().len())? as u64;
     let mut references = ReferenceTable::new(alloc);
     for index in 0..count {

@@ -60,24 +60,20 @@ use Rattle.ep_values.specs.TypeValues as type
 use Rattle.ep_meaning.specs.Valid.{Declarations, IsTypeOfKind, Kind, Ordinal}
 use Rattle.ep_values.specs.declared.run_error.TheConstants as run_error
 use Rattle.ep_typed.specs.declared.tree.CaseRange.{CaseRange}
-
--- what a test finds
-found : (b : Bool) (k m : ℕ) → cond b (Some k) None ≡ Some m → (b ≡ true) × (k ≡ m)
-found true k m h = (refl, same_Some k m h)
-found false k m h = cc
+use Rattle.std.proofs.lemmas.Option.{cond_some}
 
 -- what is so far above a bound is not below it
 gap_order : (low z : ℤ) (i : ℕ) → gap low z ≡ Some i → int_le low z ≡ true
-gap_order (pos a) (pos b) i h = let x = found (leb a b) (b - a) i h in x.0
+gap_order (pos a) (pos b) i h = let x = cond_some (leb a b) (b - a) i h in x.0
 gap_order (pos a) (negsuc b) i h = cc
 gap_order (negsuc a) (pos b) i h = refl
-gap_order (negsuc a) (negsuc b) i h = let x = found (leb b a) (a - b) i h in x.0
+gap_order (negsuc a) (negsuc b) i h = let x = cond_some (leb b a) (a - b) i h in x.0
 
 -- and not above what is further
 gap_nearest : (low z high : ℤ) (i m : ℕ) → gap low z ≡ Some i → gap low high ≡ Some m → i ≤ m → int_le z high ≡ true
 gap_nearest (pos a) (pos b) (pos c) i m h k le =
-    let x = found (leb a b) (b - a) i h in
-    let y = found (leb a c) (c - a) m k in
+    let x = cond_some (leb a b) (b - a) i h in
+    let y = cond_some (leb a c) (c - a) m k in
     grind (arith, nat_tests, x.0, x.1, y.0, y.1, le)
 gap_nearest (pos a) (pos b) (negsuc c) i m h k le = cc
 gap_nearest (pos a) (negsuc b) high i m h k le = cc
@@ -87,12 +83,12 @@ gap_nearest (negsuc a) (pos b) (pos c) i m h k le =
     grind (arith, nat_tests, x, y, le)
 gap_nearest (negsuc a) (pos b) (negsuc c) i m h k le =
     let x : suc a + b ≡ i = same_Some (suc a + b) i h in
-    let y = found (leb c a) (a - c) m k in
+    let y = cond_some (leb c a) (a - c) m k in
     absurd (omega (arith, x, y.1, le))
 gap_nearest (negsuc a) (negsuc b) (pos c) i m h k le = refl
 gap_nearest (negsuc a) (negsuc b) (negsuc c) i m h k le =
-    let x = found (leb b a) (a - b) i h in
-    let y = found (leb c a) (a - c) m k in
+    let x = cond_some (leb b a) (a - b) i h in
+    let y = cond_some (leb c a) (a - c) m k in
     grind (arith, nat_tests, x.0, x.1, y.0, y.1, le)
 
 -- an index lies in the bounds where the array has its component
@@ -106,7 +102,7 @@ index_within low high z k h = by_gap (gap low z) refl h
     by_gap : (o : Option ℕ) → gap low z ≡ o → below (count_of low high) o ≡ Some k → IsTrue (int_le low z) × IsTrue (int_le z high)
     by_gap None near there = cc
     by_gap (Some i) near there =
-        let x = found (ltb i (count_of low high)) i k there in
+        let x = cond_some (ltb i (count_of low high)) i k there in
         let less : i < count_of low high = grind (arith, nat_tests, x.0) in
         (gap_order low z i near, by_count i (gap low high) near refl less)
 

@@ -24,7 +24,7 @@ use Rattle.ep_values.specs.declared.operations.SetOperation.{SetOperation}
 use Rattle.ep_values.specs.declared.operations.SetOperation.TheVariants as set
 use Rattle.ep_values.specs.declared.operations.ShortOperation.{ShortOperation}
 use Rattle.ep_values.specs.declared.operations.ShortOperation.TheVariants as short
-use Rattle.ep_gen_code.specs.Instructions.{bare, instr, members_code, push, reference}
+use Rattle.ep_gen_code.specs.Instructions.{◌▸◌, bare, instr, members_code, push, reference}
 use Rattle.ep_gen_code.specs.Referring.{type_reference}
 use Rattle.ep_gen_code.specs.declared.references.TheConstants as routine
 use Rattle.ep_object.specs.declared.op.TheConstants as op
@@ -273,12 +273,12 @@ module _ (texts : List (List ℕ)) (references : List Reference) (line : ℕ) wh
     IsPlaceCode at (Own levels number) is = is ≡ instr op.SLOT (pos number) levels line ∷ []
     IsPlaceCode at (Standard file) is = is ≡ standard_code line file ∷ []
     IsPlaceCode at (Indexed p x) is =
-        (xs ys : List Instr) × IsPlaceCode at p xs × IsExprCode (at + length xs) x ys
+        (xs ys : List Instr) × IsPlaceCode at p xs × IsExprCode (at ▸ xs) x ys
         × (is ≡ xs ++ (ys ++ bare line op.INDEX ∷ []))
     IsPlaceCode at (Field p number) is =
         (xs : List Instr) × IsPlaceCode at p xs × (is ≡ xs ++ instr op.FIELD (pos number) 0 line ∷ [])
     IsPlaceCode at (Variant p selection number) is =
-        (xs : List Instr) × IsPlaceCode at p xs × (is ≡ xs ++ variant_code line (at + length xs) selection number)
+        (xs : List Instr) × IsPlaceCode at p xs × (is ≡ xs ++ variant_code line (at ▸ xs) selection number)
 
     -- the code of an expression that begins at this place, whose instructions have this line
     pub IsExprCode : ℕ → Expr → List Instr → Type 0
@@ -288,16 +288,15 @@ module _ (texts : List (List ℕ)) (references : List Reference) (line : ℕ) wh
     IsExprCode at (Read p) is = (xs : List Instr) × IsPlaceCode at p xs × (is ≡ xs ++ bare line op.LOAD ∷ [])
     IsExprCode at (One operation x) is = (xs : List Instr) × IsExprCode at x xs × (is ≡ xs ++ one_code line operation)
     IsExprCode at (Two operation x y) is =
-        (xs ys : List Instr) × IsExprCode at x xs × IsExprCode (at + length xs) y ys
+        (xs ys : List Instr) × IsExprCode at x xs × IsExprCode (at ▸ xs) y ys
         × (is ≡ xs ++ (ys ++ two_code line operation ∷ []))
     IsExprCode at (Short operation x y) is =
         (xs ys : List Instr) × IsExprCode at x xs
-        × IsExprCode (at + length xs + length (keep_code line operation) + 2) y ys
-        × (is ≡ xs
-        ++ (keep_code line operation ++ instr op.JUMP_FALSE (pos
-        (at + length xs + length (keep_code line operation) + 2 + length ys)) 0 line ∷ bare line op.DROP ∷ ys))
+        × IsExprCode (at ▸ xs ▸ keep_code line operation + 2) y ys
+        × (is ≡ xs ++ (keep_code line operation
+        ++ instr op.JUMP_FALSE (pos (at ▸ xs ▸ keep_code line operation + 2 ▸ ys)) 0 line ∷ bare line op.DROP ∷ ys))
     IsExprCode at (Step down low high x n) is =
-        (xs ns : List Instr) × IsExprCode at x xs × IsExprCode (at + length xs) n ns
+        (xs ns : List Instr) × IsExprCode at x xs × IsExprCode (at ▸ xs) n ns
         × (is ≡ xs ++ (ns ++ step_code line down low high))
     -- A function designator (ISO 10206, 6.8.5): the actual parameters, the call, and a jump to what comes next, which
     -- has the
@@ -305,23 +304,23 @@ module _ (texts : List (List ℕ)) (references : List Reference) (line : ℕ) wh
     IsExprCode at (Function callee given) is =
         (xs : List Instr) × (k : ℕ) × AreActualsCode at given xs
         × (slice_get references k ≡ Some (reference callee.unit callee.number))
-        × (is ≡ xs ++ instr op.CALL (pos k) callee.levels line ∷ instr op.JUMP (pos (at + length xs + 2)) 0 line ∷ [])
+        × (is ≡ xs ++ instr op.CALL (pos k) callee.levels line ∷ instr op.JUMP (pos (at ▸ xs + 2)) 0 line ∷ [])
     -- A component of what a function gives: the array, the index, and `Index` (ISO 10206, 6.8.6.2), or the record and
     -- `Field`
     -- (6.8.6.3).
     IsExprCode at (IndexedValue x y) is =
-        (xs ys : List Instr) × IsExprCode at x xs × IsExprCode (at + length xs) y ys
+        (xs ys : List Instr) × IsExprCode at x xs × IsExprCode (at ▸ xs) y ys
         × (is ≡ xs ++ (ys ++ bare line op.INDEX ∷ []))
     IsExprCode at (FieldValue x number) is =
         (xs : List Instr) × IsExprCode at x xs × (is ≡ xs ++ instr op.FIELD (pos number) 0 line ∷ [])
     IsExprCode at (VariantValue x selection number) is =
-        (xs : List Instr) × IsExprCode at x xs × (is ≡ xs ++ variant_part_code line (at + length xs) selection number)
+        (xs : List Instr) × IsExprCode at x xs × (is ≡ xs ++ variant_part_code line (at ▸ xs) selection number)
     IsExprCode at (SetConstant ms) is = is ≡ bare line op.SET_NONE ∷ members_code line ms
     -- A set constructor (ISO 10206, 6.8.7.4): the empty set, to which each member designator adds what it gives.
     IsExprCode at (SetOf ds) is =
         (xs : List Instr) × AreDesignatorsCode (at + 1) ds xs × (is ≡ bare line op.SET_NONE ∷ xs)
     IsExprCode at (OnSets operation x y) is =
-        (xs ys : List Instr) × IsExprCode at x xs × IsExprCode (at + length xs) y ys
+        (xs ys : List Instr) × IsExprCode at x xs × IsExprCode (at ▸ xs) y ys
         × (is ≡ xs ++ (ys ++ set_code line operation ∷ []))
     IsExprCode at (Card x) is = (xs : List Instr) × IsExprCode at x xs × (is ≡ xs ++ bare line op.CARD ∷ [])
     -- a structured value (ISO 10206, 6.8.7.1)
@@ -333,55 +332,53 @@ module _ (texts : List (List ℕ)) (references : List Reference) (line : ℕ) wh
     -- a `Field` for each step (6.8.7.3), the value, and `Store`.
     pub IsElementCode : ℕ → Element → List Instr → Type 0
     IsElementCode at (AtIndex x y) is =
-        (xs ys : List Instr) × IsExprCode (at + 1) x xs × IsExprCode (at + 1 + length xs + 1) y ys
+        (xs ys : List Instr) × IsExprCode (at + 1) x xs × IsExprCode (at + 1 ▸ xs + 1) y ys
         × (is ≡ bare line op.DUP ∷ (xs ++ bare line op.INDEX ∷ (ys ++ bare line op.STORE ∷ [])))
     IsElementCode at (AtField steps x) is =
-        (xs : List Instr) × IsExprCode (at + length (reach_code line steps)) x xs
+        (xs : List Instr) × IsExprCode (at ▸ reach_code line steps) x xs
         × (is ≡ reach_code line steps ++ (xs ++ bare line op.STORE ∷ []))
     IsElementCode at (SameField from to) is = is ≡ same_code line from to
     IsElementCode at (AtRanges ranges x) is =
-        (xs : List Instr) × IsExprCode (at + length (first_code line ranges)) x xs
+        (xs : List Instr) × IsExprCode (at ▸ first_code line ranges) x xs
         × (is ≡ first_code line ranges
         ++ (xs ++ bare line op.STORE ∷ ranges_code line (first_index ranges) ranges))
     -- the indexes, then the value, which the components are given that they lead to, and which goes then
     IsElementCode at (AtIndexes ds x) is =
-        (xs ys : List Instr) × AreIndexesCode at ds xs × IsExprCode (at + length xs) x ys
-        × (is ≡ xs
-        ++ (ys ++ (spreads_code line (at + length xs + length ys) (designators_count ds) ++ bare line op.DROP
-        ∷ [])))
+        (xs ys : List Instr) × AreIndexesCode at ds xs × IsExprCode (at ▸ xs) x ys
+        × (is ≡ xs ++ (ys ++ (spreads_code line (at ▸ xs ▸ ys) (designators_count ds) ++ bare line op.DROP ∷ [])))
 
     -- the code of the indexes of a range, of which one alone is there twice
     pub IsRangeCode : ℕ → Designator → List Instr → Type 0
     IsRangeCode at (Single x) is =
         (xs : List Instr) × IsExprCode at x xs × (is ≡ xs ++ bare line op.DUP ∷ tested_code line)
     IsRangeCode at (Range x y) is =
-        (xs ys : List Instr) × IsExprCode at x xs × IsExprCode (at + length xs) y ys
+        (xs ys : List Instr) × IsExprCode at x xs × IsExprCode (at ▸ xs) y ys
         × (is ≡ xs ++ (ys ++ tested_code line))
 
     -- of those of ranges, in order
     pub AreIndexesCode : ℕ → Designators → List Instr → Type 0
     AreIndexesCode at no_member is = is ≡ []
     AreIndexesCode at (next_member d more) is =
-        (xs ys : List Instr) × IsRangeCode at d xs × AreIndexesCode (at + length xs) more ys × (is ≡ xs ++ ys)
+        (xs ys : List Instr) × IsRangeCode at d xs × AreIndexesCode (at ▸ xs) more ys × (is ≡ xs ++ ys)
 
     -- in order
     pub AreElementsCode : ℕ → Elements → List Instr → Type 0
     AreElementsCode at no_element is = is ≡ []
     AreElementsCode at (next_element e more) is =
-        (xs ys : List Instr) × IsElementCode at e xs × AreElementsCode (at + length xs) more ys × (is ≡ xs ++ ys)
+        (xs ys : List Instr) × IsElementCode at e xs × AreElementsCode (at ▸ xs) more ys × (is ≡ xs ++ ys)
 
     -- the code of a member designator: the value and `SetAdd`, or the first and the last value and `SetSpan`
     pub IsDesignatorCode : ℕ → Designator → List Instr → Type 0
     IsDesignatorCode at (Single x) is = (xs : List Instr) × IsExprCode at x xs × (is ≡ xs ++ bare line op.SET_ADD ∷ [])
     IsDesignatorCode at (Range x y) is =
-        (xs ys : List Instr) × IsExprCode at x xs × IsExprCode (at + length xs) y ys
+        (xs ys : List Instr) × IsExprCode at x xs × IsExprCode (at ▸ xs) y ys
         × (is ≡ xs ++ (ys ++ bare line op.SET_SPAN ∷ []))
 
     -- member designators, from left to right
     pub AreDesignatorsCode : ℕ → Designators → List Instr → Type 0
     AreDesignatorsCode at no_member is = is ≡ []
     AreDesignatorsCode at (next_member d more) is =
-        (xs ys : List Instr) × IsDesignatorCode at d xs × AreDesignatorsCode (at + length xs) more ys × (is ≡ xs ++ ys)
+        (xs ys : List Instr) × IsDesignatorCode at d xs × AreDesignatorsCode (at ▸ xs) more ys × (is ≡ xs ++ ys)
 
     -- the code of an actual parameter: that of the value, or of the variable (ISO 10206, 6.7.3)
     pub IsActualCode : ℕ → Actual → List Instr → Type 0
@@ -392,4 +389,4 @@ module _ (texts : List (List ℕ)) (references : List Reference) (line : ℕ) wh
     pub AreActualsCode : ℕ → Actuals → List Instr → Type 0
     AreActualsCode at no_actual is = is ≡ []
     AreActualsCode at (next_actual a more) is =
-        (xs ys : List Instr) × IsActualCode at a xs × AreActualsCode (at + length xs) more ys × (is ≡ xs ++ ys)
+        (xs ys : List Instr) × IsActualCode at a xs × AreActualsCode (at ▸ xs) more ys × (is ≡ xs ++ ys)

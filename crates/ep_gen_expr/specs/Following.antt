@@ -1,5 +1,6 @@
 -- The machine follows expressions and places: wherever their code stands in an image, it does what they mean.
 use Rattle.std.specs.Prelude.{◌≡◌, ℕ, ℤ, ◌+◌, ◌<◌, ◌≤◌, List, length, Some, slice_get, ⊤}
+use Rattle.ep_gen_code.specs.Instructions.{◌▸◌}
 use Rattle.ep_gen_code.specs.Credit.{least_credit}
 use Rattle.ep_gen_code.specs.Referring.{AreReferred, AreArraysReferred, IsSwapReferred}
 use Rattle.ep_gen_expr.specs.ExprCode.{IsPlaceCode, IsExprCode}
@@ -37,7 +38,7 @@ IsFollowedThrough declared G p unit untouched n at code c Then gain =
     (begun : State) (injection : Injection) (memory : MachineMemory) → MatchesNames declared injection begun memory
     → (below : List Operand) (credit : ℕ) → least_credit ≤ credit → unit_in G memory.frames ≡ unit
     → Fragment declared G (Since untouched injection begun memory) n
-    (point injection memory (p.instructions.before + at) below) c (p.instructions.before + (at + length code))
+    (point injection memory (p.instructions.before + at) below) c (p.instructions.before + (at ▸ code))
     (λ a. Inside untouched injection memory (Then below a)) credit (λ a. credit + gain a)
 
 -- the type value of a place: that of a variable which is declared, of one of the routine or of those around it, or of
@@ -75,7 +76,7 @@ PlacesAreFollowed =
     → (call : Handler) → IsSteadyHandler call → (turns : ℕ) (unit : List ℕ) (q : Place) → IsValidPlace declared q
     → (t : TypeValue) → HasPlaceType declared q t
     → (line at : ℕ) (code : List Instr) → IsPlaceCode texts references line at q code
-    → CodeStands G ps p references at code → at + length code < p.instructions.own
+    → CodeStands G ps p references at code → at ▸ code < p.instructions.own
     → p.instructions.before + p.instructions.own ≤ length G.instructions
     → (untouched : Slots) → AreAmong untouched (kept_slots declared G) → (n : ℕ) → CallsAreKept declared G ps call n
     → unit ≡ declared.routine_unit → AreReferred declared unit declared.routine_types references
@@ -97,7 +98,7 @@ ExpressionsAreFollowed =
     → (call : Handler) → IsSteadyHandler call → (turns : ℕ) (unit : List ℕ) (kind : Kind) (x : Expr)
     → IsExpr declared kind x
     → (line at : ℕ) (code : List Instr) → IsExprCode texts references line at x code
-    → CodeStands G ps p references at code → at + length code < p.instructions.own
+    → CodeStands G ps p references at code → at ▸ code < p.instructions.own
     → p.instructions.before + p.instructions.own ≤ length G.instructions
     → (untouched : Slots) → AreAmong untouched (kept_slots declared G) → (n : ℕ) → CallsAreKept declared G ps call n
     → unit ≡ declared.routine_unit → AreReferred declared unit declared.routine_types references

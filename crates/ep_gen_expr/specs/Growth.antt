@@ -3,7 +3,7 @@ use Rattle.std.specs.Prelude.{◌≡◌, ℕ, ◌*◌, ◌+◌, ◌≤◌, List,
 use Rattle.ep_object.specs.declared.code.Instr.{Instr}
 use Rattle.ep_object.specs.declared.code.Reference.{Reference}
 use Rattle.ep_typed.specs.Trees.{Element, Elements, Place, Expr, Actual, Actuals, Designator, Designators}
-use Rattle.ep_gen_code.specs.Instructions.{bare}
+use Rattle.ep_gen_code.specs.Instructions.{◌▸◌, bare}
 use Rattle.ep_gen_code.specs.Growth.{Grows}
 use Rattle.ep_gen_expr.specs.ExprCode.{IsElementCode, AreElementsCode, AreIndexesCode, IsRangeCode, keep_code}
 use Rattle.ep_gen_expr.specs.ExprCode.{IsPlaceCode, IsExprCode, IsActualCode, AreActualsCode, IsDesignatorCode}
@@ -28,7 +28,7 @@ pub record NumbersReference (old new : Code) (r : Reference) (k : ℕ) : Type 0 
 pub record KeepsOperand (old new : Code) (operation : ShortOperation) (k : ℕ) : Type 0 where
   pub filler : Instr
   pub grows : Grows old new (keep_code old.line operation ++ filler ∷ bare old.line op.DROP ∷ [])
-  pub is_place : k ≡ length old.instructions + length (keep_code old.line operation)
+  pub is_place : k ≡ length old.instructions ▸ keep_code old.line operation
 
 -- the code of the place is appended, at most 32 instructions for each typed node
 pub record AppendsPlace (old new : Code) (p : Place) : Type 0 where

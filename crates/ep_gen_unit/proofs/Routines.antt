@@ -78,6 +78,7 @@ use Rattle.ep_typed.specs.declared.interface.RoutineResult.{RoutineResult}
 use Rattle.ep_typed.specs.declared.unit.Unit.{Unit as TypedUnit}
 use Rattle.ep_typed.specs.declared.unit.UnitRoutine.{UnitRoutine}
 use Rattle.ep_typed.specs.declared.unit.UnitVariable.{UnitVariable}
+use Rattle.ep_meaning.proofs.public.Lists.{get_behind, get_within}
 
 -- a routine that a unit alone declares is one of its own
 record OwnRoutine (u : TypedUnit) (unit : List ℕ) (number : ℕ) (r : RoutineEntry) : Type 0 where
@@ -97,12 +98,6 @@ own_routine u unit number r h = go (bytes_eq u.name unit) refl h
     go true e q = found_in (same_name u.name unit e) (slice_get u.routines number) refl (sym (slice_get-map heading_of u.routines number) ∙ q)
     go false e q = cc
 
--- what a list has at a place in it
-at_place : {A : Type 0} (xs : List A) (k : ℕ) → k < length xs → (x : A) × (slice_get xs k ≡ Some x)
-at_place [] k less = absurd (omega (arith, less))
-at_place (x ∷ xs) zero less = (x, refl)
-at_place (x ∷ xs) (suc k) less = at_place xs k (omega (arith, less))
-
 -- a routine ends with an instruction at least
 function_length : (o : Option Host) (line number at : ℕ) → 1 ≤ length (function_end o line number at)
 function_length None line number at = omega arith
@@ -111,11 +106,6 @@ function_length (Some h) line number at = omega arith
 end_length : (types : List UnitType) (line number at : ℕ) (y : Option RoutineResult) → 1 ≤ length (end_code types line number at y)
 end_length types line number at None = omega arith
 end_length types line number at (Some y) = function_length (host_of types (denoter_of y.denoter)) line number at
-
--- what stands behind a list
-slice_get-behind : {A : Type 0} (xs ys : List A) (k : ℕ) → slice_get (xs ++ ys) (length xs + k) ≡ slice_get ys k
-slice_get-behind [] ys k = ap (slice_get ys) {x = 0 + k} {y = k} (omega arith)
-slice_get-behind (x ∷ xs) ys k = ap (slice_get (x ∷ (xs ++ ys))) {x = suc (length xs) + k} {y = suc (length xs + k)} (omega arith) ∙ slice_get-behind xs ys k
 
 -- a formal parameter has a valid denoter
 formal_denoter : (w : FormalMode) (types : List UnitType) (d : Denoter) → IsFormalBy w types d → IsDenoter types d
@@ -141,7 +131,7 @@ module _ (u : TypedUnit) (o : Object) (is : IsProgramCode u o) (valid : IsValid 
   placed_at number r there =
       let blocks = is.blocks in
       let object = of_object u o is G ps p stands in
-      let x = at_place is.entries number (omega (arith, blocks.count, slice_get_within u.routines number r there)) in
+      let x = get_within is.entries number (omega (arith, blocks.count, slice_get_within u.routines number r there)) in
       let h = blocks.each number r x.0 there x.1 in
       let s = h.stands in
       let makes : List Instr = own_code r in
@@ -294,7 +284,7 @@ module _ (u : TypedUnit) (o : Object) (is : IsProgramCode u o) (valid : IsValid 
     variable_is : (k : ℕ) (v : UnitVariable) → slice_get (made_variables r) k ≡ Some v → slice_get variables (length formals + k) ≡ Some v
     variable_is k v e =
         ap (λ i. slice_get variables (i + k)) (sym (length-map formals (formal_variable r.line)))
-        ∙ (slice_get-behind (map (formal_variable r.line) formals) (made_variables r ++ with_variables (stmt_of r.block)) k
+        ∙ (get_behind (map (formal_variable r.line) formals) (made_variables r ++ with_variables (stmt_of r.block)) k
         ∙ slice_get-prefix (made_variables r) (made_variables r ++ with_variables (stmt_of r.block)) k v (record { rest = with_variables (stmt_of r.block); is = refl }) e)
 
     own_types_valid : HaveValidOwnTypes within

@@ -41,17 +41,12 @@ use Rattle.ep_values.specs.TypeValues.{TypeValue}
 use Rattle.ep_meaning.specs.Valid.{IsTyped, named, own}
 use Rattle.ep_typed.specs.declared.unit.Unit.{Unit as TypedUnit}
 use Rattle.ep_typed.specs.declared.unit.UnitType.{UnitType}
+use Rattle.ep_meaning.proofs.public.Lists.{get_within}
 
 -- what stands behind a list
 pub behind_list : {A : Type 0} (xs ys : List A) (k : ℕ) → slice_get (xs ++ ys) (length xs + k) ≡ slice_get ys k
 behind_list [] ys k = ap (slice_get ys) {x = 0 + k} {y = k} (omega arith)
 behind_list (x ∷ xs) ys k = ap (slice_get (x ∷ (xs ++ ys))) {x = suc (length xs) + k} {y = suc (length xs + k)} (omega arith) ∙ behind_list xs ys k
-
--- what a list has at a place in it
-at_place : {A : Type 0} (xs : List A) (k : ℕ) → k < length xs → (x : A) × (slice_get xs k ≡ Some x)
-at_place [] k less = absurd (omega (arith, less))
-at_place (x ∷ xs) zero less = (x, refl)
-at_place (x ∷ xs) (suc k) less = at_place xs k (omega (arith, less))
 
 module _ (u : TypedUnit) (o : Object) (is : IsProgramCode u o) (G : Image) (ps : List Placement) (p : Placement) (stands : Stands G ps p o) where
   -- a call that names a routine of the unit is placed so
@@ -78,7 +73,7 @@ module _ (u : TypedUnit) (o : Object) (is : IsProgramCode u o) (G : Image) (ps :
       let all = is.types in
       let blocks = is.blocks in
       let object = of_object u o is G ps p stands in
-      let x = at_place is.elaborating index (omega (arith, all.count, slice_get_within u.types index t there)) in
+      let x = get_within is.elaborating index (omega (arith, all.count, slice_get_within u.types index t there)) in
       let h = all.each index t x.0 there x.1 in
       let s = h.stands in
       let code : List Instr = type_code (line_where t.line) (definition_of t) in

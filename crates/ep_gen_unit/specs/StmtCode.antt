@@ -4,7 +4,7 @@ use Rattle.std.specs.Prelude.{◌≡◌, ℕ, pos, suc, ◌+◌, Bool, true, fal
 use Rattle.std.specs.Prelude.{None, ◌*◌}
 use Rattle.ep_values.specs.declared.operations.Binary.TheVariants as binary
 use Rattle.ep_meaning.specs.Controls.{has_more, in_order, next_value, others}
-use Rattle.ep_gen_code.specs.Instructions.{instr, bare, push}
+use Rattle.ep_gen_code.specs.Instructions.{◌▸◌, instr, bare, push}
 use Rattle.ep_gen_expr.specs.ExprCode.{two_code, standard_code, tests_code, IsPlaceCode, IsExprCode}
 use Rattle.ep_gen_code.specs.declared.code.TheConstants as code
 use Rattle.ep_gen_unit.specs.TagCode.{IsTriedCode, IsChangeCode, IsTakenCode, selected_code, selected_length}
@@ -70,8 +70,8 @@ slot_of (OfRoutine levels number) = number
 -- the test behind it, the next value, and the end.
 abbrev pub for_code : ℕ → ℕ → List Instr → List Instr → List Instr → List Instr → List Instr → List Instr → List Instr
 for_code line at bounds first body test step ends =
-    let body_at = at + length bounds + 1 + length first in
-    let done = body_at + length body + length test + 1 + length step + 1 in
+    let body_at = at ▸ bounds + 1 ▸ first in
+    let done = body_at ▸ body ▸ test + 1 ▸ step + 1 in
     bounds ++ instr op.JUMP_FALSE (pos (done + 1)) 0 line
     ∷ (first
     ++ (body ++ (test ++ instr op.JUMP_FALSE (pos done) 0 line
@@ -83,11 +83,9 @@ for_code line at bounds first body test step ends =
 abbrev pub for_in_code : ℕ → ℕ → List Instr → List Instr → List Instr → List Instr → List Instr → List Instr
     → List Instr
 for_in_code line at sets test first kept body ends =
-    let done = at + length sets + length test + 1 + length first + length kept + length body + 1 + 1 in
+    let done = at ▸ sets ▸ test + 1 ▸ first ▸ kept ▸ body + 1 + 1 in
     sets ++ ((test ++ instr op.JUMP_FALSE (pos done) 0 line
-    ∷ ((first ++ (kept
-    ++ (body ++ bare line op.STORE ∷ []))) ++ instr op.JUMP (pos (at + length sets)) 0 line ∷ []))
-    ++ ends)
+    ∷ ((first ++ (kept ++ (body ++ bare line op.STORE ∷ []))) ++ instr op.JUMP (pos (at ▸ sets)) 0 line ∷ [])) ++ ends)
 
 module _ (texts : List (List ℕ)) (references : List Reference) where
   -- the code that writes an item, which has this line and begins at this place
@@ -97,7 +95,7 @@ module _ (texts : List (List ℕ)) (references : List Reference) where
       × (is ≡ output_code line ∷ (xs ++ (plain_code line print ++ bare line op.PUT ∷ [])))
   IsItemCode line at (Wide print x w) is =
       (xs ws : List Instr) × IsExprCode texts references line (at + 1) x xs
-      × IsExprCode texts references line (at + 1 + length xs + length (before_width line print)) w ws
+      × IsExprCode texts references line (at + 1 ▸ xs ▸ before_width line print) w ws
       × (is ≡ output_code line
       ∷ (xs ++ (before_width line print ++ (ws ++ wide_code line print ∷ bare line op.PUT ∷ []))))
 
@@ -106,30 +104,30 @@ module _ (texts : List (List ℕ)) (references : List Reference) where
   AreItemsCode line at [] false is = is ≡ []
   AreItemsCode line at [] true is = is ≡ line_end_code line
   AreItemsCode line at (i ∷ items) ends_line is =
-      (xs ys : List Instr) × IsItemCode line at i xs × AreItemsCode line (at + length xs) items ends_line ys
+      (xs ys : List Instr) × IsItemCode line at i xs × AreItemsCode line (at ▸ xs) items ends_line ys
       × (is ≡ xs ++ ys)
 
   -- the code of an assignment
   abbrev pub IsAssignCode : ℕ → ℕ → Place → Expr → List Instr → Type 0
   IsAssignCode line at p x is =
       (ps xs : List Instr) × IsPlaceCode texts references line at p ps
-      × IsExprCode texts references line (at + length ps) x xs × (is ≡ ps ++ (xs ++ bare line op.STORE ∷ []))
+      × IsExprCode texts references line (at ▸ ps) x xs × (is ≡ ps ++ (xs ++ bare line op.STORE ∷ []))
 
   -- The code of a `for` before its turns: the auxiliary variables get the bounds, and whether there is a turn is on
   -- top.
   abbrev pub AreBoundsCode : ℕ → ℕ → Control → Expr → Expr → List Instr → Type 0
   AreBoundsCode line at c x y is =
       (xs ys ts : List Instr) × IsAssignCode line at (entire c.initial) x xs
-      × IsAssignCode line (at + length xs) (entire c.last) y ys
-      × IsExprCode texts references line (at + length xs + length ys) (in_order c) ts × (is ≡ xs ++ (ys ++ ts))
+      × IsAssignCode line (at ▸ xs) (entire c.last) y ys
+      × IsExprCode texts references line (at ▸ xs ▸ ys) (in_order c) ts × (is ≡ xs ++ (ys ++ ts))
 
   -- The final value, which stays on the operands while there are turns; and the control variable gets the final value,
   -- by which both bounds are tried, and then the initial one.
   abbrev pub IsFirstCode : ℕ → ℕ → Control → List Instr → Type 0
   IsFirstCode line at c is =
       (bs ls fs : List Instr) × IsExprCode texts references line at (Read (entire c.last)) bs
-      × IsAssignCode line (at + length bs) (entire c.variable) (Read (entire c.last)) ls
-      × IsAssignCode line (at + length bs + length ls) (entire c.variable) (Read (entire c.initial)) fs
+      × IsAssignCode line (at ▸ bs) (entire c.variable) (Read (entire c.last)) ls
+      × IsAssignCode line (at ▸ bs ▸ ls) (entire c.variable) (Read (entire c.initial)) fs
       × (is ≡ bs ++ (ls ++ fs))
 
   -- over the final value: whether the control variable has another one
@@ -147,14 +145,14 @@ module _ (texts : List (List ℕ)) (references : List Reference) where
   abbrev pub IsLeastCode : ℕ → ℕ → MemberControl → List Instr → Type 0
   IsLeastCode line at c is =
       (vs rs : List Instr) × IsPlaceCode texts references line at (entire c.variable) vs
-      × IsExprCode texts references line (at + length vs + 1) (Read (entire c.rest)) rs
+      × IsExprCode texts references line (at ▸ vs + 1) (Read (entire c.rest)) rs
       × (is ≡ vs ++ push line (pos 0) ∷ (rs ++ bare line op.NEXT ∷ bare line op.STORE ∷ []))
 
   -- the place of the auxiliary variable, and the members that are to come behind that one
   abbrev pub IsKeptCode : ℕ → ℕ → MemberControl → List Instr → Type 0
   IsKeptCode line at c is =
       (vs xs : List Instr) × IsPlaceCode texts references line at (entire c.rest) vs
-      × IsExprCode texts references line (at + length vs) (others c) xs × (is ≡ vs ++ xs)
+      × IsExprCode texts references line (at ▸ vs) (others c) xs × (is ≡ vs ++ xs)
 
   -- a record that a `with` opens: the place, which goes into the slot of the variable that stands for it
   abbrev pub IsBindCode : ℕ → ℕ → Entire → Place → List Instr → Type 0
@@ -166,7 +164,7 @@ module _ (texts : List (List ℕ)) (references : List Reference) where
   abbrev pub AreBindsCode : ℕ → ℕ → List WithRecord → List Instr → Type 0
   AreBindsCode line at [] is = is ≡ []
   AreBindsCode line at (r ∷ more) is =
-      (xs ys : List Instr) × IsBindCode line at r.variable r.place xs × AreBindsCode line (at + length xs) more ys
+      (xs ys : List Instr) × IsBindCode line at r.variable r.place xs × AreBindsCode line (at ▸ xs) more ys
       × (is ≡ xs ++ ys)
 
   abbrev mutual
@@ -180,61 +178,57 @@ module _ (texts : List (List ℕ)) (references : List Reference) where
     -- variant; and the tag
     IsStmtCode at (AssignTag line c p s x) is =
         (rs vs ts cs ls : List Instr) × IsPlaceCode texts references line at p rs
-        × IsAssignCode line (at + length rs) (entire c.value) x vs
-        × IsTriedCode texts references line (at + length rs + length vs) c s ts
-        × IsChangeCode texts references line (at + length rs + length vs + length ts + selected_length s) c s cs
-        × IsTakenCode texts references line (at + length rs + length vs + length ts + selected_length s + length cs) c
-        s ls
-        × (is ≡ rs ++ (vs ++ (ts ++ (selected_code line (at + length rs + length vs + length ts) s ++ (cs ++ ls)))))
+        × IsAssignCode line (at ▸ rs) (entire c.value) x vs
+        × IsTriedCode texts references line (at ▸ rs ▸ vs) c s ts
+        × IsChangeCode texts references line (at ▸ rs ▸ vs ▸ ts + selected_length s) c s cs
+        × IsTakenCode texts references line (at ▸ rs ▸ vs ▸ ts + selected_length s ▸ cs) c s ls
+        × (is ≡ rs ++ (vs ++ (ts ++ (selected_code line (at ▸ rs ▸ vs ▸ ts) s ++ (cs ++ ls)))))
     IsStmtCode at (If line x a b) is =
-        (xs ys zs : List Instr) × IsExprCode texts references line at x xs × IsStmtCode (at + length xs + 1) a ys
-        × IsStmtCode (at + length xs + 1 + length ys + 1) b zs
-        × (is ≡ xs ++ instr op.JUMP_FALSE (pos (at + length xs + 1 + length ys + 1)) 0 line
-        ∷ (ys ++ instr op.JUMP (pos (at + length xs + 1 + length ys + 1 + length zs)) 0 line ∷ zs))
+        (xs ys zs : List Instr) × IsExprCode texts references line at x xs × IsStmtCode (at ▸ xs + 1) a ys
+        × IsStmtCode (at ▸ xs + 1 ▸ ys + 1) b zs
+        × (is ≡ xs ++ instr op.JUMP_FALSE (pos (at ▸ xs + 1 ▸ ys + 1)) 0 line
+        ∷ (ys ++ instr op.JUMP (pos (at ▸ xs + 1 ▸ ys + 1 ▸ zs)) 0 line ∷ zs))
     IsStmtCode at (While line x s) is =
-        (xs ys : List Instr) × IsExprCode texts references line at x xs × IsStmtCode (at + length xs + 1) s ys
-        × (is ≡ xs ++ instr op.JUMP_FALSE (pos (at + length xs + 1 + length ys + 1)) 0 line
+        (xs ys : List Instr) × IsExprCode texts references line at x xs × IsStmtCode (at ▸ xs + 1) s ys
+        × (is ≡ xs ++ instr op.JUMP_FALSE (pos (at ▸ xs + 1 ▸ ys + 1)) 0 line
         ∷ (ys ++ instr op.JUMP (pos at) 0 line ∷ []))
     IsStmtCode at (Repeat line ss x) is =
-        (ys xs : List Instr) × AreStmtsCode at ss ys × IsExprCode texts references line (at + length ys) x xs
+        (ys xs : List Instr) × AreStmtsCode at ss ys × IsExprCode texts references line (at ▸ ys) x xs
         × (is ≡ ys ++ (xs ++ instr op.JUMP_FALSE (pos at) 0 line ∷ []))
     IsStmtCode at (For line c x y s) is =
         (bounds first body test step ends : List Instr) × AreBoundsCode line at c x y bounds
-        × IsFirstCode line (at + length bounds + 1) c first
-        × IsStmtCode (at + length bounds + 1 + length first) s body
-        × IsTestCode line (at + length bounds + 1 + length first + length body) c test
-        × IsAssignCode line (at + length bounds + 1 + length first + length body + length test
-        + 1) (entire c.variable) (next_value c) step
-        × IsUndefineCode line (at + length bounds + 1 + length first + length body + length test + 1 + length step
-        + 1 + 1) c.variable ends
+        × IsFirstCode line (at ▸ bounds + 1) c first
+        × IsStmtCode (at ▸ bounds + 1 ▸ first) s body
+        × IsTestCode line (at ▸ bounds + 1 ▸ first ▸ body) c test
+        × IsAssignCode line (at ▸ bounds + 1 ▸ first ▸ body ▸ test + 1) (entire c.variable) (next_value c) step
+        × IsUndefineCode line (at ▸ bounds + 1 ▸ first ▸ body ▸ test + 1 ▸ step + 1 + 1) c.variable ends
         × (is ≡ for_code line at bounds first body test step ends)
     IsStmtCode at (ForIn line c x s) is =
         (sets test first kept body ends : List Instr) × IsAssignCode line at (entire c.rest) x sets
-        × IsExprCode texts references line (at + length sets) (has_more c) test
-        × IsLeastCode line (at + length sets + length test + 1) c first
-        × IsKeptCode line (at + length sets + length test + 1 + length first) c kept
-        × IsStmtCode (at + length sets + length test + 1 + length first + length kept) s body
-        × IsUndefineCode line (at + length sets + length test + 1 + length first + length kept + length body + 1 + 1)
-        c.variable ends
+        × IsExprCode texts references line (at ▸ sets) (has_more c) test
+        × IsLeastCode line (at ▸ sets ▸ test + 1) c first
+        × IsKeptCode line (at ▸ sets ▸ test + 1 ▸ first) c kept
+        × IsStmtCode (at ▸ sets ▸ test + 1 ▸ first ▸ kept) s body
+        × IsUndefineCode line (at ▸ sets ▸ test + 1 ▸ first ▸ kept ▸ body + 1 + 1) c.variable ends
         × (is ≡ for_in_code line at sets test first kept body ends)
     IsStmtCode at (With line v of p s) is =
-        (xs ys : List Instr) × IsBindCode line at v p xs × IsStmtCode (at + length xs) s ys × (is ≡ xs ++ ys)
+        (xs ys : List Instr) × IsBindCode line at v p xs × IsStmtCode (at ▸ xs) s ys × (is ≡ xs ++ ys)
     -- that of a function designator: the jump behind the call has the tick for the step that the statement spends when
     -- the call is done
     IsStmtCode at (Procedure line callee given) is = IsExprCode texts references line at (Function callee given) is
     IsStmtCode at (Case line x arms o) is =
         (xs ys zs : List Instr) × IsExprCode texts references line at x xs
-        × AreArmsCode line (at + length xs + 1) (at + length xs + 2) arms ys
-        × IsOtherCode line (at + length xs + 2 + length ys) o zs
-        × (is ≡ xs ++ instr op.JUMP (pos (at + length xs + 2)) 0 line
-        ∷ instr op.JUMP (pos (at + length xs + 2 + length ys + length zs)) 0 line ∷ (ys ++ zs))
+        × AreArmsCode line (at ▸ xs + 1) (at ▸ xs + 2) arms ys
+        × IsOtherCode line (at ▸ xs + 2 ▸ ys) o zs
+        × (is ≡ xs ++ instr op.JUMP (pos (at ▸ xs + 2)) 0 line ∷ instr op.JUMP (pos (at ▸ xs + 2 ▸ ys ▸ zs)) 0 line
+        ∷ (ys ++ zs))
     IsStmtCode at (Halt line) is = is ≡ bare line op.HALT ∷ []
     IsStmtCode at (Write line items ends_line) is = AreItemsCode line at items ends_line is
 
     pub AreStmtsCode : ℕ → Stmts → List Instr → Type 0
     AreStmtsCode at none is = is ≡ []
     AreStmtsCode at (next s ss) is =
-        (xs ys : List Instr) × IsStmtCode at s xs × AreStmtsCode (at + length xs) ss ys × (is ≡ xs ++ ys)
+        (xs ys : List Instr) × IsStmtCode at s xs × AreStmtsCode (at ▸ xs) ss ys × (is ≡ xs ++ ys)
 
     -- The code of the arms of a `case`, with the value of the selector on top: the tests of an arm, the jump over its
     -- statement, that statement without the value, and the jump to the place from which the `case` is left.
@@ -242,9 +236,9 @@ module _ (texts : List (List ℕ)) (references : List Reference) where
     AreArmsCode line leave at no_arm is = is ≡ []
     AreArmsCode line leave at (next_arm ranges s arms) is =
         (ss rest : List Instr) × IsStmtCode (at + 6 * length ranges + 2) s ss
-        × AreArmsCode line leave (at + 6 * length ranges + 2 + length ss + 1) arms rest
+        × AreArmsCode line leave (at + 6 * length ranges + 2 ▸ ss + 1) arms rest
         × (is ≡ tests_code line (at + 6 * length ranges + 1) at ranges
-        ++ instr op.JUMP (pos (at + 6 * length ranges + 2 + length ss + 1)) 0 line ∷ bare line op.DROP
+        ++ instr op.JUMP (pos (at + 6 * length ranges + 2 ▸ ss + 1)) 0 line ∷ bare line op.DROP
         ∷ (ss ++ instr op.JUMP (pos leave) 0 line ∷ rest))
 
     -- what a `case` does where no range has the value of the selector, which is on top

@@ -1,7 +1,7 @@
 -- How code under construction grows by statements, whose lines differ.
 use Rattle.std.specs.Prelude.{◌≡◌, ℕ, pos, ◌+◌, ◌*◌, ◌<◌, ◌≤◌, Bool, false, List, [], ◌∷◌, ◌++◌, length}
 use Rattle.ep_gen_expr.specs.ExprCode.{IsExprCode, tests_code}
-use Rattle.ep_gen_code.specs.Instructions.{instr}
+use Rattle.ep_gen_code.specs.Instructions.{◌▸◌, instr}
 use Rattle.ep_gen_code.specs.Growth.{TableGrows, Grows, IsTable, AreDistinct}
 use Rattle.ep_gen_code.specs.Jumps.{landed}
 use Rattle.ep_gen_code.specs.declared.code.Code.{Code}
@@ -143,12 +143,12 @@ pub record OpensCase (line leave : ℕ) (old new : Code) (x : Expr) (arms : Arms
   pub filler : Instr
   pub code : List Instr
   pub is_selector : IsExprCode new.texts new.references line (length old.instructions) x selector
-  pub is_code : AreArmsCode new.texts new.references line leave (length old.instructions + length selector + 2) arms
+  pub is_code : AreArmsCode new.texts new.references line leave (length old.instructions ▸ selector + 2) arms
       code
-  pub is_place : leave ≡ length old.instructions + length selector + 1
+  pub is_place : leave ≡ length old.instructions ▸ selector + 1
   pub inside : leave < length new.instructions
   pub follows : Follows old new
-      (selector ++ instr op.JUMP (pos (length old.instructions + length selector + 2)) 0 line ∷ filler ∷ code)
+      (selector ++ instr op.JUMP (pos (length old.instructions ▸ selector + 2)) 0 line ∷ filler ∷ code)
 
 -- the `otherwise` part is appended, and at the place from which the `case` is left stands the jump behind it
 pub record ClosesCase (line leave : ℕ) (old new : Code) (other : Other) : Type 0 where
@@ -169,19 +169,19 @@ pub record AppendsStart (old new : Code) (u : TypedUnit) (stop_entry : ℕ) : Ty
   -- the code of the block
   pub code : List Instr
   pub is_code : IsStmtCode new.texts new.references
-      (length old.instructions + length (make_all_code 0 (made_by_unit u))) (stmt_of u.start) code
+      (length old.instructions ▸ make_all_code 0 (made_by_unit u)) (stmt_of u.start) code
   pub follows : Follows old new (make_all_code 0 (made_by_unit u) ++ (code ++ return_code ∷ return_code ∷ []))
-  pub stops : stop_entry ≡ length old.instructions + length (make_all_code 0 (made_by_unit u)) + length code + 1
+  pub stops : stop_entry ≡ length old.instructions ▸ make_all_code 0 (made_by_unit u) ▸ code + 1
   pub small : IsTable new.instructions
 
 -- the code of a routine of a unit with these types is appended: what makes its variables, its block, and its end
 pub record AppendsRoutine (old new : Code) (types : List UnitType) (r : UnitRoutine) (x : CodeRoutine) : Type 0 where
   pub plain : x ≡ entry_of (length old.instructions) r
   pub code : List Instr
-  pub is_code : IsStmtCode new.texts new.references (length old.instructions + length (own_code r)) (stmt_of r.block)
+  pub is_code : IsStmtCode new.texts new.references (length old.instructions ▸ own_code r) (stmt_of r.block)
       code
   pub follows : Follows old new
-      (own_code r ++ (code ++ its_end types (length old.instructions + length (own_code r) + length code) r))
+      (own_code r ++ (code ++ its_end types (length old.instructions ▸ own_code r ▸ code) r))
 
 -- the code of routines is appended, and these are their entries
 pub record AppendsRoutines (old new : Code) (types : List UnitType) (rs : List UnitRoutine)

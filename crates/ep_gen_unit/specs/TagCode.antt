@@ -1,6 +1,6 @@
 -- The code of assignments to tags (ISO 10206, 6.5.3.3), over the place of the record.
 use Rattle.std.specs.Prelude.{◌≡◌, ℕ, ℤ, pos, negsuc, suc, ◌+◌, ◌*◌, List, [], ◌∷◌, ◌++◌, length, if◌then◌else◌}
-use Rattle.ep_gen_code.specs.Instructions.{bare, instr, push}
+use Rattle.ep_gen_code.specs.Instructions.{◌▸◌, bare, instr, push}
 use Rattle.ep_gen_expr.specs.ExprCode.{tests_code, two_code, IsExprCode}
 use Rattle.ep_object.specs.declared.code.Instr.{Instr}
 use Rattle.ep_object.specs.declared.code.Reference.{Reference}
@@ -113,8 +113,9 @@ module _ (texts : List (List ℕ)) (references : List Reference) where
   IsChangeCode line at c s is =
       (rs : List Instr) × IsExprCode texts references line at (Read (entire c.value)) rs
       × (is ≡ rs
-      ++ (number_code line (at + length rs) s none_now ++ two_code line binary.Unequal ∷ instr op.JUMP_FALSE (pos
-      (at + length rs + number_length s + 2 + length (variants_code line s))) 0 line ∷ variants_code line s))
+      ++ (number_code line (at ▸ rs) s none_now ++ two_code line binary.Unequal
+      ∷ instr op.JUMP_FALSE (pos (at ▸ rs + number_length s + 2 ▸ variants_code line s)) 0 line
+      ∷ variants_code line s))
 
   -- the tag of the record gets the value in the auxiliary variable
   abbrev pub IsTakenCode : ℕ → ℕ → Tagging → Selection → List Instr → Type 0

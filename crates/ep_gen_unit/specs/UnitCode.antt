@@ -3,7 +3,7 @@
 -- them stands the code of its routines, of the two that structured values call, and of those that elaborate its types.
 use Rattle.std.specs.Prelude.{◌≡◌, ℕ, pos, ◌+◌, false, List, [], ◌∷◌, ◌++◌, Some, length, slice_get}
 use Rattle.ep_gen_code.specs.Growth.{in_row}
-use Rattle.ep_gen_code.specs.Instructions.{bare, instr}
+use Rattle.ep_gen_code.specs.Instructions.{◌▸◌, bare, instr}
 use Rattle.ep_gen_code.specs.Referring.{type_reference}
 use Rattle.ep_gen_code.specs.declared.code.TheConstants as code
 use Rattle.ep_gen_code.specs.declared.references.TheConstants as routine
@@ -14,7 +14,8 @@ use Rattle.ep_object.specs.declared.code.Instr.{Instr}
 use Rattle.ep_object.specs.declared.code.Object.{Object}
 use Rattle.ep_object.specs.declared.code.Reference.{Reference}
 use Rattle.ep_object.specs.declared.op.TheConstants as op
-use Rattle.ep_simulation.specs.Promises.{filling_code, ranging_code, spreading_code, swap_routine}
+use Rattle.ep_simulation.specs.Promises.{filling_code, ranging_code, spreading_code}
+use Rattle.ep_simulation.specs.Promises.{start_routine, stop_routine, swap_routine}
 use Rattle.ep_outside.specs.Known.{IsPrefix}
 use Rattle.ep_typed.specs.Denoters.{definition_of}
 use Rattle.ep_meaning.specs.Meaning.{line_where}
@@ -60,9 +61,9 @@ pub record IsRoutineCode (texts : List (List ℕ)) (references : List Reference)
     (types : List UnitType) (r : UnitRoutine) (x : CodeRoutine) : Type 0 where
   pub plain : x ≡ entry_of x.entry r
   pub code : List Instr
-  pub is_code : IsStmtCode texts references (x.entry + length (own_code r)) (stmt_of r.block) code
+  pub is_code : IsStmtCode texts references (x.entry ▸ own_code r) (stmt_of r.block) code
   pub stands : StandsIn instructions x.entry
-      (own_code r ++ (code ++ its_end types (x.entry + length (own_code r) + length code) r))
+      (own_code r ++ (code ++ its_end types (x.entry ▸ own_code r ▸ code) r))
 
 -- the routines of a unit have these entries, one for each and in order
 pub record AreRoutinesCode (texts : List (List ℕ)) (references : List Reference) (instructions : List Instr)
@@ -141,10 +142,10 @@ pub record IsProgramCode (u : TypedUnit) (o : Object) : Type 0 where
   pub named : IsPrefix (in_row u.name (swap_routine (length u.routines)) (type_reference (length u.types)))
       o.references
   pub routines : o.routines ≡ entries ++ plain_at 0
-      ∷ plain_at (length (make_all_code 0 (made_by_unit u)) + length code + 1) ∷ swapping ∷ filling ∷ ranging
+      ∷ plain_at (length (make_all_code 0 (made_by_unit u)) ▸ code + 1) ∷ swapping ∷ filling ∷ ranging
       ∷ spreading ∷ elaborating
-  pub start : o.start ≡ length u.routines
-  pub stop : o.stop ≡ length u.routines + 1
+  pub start : o.start ≡ start_routine (length u.routines)
+  pub stop : o.stop ≡ stop_routine (length u.routines)
   pub unit_slots : o.unit_slots ≡ length (unit_variables u)
   pub name : o.name ≡ u.name
   pub is_program : o.«module» ≡ false

@@ -26,6 +26,12 @@ use ep_typed::{
 use ep_values::{Binary, run_error};
 use std::alloc::{AllocError, Global};
 
+/// Behind so many instructions a turn of the routine that fills begins.
+const TURN: u64 = 3;
+
+/// And behind so many its end.
+const FILL_END: u64 = 19;
+
 /// The object of a program. Its first routines are those of the program, by their numbers; the one after them makes
 /// the variables and runs the block, the next one does nothing, then there is one that leaves two operands in the other order and
 /// those that give values to components of arrays, and the last ones elaborate the types, by their numbers. Where memory is
@@ -184,10 +190,10 @@ fn next_component(entry: u32, code: &mut Code) -> Result<(), NoMemory>
     emit(code, op::DUP, 0, 0)?;
     emit(code, op::PEEK, 3, 0)?;
     apply_binary(Binary::Less, code)?;
-    emit(code, op::JUMP_FALSE, (entry as u64 + 19) as i64, 0)?;
+    emit(code, op::JUMP_FALSE, (entry as u64 + FILL_END) as i64, 0)?;
     emit(code, op::PUSH, 1, 0)?;
     emit(code, op::ADD, 0, 0)?;
-    emit(code, op::JUMP, (entry as u64 + 3) as i64, 0)?;
+    emit(code, op::JUMP, (entry as u64 + TURN) as i64, 0)?;
     emit(code, op::DROP, 0, 0)?;
     emit(code, op::RETURN, 0, 0)
 }

@@ -159,9 +159,15 @@ pub record RoutineKeeps (declared : Declarations) (G : Image) (ps : List Placeme
       (λ from line levels arguments. call.routine from line (record { unit = unit; number = number; levels = levels })
       arguments)
 
--- the number, among the routines of a unit that has so many of its own, of the one that leaves two operands in the
--- other order:
--- it stands behind them, its start and its stop
+-- the numbers, among the routines of an object whose unit has so many of its own, of the start and the stop, which
+-- stand behind those
+abbrev pub start_routine : ℕ → ℕ
+start_routine routines = routines
+
+abbrev pub stop_routine : ℕ → ℕ
+stop_routine routines = routines + 1
+
+-- of the one that leaves two operands in the other order, which stands behind the stop
 abbrev pub swap_routine : ℕ → ℕ
 swap_routine routines = routines + 2
 
@@ -258,13 +264,20 @@ copying_code swap line =
     ∷ instr op.SLOT (pos 0) 0 line ∷ instr op.PEEK (pos 1) 0 line ∷ instr op.INDEX (pos 0) 0 line
     ∷ instr op.LOAD (pos 0) 0 line ∷ instr op.STORE (pos 0) 0 line ∷ []
 
+-- in the code of that routine, which has this entry: where a turn begins, and its end
+abbrev pub turn_place : ℕ → ℕ
+turn_place entry = entry + 3
+
+abbrev pub fill_end : ℕ → ℕ
+fill_end entry = entry + 19
+
 -- behind that: the next index, where this one is below the last one, and else the end of the routine, which has this
 -- entry
 abbrev pub next_code : (entry line : ℕ) → List Instr
 next_code entry line =
     instr op.DUP (pos 0) 0 line ∷ instr op.PEEK (pos 3) 0 line ∷ instr op.CMP less 0 line
-    ∷ instr op.JUMP_FALSE (pos (entry + 19)) 0 line
-    ∷ instr op.PUSH (pos 1) 0 line ∷ instr op.ADD (pos 0) 0 line ∷ instr op.JUMP (pos (entry + 3)) 0 line
+    ∷ instr op.JUMP_FALSE (pos (fill_end entry)) 0 line
+    ∷ instr op.PUSH (pos 1) 0 line ∷ instr op.ADD (pos 0) 0 line ∷ instr op.JUMP (pos (turn_place entry)) 0 line
     ∷ instr op.DROP (pos 0) 0 line ∷ instr op.RETURN (pos 0) 0 line ∷ []
 
 -- a turn, and what is behind it

@@ -47,8 +47,8 @@ use Rattle.ep_unit_rules.specs.declared.own.Enclosing.{Enclosing}
 use Rattle.ep_unit_rules.specs.declared.own.OwnResult.{OwnResult}
 use Rattle.ep_unit_laws.proofs.Open.{IsOpen, around_length}
 use Rattle.ep_unit_laws.proofs.Denoting.{DenotesKind, kind_had, kind_type, set_of_kind}
-use Rattle.ep_unit_laws.proofs.Prefixes.{front_get}
 use Rattle.ep_unit_laws.proofs.Holds.{HasTypeHere, Head, Holds, HoldsComposition, HoldsStructuredType, HoldsDeclaration, HoldsOwn, HoldsParameter, HoldsResultOf, HoldsResults, HoldsScopes, HoldsThing, HoldsThings, HoldsVariable, ListsKind, head_of, holds_scopes, levels_at, lists_kind_small, lists_small, name_denotes, named_tree, type_values}
+use Rattle.ep_meaning.proofs.public.Lists.{get_front}
 
 name_same : (a b : List ℕ) → a ≡ b → bytes_eq a b ≡ true
 name_same a b h = grind (arith, bytes_eq-Decides)
@@ -146,7 +146,7 @@ module _ (u : TypedUnit) where
   declared_own : (unit : List ℕ) (number : ℕ) (v : UnitVariable) → unit ≡ u.name → slice_get u.variables number ≡ Some v → (own u).variables unit number ≡ Some v
   declared_own unit number v e at =
       variables_own unit number e
-      ∙ front_get (made_by_unit u) (with_variables (stmt_of u.start)) number v (front_get u.variables (block_auxiliaries (stmt_of u.start)) number v at)
+      ∙ get_front (made_by_unit u) (with_variables (stmt_of u.start)) number v (get_front u.variables (block_auxiliaries (stmt_of u.start)) number v at)
 
   own_place : (es : List Enclosing) (i level number : ℕ) (of : TypeName) (h : Host) → i ≤ length u.types → HoldsOwn u es i level number of (kind.Ordinal h) → IsPlace (in_routine (levels_at u.routines es) (own u)) (typed_host h) (tree.Own (length es - level) number)
   own_place es i level number of h le x = (x.variable, x.at, x.denotes.1.has_host (suc (length u.types)) (omega (arith, le)))

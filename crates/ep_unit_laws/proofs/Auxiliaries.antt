@@ -1,5 +1,5 @@
 -- The auxiliary variables of a block are there, behind those that it declares: two integers where it has a `for` with bounds or an assignment to a tag, a set where it has a `for` over members, and those of its `with` statements.
-use Rattle.std.proofs.Common.{◌≡◌, ℕ, suc, ◌+◌, Bool, true, false, List, [], ◌∷◌, ◌++◌, length, Option, Some, None, slice_get, refl, sym, ap, ◌∙◌, subst, arith, append_assoc}
+use Rattle.std.proofs.Common.{◌≡◌, ℕ, ◌+◌, Bool, true, false, List, [], ◌∷◌, ◌++◌, length, Option, Some, None, slice_get, refl, sym, ap, ◌∙◌, subst, arith, append_assoc}
 use Rattle.std.proofs.lemmas.List.{length-append}
 use Rattle.std.specs.Prelude.{◌≤◌, All, is_some, if◌then◌else◌}
 use Rattle.ep_tree.specs.declared.statement.Compound.{Compound}
@@ -32,11 +32,7 @@ use Rattle.ep_unit_laws.proofs.Agreeing.{types_own, variables_own, within}
 use Rattle.ep_unit_laws.proofs.Holds.{innermost, levels_at}
 use Rattle.ep_unit_laws.proofs.Items.{own_length}
 use Rattle.ep_unit_laws.proofs.Leading.{variables_in}
-
--- what stands behind a list
-behind : {A : Type 0} (xs ys : List A) (k : ℕ) → slice_get (xs ++ ys) (length xs + k) ≡ slice_get ys k
-behind [] ys k = ap (slice_get ys) {x = 0 + k} {y = k} (omega arith)
-behind (x ∷ xs) ys k = ap (slice_get (x ∷ (xs ++ ys))) {x = suc (length xs) + k} {y = suc (length xs + k)} (omega arith) ∙ behind xs ys k
+use Rattle.ep_meaning.proofs.public.Lists.{get_behind}
 
 -- ---- all of a block
 
@@ -101,7 +97,7 @@ module _ (declared : Declarations) (types : List UnitType) where
       let v : UnitVariable = member_variable line in
       let there : slice_get ((integers ++ v ∷ []) ++ more) (length integers) ≡ Some v =
       ap (λ l. slice_get l (length integers)) (append_assoc integers (v ∷ []) more)
-      ∙ (ap (slice_get (integers ++ v ∷ more)) {x = length integers} {y = length integers + 0} (omega arith) ∙ behind integers (v ∷ more) 0) in
+      ∙ (ap (slice_get (integers ++ v ∷ more)) {x = length integers} {y = length integers + 0} (omega arith) ∙ get_behind integers (v ∷ more) 0) in
       local_placed (IsOfKind (given.Set host.Integer)) locals (first_auxiliary locals + length integers) v (x (length integers) v there) (member_base types line)
 
   -- those of a block with these statements
@@ -129,7 +125,7 @@ module _ (declared : Declarations) (types : List UnitType) where
         let v : UnitVariable = with_variable line of in
         let made : List UnitVariable = block_auxiliaries (tree.Compound ss) in
         let there : IsLocal locals (first + k) v =
-        subst (λ n. IsLocal locals n v) {x = first_auxiliary locals + (length made + k)} {y = first + k} (omega (arith, is)) (all (length made + k) v (behind made (with_variables_of ss) k ∙ at)) in (
+        subst (λ n. IsLocal locals n v) {x = first_auxiliary locals + (length made + k)} {y = first + k} (omega (arith, is)) (all (length made + k) v (get_behind made (with_variables_of ss) k ∙ at)) in (
           unmade (first + k) (omega arith),
           local_placed (λ list d. (d ≡ tree.Named of []) × (bare_type_of list d ≡ values (type_name.Entry of)) × All (HoldsStructure values list) structures) locals (first + k) v there
               (named_is of [], ap (bare_type_of types) (named_is of []) ∙ sym (numbered of), held),
@@ -150,7 +146,7 @@ module _ (u : TypedUnit) (e : Enclosing) (es : List Enclosing) (c : Block) (line
   pub own_behind : AreBehind (within u (e ∷ es)) u.types (locals_in c (e ∷ es)) all
   own_behind k v at = (
     ap (λ vs. slice_get vs (own_count c.own + k)) its
-        ∙ (ap (λ n. slice_get (variables_in line called c.own ++ all) (n + k)) (sym many) ∙ (behind (variables_in line called c.own) all k ∙ at)),
+        ∙ (ap (λ n. slice_get (variables_in line called c.own ++ all) (n + k)) (sym many) ∙ (get_behind (variables_in line called c.own) all k ∙ at)),
     refl,
   )
 
@@ -174,4 +170,4 @@ unit_behind u b ss named variables start outermost =
     ap (λ s. (u.variables ++ block_auxiliaries s) ++ with_variables s) start
     ∙ (append_assoc u.variables (block_auxiliaries (tree.Compound ss)) (with_variables_of ss) ∙ ap (λ l. l ++ auxiliaries_of ss) variables) in
     subst (λ es. AreBehind (own u) u.types (locals_in b es) (auxiliaries_of ss)) (sym outermost)
-    (λ k v at. (variables_own u b.unit (length b.variables + k) named ∙ (ap (λ l. slice_get l (length b.variables + k)) all ∙ (behind b.variables (auxiliaries_of ss) k ∙ at)), types_own u b.unit named))
+    (λ k v at. (variables_own u b.unit (length b.variables + k) named ∙ (ap (λ l. slice_get l (length b.variables + k)) all ∙ (get_behind b.variables (auxiliaries_of ss) k ∙ at)), types_own u b.unit named))

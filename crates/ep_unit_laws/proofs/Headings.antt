@@ -44,10 +44,11 @@ use Rattle.ep_unit_laws.proofs.Denoting.{DenotesKind, kind_has_values}
 use Rattle.ep_unit_laws.proofs.Holds.{HasTypeHere, Holds, HoldsDeclaration, HoldsParameter, HoldsResult, HoldsRoutine, HoldsThings, HoldsThing, ListsKind, around_innermost, formals_valid, head_of, headed_around, name_denotes, named_tree}
 use Rattle.ep_unit_laws.proofs.Items.{LeadsOn}
 use Rattle.ep_unit_laws.proofs.Leading.{Extends, Grows, Leads, counted_leads, grown, head_in, leads_refl, named_holds, stays}
-use Rattle.ep_unit_laws.proofs.Prefixes.{front_get, length_push, prefix_last, prefix_length, prefix_more}
+use Rattle.ep_unit_laws.proofs.Prefixes.{length_push, prefix_last, prefix_length, prefix_more}
 use Rattle.ep_unit_laws.proofs.Meant.{HoldsIf, look_up_holds}
 use Rattle.ep_unit_laws.proofs.Open.{IsNumbered, IsNumberedAs, IsOpen, IsThingIf, IsThingOf, floor_below, look_up_numbered, not_below, open_more, open_push}
 use Rattle.ep_unit_laws.proofs.Types.{Names, type_named-names}
+use Rattle.ep_meaning.proofs.public.Lists.{get_front}
 
 -- a typed result is that of a heading, whatever its name
 abbrev pub IsResultOf : Option HeadingResult → Option RoutineResult → Type 0
@@ -174,7 +175,7 @@ module _ (u : TypedUnit) where
         to = with_routine name line ps r b;
         headings = subst (IsPrefix (map head_in b.routines)) (sym (map-append head_in b.routines (f ∷ []))) (prefix_more (map head_in b.routines) (head_in f ∷ []));
         opens = λ x. open_more b.scopes.inner.entries b.scopes.outer b.own.enclosing (length b.routines) (length (b.routines ++ f ∷ [])) b.bodies (omega (arith, length_push b.routines f)) x;
-        bodies = λ x n g has at. (has, front_get b.routines (f ∷ []) n g at);
+        bodies = λ x n g has at. (has, get_front b.routines (f ∷ []) n g at);
       })
 
   routine_leads : (name : List ℕ) (line : ℕ) (ps : List FormalParameter) (r : Option HeadingResult) (b : Block) → ParametersHeld b ps → ResultHeld b r → Leads u b (with_routine name line ps r b)
@@ -202,7 +203,7 @@ module _ (u : TypedUnit) where
     names = x.names;
     lists = x.lists;
     under_way = x.under_way;
-    routines = λ n f at. x.routines n f (front_get b.routines (headed_form name line ps r b.own.enclosing ∷ []) n f at);
+    routines = λ n f at. x.routines n f (get_front b.routines (headed_form name line ps r b.own.enclosing ∷ []) n f at);
   }
 
   -- the name that was entered last

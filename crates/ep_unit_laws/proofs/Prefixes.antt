@@ -1,19 +1,14 @@
 -- Lists that others begin with, and what they have at their places.
-use Rattle.std.proofs.Common.{◌≡◌, ℕ, zero, suc, ◌≤◌, List, [], ◌∷◌, ◌++◌, length, Some, slice_get, refl, sym, ap, ◌∙◌, arith, append_assoc}
+use Rattle.std.proofs.Common.{◌≡◌, ℕ, suc, ◌≤◌, List, [], ◌∷◌, ◌++◌, length, Some, slice_get, refl, sym, ap, ◌∙◌, arith, append_assoc}
 use Rattle.std.proofs.lemmas.List.{append-nil, length-append}
 use Rattle.ep_outside.specs.Known.{IsPrefix}
+use Rattle.ep_meaning.proofs.public.Lists.{get_front}
 
 pub length_push : {A : Type 0} (xs : List A) (y : A) → length (xs ++ y ∷ []) ≡ suc (length xs)
 length_push xs y = omega (arith, length-append xs (y ∷ []))
 
--- what a list has at a place, a longer one has there too
-pub front_get : {A : Type 0} (xs rest : List A) (n : ℕ) (x : A) → slice_get xs n ≡ Some x → slice_get (xs ++ rest) n ≡ Some x
-front_get [] rest n x e = cc
-front_get (z ∷ zs) rest zero x e = e
-front_get (z ∷ zs) rest (suc n) x e = front_get zs rest n x e
-
 pub prefix_get : {A : Type 0} (xs ys : List A) (n : ℕ) (x : A) → IsPrefix xs ys → slice_get xs n ≡ Some x → slice_get ys n ≡ Some x
-prefix_get xs ys n x p e = ap (λ l. slice_get l n) p.is ∙ front_get xs p.rest n x e
+prefix_get xs ys n x p e = ap (λ l. slice_get l n) p.is ∙ get_front xs p.rest n x e
 
 pub prefix_refl : {A : Type 0} (xs : List A) → IsPrefix xs xs
 prefix_refl xs = record { rest = []; is = sym (append-nil xs) }

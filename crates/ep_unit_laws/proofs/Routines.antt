@@ -1,5 +1,5 @@
 -- Blocks of routines lead from one block to the next, and so do all parts of a block.
-use Rattle.std.proofs.Common.{◌≡◌, ℕ, ◌+◌, zero, suc, ◌<◌, ◌≤◌, Bool, true, false, List, [], ◌∷◌, ◌++◌, map, length, Option, Some, None, option_map, slice_get, refl, sym, ap, ◌∙◌, subst, append_assoc, arith}
+use Rattle.std.proofs.Common.{◌≡◌, ℕ, ◌+◌, zero, suc, ◌≤◌, Bool, true, false, List, [], ◌∷◌, ◌++◌, map, length, Option, Some, None, option_map, slice_get, refl, sym, ap, ◌∙◌, subst, append_assoc, arith}
 use Rattle.std.proofs.lemmas.List.{length-append, length-map}
 use Rattle.std.proofs.lemmas.List.Elements.{All-head, All-nil, All-tail}
 use Rattle.std.proofs.lemmas.Option.{slice_get-map}
@@ -62,17 +62,12 @@ use Rattle.ep_unit_laws.proofs.Leading.{Extends, Grows, Leads, entered_leads, ex
 use Rattle.ep_unit_laws.proofs.Prefixes.{length_push, prefix_get, prefix_length, prefix_trans}
 use Rattle.ep_unit_laws.proofs.Open as around
 use Rattle.ep_unit_laws.proofs.Open.{IsNumbered, IsOpen, IsOpenBy, KeepsBodies, pushed_kept, pushed_there}
+use Rattle.ep_meaning.proofs.public.Lists.{get_within}
 
 -- ---- places of lists
 
 same_there : {A : Type 0} (o : Option A) (x y : A) → o ≡ Some x → o ≡ Some y → x ≡ y
 same_there o x y e f = cc
-
--- a place inside of a list
-pub get_within : {A : Type 0} (xs : List A) (n : ℕ) → n < length xs → (x : A) × (slice_get xs n ≡ Some x)
-get_within [] n lt = absurd (omega (arith, lt))
-get_within (x ∷ xs) zero lt = (x, refl)
-get_within (x ∷ xs) (suc n) lt = get_within xs n (omega (arith, lt))
 
 -- an item that is replaced, and the others
 set_same : {A : Type 0} (xs : List A) (n : ℕ) (x y : A) → slice_get xs n ≡ Some x → slice_get (slice_set xs n y) n ≡ Some y

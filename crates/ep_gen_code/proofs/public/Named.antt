@@ -3,8 +3,9 @@ use Rattle.std.proofs.Common.{◌≡◌, ℕ, zero, suc, ◌+◌, ◌-◌, ◌^�
 use Rattle.std.proofs.lemmas.Option.{same_Some, slice_get_within}
 use Rattle.ep_gen_code.specs.Growth.{AreDistinct, IsNowhere, IsTable, in_row}
 use Rattle.ep_gen_code.specs.Instructions.{reference}
-use Rattle.ep_gen_code.proofs.public.Pushed.{get_front, get_last}
+use Rattle.ep_gen_code.proofs.public.Pushed.{get_last}
 use Rattle.ep_object.specs.declared.code.Reference.{Reference}
+use Rattle.ep_meaning.proofs.public.Lists.{get_front}
 
 pub length-named : (unit : List ℕ) (first n : ℕ) → length (in_row unit first n) ≡ n
 length-named unit first zero = refl

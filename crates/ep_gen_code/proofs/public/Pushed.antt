@@ -2,18 +2,8 @@
 use Rattle.std.proofs.Common.{◌≡◌, ℕ, zero, suc, ◌-◌, ◌^◌, ◌<◌, List, [], ◌∷◌, ◌++◌, length, Some, ◌⊎◌, inl, inr, refl, sym, ap, ◌∙◌, subst, append_assoc, append-nil, slice_get, arith, length-append}
 use Rattle.ep_outside.specs.Known.{IsPrefix}
 use Rattle.ep_gen_code.specs.Growth.{IsNowhere, AreDistinct, TableGrows}
-
-pub begins_same : {A : Type 0} (xs : List A) → IsPrefix xs xs
-begins_same xs = record { rest = []; is = sym (append-nil xs) }
-
-pub begins_then : {A : Type 0} {xs ys zs : List A} → IsPrefix xs ys → IsPrefix ys zs → IsPrefix xs zs
-begins_then {xs = xs} p q = record { rest = p.rest ++ q.rest; is = q.is ∙ ap (λ l. l ++ q.rest) p.is ∙ append_assoc xs p.rest q.rest }
-
--- what stands at a place stays there
-pub get_front : {A : Type 0} (xs ys : List A) (k : ℕ) (x : A) → slice_get xs k ≡ Some x → slice_get (xs ++ ys) k ≡ Some x
-get_front [] ys k x h = cc
-get_front (z ∷ zs) ys zero x h = h
-get_front (z ∷ zs) ys (suc k) x h = get_front zs ys k x h
+use Rattle.ep_meaning.proofs.public.Lists.{get_front}
+use Rattle.ep_object.proofs.public.Grows.{is_prefix, prefix_then}
 
 pub get_later : {A : Type 0} {xs ys : List A} (k : ℕ) (x : A) → IsPrefix xs ys → slice_get xs k ≡ Some x → slice_get ys k ≡ Some x
 get_later {xs = xs} k x p h = ap (λ l. slice_get l k) p.is ∙ get_front xs p.rest k x h
@@ -42,10 +32,10 @@ pushed_distinct : {A : Type 0} (xs : List A) (x : A) → IsNowhere xs x → AreD
 pushed_distinct xs x new distinct = λ j k y p q. one_place xs x y j k new distinct (get_pushed xs x y j p) (get_pushed xs x y k q)
 
 pub table_same : {A : Type 0} (xs : List A) → TableGrows xs xs
-table_same xs = record { begins = begins_same xs; small = λ h. h; distinct = λ h. h }
+table_same xs = record { begins = is_prefix xs; small = λ h. h; distinct = λ h. h }
 
 pub table_then : {A : Type 0} {xs ys zs : List A} → TableGrows xs ys → TableGrows ys zs → TableGrows xs zs
-table_then p q = record { begins = begins_then p.begins q.begins; small = λ h. q.small (p.small h); distinct = λ h. q.distinct (p.distinct h) }
+table_then p q = record { begins = prefix_then p.begins q.begins; small = λ h. q.small (p.small h); distinct = λ h. q.distinct (p.distinct h) }
 
 pushed : {A : Type 0} (xs : List A) (x : A) → IsNowhere xs x → length xs < 2 ^ 32 - 1 → TableGrows xs (xs ++ x ∷ [])
 pushed xs x new few = record {

@@ -24,6 +24,7 @@ use Rattle.ep_typed.specs.declared.unit.UnitVariable.{UnitVariable}
 use Rattle.ep_typed.proofs.public.Denoters.{is_of, instances_are_one, types_are_instances}
 use Rattle.ep_typed.proofs.public.Forms.{named_is, required_is, set_is, subrange_is}
 use Rattle.ep_meaning.proofs.public.Typed.{typed_instance}
+use Rattle.ep_meaning.proofs.public.Lists.{get_behind}
 
 integer_valid : (types : List UnitType) → IsDenoter types (Required simple.Integer)
 integer_valid types = record { type_value = required_type simple.Integer; has_type = refl; typed = required simple.Integer }
@@ -82,22 +83,17 @@ block_valid types s = go (first_for s) (first_for_in s)
 
 -- ---- `with`
 
--- what stands behind a list
-stands_behind : {A : Type 0} (xs ys : List A) (k : ℕ) → slice_get (xs ++ ys) (length xs + k) ≡ slice_get ys k
-stands_behind [] ys k = ap (slice_get ys) {x = 0 + k} {y = k} (omega arith)
-stands_behind (x ∷ xs) ys k = ap (slice_get (x ∷ (xs ++ ys))) {x = suc (length xs) + k} {y = suc (length xs + k)} (omega arith) ∙ stands_behind xs ys k
-
 -- the variables of the `with` statements of a routine are those from the first number on that no code makes
 pub withs_of_routine : (r : UnitRoutine) (k : ℕ) → slice_get (variables_of r) (first_with r + k) ≡ slice_get (with_variables (stmt_of r.block)) k
 withs_of_routine r k =
     let formals : List UnitVariable = map (formal_variable r.line) r.formals in
     let made : List UnitVariable = made_variables r in
     let at : first_with r + k ≡ length formals + (length made + k) = omega (arith, length-map r.formals (formal_variable r.line)) in
-    ap (slice_get (variables_of r)) at ∙ (stands_behind formals (made ++ with_variables (stmt_of r.block)) (length made + k) ∙ stands_behind made (with_variables (stmt_of r.block)) k)
+    ap (slice_get (variables_of r)) at ∙ (get_behind formals (made ++ with_variables (stmt_of r.block)) (length made + k) ∙ get_behind made (with_variables (stmt_of r.block)) k)
 
 -- and so are those of the start of a unit
 pub withs_of_unit : (u : TypedUnit) (k : ℕ) → slice_get (unit_variables u) (length (made_by_unit u) + k) ≡ slice_get (with_variables (stmt_of u.start)) k
-withs_of_unit u k = stands_behind (made_by_unit u) (with_variables (stmt_of u.start)) k
+withs_of_unit u k = get_behind (made_by_unit u) (with_variables (stmt_of u.start)) k
 
 module _ (declared : Declarations) (types : List UnitType) (own_types : declared.routine_types ≡ types) (unit_types : declared.types declared.routine_unit ≡ types) (valid : All (IsType types) types) where
   -- the variables have valid denoters

@@ -31,6 +31,7 @@ use Rattle.ep_object.specs.declared.code.Image.{Image}
 use Rattle.ep_object.specs.declared.state.Place.{Place}
 use Rattle.ep_values.specs.TypeValues.{ComponentTypes, TypeValue, components_of, same_bounds, same_types, size_of, Start, is_started, parts_of, same_start, same_starts, simple_start, set_start, start_size, Starts, next_start, no_start, parts_start, undefined_start}
 use Rattle.ep_values.specs.TypeValues as type
+use Rattle.std.proofs.lemmas.Option.{cond_some}
 
 -- a number that was found is that of this type, whose size its kind gives
 pub entry_found : {elaborated : List TypeValue} {types : TypeTable} (e : TypeEntry) (n : ℕ)
@@ -97,14 +98,10 @@ position_at : {A : Type 0} (p : A → Bool) (xs : List A) (n : ℕ) (x : A) → 
 position_at p xs n x h t none =
     let e : ◌≡◌ {A = Option ℕ} None (Some (position_or_len p xs)) = sym none ∙ position_of p xs (place_at p xs n x h t) in cc
 
-position_within : (b : Bool) (k n : ℕ) → cond b (Some k) None ≡ Some n → (b ≡ true) × (k ≡ n)
-position_within true k n h = (refl, cc)
-position_within false k n h = cc
-
 position_from-more : {A : Type 0} (p : A → Bool) (xs ys : List A) (n : ℕ) → position p xs ≡ Some n
     → position p (xs ++ ys) ≡ Some n
 position_from-more p xs ys n h =
-    let w = position_within (nat_lt (position_or_len p xs) (length xs)) (position_or_len p xs) n h in
+    let w = cond_some (nat_lt (position_or_len p xs) (length xs)) (position_or_len p xs) n h in
     let within : position_or_len p xs < length xs = let t = w.0 in grind (arith, nat_tests) in
     let same = place_more p xs ys within in
     position_of p (xs ++ ys) (omega (arith, same, length-append xs ys)) ∙ ap Some (same ∙ w.1)

@@ -1,5 +1,5 @@
 -- The selector and the labels of a `case` that the rules accept, its arms and its ranges.
-use Rattle.std.proofs.Common.{◌≡◌, ℕ, ℤ, Bool, true, false, ◌&&◌, List, [], ◌∷◌, ◌++◌, map, Option, Some, None, refl, sym, ap, ◌∙◌, subst, append_assoc, append-nil}
+use Rattle.std.proofs.Common.{◌≡◌, ℕ, ℤ, Bool, true, false, List, [], ◌∷◌, ◌++◌, map, Option, Some, None, refl, sym, ap, ◌∙◌, subst, append_assoc, append-nil}
 use Rattle.std.specs.Prelude.{All, ⊤, IsTrue, int_le, if◌then◌else◌}
 use Rattle.std.specs.List.{list_all}
 use Rattle.std.proofs.lemmas.List.Elements.{All-nil, All-push}
@@ -37,6 +37,7 @@ use Rattle.ep_check_stmt.specs.declared.cases.Labels.{Labels}
 use Rattle.ep_check_stmt.proofs.public.judged.Fits.{Fits, fits_both, fits_then}
 use Rattle.ep_stmt_laws.proofs.valid.Passing.{FitsRow, after_fits, behind_fits, fits_if, form_if, item_fits}
 use Rattle.ep_stmt_laws.proofs.valid.Sound.{Agreed, ArmsAreSound, IsSound, OtherIsSound, agrees_in, behind_withs, first_part, second_part}
+use Rattle.std.proofs.lemmas.Bool.{and_parts}
 
 -- ---- ranges that are apart
 
@@ -44,13 +45,8 @@ use Rattle.ep_stmt_laws.proofs.valid.Sound.{Agreed, ArmsAreSound, IsSound, Other
 apart_push : (rs : List CaseRange) (r : CaseRange) → AreApart rs → list_all (λ s. is_apart s r) rs ≡ true → AreApart (rs ++ r ∷ [])
 apart_push [] r h t = (All-nil (λ s. IsTrue (is_apart r s)), tt)
 apart_push (x ∷ rs) r h t =
-    let p = both_true (is_apart x r) (list_all (λ s. is_apart s r) rs) t in
+    let p = and_parts (is_apart x r) (list_all (λ s. is_apart s r) rs) t in
     (All-push (λ s. IsTrue (is_apart x s)) rs r h.0 p.0, apart_push rs r h.1 p.1)
-  where
-    both_true : (a b : Bool) → (a && b) ≡ true → (a ≡ true) × (b ≡ true)
-    both_true true true e = (refl, refl)
-    both_true true false e = cc
-    both_true false b e = cc
 
 -- ---- the same labels after others
 

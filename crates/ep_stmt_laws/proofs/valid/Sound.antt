@@ -1,5 +1,5 @@
 -- What it means that statements are valid where the auxiliary variables are there, and those of `with`.
-use Rattle.std.proofs.Common.{◌≡◌, ◌∙◌, ℕ, zero, suc, ◌+◌, List, [], ◌∷◌, ◌++◌, length, slice_get, Option, Some, None, refl, sym, ap, subst, arith}
+use Rattle.std.proofs.Common.{◌≡◌, ◌∙◌, ℕ, ◌+◌, List, ◌++◌, length, Option, Some, None, refl, sym, subst, arith}
 use Rattle.std.specs.Option.{option_or}
 use Rattle.ep_typed.specs.Auxiliaries.{first_for, first_for_arms, first_for_in, first_for_in_arms, first_for_in_of, first_for_in_other, first_for_of, first_for_other, with_variable, with_variables, with_variables_in, with_variables_of, with_variables_other}
 use Rattle.ep_typed.specs.Hosts as typed
@@ -11,6 +11,7 @@ use Rattle.ep_scope.specs.Scopes.{Region, depth_in}
 use Rattle.ep_expr_laws.specs.Agreement.{Agrees, AgreesBy, TypeValues, structures_of}
 use Rattle.ep_stmt_laws.specs.Laws.{AuxiliariesAreThere, MembersAreThere, ResultsAreThere, WithIsThere, WithsAreThere}
 use Rattle.ep_check_stmt.specs.Statements.{Context, block_variable}
+use Rattle.ep_meaning.proofs.public.Lists.{get_behind, get_front}
 
 -- what holds where there is a line holds where there is one in a part
 first_of : (P : Type 0) (a b : Option ℕ) → ((line : ℕ) → option_or a b ≡ Some line → P) → (line : ℕ) → a ≡ Some line → P
@@ -20,16 +21,6 @@ first_of P (Some first) b h line e = h first refl
 second_of : (P : Type 0) (a b : Option ℕ) → ((line : ℕ) → option_or a b ≡ Some line → P) → (line : ℕ) → b ≡ Some line → P
 second_of P None b h line e = h line e
 second_of P (Some first) b h line e = h first refl
-
--- what stands in a front, and what stands behind it
-in_front : {A : Type 0} (xs ys : List A) (k : ℕ) (v : A) → slice_get xs k ≡ Some v → slice_get (xs ++ ys) k ≡ Some v
-in_front [] ys k v e = cc
-in_front (x ∷ xs) ys zero v e = e
-in_front (x ∷ xs) ys (suc k) v e = in_front xs ys k v e
-
-behind_front : {A : Type 0} (xs ys : List A) (k : ℕ) → slice_get (xs ++ ys) (length xs + k) ≡ slice_get ys k
-behind_front [] ys k = ap (slice_get ys) {x = 0 + k} {y = k} (omega arith)
-behind_front (x ∷ xs) ys k = ap (slice_get (x ∷ (xs ++ ys))) {x = suc (length xs) + k} {y = suc (length xs + k)} (omega arith) ∙ behind_front xs ys k
 
 -- a context behind so many variables of `with`
 abbrev pub behind_withs : Context → List UnitVariable → Context
@@ -71,11 +62,11 @@ module _ (declared : Declarations) (types : TypeValues) (structures : List Struc
     -- of two parts each, the second one behind the first
     pub first_part : (a b p q : Option ℕ) (v w : List UnitVariable) → IfAny (option_or a b) (option_or p q) (v ++ w) → IfAny a p v
     first_part a b p q v w h =
-        (first_of (AuxiliariesAreThere declared context.locals) a b h.0, first_of (MembersAreThere declared context.locals context.members) p q h.1, λ k line of e. h.2 k line of (in_front v w k (with_variable line of) e))
+        (first_of (AuxiliariesAreThere declared context.locals) a b h.0, first_of (MembersAreThere declared context.locals context.members) p q h.1, λ k line of e. h.2 k line of (get_front v w k (with_variable line of) e))
 
   pub second_part : (context : Context) (a b p q : Option ℕ) (v w : List UnitVariable) → IfAny context (option_or a b) (option_or p q) (v ++ w) → IfAny (behind_withs context v) b q w
   second_part context a b p q v w h = (
     second_of (AuxiliariesAreThere declared context.locals) a b h.0,
     second_of (MembersAreThere declared context.locals context.members) p q h.1,
-    λ k line of e. subst (λ n. WithIsThere declared types structures (block_variable context.locals n) of) {x = context.withs + (length v + k)} {y = (context.withs + length v) + k} (omega arith) (h.2 (length v + k) line of (behind_front v w k ∙ e)),
+    λ k line of e. subst (λ n. WithIsThere declared types structures (block_variable context.locals n) of) {x = context.withs + (length v + k)} {y = (context.withs + length v) + k} (omega arith) (h.2 (length v + k) line of (get_behind v w k ∙ e)),
   )

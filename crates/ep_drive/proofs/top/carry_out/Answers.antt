@@ -4,7 +4,7 @@ use Rattle.ep_values.proofs.public.Done.{keeps_files-refl}
 use Rattle.ep_drive.specs.Asked.{asked_by}
 use Rattle.ep_drive.specs.Commands.{bytes_of, WordsOf}
 use Rattle.ep_drive.specs.Refusals.{Usage}
-use Rattle.ep_drive.specs.Seen.{Seen, seen}
+use Rattle.ep_drive.specs.Seen.{Seen, seen_of}
 use Rattle.ep_drive.proofs.Going.{budget_small, is_go}
 use Rattle.ep_drive.proofs.Refused.{answers-refused}
 use Rattle.ep_drive.proofs.Verdicts.{usage_verdict}
@@ -17,7 +17,7 @@ go-requires g c =
 
 pub returns-in-None-clause-answers : goal.returns-in-None-clause-answers
 returns-in-None-clause-answers g c =
-    let before : Seen = seen (g.O.Sink.held c.args.output.now) (g.F.Files.files c.args.files.now) (g.I.Source.left c.args.input.now) (g.R.Sink.held c.args.report.now) (g.O.Sink.faults c.args.output.now) (g.F.Files.faults c.args.files.now) (g.I.Source.faults c.args.input.now) (g.R.Sink.faults c.args.report.now) in
-    let after : Seen = seen (g.O.Sink.held c.args.output.now) (g.F.Files.files c.args.files.now) (g.I.Source.left c.args.input.now) (g.R.Sink.held c.refuse.new.report) (g.O.Sink.faults c.args.output.now) (g.F.Files.faults c.args.files.now) (g.I.Source.faults c.args.input.now) (g.R.Sink.faults c.refuse.new.report) in
+    let before : Seen = seen_of g.F.Files g.I.Source g.O.Sink g.R.Sink c.args.files.now c.args.input.now c.args.output.now c.args.report.now in
+    let after : Seen = seen_of g.F.Files g.I.Source g.O.Sink g.R.Sink c.args.files.now c.args.input.now c.args.output.now c.refuse.new.report in
     answers-refused c.refuse.result (bytes_of c.args.words.now) Usage before after c.refuse.ensures.told (usage_verdict (bytes_of c.args.words.now) before.files c.in-None.ensures)
     (record { same = record { output = Keeps-refl _; files = keeps_files-refl _ }; unread = record { left = refl; faults = refl } })
