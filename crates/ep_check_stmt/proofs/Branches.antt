@@ -14,10 +14,10 @@ use Rattle.ep_typed.specs.Trees.{Entire, Stmt, Stmts}
 use Rattle.ep_rules.specs.Judgements.{Judged, Accepts, Breaks}
 use Rattle.ep_rules.specs.declared.forms.Refusal.{Refusal}
 use Rattle.ep_rules.specs.declared.forms.Refusal.TheVariants.{Rule, NoMemory}
-use Rattle.ep_check_stmt.specs.Answers.{Refuses, RefusesRow}
-use Rattle.ep_check_stmt.specs.Outcomes.{refused_at}
-use Rattle.ep_check_stmt.specs.Statements.{ArmJudged, Context, Opened, Under, after, at_arm, at_compound, at_otherwise, at_statement, call_arguments, condition_judged, control_judged, else_judged, falls_by, for_in_judged, for_judged, if_judged, in_order, name_called, none_opened, records_opened, repeat_judged, statement_judged, stmt_item, with_judged}
-use Rattle.ep_check_stmt.proofs.public.judged.Rounds.{first_built, rest_of}
+use Rattle.ep_stmt_rules.specs.Answers.{Refuses, RefusesRow}
+use Rattle.ep_stmt_rules.specs.Outcomes.{refused_at}
+use Rattle.ep_stmt_rules.specs.Statements.{ArmJudged, Context, Opened, Under, after, at_arm, at_compound, at_otherwise, at_statement, call_arguments, condition_judged, control_judged, else_judged, falls_by, for_in_judged, for_judged, if_judged, in_order, name_called, none_opened, records_opened, repeat_judged, statement_judged, stmt_item, with_judged}
+use Rattle.ep_stmt_rules.proofs.public.judged.Rounds.{first_built, rest_of}
 use Rattle.ep_check_stmt.proofs.Rows.{own_line}
 
 -- a call is judged by its name and its arguments

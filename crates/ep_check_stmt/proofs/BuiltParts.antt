@@ -10,7 +10,7 @@ use Rattle.ep_tree.specs.declared.operator.Direction.{Direction}
 use Rattle.ep_tree.specs.declared.statement.Statement.{Statement, fold-roll-Statement}
 use Rattle.ep_tree.specs.declared.statement.Statement.TheOpen.{Statement-F}
 use Rattle.ep_tree.specs.declared.statement.Statement.TheVariants as statement
-use Rattle.ep_check_stmt.proofs.public.judged.Rounds.{first_built, rest_of}
+use Rattle.ep_stmt_rules.proofs.public.judged.Rounds.{first_built, rest_of}
 
 -- a node that is built has what stands in it built
 inside_built : (is_built : Bool) (line : ℕ) (inner : Found) → at_node is_built line inner ≡ None → inner ≡ None

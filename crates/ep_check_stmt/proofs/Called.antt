@@ -8,8 +8,8 @@ use Rattle.ep_tree.specs.declared.expression.Access.{Access, out-Access}
 use Rattle.ep_tree.specs.declared.expression.Argument.{Argument}
 use Rattle.ep_tree.specs.declared.expression.Selector.{Selector, out-Selector}
 use Rattle.ep_check_expr.proofs.public.Written.{all_written}
-use Rattle.ep_check_stmt.proofs.public.judged.Rounds.{first_built}
-use Rattle.ep_check_stmt.specs.Statements.{call_arguments}
+use Rattle.ep_stmt_rules.proofs.public.judged.Rounds.{first_built}
+use Rattle.ep_stmt_rules.specs.Statements.{call_arguments}
 
 in_layer : {A B C D E F G H I J K L M N : Type 0} (s : Selector-F A B C D E F G H I J K L M N) (arguments : List G) → arguments_in s ≡ Some arguments → selector_arguments s ≡ arguments
 in_layer (Selector-F.Arguments line all) arguments h = cc

@@ -1,8 +1,8 @@
 -- A `case` statement and its parts.
-use Rattle.std.proofs.Common.{◌≡◌, ℕ, ℤ, ◌+◌, ◌<◌, ◌≤◌, List, [], ◌∷◌, ◌++◌, map, drop, length, get_or, Option, Some, None, refl, sym, ap, ◌∙◌, subst}
+use Rattle.std.proofs.Common.{◌≡◌, ℕ, ◌+◌, ◌<◌, ◌≤◌, List, [], ◌∷◌, ◌++◌, map, drop, length, get_or, Option, Some, None, refl, sym, ap, ◌∙◌, subst}
 use Rattle.std.proofs.lemmas.List.{drop_all}
 use Rattle.std.specs.Option.{option_or}
-use Rattle.ep_built.specs.Built.{Found, Placed, arm_unbuilt, expression_unbuilt, first_if, first_in, label_unbuilt, statement_unbuilt}
+use Rattle.ep_built.specs.Built.{Found, Placed, arm_unbuilt, expression_unbuilt, first_in, label_unbuilt, statement_unbuilt}
 use Rattle.ep_built.specs.Built as built
 use Rattle.ep_tree.specs.declared.expression.Expression.{Expression}
 use Rattle.ep_tree.specs.declared.expression.Label.{Label}
@@ -17,41 +17,18 @@ use Rattle.ep_typed.specs.Trees as tree
 use Rattle.ep_typed.specs.Trees.{Entire, Expr, Stmt, Stmts, Arms, Other, next_arm, no_arm, arms}
 use Rattle.ep_typed.specs.Viewed.{arm_of}
 use Rattle.ep_typed.specs.declared.tree.CaseArm.{CaseArm}
-use Rattle.ep_rules.specs.Judgements.{Judged, Accepts, Breaks, when_accepted}
+use Rattle.ep_rules.specs.Judgements.{Judged, Accepts, Breaks}
 use Rattle.ep_rules.specs.declared.forms.Refusal.{Refusal}
 use Rattle.ep_rules.specs.declared.forms.Refusal.TheVariants.{Rule, NoMemory}
-use Rattle.ep_check_stmt.specs.Answers.{Refuses, RefusesRow, labels_of}
-use Rattle.ep_scope.specs.Scopes.{Region}
+use Rattle.ep_stmt_rules.specs.Answers.{Refuses, RefusesRow, labels_of}
 use Rattle.ep_scope.specs.declared.kind.Host.{Host}
-use Rattle.ep_check_stmt.specs.Cases.{CaseSelector, end_judged, range_judged, ranging, selector_judged}
-use Rattle.ep_check_stmt.specs.Outcomes.{refused_at}
-use Rattle.ep_check_stmt.specs.Statements.{ArmJudged, Context, Under, Judgement, expr_item, Passes, Waits, Fails, after, arm_judged, arm_row, arms_in_order, at_arm, at_compound, behind, at_otherwise, at_statement, case_judged, in_order, other_judged, otherwise_judged, statement_judged}
-use Rattle.ep_check_stmt.specs.declared.outcome.CheckRefusal.{CheckRefusal}
-use Rattle.ep_check_stmt.specs.declared.outcome.CheckRefusal.TheVariants as refusal
-use Rattle.ep_rules.proofs.public.Refusing.{first_refused, part_refused, second_refused}
-use Rattle.ep_check_stmt.proofs.public.judged.Rounds.{first_built, next_item, rest_of}
+use Rattle.ep_stmt_rules.specs.Cases.{CaseSelector, selector_judged}
+use Rattle.ep_stmt_rules.specs.Outcomes.{refused_at}
+use Rattle.ep_stmt_rules.specs.Statements.{ArmJudged, Context, Under, Judgement, expr_item, Passes, Waits, Fails, after, arm_judged, arm_row, arms_in_order, at_arm, at_compound, behind, at_otherwise, at_statement, case_judged, in_order, other_judged, otherwise_judged, statement_judged}
+use Rattle.ep_stmt_rules.specs.declared.outcome.CheckRefusal.{CheckRefusal}
+use Rattle.ep_stmt_rules.specs.declared.outcome.CheckRefusal.TheVariants as refusal
+use Rattle.ep_stmt_rules.proofs.public.judged.Rounds.{first_built, next_item, rest_of}
 use Rattle.ep_check_stmt.proofs.Rows.{first_falls, own_line}
-
--- ---- labels, or records of a `with`, that are taken one after another
-
--- the refusal of the one that comes next is that of all
-pub taken_refused : {X S : Type 0} (all_of : List X → S → Judged S) (one_of : X → S → Judged S) → ((x : X) (xs : List X) (found : S) → all_of (x ∷ xs) found ≡ when_accepted (all_of xs) (one_of x found))
-    → (all : List X) (i : ℕ) (x : X) (first now : S) (e : Refusal) → i < length all → x ≡ get_or all i x → all_of (drop i all) now ≡ all_of all first
-    → Refuses e (one_of x now) → Refuses e (all_of all first)
-taken_refused all_of one_of takes all i x first now e h is same r =
-    subst (Refuses e) (sym (takes x (drop (i + 1) all) now) ∙ (sym (ap (λ xs. all_of xs now) (next_item all i x h is)) ∙ same)) (part_refused (all_of (drop (i + 1) all)) e (one_of x now) r)
-
--- ---- the ends of a label
-
-module _ (scopes : List Region) (h : Host) (low : Expression) where
-  -- the refusal of the first end
-  pub low_refused : (high : Option Expression) (e : Refusal) → Refuses e (end_judged scopes h low) → Refuses e (range_judged scopes h low high)
-  low_refused None e r = part_refused (λ z. ranging z z) e (end_judged scopes h low) r
-  low_refused (Some high) e r = first_refused ranging e (end_judged scopes h low) (end_judged scopes h high) r
-
-  -- and of the second one
-  pub high_refused : (high : Expression) (e : Refusal) (z : Option ℤ) → end_judged scopes h low ≡ Accepts z → Refuses e (end_judged scopes h high) → Refuses e (range_judged scopes h low (Some high))
-  high_refused high e z is r = second_refused ranging e (end_judged scopes h low) (end_judged scopes h high) z is r
 
 -- ---- arms in order
 

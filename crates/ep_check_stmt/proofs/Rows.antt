@@ -15,14 +15,14 @@ use Rattle.ep_typed.specs.declared.tree.TypedStmt.{TypedStmt}
 use Rattle.ep_rules.specs.Judgements.{Judged, Accepts, Breaks}
 use Rattle.ep_rules.specs.declared.forms.Refusal.{Refusal}
 use Rattle.ep_rules.specs.declared.forms.Refusal.TheVariants.{Rule, NoMemory}
-use Rattle.ep_check_stmt.specs.Answers.{AnswersForm, AnswersRow, RefusesRow, passed}
-use Rattle.ep_check_stmt.specs.Outcomes.{item_at}
-use Rattle.ep_check_stmt.specs.Statements.{ArmJudged, Context, Under, Judgement, behind, Passes, Waits, Fails, after, at_arm, at_compound, at_item, at_otherwise, at_statement, in_order, statement_judged}
-use Rattle.ep_check_stmt.specs.declared.outcome.CheckRefusal.{CheckRefusal}
-use Rattle.ep_check_stmt.specs.declared.outcome.CheckRefusal.TheVariants as refusal
-use Rattle.ep_check_stmt.specs.declared.outcome.Outcome.{Outcome}
-use Rattle.ep_check_stmt.specs.declared.outcome.Outcome.TheVariants as outcome
-use Rattle.ep_check_stmt.proofs.public.judged.Rounds.{next_item}
+use Rattle.ep_stmt_rules.specs.Answers.{AnswersForm, AnswersRow, RefusesRow, passed}
+use Rattle.ep_stmt_rules.specs.Outcomes.{item_at}
+use Rattle.ep_stmt_rules.specs.Statements.{ArmJudged, Context, Under, Judgement, behind, Passes, Waits, Fails, after, at_arm, at_compound, at_item, at_otherwise, at_statement, in_order, statement_judged}
+use Rattle.ep_stmt_rules.specs.declared.outcome.CheckRefusal.{CheckRefusal}
+use Rattle.ep_stmt_rules.specs.declared.outcome.CheckRefusal.TheVariants as refusal
+use Rattle.ep_stmt_rules.specs.declared.outcome.Outcome.{Outcome}
+use Rattle.ep_stmt_rules.specs.declared.outcome.Outcome.TheVariants as outcome
+use Rattle.ep_stmt_rules.proofs.public.judged.Rounds.{next_item}
 
 both_pass : (a b : Bool) → a ≡ true → b ≡ true → (a && b) ≡ true
 both_pass true b p q = q

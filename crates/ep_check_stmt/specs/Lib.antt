@@ -1,6 +1,1 @@
-pub mod Answers
-pub mod Auxiliaries
-pub mod Cases
-pub mod Outcomes
-pub mod Statements
-pub mod Tags
+pub mod Contexts

@@ -1,69 +1,44 @@
 //! Statements, item by item.
 
-ghost use Rattle.std.specs.Prelude.{◌≡◌, List, ◌∷◌, None, true, IsTrue, map};
-ghost use Rattle.std.specs.Option.{option_copied, option_map};
+ghost use Rattle.std.specs.Prelude.{◌≡◌, ◌∷◌, None, map};
+ghost use Rattle.std.specs.Option.{option_map};
 ghost use Rattle.ep_built.specs.Built.{access_unbuilt, arm_unbuilt, call_unbuilt, component_value_unbuilt, compound_unbuilt, expression_unbuilt, first_in, statement_unbuilt, written_unbuilt};
-ghost use Rattle.ep_scope.specs.Meanings.{meant_by};
 ghost use Rattle.ep_tree.specs.declared.expression.Access.{out-Access};
 ghost use Rattle.ep_tree.specs.declared.statement.Otherwise.{out-Otherwise};
 ghost use Rattle.ep_typed.specs.Auxiliaries.{with_variables, with_variables_in};
 ghost use Rattle.ep_typed.specs.Trees as tree;
-ghost use Rattle.ep_typed.specs.Trees.{Arms, Expr, Stmt, Stmts};
+ghost use Rattle.ep_typed.specs.Trees.{Arms, Stmt};
 ghost use Rattle.ep_typed.specs.Viewed.{arm_of, expr_of, other_of, stmt_of};
-ghost use Rattle.ep_rules.specs.Answers.{typed_of};
 ghost use Rattle.ep_check_expr.specs.Expressions.{judged};
 ghost use Rattle.ep_rules.specs.Judgements.{both};
-ghost use Rattle.ep_check_stmt.specs.Answers.{AnswersForm, AnswersRow, arms_of, context_of, fails_among, locals_of, numbered, opened_of, stmts_of, target_of};
+ghost use Rattle.ep_check_stmt.specs.Contexts.{context_of};
+ghost use Rattle.ep_stmt_rules.specs.Answers.{AnswersForm, AnswersRow, arms_of, counted_of, numbered, opened_of, stmts_of, target_of};
 ghost use Rattle.ep_threats.specs.Variables.{entire_of};
-ghost use Rattle.ep_check_stmt.specs.Statements as spec;
-ghost use Rattle.ep_check_stmt.specs.Statements.{Judgement, after, arm_judged, arm_row, arms_in_order, assigned, component_rules, compound_judged, compound_under, condition_judged, control_judged, declared_called, for_in_judged, for_judged, formed, if_judged, in_order, name_called, none_opened, own_called, records_opened, repeat_judged, required_called, statement_judged, target_judged, value_judged, tested, with_judged};
+ghost use Rattle.ep_stmt_rules.specs.Statements as spec;
+ghost use Rattle.ep_stmt_rules.specs.Statements.{Judgement, arm_judged, arm_row, arms_in_order, assigned, compound_judged, compound_under, condition_judged, control_judged, declared_called, for_in_judged, file_given, for_judged, formed, in_order, name_called, none_opened, own_called, record_opened, records_opened, required_called, statement_judged, target_judged, value_judged, with_judged, write_judged};
 
-use crate::cases::{arm_form, case_form, no_otherwise, otherwise_form};
-use crate::loops::{falls_by, for_form, one_more};
-use crate::members::for_in_form;
-use crate::numbering::{behind_arm, behind_arms, behind_statement, behind_then};
-use crate::outcome::{CheckRefusal, Outcome, item_at, refused_at};
-use crate::records::{Opened, with_form};
-use crate::tags::assignment;
-use crate::targets::Target;
 use ep_base::{Boxed, Line, List, Name};
 use ep_check_expr::{asked_by, typed_arguments, typed_expression, typed_value};
-use ep_rules::{Refusal, Typed, callee_at, given_value, undeclared};
+use ep_rules::{Refusal, callee_at, undeclared};
 use ep_scope::{
-    Declaration, Declared, FormalParameter, Host, Kind, Meaning, Procedure, Required, View,
-    depth_in, meaning_of, rule,
+    Declaration, Declared, FormalParameter, Host, Meaning, Procedure, Required, View, depth_in,
+    meaning_of, rule,
+};
+use ep_stmt_rules::{
+    Counted, FunctionResult, Locals, Opened, Outcome, Row, Target, arm_form,
+    assigned, behind_arm, behind_arms, behind_statement, behind_then, call_arguments, case_form,
+    component_rule, compound_form, control_named, counted_by, denoted, falls_by, for_form,
+    for_in_form, head, identifier, if_form, is_threatened_in, item_at, member_head, named_record,
+    named_target, no_otherwise, one_more, otherwise_form, own_ranges, refused_at, repeat_form,
+    selector, tested, unless_head_threatens, unless_member_threatens, unless_places_threaten,
+    unless_statement_threatens, unless_value_threatens, while_form, with_form, write_to,
 };
 use ep_threats::{Entire, Routines};
 use ep_tree::{
-    Access, Argument, Arm, ComponentValue, Compound, Direction, Expression, Otherwise, Selector,
-    Statement,
+    Access, Argument, Arm, ComponentValue, Compound, Direction, Expression, Otherwise, Statement,
 };
-use ep_typed::{CaseArm, CaseArms, TypedExpr, TypedStmt, TypedStmts};
+use ep_typed::{CaseArm, CaseArms, StandardFile, TypedExpr, TypedStmt, TypedStmts};
 use std::alloc::Global;
-
-/// A function in whose block the statements are, maybe deeper, where its name is assigned to for the result (ISO 10206,
-/// 6.7.2).
-#[derive(Clone, Copy)]
-pub struct FunctionResult {
-    /// Its number among the routines of the unit.
-    pub function: u32,
-    /// How many routines are around its variables, itself among them.
-    pub level: u32,
-    /// The number of its variable that has the result.
-    pub variable: u32,
-    /// The kind of the result.
-    pub kind: Kind,
-}
-
-/// The variables of a block, with the number of the first of its two auxiliary variables, which stand behind all of them
-/// (ISO 10206, 6.9.3.9.2 and 6.5.3.3).
-#[derive(Clone, Copy)]
-pub enum Locals<'a> {
-    /// Those of the unit of this name.
-    Unit(&'a Name, u32),
-    /// Those of the routine of the first number, of which the first one that its block declares has the second.
-    Routine(u32, u32, u32),
-}
 
 /// What the statements of a block know.
 #[derive(Clone, Copy)]
@@ -86,143 +61,6 @@ pub struct Context<'a> {
     pub routines: &'a Routines<'a>,
     /// The number of the variable that stands for the next record which a `with` opens (ISO 10206, 6.9.3.10).
     pub withs: u32,
-}
-
-/// An assignment of a value, in a block with these variables.
-fn assigned(
-    alloc: Global,
-    locals: Locals<'_>,
-    line: Line,
-    target: Target,
-    value: Typed,
-) -> Result<Option<Boxed<TypedStmt>>, Refusal>
-    ensures { AnswersForm (option_map stmt_of) result
-        (assigned (locals_of locals.entry) line (target_of target) (typed_of value)) }
-{
-    let form = given_value(target.kind, value)?;
-    match (target.into_receiver(), form) {
-        (Some(receiver), Some(form)) => {
-            Ok(Some(assignment(alloc, locals, line, receiver, form)?))
-        }
-        _ => Ok(None),
-    }
-}
-
-/// The form of a condition.
-fn tested(value: Typed) -> Result<Option<Boxed<TypedExpr>>, Refusal>
-    ensures { AnswersForm (option_map expr_of) result (tested value.kind (typed_of value).form) }
-{
-    match value.kind {
-        Kind::Ordinal(Host::Boolean) => Ok(value.into_form()),
-        _ => Err(Refusal::Rule(rule::CONDITION)),
-    }
-}
-
-/// What a row of items comes to.
-pub type Row<T> = Result<Outcome<T>, CheckRefusal>;
-
-/// A compound statement of these.
-fn compound_form(alloc: Global, statements: Row<TypedStmts>) -> Row<Boxed<TypedStmt>>
-    ensures { (x : Judgement Stmts) → AnswersRow stmts_of statements x
-        → AnswersRow stmt_of result (formed tree.Compound x) }
-{
-    match statements? {
-        Outcome::Passes(all) => {
-            let form = Boxed::new(alloc, TypedStmt::Compound(all))?;
-            Ok(Outcome::Passes(form))
-        }
-        Outcome::Waits(line) => Ok(Outcome::Waits(line)),
-    }
-}
-
-/// An `if` statement of these parts, in order.
-fn if_form(
-    alloc: Global,
-    line: Line,
-    condition: Row<Boxed<TypedExpr>>,
-    then: Row<Boxed<TypedStmt>>,
-    other: Row<Boxed<TypedStmt>>,
-) -> Row<Boxed<TypedStmt>>
-    ensures { (x : Judgement Expr) (y z : Judgement Stmt) → AnswersRow expr_of condition x
-        → AnswersRow stmt_of then y → AnswersRow stmt_of other z
-        → AnswersRow stmt_of result (if_judged line x y z) }
-{
-    match (condition?, then?, other?) {
-        (Outcome::Passes(condition), Outcome::Passes(then), Outcome::Passes(other)) => {
-            let form = Boxed::new(alloc, TypedStmt::If(line, condition, then, other))?;
-            Ok(Outcome::Passes(form))
-        }
-        (Outcome::Waits(first), _, _) => Ok(Outcome::Waits(first)),
-        (_, Outcome::Waits(first), _) => Ok(Outcome::Waits(first)),
-        (_, _, Outcome::Waits(first)) => Ok(Outcome::Waits(first)),
-    }
-}
-
-/// A `while` statement of these parts, in order.
-fn while_form(
-    alloc: Global,
-    line: Line,
-    condition: Row<Boxed<TypedExpr>>,
-    body: Row<Boxed<TypedStmt>>,
-) -> Row<Boxed<TypedStmt>>
-    ensures { (x : Judgement Expr) (y : Judgement Stmt) → AnswersRow expr_of condition x
-        → AnswersRow stmt_of body y → AnswersRow stmt_of result (after (tree.While line) x y) }
-{
-    match (condition?, body?) {
-        (Outcome::Passes(condition), Outcome::Passes(body)) => {
-            let form = Boxed::new(alloc, TypedStmt::While(line, condition, body))?;
-            Ok(Outcome::Passes(form))
-        }
-        (Outcome::Waits(first), _) => Ok(Outcome::Waits(first)),
-        (_, Outcome::Waits(first)) => Ok(Outcome::Waits(first)),
-    }
-}
-
-/// A `repeat` statement of these parts, the condition first, since it belongs to the statement itself.
-fn repeat_form(
-    alloc: Global,
-    line: Line,
-    condition: Row<Boxed<TypedExpr>>,
-    statements: Row<TypedStmts>,
-) -> Row<Boxed<TypedStmt>>
-    ensures { (x : Judgement Expr) (y : Judgement Stmts) → AnswersRow expr_of condition x
-        → AnswersRow stmts_of statements y → AnswersRow stmt_of result (repeat_judged line x y) }
-{
-    match (condition?, statements?) {
-        (Outcome::Passes(condition), Outcome::Passes(all)) => {
-            let form = Boxed::new(alloc, TypedStmt::Repeat(line, all, condition))?;
-            Ok(Outcome::Passes(form))
-        }
-        (Outcome::Waits(first), _) => Ok(Outcome::Waits(first)),
-        (_, Outcome::Waits(first)) => Ok(Outcome::Waits(first)),
-    }
-}
-
-/// The arguments of a call, which are none or stand in one pair of parentheses. What has other selectors is no call.
-fn call_arguments(access: &Access) -> Option<&[Argument]>
-    ensures { option_copied result ≡ spec.call_arguments (out-Access access.now).selectors }
-{
-    match access.selectors.items() {
-        [] => Some(&[]),
-        [Selector::Arguments(_, arguments)] => Some(arguments.items()),
-        _ => None,
-    }
-}
-
-/// A rule that fails where a component stands as a statement, behind a name that means this.
-fn component_rule(name: &Name, meaning: Meaning<'_>) -> u32
-    ensures { IsTrue (fails_among result (component_rules name.now (meant_by meaning.entry))) }
-{
-    match meaning {
-        Meaning::Declared(declared) => match &declared.what {
-            Declaration::Procedure(_) | Declaration::Function(_, _, _) => rule::PROCEDURE,
-            _ => rule::OTHER_THING,
-        },
-        Meaning::Standard(_) => rule::OTHER_THING,
-        Meaning::Required(Required::Function(_) | Required::Procedure(_)) => rule::PROCEDURE,
-        Meaning::Required(_) | Meaning::Field(_) => rule::OTHER_THING,
-        Meaning::Nothing => undeclared(name),
-    }
 }
 
 impl<'a> Context<'a> {
@@ -269,7 +107,7 @@ impl<'a> Context<'a> {
     }
 
     #[cycle(statements)]
-    #[tactic(auto, using(crate::proofs::public::judged::Rounds::rest_of))]
+    #[tactic(auto, using(ep_stmt_rules::proofs::public::judged::Rounds::rest_of))]
     fn statement(&self, s: &Statement, controls: &[Entire<'a>]) -> Row<Boxed<TypedStmt>>
         requires { statement_unbuilt s.now ≡ None }
         ensures { AnswersRow stmt_of result
@@ -279,11 +117,17 @@ impl<'a> Context<'a> {
             Statement::Empty(_) => self.empty(),
             Statement::Assignment(line, access, value) => {
                 let form = self.assignment(*line, access, value);
-                item_at(*line, self.unless_statement_threatens(controls, form))
+                item_at(
+                    *line,
+                    unless_statement_threatens(self.routines, controls, form),
+                )
             }
             Statement::Call(line, access) => {
                 let form = self.call(*line, access);
-                item_at(*line, self.unless_statement_threatens(controls, form))
+                item_at(
+                    *line,
+                    unless_statement_threatens(self.routines, controls, form),
+                )
             }
             Statement::Compound(c) => {
                 compound_form(self.alloc, self.compound_within(c, controls))
@@ -303,7 +147,7 @@ impl<'a> Context<'a> {
                 )
             }
             Statement::Case(line, e, arms, other) => {
-                let selector = match self.selector(e.get(), arms.items()) {
+                let selector = match selector(self.alloc, self.scopes, e.get(), arms.items()) {
                     Ok(selector) => selector,
                     Err(refusal) => return Err(refused_at(*line, refusal)),
                 };
@@ -312,7 +156,11 @@ impl<'a> Context<'a> {
                     None => no_otherwise(),
                     Some(other) => self.otherwise(other, &inner, controls),
                 };
-                let form = self.unless_value_threatens(controls, Ok(selector.into_form()));
+                let form = unless_value_threatens(
+                    self.routines,
+                    controls,
+                    Ok(selector.into_form()),
+                );
                 case_form(self.alloc, *line, item_at(*line, form), inner, rest)
             }
             Statement::While(line, e, body) => {
@@ -388,7 +236,7 @@ impl<'a> Context<'a> {
             Err(refusal) => return Err(refused_at(line, refusal)),
         };
         let inner = self.statement_inside(body, &opened, controls);
-        let heads = self.unless_places_threaten(controls, opened.into_heads());
+        let heads = unless_places_threaten(self.routines, controls, opened.into_heads());
         with_form(self.alloc, line, item_at(line, heads), inner)
     }
 
@@ -478,8 +326,16 @@ impl<'a> Context<'a> {
             Err(refusal) => return Err(refused_at(line, refusal)),
         };
         let inner = self.statement_under(body, control.variable, controls);
-        let head = self.head(control, falls_by(direction), start, end);
-        let form = self.unless_head_threatens(controls, head);
+        let head = head(
+            self.alloc,
+            self.scopes,
+            self.locals,
+            control,
+            falls_by(direction),
+            start,
+            end,
+        );
+        let form = unless_head_threatens(self.routines, controls, head);
         for_form(self.alloc, line, item_at(line, form), inner)
     }
 
@@ -503,8 +359,15 @@ impl<'a> Context<'a> {
             Err(refusal) => return Err(refused_at(line, refusal)),
         };
         let inner = self.statement_under(body, control.variable, controls);
-        let head = self.member_head(control, set);
-        let form = self.unless_member_threatens(controls, head);
+        let head = member_head(
+            self.alloc,
+            self.scopes,
+            self.locals,
+            self.members,
+            control,
+            set,
+        );
+        let form = unless_member_threatens(self.routines, controls, head);
         for_in_form(self.alloc, line, item_at(line, form), inner)
     }
 
@@ -555,7 +418,10 @@ impl<'a> Context<'a> {
             (map entire_of controls.now)) }
     {
         let body = self.statement(a.body.get(), controls);
-        let ranges = item_at(line, self.own_ranges(host, a.labels.items()));
+        let ranges = item_at(
+            line,
+            own_ranges(self.alloc, self.scopes, host, a.labels.items()),
+        );
         arm_form(self.alloc, ranges, body)
     }
 
@@ -578,7 +444,10 @@ impl<'a> Context<'a> {
         ensures { AnswersRow expr_of result
             (condition_judged (context_of self.now) (map entire_of controls.now) line e.now) }
     {
-        item_at(line, self.unless_value_threatens(controls, self.tested(e)))
+        item_at(
+            line,
+            unless_value_threatens(self.routines, controls, self.tested(e)),
+        )
     }
 
     fn tested(&self, e: &Expression) -> Result<Option<Boxed<TypedExpr>>, Refusal>
@@ -700,5 +569,106 @@ impl<'a> Context<'a> {
             return Err(Refusal::Rule(rule::ARGUMENTS));
         }
         Ok(Some(Boxed::new(self.alloc, TypedStmt::Halt(line))?))
+    }
+
+    /// A name that is assigned to, or the variable that an access with selectors denotes.
+    fn target(&self, access: &Access) -> Result<Target, Refusal>
+        requires { access_unbuilt access.now ≡ None }
+        ensures { AnswersForm target_of result (target_judged (context_of self.now) access.now) }
+    {
+        match access.selectors.items() {
+            [] => named_target(
+                self.alloc,
+                self.unit,
+                self.scopes,
+                self.results,
+                &access.name,
+            ),
+            _ => denoted(self.alloc, self.scopes, access),
+        }
+    }
+
+    /// A name as the control variable of a `for`. It is a variable that the block declares, of an ordinal type, and no
+    /// routine of the block threatens it (ISO 10206, 6.9.3.9.1).
+    fn control(&self, name: &Name) -> Result<Counted<'a>, Refusal>
+        ensures { AnswersForm counted_of result (control_judged (context_of self.now) name.now) }
+    {
+        let counted = counted_by(control_named(self.scopes, self.locals, name)?)?;
+        if is_threatened_in(self.locals, self.routines, counted.variable)? {
+            return Err(Refusal::Rule(rule::CONTROL_THREATENED));
+        }
+        Ok(counted)
+    }
+
+    /// The records of a `with`, each one where those before it are open.
+    fn opened(&self, accesses: &[Access]) -> Result<Opened<'a>, Refusal>
+        requires { first_in (map access_unbuilt accesses.now) ≡ None }
+        ensures { AnswersForm opened_of result
+            (records_opened (context_of self.now) accesses.now (none_opened (context_of self.now))) }
+    {
+        let mut opened = Opened {
+            inner: self.scopes.inner(self.alloc)?,
+            withs: self.withs,
+            heads: Some(List::new(self.alloc)),
+        };
+        for access in accesses {
+            opened = self.one_opened(opened, access)?;
+        }
+        Ok(opened)
+    }
+
+    /// A record that is named where others are open.
+    fn one_opened(&self, opened: Opened<'a>, access: &Access) -> Result<Opened<'a>, Refusal>
+        requires { access_unbuilt access.now ≡ None }
+        ensures { AnswersForm opened_of result
+            (record_opened (context_of self.now) access.now (opened_of opened.entry)) }
+    {
+        let named = named_record(self.alloc, self.scopes, &opened.inner, access)?;
+        Ok(opened.one_more(self.alloc, self.locals, named)?)
+    }
+
+    /// `write`, or `writeln` where the line is ended.
+    fn write(
+        &self,
+        line: Line,
+        ends_line: bool,
+        arguments: &[Argument],
+    ) -> Result<Option<Boxed<TypedStmt>>, Refusal>
+        requires { first_in (map written_unbuilt arguments.now) ≡ None }
+        ensures { AnswersForm (option_map stmt_of) result
+            (write_judged (context_of self.now) line ends_line arguments.now) }
+    {
+        if let Some((first, more)) = arguments.split_first() {
+            if let Some(file) = self.file_given(first) {
+                return write_to(self.alloc, self.scopes, file, line, ends_line, more);
+            }
+        }
+        let form = write_to(
+            self.alloc,
+            self.scopes,
+            StandardFile::Output,
+            line,
+            ends_line,
+            arguments,
+        )?;
+        if self.output {
+            Ok(form)
+        } else {
+            Err(Refusal::Rule(rule::STANDARD_FILE))
+        }
+    }
+
+    /// The text file that a parameter is.
+    fn file_given(&self, argument: &Argument) -> Option<StandardFile>
+        ensures { result ≡ file_given (context_of self.now) argument.now }
+    {
+        if argument.width.is_some() {
+            return None;
+        }
+        let name = identifier(argument.value.get())?;
+        match &meaning_of(self.scopes, name) {
+            Meaning::Standard(file) => Some(*file),
+            _ => None,
+        }
     }
 }

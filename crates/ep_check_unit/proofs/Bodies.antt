@@ -5,7 +5,7 @@ use Rattle.ep_scope.specs.Scopes.{Row, opened}
 use Rattle.ep_rules.specs.Judgements.{Accepts}
 use Rattle.ep_rules.specs.declared.forms.Refusal.{Refusal}
 use Rattle.ep_rules.specs.Answers.{Refuses}
-use Rattle.ep_check_stmt.specs.Outcomes.{refused_at}
+use Rattle.ep_stmt_rules.specs.Outcomes.{refused_at}
 use Rattle.ep_check_unit.specs.Answers.{RefusesItems}
 use Rattle.ep_check_unit.specs.Blocks.{Block}
 use Rattle.ep_unit_rules.specs.declared.own.OwnVariables.{OwnVariables}

@@ -28,7 +28,7 @@ use Rattle.ep_scope.specs.declared.rule.TheConstants as rule
 use Rattle.ep_scope.specs.declared.thing.Declaration.TheVariants as declaration
 use Rattle.ep_scope.specs.declared.thing.Thing.TheVariants as thing
 use Rattle.ep_rules.specs.Judgements.{Judged, Accepts, Breaks}
-use Rattle.ep_check_stmt.specs.Statements.{OfRoutine}
+use Rattle.ep_stmt_rules.specs.Statements.{OfRoutine}
 use Rattle.ep_threats.specs.Threats.{assigns, in_arm, in_compound, in_otherwise, in_statement}
 use Rattle.ep_unit_rules.specs.Own.{own_count}
 use Rattle.ep_check_unit.specs.Blocks.{Block}

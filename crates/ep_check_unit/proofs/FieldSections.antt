@@ -9,7 +9,7 @@ use Rattle.ep_rules.specs.Judgements.{Judged, Accepts, when_accepted}
 use Rattle.ep_rules.specs.declared.forms.Refusal.{Refusal}
 use Rattle.ep_rules.specs.Answers.{Refuses}
 use Rattle.ep_rules.proofs.public.Refusing.{part_refused}
-use Rattle.ep_check_stmt.proofs.public.judged.Rounds.{next_item}
+use Rattle.ep_stmt_rules.proofs.public.judged.Rounds.{next_item}
 use Rattle.ep_unit_rules.specs.Answers.{field_in, field_named}
 use Rattle.ep_check_unit.specs.Answers.{fields_in, named_in}
 use Rattle.ep_check_unit.specs.Blocks.{Block}

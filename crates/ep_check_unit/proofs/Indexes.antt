@@ -22,7 +22,7 @@ use Rattle.ep_rules.specs.declared.forms.Refusal.{Refusal}
 use Rattle.ep_rules.specs.declared.forms.Refusal.TheVariants.{Rule, NoMemory}
 use Rattle.ep_rules.specs.Answers.{Refuses}
 use Rattle.ep_rules.proofs.public.Refusing.{part_refused}
-use Rattle.ep_check_stmt.proofs.public.judged.Rounds.{next_item}
+use Rattle.ep_stmt_rules.proofs.public.judged.Rounds.{next_item}
 use Rattle.ep_unit_rules.specs.Answers.{index_of}
 use Rattle.ep_check_unit.specs.Answers.{arrays_below, indexes_written, named_in}
 use Rattle.ep_check_unit.specs.Blocks.{Block}

@@ -44,8 +44,8 @@ use Rattle.ep_check_expr.specs.Constants.{bound_judged, initial_state_judged}
 use Rattle.ep_rules.specs.Names.{undeclared}
 use Rattle.ep_check_expr.specs.StructuredValues.{asked_by}
 use Rattle.ep_check_expr.specs.declared.constants.ConstantForm.{ConstantForm}
-use Rattle.ep_check_stmt.proofs.public.judged.Fits.{Any, Fits, fits_then, fits_both, fits_any}
-use Rattle.ep_check_stmt.specs.Statements.{Judgement, Passes, Waits, Fails}
+use Rattle.ep_stmt_rules.proofs.public.judged.Fits.{Any, Fits, fits_then, fits_both, fits_any}
+use Rattle.ep_stmt_rules.specs.Statements.{Judgement, Passes, Waits, Fails}
 use Rattle.ep_unit_rules.specs.InitialStates.{may_begin}
 use Rattle.ep_unit_rules.specs.Records.{fields_named}
 use Rattle.ep_unit_rules.specs.Types.{common_host, index_host, ordered}

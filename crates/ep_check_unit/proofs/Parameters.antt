@@ -5,7 +5,7 @@ use Rattle.std.specs.List.{list_all}
 use Rattle.std.specs.Str.{bytes_eq}
 use Rattle.ep_built.specs.Built.{is_among, program_parameters}
 use Rattle.ep_typed.specs.declared.tree.StandardFile.TheVariants as file
-use Rattle.ep_check_stmt.proofs.public.judged.Rounds.{next_item}
+use Rattle.ep_stmt_rules.proofs.public.judged.Rounds.{next_item}
 use Rattle.ep_check_unit.specs.Units.{standard_file}
 
 chosen : (a b : Bool) → (a || (b || false)) ≡ true → (if a then Some file.Input else (if b then Some file.Output else None)) ≡ None → ⊥

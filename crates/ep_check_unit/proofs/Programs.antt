@@ -12,13 +12,13 @@ use Rattle.ep_typed.specs.declared.unit.Unit.{Unit as TypedUnit}
 use Rattle.ep_rules.specs.Judgements.{Judged, Accepts}
 use Rattle.ep_rules.specs.declared.forms.Refusal.{Refusal}
 use Rattle.ep_rules.specs.Answers.{Refuses}
-use Rattle.ep_check_stmt.specs.Answers.{RefusesRow, passed, stmts_of}
-use Rattle.ep_check_stmt.specs.Outcomes.{refused_at}
-use Rattle.ep_check_stmt.specs.Statements.{Judgement, Passes, Waits, Fails, after}
-use Rattle.ep_check_stmt.specs.declared.outcome.CheckRefusal.{CheckRefusal}
-use Rattle.ep_check_stmt.specs.declared.outcome.CheckRefusal.TheVariants as refusal
-use Rattle.ep_check_stmt.specs.declared.outcome.Outcome.{Outcome}
-use Rattle.ep_check_stmt.specs.declared.outcome.Outcome.TheVariants as outcome
+use Rattle.ep_stmt_rules.specs.Answers.{RefusesRow, passed, stmts_of}
+use Rattle.ep_stmt_rules.specs.Outcomes.{refused_at}
+use Rattle.ep_stmt_rules.specs.Statements.{Judgement, Passes, Waits, Fails, after}
+use Rattle.ep_stmt_rules.specs.declared.outcome.CheckRefusal.{CheckRefusal}
+use Rattle.ep_stmt_rules.specs.declared.outcome.CheckRefusal.TheVariants as refusal
+use Rattle.ep_stmt_rules.specs.declared.outcome.Outcome.{Outcome}
+use Rattle.ep_stmt_rules.specs.declared.outcome.Outcome.TheVariants as outcome
 use Rattle.ep_check_unit.specs.Answers.{RefusesItems}
 use Rattle.ep_check_unit.specs.Checks.{AnswersBuilt, AnswersMissing, IsRefusalOf, IsUnitWith}
 use Rattle.ep_check_unit.specs.Declarations.{Standing, Stands, Falls, and_then, at_line}

@@ -3,10 +3,10 @@ use Rattle.std.proofs.Common.{◌≡◌, ℕ, ◌+◌, ◌<◌, List, ◌∷◌,
 use Rattle.ep_rules.specs.Judgements.{Judged, Accepts, when_accepted}
 use Rattle.ep_rules.specs.declared.forms.Refusal.{Refusal}
 use Rattle.ep_rules.specs.Answers.{Refuses}
-use Rattle.ep_check_stmt.specs.Outcomes.{refused_at}
-use Rattle.ep_check_stmt.specs.declared.outcome.CheckRefusal.{CheckRefusal}
+use Rattle.ep_stmt_rules.specs.Outcomes.{refused_at}
+use Rattle.ep_stmt_rules.specs.declared.outcome.CheckRefusal.{CheckRefusal}
 use Rattle.ep_rules.proofs.public.Refusing.{part_refused}
-use Rattle.ep_check_stmt.proofs.public.judged.Rounds.{next_item}
+use Rattle.ep_stmt_rules.proofs.public.judged.Rounds.{next_item}
 use Rattle.ep_check_unit.specs.Answers.{RefusesItems}
 use Rattle.ep_check_unit.specs.Declarations.{Standing, and_then, at_line}
 use Rattle.ep_check_unit.specs.Blocks.{Block}

@@ -8,15 +8,15 @@ use Rattle.ep_rules.specs.Judgements.{Judged, Accepts, when_accepted}
 use Rattle.ep_rules.specs.declared.forms.Refusal.{Refusal}
 use Rattle.ep_rules.specs.declared.forms.Refusal.TheVariants.{Rule, NoMemory}
 use Rattle.ep_rules.specs.Answers.{Refuses}
-use Rattle.ep_check_stmt.specs.declared.outcome.CheckRefusal.{CheckRefusal}
-use Rattle.ep_check_stmt.specs.declared.outcome.CheckRefusal.TheVariants as refusal
+use Rattle.ep_stmt_rules.specs.declared.outcome.CheckRefusal.{CheckRefusal}
+use Rattle.ep_stmt_rules.specs.declared.outcome.CheckRefusal.TheVariants as refusal
 use Rattle.ep_check_unit.specs.Declarations as spec
 use Rattle.ep_check_unit.specs.Declarations.{Standing, Stands, falls_at}
 use Rattle.ep_check_unit.specs.Blocks.{Block}
 use Rattle.ep_check_unit.specs.Functions.{if_given}
-use Rattle.ep_check_stmt.specs.Answers.{locals_of}
-use Rattle.ep_check_stmt.specs.Statements as rows
-use Rattle.ep_check_stmt.specs.declared.statements.Locals.{Locals}
+use Rattle.ep_stmt_rules.specs.Answers.{locals_of}
+use Rattle.ep_stmt_rules.specs.Statements as rows
+use Rattle.ep_stmt_rules.specs.declared.statements.Locals.{Locals}
 use Rattle.ep_check_unit.specs.Routines.{Headed}
 use Rattle.ep_unit_rules.specs.declared.headings.Heading.{Heading}
 use Rattle.ep_unit_rules.specs.declared.types.NamedType.{NamedType}

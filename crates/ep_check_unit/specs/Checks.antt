@@ -6,11 +6,11 @@ use Rattle.ep_typed.specs.declared.tree.TypedStmt.{TypedStmt}
 use Rattle.ep_typed.specs.declared.tree.TypedStmt.TheVariants as stmt
 use Rattle.ep_typed.specs.declared.unit.Unit.{Unit as TypedUnit}
 use Rattle.ep_scope.specs.declared.rule.TheConstants as rule
-use Rattle.ep_check_stmt.specs.Statements.{Judgement, Waits, fails_at}
-use Rattle.ep_check_stmt.specs.declared.outcome.CheckRefusal.{CheckRefusal}
-use Rattle.ep_check_stmt.specs.declared.outcome.CheckRefusal.TheVariants as refusal
-use Rattle.ep_check_stmt.specs.declared.outcome.Outcome.{Outcome}
-use Rattle.ep_check_stmt.specs.declared.outcome.Outcome.TheVariants as outcome
+use Rattle.ep_stmt_rules.specs.Statements.{Judgement, Waits, fails_at}
+use Rattle.ep_stmt_rules.specs.declared.outcome.CheckRefusal.{CheckRefusal}
+use Rattle.ep_stmt_rules.specs.declared.outcome.CheckRefusal.TheVariants as refusal
+use Rattle.ep_stmt_rules.specs.declared.outcome.Outcome.{Outcome}
+use Rattle.ep_stmt_rules.specs.declared.outcome.Outcome.TheVariants as outcome
 use Rattle.ep_check_unit.specs.Units.{IsTyped, BreaksAt, WaitsAt}
 use Rattle.ep_check_unit.specs.Blocks.{Block, routine_form}
 use Rattle.ep_check_unit.specs.declared.component.Checked.{Checked}

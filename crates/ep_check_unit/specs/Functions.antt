@@ -11,7 +11,7 @@ use Rattle.ep_scope.specs.declared.rule.TheConstants as rule
 use Rattle.ep_scope.specs.declared.thing.Declaration.TheVariants as declaration
 use Rattle.ep_rules.specs.Judgements.{Judged, Accepts}
 use Rattle.ep_threats.specs.RoutineForms.{formals_at}
-use Rattle.ep_check_stmt.specs.Statements.{FunctionResult, Judgement, Passes, Waits, Fails}
+use Rattle.ep_stmt_rules.specs.Statements.{FunctionResult, Judgement, Passes, Waits, Fails}
 use Rattle.ep_threats.specs.Threats.{inner_threatens, stmts_threaten}
 use Rattle.ep_check_unit.specs.Blocks.{Block, RoutineForm}
 use Rattle.ep_check_unit.specs.Declarations.{Standing, Falls, entered, own_thing, scopes_of}

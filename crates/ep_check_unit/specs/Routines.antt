@@ -29,10 +29,10 @@ use Rattle.ep_scope.specs.declared.thing.Declaration.TheVariants as declaration
 use Rattle.ep_scope.specs.declared.thing.Thing.{Thing}
 use Rattle.ep_scope.specs.declared.thing.Thing.TheVariants as thing
 use Rattle.ep_rules.specs.Judgements.{Judged, Accepts, Breaks, unbuilt, when_accepted}
-use Rattle.ep_check_stmt.specs.Auxiliaries.{has_for, has_for_in}
-use Rattle.ep_check_stmt.specs.Statements.{Context, Locals, OfUnit, OfRoutine, Judgement, Passes, Waits, Fails}
-use Rattle.ep_check_stmt.specs.Statements.{compound_judged}
-use Rattle.ep_check_stmt.specs.Tags.{assigns_tag}
+use Rattle.ep_stmt_rules.specs.Auxiliaries.{has_for, has_for_in}
+use Rattle.ep_stmt_rules.specs.Statements.{Context, Locals, OfUnit, OfRoutine, Judgement, Passes, Waits, Fails}
+use Rattle.ep_stmt_rules.specs.Statements.{compound_judged}
+use Rattle.ep_stmt_rules.specs.Tags.{assigns_tag}
 use Rattle.ep_unit_rules.specs.Own.{around_of, first_own, own_count}
 use Rattle.ep_threats.specs.RoutineForms.{block_set}
 use Rattle.ep_check_unit.specs.Blocks.{Block, RoutineForm}

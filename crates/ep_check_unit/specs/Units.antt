@@ -16,7 +16,7 @@ use Rattle.ep_scope.specs.Scopes.{row_of}
 use Rattle.ep_scope.specs.declared.rule.TheConstants as rule
 use Rattle.ep_scope.specs.declared.thing.Thing.TheVariants as thing
 use Rattle.ep_rules.specs.Judgements.{Judged, Accepts, unbuilt, when_accepted}
-use Rattle.ep_check_stmt.specs.Statements.{Judgement, Passes, Waits, Fails, fails_at, after}
+use Rattle.ep_stmt_rules.specs.Statements.{Judgement, Passes, Waits, Fails, fails_at, after}
 use Rattle.ep_check_unit.specs.Declarations.{Standing, Stands, Falls, at_line, and_then, entered}
 use Rattle.ep_unit_rules.specs.Numbers.{has_number}
 use Rattle.ep_check_unit.specs.Routines.{parts_declared, statements_judged}

@@ -11,9 +11,9 @@ ghost use Rattle.ep_check_unit.specs.Units.{IsTypedProgram, first_missing, has_n
 
 use crate::block::{Block, Forward};
 use ep_base::{Line, List, Name, NameRefusal, NoMemory};
-use ep_check_stmt::{CheckRefusal, Outcome, refused_at};
 use ep_rules::Refusal;
 use ep_scope::{Thing, rule};
+use ep_stmt_rules::{CheckRefusal, Outcome, refused_at};
 use ep_tree::{Component, Program};
 use ep_typed::{ImportSpec, ImportSpecs, Interface, StandardFile, TypedStmts, Unit};
 use ep_unit_rules::Bodies;

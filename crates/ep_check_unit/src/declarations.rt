@@ -12,9 +12,9 @@ ghost use Rattle.ep_check_unit.specs.Declarations.{all_variables_declared, at_li
 use crate::block::Block;
 use ep_base::{Line, List, Name, NoMemory};
 use ep_check_expr::{ConstantForm, constant_value};
-use ep_check_stmt::{CheckRefusal, refused_at};
 use ep_rules::Refusal;
 use ep_scope::{Declaration, Protection, rule};
+use ep_stmt_rules::{CheckRefusal, refused_at};
 use ep_tree::{ComponentValue, ConstantDefinition, TypeDefinition, Types, VariableDeclaration};
 use ep_typed::UnitVariable;
 use ep_unit_rules::{NamedType, fits, number, type_denoter};

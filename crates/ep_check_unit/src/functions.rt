@@ -3,7 +3,7 @@
 ghost use Rattle.std.specs.Option.{option_map};
 ghost use Rattle.std.specs.Prelude.{◌≡◌, Some, IfOk, map};
 ghost use Rattle.ep_rules.specs.Answers.{AnswersForm};
-ghost use Rattle.ep_check_stmt.specs.Answers.{passed, result_of, stmts_of};
+ghost use Rattle.ep_stmt_rules.specs.Answers.{passed, result_of, stmts_of};
 ghost use Rattle.ep_check_unit.specs.Answers.{AnswersBlock, AnswersGiven};
 ghost use Rattle.ep_check_unit.specs.Blocks.{block_of};
 ghost use Rattle.ep_check_unit.specs.Functions as spec;
@@ -12,9 +12,9 @@ ghost use Rattle.ep_check_unit.specs.Routines.{given_among, part_judged, result_
 
 use crate::block::Block;
 use ep_base::{Line, List, Name, NoMemory};
-use ep_check_stmt::{CheckRefusal, FunctionResult, Outcome, refused_at};
 use ep_rules::Refusal;
 use ep_scope::{Declaration, Protection, meaning_of, rule};
+use ep_stmt_rules::{CheckRefusal, FunctionResult, Outcome, refused_at};
 use ep_threats::{Entire, inner_threatens, threatens};
 use ep_tree::{Compound, Part, QualifiedName, Routine, RoutineBody};
 use ep_typed::{TypedStmt, TypedStmts};

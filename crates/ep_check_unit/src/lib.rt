@@ -24,4 +24,4 @@ mod types;
 mod variants;
 
 pub use component::{Checked, check};
-pub use ep_check_stmt::CheckRefusal;
+pub use ep_stmt_rules::CheckRefusal;

@@ -3,7 +3,7 @@
 ghost use Rattle.std.specs.Prelude.{◌≡◌, None, true, false, IfOk, map};
 ghost use Rattle.ep_built.specs.Built.{compound_unbuilt, first_in, part_unbuilt, routine_unbuilt, start_unbuilt};
 ghost use Rattle.ep_typed.specs.Trees as tree;
-ghost use Rattle.ep_check_stmt.specs.Answers.{AnswersRow, locals_of as locals_view, passed, stmts_of};
+ghost use Rattle.ep_stmt_rules.specs.Answers.{AnswersRow, locals_of as locals_view, passed, stmts_of};
 ghost use Rattle.ep_unit_rules.specs.Numbers.{AnswersNumber};
 ghost use Rattle.ep_check_unit.specs.Answers.{AnswersLocals, AnswersStanding, headed_in};
 ghost use Rattle.ep_check_unit.specs.Blocks.{block_of};
@@ -14,11 +14,10 @@ ghost use Rattle.ep_check_unit.specs.Routines.{all_declared, block_declared, bod
 use crate::block::{Block, Forward};
 use crate::functions::if_given;
 use ep_base::{Line, Name, NoMemory};
-use ep_check_stmt::{
-    CheckRefusal, Context, Locals, Outcome, assigns_tag, has_for, has_for_in, refused_at,
-};
+use ep_check_stmt::Context;
 use ep_rules::Refusal;
 use ep_scope::View;
+use ep_stmt_rules::{CheckRefusal, Locals, Outcome, assigns_tag, has_for, has_for_in, refused_at};
 use ep_threats::{RoutineTable, Routines};
 use ep_tree::{Compound, Part, Routine, RoutineBody, RoutineStart};
 use ep_typed::{TypedStmts, UnitVariables};

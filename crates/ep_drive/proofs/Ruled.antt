@@ -11,7 +11,7 @@ use Rattle.ep_typed.specs.Nodes.{unit_nodes, heading_nodes, type_nodes, constant
 use Rattle.ep_typed.specs.Viewed.{stmt_of}
 use Rattle.ep_typed.specs.declared.unit.Unit.{Unit as TypedUnit}
 use Rattle.ep_typed.specs.declared.unit.UnitRoutine.{UnitRoutine}
-use Rattle.ep_check_stmt.specs.Statements.{Judgement, Passes, Waits, Fails, fails_at}
+use Rattle.ep_stmt_rules.specs.Statements.{Judgement, Passes, Waits, Fails, fails_at}
 use Rattle.ep_check_unit.specs.Blocks.{RoutineForm, routine_form}
 use Rattle.ep_check_unit.specs.Units.{ProgramForm, IsUnitOf, IsTyped, BreaksAt, WaitsAt, component_judged}
 use Rattle.ep_drive.specs.ProgramTexts.{HasBuilt, IsSound, IsTooLarge}

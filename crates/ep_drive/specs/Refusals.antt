@@ -9,8 +9,8 @@ use Rattle.ep_parse.specs.Refusals.{Refuses}
 use Rattle.ep_parse.specs.declared.text.ParseRefusal.{ParseRefusal}
 use Rattle.ep_parse.specs.declared.text.ParseRefusal.TheVariants as parse
 use Rattle.ep_tree.specs.declared.component.Component.{Component}
-use Rattle.ep_check_stmt.specs.declared.outcome.CheckRefusal.{CheckRefusal}
-use Rattle.ep_check_stmt.specs.declared.outcome.CheckRefusal.TheVariants as check
+use Rattle.ep_stmt_rules.specs.declared.outcome.CheckRefusal.{CheckRefusal}
+use Rattle.ep_stmt_rules.specs.declared.outcome.CheckRefusal.TheVariants as check
 use Rattle.ep_check_unit.specs.Units.{BreaksAt, WaitsAt}
 use Rattle.ep_drive.specs.ProgramTexts.{HasUnbuilt, HasBuilt, IsTooLarge}
 use Rattle.ep_drive.specs.declared.source.SourceRefusal.{SourceRefusal}

@@ -16,8 +16,8 @@ use Rattle.ep_scope.specs.declared.kind.Kind.{Kind}
 use Rattle.ep_scope.specs.declared.kind.Kind.TheVariants as kind
 use Rattle.ep_expr_laws.specs.Agreement.{Agrees, HoldsStructure, IsHost, IsValueOf, TypeValues, structures_of}
 use Rattle.ep_rules.specs.Hosts.{typed_host}
-use Rattle.ep_check_stmt.specs.Statements.{Context, FunctionResult, Locals, Passes, compound_judged, initial_variable}
-use Rattle.ep_check_stmt.specs.Statements.{last_variable, block_variable}
+use Rattle.ep_stmt_rules.specs.Statements.{Context, FunctionResult, Locals, Passes, compound_judged, initial_variable}
+use Rattle.ep_stmt_rules.specs.Statements.{last_variable, block_variable}
 
 -- The place is that of a variable for results of this kind. No function has a result of a string type or a file type
 -- so far.

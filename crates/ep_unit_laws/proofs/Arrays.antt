@@ -17,7 +17,7 @@ use Rattle.ep_scope.specs.declared.kind.Kind.TheVariants as kind
 use Rattle.ep_expr_laws.specs.Agreement.{Arrays, IsArrayValue}
 use Rattle.ep_rules.specs.Hosts.{typed_host}
 use Rattle.ep_rules.specs.Judgements.{Accepts, when_accepted}
-use Rattle.ep_check_stmt.proofs.public.judged.Fits.{Fits, fits_then}
+use Rattle.ep_stmt_rules.proofs.public.judged.Fits.{Fits, fits_then}
 use Rattle.ep_check_unit.specs.Blocks.{Block}
 use Rattle.ep_unit_rules.specs.OrdinalTypes.{value_of}
 use Rattle.ep_check_unit.specs.Declarations.{Part, Written, array_over, array_written, index_values, settled_part}

@@ -21,9 +21,9 @@ use Rattle.ep_scope.specs.declared.parameter.TypeName.TheVariants as type_name
 use Rattle.ep_scope.specs.declared.structure.StructuredType.{StructuredType}
 use Rattle.ep_expr_laws.specs.Agreement.{HoldsStructure, TypeValues}
 use Rattle.ep_scope.specs.Scopes.{Region}
-use Rattle.ep_check_stmt.specs.Auxiliaries.{has_for_in}
+use Rattle.ep_stmt_rules.specs.Auxiliaries.{has_for_in}
 use Rattle.ep_stmt_laws.specs.Laws.{AuxiliariesAreThere, MembersAreThere, WithsAreThere}
-use Rattle.ep_check_stmt.specs.Statements.{Locals, OfRoutine, OfUnit, block_variable}
+use Rattle.ep_stmt_rules.specs.Statements.{Locals, OfRoutine, OfUnit, block_variable}
 use Rattle.ep_unit_rules.specs.Own.{own_count}
 use Rattle.ep_check_unit.specs.Blocks.{Block}
 use Rattle.ep_check_unit.specs.Routines.{first_auxiliary, has_bounds, locals_in, locals_of, members_of, withs_of}

@@ -43,7 +43,7 @@ use Rattle.ep_rules.specs.Hosts.{typed_host}
 use Rattle.ep_rules.specs.Judgements.{Judged, Accepts, Breaks}
 use Rattle.ep_expr_laws.specs.Laws.{ConstantsAreSound, ConstantsAreKnown}
 use Rattle.ep_check_expr.specs.declared.constants.ConstantForm.{ConstantForm}
-use Rattle.ep_check_stmt.proofs.public.judged.Fits.{Any, Fits, fits_any, fits_both, fits_is, fits_then}
+use Rattle.ep_stmt_rules.proofs.public.judged.Fits.{Any, Fits, fits_any, fits_both, fits_is, fits_then}
 use Rattle.ep_unit_rules.specs.Constants.{entry_denoter, with_entry}
 use Rattle.ep_unit_rules.specs.Sets.{are_all_members, members_denoter, set_denoter}
 use Rattle.ep_unit_rules.specs.Types.{host_denoter}

@@ -6,7 +6,7 @@ use Rattle.ep_typed.specs.declared.unit.Unit.{Unit as TypedUnit}
 use Rattle.ep_check_expr.specs.Constants.{bound_judged}
 use Rattle.ep_rules.specs.Judgements.{Accepts}
 use Rattle.ep_expr_laws.specs.Laws.{BoundsAreSound, BoundsAreKnown, InitialStatesAreSound}
-use Rattle.ep_check_stmt.proofs.public.judged.Fits.{Fits, fits_both, fits_is}
+use Rattle.ep_stmt_rules.proofs.public.judged.Fits.{Fits, fits_both, fits_is}
 use Rattle.ep_check_unit.specs.Blocks.{Block}
 use Rattle.ep_check_unit.specs.Declarations.{denoter_part, range, scopes_of, settled_type, type_written}
 use Rattle.ep_check_unit.proofs.public.Denoters.{KeptByDenoters, each_type}

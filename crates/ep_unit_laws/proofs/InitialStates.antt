@@ -30,7 +30,7 @@ use Rattle.ep_rules.specs.Judgements.{Accepts, Breaks}
 use Rattle.ep_expr_laws.specs.Laws.{InitialStatesAreSound}
 use Rattle.ep_check_expr.specs.declared.constants.ConstantForm.{ConstantForm}
 use Rattle.ep_expr_laws.proofs.public.SameHost.{host_same}
-use Rattle.ep_check_stmt.proofs.public.judged.Fits.{Fits, fits_is, fits_then}
+use Rattle.ep_stmt_rules.proofs.public.judged.Fits.{Fits, fits_is, fits_then}
 use Rattle.ep_check_unit.specs.Blocks.{Block}
 use Rattle.ep_unit_rules.specs.declared.own.Enclosing.{Enclosing}
 use Rattle.ep_unit_rules.specs.InitialStates.{may_begin}

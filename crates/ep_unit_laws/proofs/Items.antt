@@ -22,7 +22,7 @@ use Rattle.ep_scope.specs.declared.thing.Declaration.TheVariants as declaration
 use Rattle.ep_scope.specs.declared.thing.Thing.TheVariants as thing
 use Rattle.ep_rules.specs.Judgements.{Judged, Accepts, Breaks, when_accepted}
 use Rattle.ep_expr_laws.specs.Laws.{BoundsAreKnown, BoundsAreSound, ConstantsAreKnown, ConstantsAreSound, InitialStatesAreSound}
-use Rattle.ep_check_stmt.proofs.public.judged.Fits.{Any, Fits, fits_any, fits_then}
+use Rattle.ep_stmt_rules.proofs.public.judged.Fits.{Any, Fits, fits_any, fits_then}
 use Rattle.ep_scope.specs.declared.rule.TheConstants as rule
 use Rattle.ep_unit_rules.specs.declared.types.TheConstants as limit
 use Rattle.ep_check_unit.specs.Declarations.{Standing, Stands, Falls, Written, all_variables_declared, and_then, at_line, constant_definition, constants_declared, declaration_ended, is_outermost, new_variable, own_thing, settled_type, unless_large, type_definition, type_definitions, type_entered, type_written, unused, variable_declaration, variable_entered, variables_declared, variables_entered, with_name, with_own_variable, with_type, with_unit_variable, with_variable}

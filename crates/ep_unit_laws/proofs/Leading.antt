@@ -7,7 +7,7 @@ use Rattle.ep_typed.specs.declared.unit.Unit.{Unit as TypedUnit}
 use Rattle.ep_typed.specs.declared.unit.UnitVariable.{UnitVariable}
 use Rattle.ep_scope.specs.declared.thing.Thing.{Thing}
 use Rattle.ep_rules.specs.Judgements.{Judged, Accepts, Breaks, when_accepted}
-use Rattle.ep_check_stmt.proofs.public.judged.Fits.{Any, Fits, fits_any, fits_then}
+use Rattle.ep_stmt_rules.proofs.public.judged.Fits.{Any, Fits, fits_any, fits_then}
 use Rattle.ep_unit_rules.specs.Types.{type_denoter}
 use Rattle.ep_check_unit.specs.Declarations.{entered, noted, unused, with_name}
 use Rattle.ep_unit_rules.specs.Formals.{formal_of}

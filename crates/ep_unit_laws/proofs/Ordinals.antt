@@ -15,7 +15,7 @@ use Rattle.ep_scope.specs.declared.kind.Kind.TheVariants as kind
 use Rattle.ep_scope.specs.declared.parameter.TypeName.{TypeName}
 use Rattle.ep_scope.specs.declared.parameter.TypeName.TheVariants as type_name
 use Rattle.ep_rules.specs.Judgements.{Accepts, when_accepted}
-use Rattle.ep_check_stmt.proofs.public.judged.Fits.{Fits}
+use Rattle.ep_stmt_rules.proofs.public.judged.Fits.{Fits}
 use Rattle.ep_unit_rules.specs.OrdinalTypes.{ordinal_value, value_of}
 use Rattle.ep_unit_rules.specs.Types.{index_host}
 use Rattle.ep_check_unit.specs.Declarations.{Written, index_values}

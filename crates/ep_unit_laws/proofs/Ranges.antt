@@ -21,7 +21,7 @@ use Rattle.ep_scope.specs.declared.kind.Kind.TheVariants as kind
 use Rattle.ep_check_expr.specs.Constants.{constant_expression}
 use Rattle.ep_rules.specs.Judgements.{Accepts}
 use Rattle.ep_expr_laws.proofs.public.Passing.{IfForm}
-use Rattle.ep_check_stmt.proofs.public.judged.Fits.{Any, Fits, fits_any, fits_both, fits_then}
+use Rattle.ep_stmt_rules.proofs.public.judged.Fits.{Any, Fits, fits_any, fits_both, fits_then}
 use Rattle.ep_unit_rules.specs.Variants.{Tag}
 use Rattle.ep_unit_rules.specs.Labels.{added, behind, end_judged, fitting, has_label, is_apart_from, label_taken, labels_taken, mislabelled, no_labels, range_judged, ranging, valued, variant_ended, variant_labelled}
 use Rattle.ep_unit_rules.specs.declared.labels.Labels.{Labels}

@@ -19,7 +19,7 @@ use Rattle.ep_scope.specs.declared.structure.FieldType.{FieldType}
 use Rattle.ep_scope.specs.declared.structure.StructuredType.{StructuredType}
 use Rattle.ep_expr_laws.specs.Agreement.{AreFieldValues, AreFields, IsFieldOf, IsFieldValue, Records}
 use Rattle.ep_rules.specs.Judgements.{Accepts, Breaks, when_accepted}
-use Rattle.ep_check_stmt.proofs.public.judged.Fits.{Fits, fits_then, fits_weaker}
+use Rattle.ep_stmt_rules.proofs.public.judged.Fits.{Fits, fits_then, fits_weaker}
 use Rattle.ep_check_unit.specs.Blocks.{Block}
 use Rattle.ep_unit_rules.specs.Records.{Field, field_part, fields_named, has_field, own_fields, record_field}
 use Rattle.ep_check_unit.specs.Declarations.{Fielded, ListJudged, Listed, Section, Written, field_of, plain_list, record_over, record_written, section_written, sections_written, settled_part}

@@ -34,9 +34,9 @@ use Rattle.ep_rules.specs.Judgements.{Judged, Accepts, Breaks}
 use Rattle.ep_expr_laws.specs.Agreement.{structures_of}
 use Rattle.ep_expr_laws.specs.Laws.{BoundsAreKnown, BoundsAreSound, ConstantsAreKnown, ConstantsAreSound, InitialStatesAreSound}
 use Rattle.ep_stmt_laws.specs.Laws.{StatementsAreSound}
-use Rattle.ep_check_stmt.specs.Statements.{Judgement, Passes, Waits, Fails}
+use Rattle.ep_stmt_rules.specs.Statements.{Judgement, Passes, Waits, Fails}
 use Rattle.ep_stmt_laws.proofs.public.judged.Auxiliaries.{bounded_there, members_there}
-use Rattle.ep_check_stmt.proofs.public.judged.Fits.{Fits, fits_then}
+use Rattle.ep_stmt_rules.proofs.public.judged.Fits.{Fits, fits_then}
 use Rattle.ep_unit_rules.specs.Own.{around_of, own_count, result_count}
 use Rattle.ep_check_unit.specs.Blocks.{Block, RoutineForm, routine_form}
 use Rattle.ep_unit_rules.specs.Types.{type_denoter}

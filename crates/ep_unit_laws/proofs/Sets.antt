@@ -22,7 +22,7 @@ use Rattle.ep_scope.specs.declared.parameter.TypeName.TheVariants as type_name
 use Rattle.ep_scope.specs.declared.rule.TheConstants as rule
 use Rattle.ep_rules.specs.Hosts.{typed_host}
 use Rattle.ep_rules.specs.Judgements.{Accepts, Breaks, when_accepted}
-use Rattle.ep_check_stmt.proofs.public.judged.Fits.{Fits, fits_is, fits_then}
+use Rattle.ep_stmt_rules.proofs.public.judged.Fits.{Fits, fits_is, fits_then}
 use Rattle.ep_check_unit.specs.Blocks.{Block}
 use Rattle.ep_unit_rules.specs.OrdinalTypes.{ordinal_value, value_of}
 use Rattle.ep_unit_rules.specs.Sets.{are_members}

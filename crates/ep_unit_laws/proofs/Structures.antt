@@ -5,7 +5,7 @@ use Rattle.std.specs.Prelude.{if◌then◌else◌}
 use Rattle.ep_typed.specs.declared.unit.Unit.{Unit as TypedUnit}
 use Rattle.ep_scope.specs.declared.structure.StructuredType.{StructuredType}
 use Rattle.ep_rules.specs.Judgements.{Accepts}
-use Rattle.ep_check_stmt.proofs.public.judged.Fits.{Fits, fits_then, fits_weaker}
+use Rattle.ep_stmt_rules.proofs.public.judged.Fits.{Fits, fits_then, fits_weaker}
 use Rattle.ep_check_unit.specs.Blocks.{Block}
 use Rattle.ep_check_unit.specs.Declarations.{Part, Written, settled, settled_part, with_structure}
 use Rattle.ep_unit_laws.proofs.Holds.{Holds, HoldsStructuredType}

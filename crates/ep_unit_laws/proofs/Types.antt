@@ -44,7 +44,7 @@ use Rattle.ep_expr_laws.specs.Laws.{BoundsAreSound, BoundsAreKnown}
 use Rattle.ep_rules.specs.Names.{undeclared}
 use Rattle.ep_check_expr.specs.declared.constants.ConstantForm.{ConstantForm}
 use Rattle.ep_expr_laws.proofs.public.SameHost.{host_same}
-use Rattle.ep_check_stmt.proofs.public.judged.Fits.{Fits, fits_is, fits_pair, fits_then}
+use Rattle.ep_stmt_rules.proofs.public.judged.Fits.{Fits, fits_is, fits_pair, fits_then}
 use Rattle.ep_unit_rules.specs.Types.{subrange_nodes, common_host, host_denoter, number_in, ordered, required_host, subrange_denoter, type_denoter}
 use Rattle.ep_check_unit.specs.Declarations.{Written, declared_type, enumerated, enumeration, next_enumeration, next_type, noted, range, scopes_of, subrange, type_meant, type_named, with_type, written_type}
 use Rattle.ep_check_unit.specs.Blocks.{Block}

@@ -18,9 +18,9 @@ use Rattle.ep_unit_laws.proofs.Auxiliaries.{AreBehind, auxiliaries_of, for_auxil
 use Rattle.ep_scope.specs.Scopes.{depth_in}
 use Rattle.ep_expr_laws.specs.Agreement.{AgreesBy, structures_of}
 use Rattle.ep_stmt_laws.specs.Laws.{ResultsAreThere, StatementsAreSound}
-use Rattle.ep_check_stmt.specs.Statements.{Judgement, Passes, Waits, Fails, after}
+use Rattle.ep_stmt_rules.specs.Statements.{Judgement, Passes, Waits, Fails, after}
 use Rattle.ep_stmt_laws.proofs.public.judged.Auxiliaries.{bounded_there, members_there}
-use Rattle.ep_check_stmt.proofs.public.judged.Fits.{Fits}
+use Rattle.ep_stmt_rules.proofs.public.judged.Fits.{Fits}
 use Rattle.ep_check_unit.specs.Declarations.{Standing, Stands, Falls, and_then, at_line, scopes_of}
 use Rattle.ep_check_unit.specs.Functions.{assigned_functions}
 use Rattle.ep_check_unit.specs.Routines.{context_of, locals_of, parts_declared, statements_judged}

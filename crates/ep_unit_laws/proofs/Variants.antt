@@ -33,7 +33,7 @@ use Rattle.ep_scope.specs.declared.structure.FieldType.{FieldType}
 use Rattle.ep_expr_laws.specs.Agreement.{AreFieldValues, HasTagValue, IsFieldOf, IsFieldValue, Selects}
 use Rattle.ep_rules.specs.Hosts.{typed_host}
 use Rattle.ep_rules.specs.Judgements.{Accepts, Breaks, when_accepted}
-use Rattle.ep_check_stmt.proofs.public.judged.Fits.{Any, Fits, fits_any, fits_then, fits_weaker}
+use Rattle.ep_stmt_rules.proofs.public.judged.Fits.{Any, Fits, fits_any, fits_then, fits_weaker}
 use Rattle.ep_check_unit.specs.Blocks.{Block}
 use Rattle.ep_unit_rules.specs.OrdinalTypes.{value_of}
 use Rattle.ep_unit_rules.specs.Records.{Field, field_part, own_fields, record_field}

@@ -39,10 +39,10 @@ use Rattle.ep_check_expr.specs.Expressions.{name_judged}
 use Rattle.ep_rules.specs.Judgements.{Accepts, Typed, when_accepted}
 use Rattle.ep_rules.specs.Names.{is_nothing}
 use Rattle.ep_check_expr.specs.Shapes.{field_first}
-use Rattle.ep_check_stmt.specs.Statements.{Context, Opened, RecordNamed, block_variable, none_opened, one_opened, record_accessed, record_made, record_of_kind, record_opened, records_opened}
-use Rattle.ep_check_stmt.specs.Tags as tags
-use Rattle.ep_check_stmt.specs.declared.tags.Reached.{Reached}
-use Rattle.ep_check_stmt.proofs.public.judged.Fits.{Fits, fits_then}
+use Rattle.ep_stmt_rules.specs.Statements.{Context, Opened, RecordNamed, block_variable, none_opened, one_opened, record_accessed, record_made, record_of_kind, record_opened, records_opened}
+use Rattle.ep_stmt_rules.specs.Tags as tags
+use Rattle.ep_stmt_rules.specs.declared.tags.Reached.{Reached}
+use Rattle.ep_stmt_rules.proofs.public.judged.Fits.{Fits, fits_then}
 use Rattle.ep_stmt_laws.proofs.judged.Reached.{IsReached, IsVariable, access_reached, never_both}
 
 -- ---- scopes whose open records all have the same variable

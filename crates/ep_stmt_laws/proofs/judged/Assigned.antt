@@ -22,10 +22,10 @@ use Rattle.ep_rules.specs.Judgements.{Accepts, both, when_accepted}
 use Rattle.ep_rules.specs.Operators.{map_both}
 use Rattle.ep_check_expr.specs.Shapes.{field_first}
 use Rattle.ep_expr_laws.proofs.public.Passing.{IfForm}
-use Rattle.ep_check_stmt.specs.Statements.{At, Context, FunctionResult, Locals, Receiver, TagOf, Target, assigned, assignment, declared_target, field_target_of, function_target, has_result, place_named, tag_target, target_judged, value_judged, target_of_selectors, variable_target}
-use Rattle.ep_check_stmt.specs.Tags as tags
-use Rattle.ep_check_stmt.specs.declared.tags.Reached.{Reached}
-use Rattle.ep_check_stmt.proofs.public.judged.Fits.{Any, Fits, fits_any, fits_both, fits_then}
+use Rattle.ep_stmt_rules.specs.Statements.{At, Context, FunctionResult, Locals, Receiver, TagOf, Target, assigned, assignment, declared_target, field_target_of, function_target, has_result, place_named, tag_target, target_judged, value_judged, target_of_selectors, variable_target}
+use Rattle.ep_stmt_rules.specs.Tags as tags
+use Rattle.ep_stmt_rules.specs.declared.tags.Reached.{Reached}
+use Rattle.ep_stmt_rules.proofs.public.judged.Fits.{Any, Fits, fits_any, fits_both, fits_then}
 use Rattle.ep_stmt_laws.proofs.judged.Reached.{IsReached, IsVariable, access_reached}
 
 -- it is a tag, or none

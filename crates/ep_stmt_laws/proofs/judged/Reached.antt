@@ -59,9 +59,9 @@ use Rattle.ep_check_expr.proofs.public.Selected.{index-given}
 use Rattle.ep_check_expr.proofs.public.Keeping.{if-satisfies}
 use Rattle.ep_check_expr.proofs.public.Nodes.{indexes-judged}
 use Rattle.ep_check_expr.proofs.public.Plain.{applied_one-plain, applied_two-plain, deep-plain}
-use Rattle.ep_check_stmt.specs.Tags as tags
-use Rattle.ep_check_stmt.specs.declared.tags.Reached.{Reached}
-use Rattle.ep_check_stmt.proofs.public.judged.Fits.{Any, Fits, fits_any, fits_both, fits_then}
+use Rattle.ep_stmt_rules.specs.Tags as tags
+use Rattle.ep_stmt_rules.specs.declared.tags.Reached.{Reached}
+use Rattle.ep_stmt_rules.proofs.public.judged.Fits.{Any, Fits, fits_any, fits_both, fits_then}
 
 -- it is no variable
 abbrev pub IsNoVariable : accessing.Access → Type 0

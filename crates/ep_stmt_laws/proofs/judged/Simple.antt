@@ -21,8 +21,8 @@ use Rattle.ep_check_expr.specs.Expressions.{given}
 use Rattle.ep_rules.specs.Functions.{Given}
 use Rattle.ep_rules.specs.Judgements.{Accepts}
 use Rattle.ep_expr_laws.proofs.public.Passing.{IfForm}
-use Rattle.ep_check_stmt.specs.Statements.{Context, available, call_judged, declared_called, file_given, items_judged, name_called, own_called, procedure_called, required_called, something, to_file, usually_written, write_judged, written, written_or}
-use Rattle.ep_check_stmt.proofs.public.judged.Fits.{Any, Fits, fits_any, fits_both, fits_then}
+use Rattle.ep_stmt_rules.specs.Statements.{Context, available, call_judged, declared_called, file_given, items_judged, name_called, own_called, procedure_called, required_called, something, to_file, usually_written, write_judged, written, written_or}
+use Rattle.ep_stmt_rules.proofs.public.judged.Fits.{Any, Fits, fits_any, fits_both, fits_then}
 
 -- the statement is one of these
 abbrev pub IsSimple : Stmt → Type 0

@@ -37,8 +37,8 @@ use Rattle.ep_expr_laws.proofs.public.Meant.{IsMeant, meant-declared}
 use Rattle.ep_expr_laws.proofs.public.Passing.{IfForm, given-fits, set-fits, structured-fits}
 use Rattle.ep_expr_laws.proofs.public.Places.{structured-place}
 use Rattle.ep_stmt_laws.specs.Laws.{IsResultAt, ResultsAreThere, AuxiliariesAreThere}
-use Rattle.ep_check_stmt.specs.Statements.{Context, FunctionResult, Target, assigned, declared_target, function_target, has_result, place_named, asked_of, target_judged, value_judged, target_of_selectors, variable_target, At, Locals, Receiver, TagOf, assignment, field_target_of, tag_target}
-use Rattle.ep_check_stmt.proofs.public.judged.Fits.{Any, Fits, fits_any, fits_both, fits_then}
+use Rattle.ep_stmt_rules.specs.Statements.{Context, FunctionResult, Target, assigned, declared_target, function_target, has_result, place_named, asked_of, target_judged, value_judged, target_of_selectors, variable_target, At, Locals, Receiver, TagOf, assignment, field_target_of, tag_target}
+use Rattle.ep_stmt_rules.proofs.public.judged.Fits.{Any, Fits, fits_any, fits_both, fits_then}
 
 -- an assignment is valid where the auxiliary variables are there, if it has the first one
 abbrev pub IsAssigned : Declarations → Locals → Stmt → Type 0

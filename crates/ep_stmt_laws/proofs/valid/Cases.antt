@@ -31,10 +31,10 @@ use Rattle.ep_expr_laws.specs.Laws.{LabelsAreSound}
 use Rattle.ep_check_expr.specs.declared.constants.ConstantForm.{ConstantForm}
 use Rattle.ep_expr_laws.proofs.public.Passing.{IfForm}
 use Rattle.ep_expr_laws.proofs.public.SameHost.{host_same}
-use Rattle.ep_check_stmt.specs.Cases.{CaseSelector, added, arms_taken, at_least_one, end_judged, fitting, label_taken, labelled, labels_taken, no_labels, own_ranges, range_judged, ranges_formed, ranging}
-use Rattle.ep_check_stmt.specs.Statements.{ArmJudged, Context, Judgement, after, arm_row, arms_in_order, at_item, behind, case_row}
-use Rattle.ep_check_stmt.specs.declared.cases.Labels.{Labels}
-use Rattle.ep_check_stmt.proofs.public.judged.Fits.{Fits, fits_both, fits_then}
+use Rattle.ep_stmt_rules.specs.Cases.{CaseSelector, added, arms_taken, at_least_one, end_judged, fitting, label_taken, labelled, labels_taken, no_labels, own_ranges, range_judged, ranges_formed, ranging}
+use Rattle.ep_stmt_rules.specs.Statements.{ArmJudged, Context, Judgement, after, arm_row, arms_in_order, at_item, behind, case_row}
+use Rattle.ep_stmt_rules.specs.declared.cases.Labels.{Labels}
+use Rattle.ep_stmt_rules.proofs.public.judged.Fits.{Fits, fits_both, fits_then}
 use Rattle.ep_stmt_laws.proofs.valid.Passing.{FitsRow, after_fits, behind_fits, fits_if, form_if, item_fits}
 use Rattle.ep_stmt_laws.proofs.valid.Sound.{Agreed, ArmsAreSound, IsSound, OtherIsSound, agrees_in, behind_withs, first_part, second_part}
 use Rattle.std.proofs.lemmas.Bool.{and_parts}

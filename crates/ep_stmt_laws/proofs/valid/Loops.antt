@@ -26,8 +26,8 @@ use Rattle.ep_rules.specs.Operators.{map_both}
 use Rattle.ep_expr_laws.proofs.public.Meant.{IsMeant, meant-declared}
 use Rattle.ep_expr_laws.proofs.public.Passing.{IfForm, given-fits, set-fits}
 use Rattle.ep_stmt_laws.specs.Laws.{AuxiliariesAreThere, MembersAreThere}
-use Rattle.ep_check_stmt.specs.Statements.{Context, Counted, ForHead, Locals, MemberHead, Named, Under, at_item, bound_judged, bounds_judged, control_if, control_judged, control_named, counted_by, declared_control, declares_own, declares_variable, for_head, for_in_judged, for_judged, head_threat, is_threatened_in, member_head, member_threat, members_judged, set_judged, unless_threatened_in, unless_threatening}
-use Rattle.ep_check_stmt.proofs.public.judged.Fits.{Fits, fits_both, fits_then}
+use Rattle.ep_stmt_rules.specs.Statements.{Context, Counted, ForHead, Locals, MemberHead, Named, Under, at_item, bound_judged, bounds_judged, control_if, control_judged, control_named, counted_by, declared_control, declares_own, declares_variable, for_head, for_in_judged, for_judged, head_threat, is_threatened_in, member_head, member_threat, members_judged, set_judged, unless_threatened_in, unless_threatening}
+use Rattle.ep_stmt_rules.proofs.public.judged.Fits.{Fits, fits_both, fits_then}
 use Rattle.ep_stmt_laws.proofs.valid.Passing.{FitsRow, after_fits, fits_if, item_fits, unthreatening_fits}
 use Rattle.ep_stmt_laws.proofs.valid.Sound.{Agreed, AgreedIn, IsSound, agrees_in}
 

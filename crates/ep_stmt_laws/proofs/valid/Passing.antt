@@ -7,8 +7,8 @@ use Rattle.ep_scope.specs.declared.rule.TheConstants as rule
 use Rattle.ep_rules.specs.Judgements.{Judged, Accepts, Breaks}
 use Rattle.ep_expr_laws.proofs.public.Passing.{IfForm}
 use Rattle.ep_typed.specs.declared.unit.UnitVariable.{UnitVariable}
-use Rattle.ep_check_stmt.specs.Statements.{Context, Judgement, Passes, Waits, Fails, after, at_item, behind, formed, unless_threatening, waiting}
-use Rattle.ep_check_stmt.proofs.public.judged.Fits.{Fits}
+use Rattle.ep_stmt_rules.specs.Statements.{Context, Judgement, Passes, Waits, Fails, after, at_item, behind, formed, unless_threatening, waiting}
+use Rattle.ep_stmt_rules.proofs.public.judged.Fits.{Fits}
 
 -- what passes has the property
 abbrev pub FitsRow : {A : Type 0} → (A → Type 0) → Judgement A → Type 0

@@ -10,8 +10,8 @@ use Rattle.ep_scope.specs.declared.structure.StructuredType.{StructuredType}
 use Rattle.ep_scope.specs.Scopes.{Region, depth_in}
 use Rattle.ep_expr_laws.specs.Agreement.{Agrees, AgreesBy, TypeValues, structures_of}
 use Rattle.ep_stmt_laws.specs.Laws.{AuxiliariesAreThere, MembersAreThere, ResultsAreThere, WithIsThere, WithsAreThere}
-use Rattle.ep_check_stmt.specs.Statements.{Context, block_variable}
 use Rattle.ep_meaning.proofs.public.Lists.{get_behind, get_front}
+use Rattle.ep_stmt_rules.specs.Statements.{Context, block_variable}
 
 -- what holds where there is a line holds where there is one in a part
 first_of : (P : Type 0) (a b : Option ℕ) → ((line : ℕ) → option_or a b ≡ Some line → P) → (line : ℕ) → a ≡ Some line → P

@@ -47,10 +47,10 @@ use Rattle.ep_expr_laws.specs.Laws.{ArgumentsAreSound, ExpressionsAreSound, Labe
 use Rattle.ep_expr_laws.proofs.public.Meant.{IsMeant, meant-declared}
 use Rattle.ep_check_expr.proofs.public.Nodes.{argument-judged, wide-judged}
 use Rattle.ep_expr_laws.proofs.public.Passing.{IfForm}
-use Rattle.ep_check_stmt.specs.Cases.{CaseSelector, labelled, selecting, selector_judged}
+use Rattle.ep_stmt_rules.specs.Cases.{CaseSelector, labelled, selecting, selector_judged}
 use Rattle.ep_stmt_laws.specs.Laws.{ResultsAreThere, StatementsAreSound}
-use Rattle.ep_check_stmt.specs.Statements.{ArmJudged, Context, Judgement, Passes, Shown, Under, after, arm_judged, arms_in_order, at_arm, at_compound, at_item, at_otherwise, at_statement, available, call_arguments, call_judged, case_judged, compound_under, condition, condition_judged, declared_called, expr_item, expr_threat, falls_by, file_given, formed, if_judged, in_order, item_form, item_judged, items_judged, measured, name_called, one_more, own_called, otherwise_judged, procedure_called, required_called, shown, something, statement_judged, stmt_item, stmt_threat, tested, to_file, unless_threatening, usually_written, width_judged, write_judged, written, written_or, Waits, Fails, Opened, behind, heads_threat, inside, none_opened, records_opened, with_judged}
-use Rattle.ep_check_stmt.proofs.public.judged.Fits.{Any, Fits, fits_any, fits_both, fits_is, fits_pair, fits_then, fits_weaker}
+use Rattle.ep_stmt_rules.specs.Statements.{ArmJudged, Context, Judgement, Passes, Shown, Under, after, arm_judged, arms_in_order, at_arm, at_compound, at_item, at_otherwise, at_statement, available, call_arguments, call_judged, case_judged, compound_under, condition, condition_judged, declared_called, expr_item, expr_threat, falls_by, file_given, formed, if_judged, in_order, item_form, item_judged, items_judged, measured, name_called, one_more, own_called, otherwise_judged, procedure_called, required_called, shown, something, statement_judged, stmt_item, stmt_threat, tested, to_file, unless_threatening, usually_written, width_judged, write_judged, written, written_or, Waits, Fails, Opened, behind, heads_threat, inside, none_opened, records_opened, with_judged}
+use Rattle.ep_stmt_rules.proofs.public.judged.Fits.{Any, Fits, fits_any, fits_both, fits_is, fits_pair, fits_then, fits_weaker}
 use Rattle.ep_stmt_laws.proofs.valid.Passing.{FitsRow, after_fits, behind_fits, fits_if, form_if, formed_fits, item_fits, unthreatening_fits}
 use Rattle.ep_stmt_laws.proofs.valid.Assignments.{IsAssigned, assignment_fits}
 use Rattle.ep_stmt_laws.proofs.valid.Loops.{for_fits, for_in_fits}

@@ -33,8 +33,8 @@ use Rattle.ep_expr_laws.proofs.public.Components.{fields-at}
 use Rattle.ep_expr_laws.proofs.public.Passing.{IfForm}
 use Rattle.ep_expr_laws.proofs.public.Places.{made_so, place_at, place_wider, structure_in-holds}
 use Rattle.ep_stmt_laws.specs.Laws.{WithIsThere, WithsAreThere}
-use Rattle.ep_check_stmt.specs.Statements.{Context, Opened, RecordNamed, block_variable, inside, none_opened, one_after, one_opened, record_accessed, record_made, record_of_kind, record_opened, records_opened, with_head}
-use Rattle.ep_check_stmt.proofs.public.judged.Fits.{Fits, fits_then}
+use Rattle.ep_stmt_rules.specs.Statements.{Context, Opened, RecordNamed, block_variable, inside, none_opened, one_after, one_opened, record_accessed, record_made, record_of_kind, record_opened, records_opened, with_head}
+use Rattle.ep_stmt_rules.proofs.public.judged.Fits.{Fits, fits_then}
 use Rattle.ep_stmt_laws.proofs.valid.Sound.{AgreedIn, IsSound, agrees_in}
 
 -- ---- records in a row

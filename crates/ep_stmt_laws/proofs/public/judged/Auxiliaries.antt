@@ -19,16 +19,16 @@ use Rattle.ep_scope.specs.Scopes.{Region}
 use Rattle.ep_scope.specs.declared.kind.Host.{Host}
 use Rattle.ep_rules.specs.Judgements.{Judged, Accepts, Breaks, both}
 use Rattle.ep_expr_laws.proofs.public.Passing.{IfForm}
-use Rattle.ep_check_stmt.specs.Auxiliaries.{arm_has, compound_has, has_for, has_for_in, in_arm, in_compound, in_otherwise, in_statement, is_bounded, is_over_members, otherwise_has, statement_has}
-use Rattle.ep_check_stmt.specs.Cases.{CaseSelector, own_ranges}
-use Rattle.ep_check_stmt.specs.Statements.{ArmJudged, Context, Counted, Judgement, Passes, Waits, Fails, Under, after, arm_judged, arm_row, arms_in_order, at_arm, at_compound, at_item, at_otherwise, at_statement, call_arguments, case_judged, compound_judged, compound_under, condition_judged, control_judged, expr_item, falls_by, for_in_judged, for_judged, formed, if_judged, in_order, otherwise_judged, statement_judged, stmt_item, stmt_threat, target_judged, value_judged, unless_threatening, assigned, Opened, behind, inside, none_opened, records_opened, with_judged}
-use Rattle.ep_check_stmt.specs.Tags as tags
+use Rattle.ep_stmt_rules.specs.Auxiliaries.{arm_has, compound_has, has_for, has_for_in, in_arm, in_compound, in_otherwise, in_statement, is_bounded, is_over_members, otherwise_has, statement_has}
+use Rattle.ep_stmt_rules.specs.Cases.{CaseSelector, own_ranges}
+use Rattle.ep_stmt_rules.specs.Statements.{ArmJudged, Context, Counted, Judgement, Passes, Waits, Fails, Under, after, arm_judged, arm_row, arms_in_order, at_arm, at_compound, at_item, at_otherwise, at_statement, call_arguments, case_judged, compound_judged, compound_under, condition_judged, control_judged, expr_item, falls_by, for_in_judged, for_judged, formed, if_judged, in_order, otherwise_judged, statement_judged, stmt_item, stmt_threat, target_judged, value_judged, unless_threatening, assigned, Opened, behind, inside, none_opened, records_opened, with_judged}
+use Rattle.ep_stmt_rules.specs.Tags as tags
 use Rattle.ep_threats.specs.Threats.{any_true}
-use Rattle.ep_check_stmt.specs.declared.auxiliaries.ForForm.{ForForm}
-use Rattle.ep_check_stmt.specs.declared.auxiliaries.ForForm.TheVariants as form
+use Rattle.ep_stmt_rules.specs.declared.auxiliaries.ForForm.{ForForm}
+use Rattle.ep_stmt_rules.specs.declared.auxiliaries.ForForm.TheVariants as form
 use Rattle.ep_stmt_laws.proofs.judged.Alike.{Alike, opened_alike, same_tag}
 use Rattle.ep_stmt_laws.proofs.judged.Assigned.{AssignsTag, assignment_assigns}
-use Rattle.ep_check_stmt.proofs.public.judged.Fits.{Any, Fits, fits_weaker}
+use Rattle.ep_stmt_rules.proofs.public.judged.Fits.{Any, Fits, fits_weaker}
 use Rattle.ep_stmt_laws.proofs.judged.Simple.{IsSimple, called_simple}
 use Rattle.ep_stmt_laws.proofs.valid.Passing.{FitsRow, after_fits, behind_fits, formed_fits, item_fits, unthreatening_fits}
 

@@ -6,12 +6,13 @@ use Rattle.ep_built.specs.Built.{arm_unbuilt, first_in, statement_unbuilt}
 use Rattle.ep_typed.specs.Viewed.{arm_of, expr_of, other_of, stmt_of}
 use Rattle.ep_typed.specs.Trees.{Arms, Entire, Stmt, Stmts}
 use Rattle.ep_rules.specs.Judgements.{Accepts}
-use Rattle.ep_check_stmt.specs.Answers.{AnswersRow, arms_of, context_of, counted_of, head_of, heads_of, labels_of, member_head_of, numbered, opened_of, passed, selector_of}
+use Rattle.ep_check_stmt.specs.Contexts.{context_of}
+use Rattle.ep_stmt_rules.specs.Answers.{AnswersRow, arms_of, counted_of, head_of, heads_of, labels_of, member_head_of, numbered, opened_of, passed, selector_of}
 use Rattle.ep_threats.specs.Variables.{entire_of}
-use Rattle.ep_check_stmt.specs.Cases.{selector_judged}
-use Rattle.ep_check_stmt.specs.Statements.{Context, Judgement, arm_judged, arm_row, arms_in_order, at_item, condition_judged, control_judged, else_judged, expr_item, in_order, none_opened, other_judged, records_opened, statement_judged}
+use Rattle.ep_stmt_rules.specs.Cases.{selector_judged}
+use Rattle.ep_stmt_rules.specs.Statements.{Context, Judgement, arm_judged, arm_row, arms_in_order, at_item, condition_judged, control_judged, else_judged, expr_item, in_order, none_opened, other_judged, records_opened, statement_judged}
 use Rattle.ep_check_stmt.proofs.CaseParts.{all_arms, arms_more, case_is, less_arms, more_arms, rest_judged, selector_falls}
-use Rattle.ep_check_stmt.proofs.public.judged.Rounds.{rest_built}
+use Rattle.ep_stmt_rules.proofs.public.judged.Rounds.{rest_built}
 use Rattle.ep_check_stmt.proofs.Branches.{call_is, else_rest, for_in_is, for_is, if_is, opened_falls, other_built, repeat_is, then_built, while_is, with_is}
 use Rattle.ep_check_stmt.proofs.BuiltParts.{body_built, end_built, inner_built, opened_built, records_built, set_built, start_built, target_built, turn_built, value_built}
 use Rattle.ep_check_stmt.proofs.Rows.{all_together, assignment_is, item_answers, less_together, more_together, statements_more}

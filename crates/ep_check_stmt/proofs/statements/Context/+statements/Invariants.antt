@@ -1,9 +1,10 @@
 use Rattle.std.proofs.Common.{◌≡◌, None, map, drop}
 use Rattle.ep_built.specs.Built.{arm_unbuilt, first_in, statement_unbuilt}
 use Rattle.ep_typed.specs.Viewed.{arm_of, stmt_of}
-use Rattle.ep_check_stmt.specs.Answers.{context_of, numbered}
+use Rattle.ep_check_stmt.specs.Contexts.{context_of}
+use Rattle.ep_stmt_rules.specs.Answers.{numbered}
 use Rattle.ep_threats.specs.Variables.{entire_of}
-use Rattle.ep_check_stmt.specs.Statements.{arm_judged, arms_in_order, in_order, statement_judged}
+use Rattle.ep_stmt_rules.specs.Statements.{arm_judged, arms_in_order, in_order, statement_judged}
 use Rattle.ep_check_stmt.proofs.CaseParts.{arms_together}
 use Rattle.ep_check_stmt.proofs.Rows.{together}
 use Rattle.ep_check_stmt.proofs.statements.Context.+statements.Given as goal

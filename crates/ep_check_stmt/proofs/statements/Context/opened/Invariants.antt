@@ -1,7 +1,8 @@
 use Rattle.std.proofs.Common.{◌≡◌, None, map, drop}
 use Rattle.ep_built.specs.Built.{access_unbuilt, first_in}
-use Rattle.ep_check_stmt.specs.Answers.{context_of, opened_of}
-use Rattle.ep_check_stmt.specs.Statements.{none_opened, records_opened}
+use Rattle.ep_check_stmt.specs.Contexts.{context_of}
+use Rattle.ep_stmt_rules.specs.Answers.{opened_of}
+use Rattle.ep_stmt_rules.specs.Statements.{none_opened, records_opened}
 use Rattle.ep_check_stmt.proofs.statements.Context.opened.Given as goal
 
 abbrev pub invariant-loop-access : goal.invariant-loop-access

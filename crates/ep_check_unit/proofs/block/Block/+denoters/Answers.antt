@@ -2,7 +2,7 @@ use Rattle.std.proofs.Common.{◌≡◌, Some, map, sym, ap, ◌∙◌}
 use Rattle.std.specs.Option.{option_map}
 use Rattle.std.proofs.lemmas.Result.{err_from_is_err_and}
 use Rattle.ep_built.specs.Built.{field_section_unbuilt, plain_unbuilt}
-use Rattle.ep_check_stmt.proofs.public.judged.Rounds.{rest_built}
+use Rattle.ep_stmt_rules.proofs.public.judged.Rounds.{rest_built}
 use Rattle.ep_rules.specs.Judgements.{Accepts, when_accepted}
 use Rattle.ep_unit_rules.specs.Answers.{tag_in}
 use Rattle.ep_check_unit.specs.Answers.{fields_in, gathered_in, labelled_in, listed_in, named_in, written_in}

@@ -1,5 +1,5 @@
 use Rattle.std.proofs.Common.{◌≡◌, ◌++◌, drop, map}
-use Rattle.ep_check_stmt.specs.Answers.{result_of}
+use Rattle.ep_stmt_rules.specs.Answers.{result_of}
 use Rattle.ep_check_unit.specs.Functions.{assigned_functions}
 use Rattle.ep_check_unit.proofs.block.Block.assigned_functions.Given as goal
 

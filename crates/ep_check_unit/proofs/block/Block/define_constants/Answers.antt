@@ -1,6 +1,6 @@
 use Rattle.std.proofs.Common.{refl}
 use Rattle.ep_built.specs.Built.{constant_unbuilt}
-use Rattle.ep_check_stmt.proofs.public.judged.Rounds.{rest_built}
+use Rattle.ep_stmt_rules.proofs.public.judged.Rounds.{rest_built}
 use Rattle.ep_check_unit.specs.Blocks.{block_of}
 use Rattle.ep_check_unit.specs.Declarations.{constant_definition, constants_declared}
 use Rattle.ep_check_unit.proofs.Rounds.{item_falls, item_stands}

@@ -1,3 +1,0 @@
--- What the proofs of ep_check_stmt offer to other crates, all else in proofs/ being private to the crate:
--- what is accepted and what is refused where items follow each other.
-pub mod judged

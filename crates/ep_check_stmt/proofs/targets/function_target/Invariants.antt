@@ -1,7 +1,0 @@
-use Rattle.std.proofs.Common.{◌≡◌, drop, map}
-use Rattle.ep_check_stmt.specs.Answers.{result_of}
-use Rattle.ep_check_stmt.specs.Statements.{function_target}
-use Rattle.ep_check_stmt.proofs.targets.function_target.Given as goal
-
-abbrev pub invariant-loop-function : goal.invariant-loop-function
-invariant-loop-function l = function_target l.depth l.unit l.declared (map result_of (drop l.function-index l.results)) ≡ function_target l.depth l.unit l.declared (map result_of l.results)

@@ -1,0 +1,6 @@
+pub mod Answers
+pub mod Auxiliaries
+pub mod Cases
+pub mod Outcomes
+pub mod Statements
+pub mod Tags
