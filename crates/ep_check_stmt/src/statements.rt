@@ -25,12 +25,12 @@ use ep_scope::{
     meaning_of, rule,
 };
 use ep_stmt_rules::{
-    Counted, FunctionResult, Locals, Opened, Outcome, Row, Target, arm_form,
-    assigned, behind_arm, behind_arms, behind_statement, behind_then, call_arguments, case_form,
-    component_rule, compound_form, control_named, counted_by, denoted, falls_by, for_form,
-    for_in_form, head, identifier, if_form, is_threatened_in, item_at, member_head, named_record,
-    named_target, no_otherwise, one_more, otherwise_form, own_ranges, refused_at, repeat_form,
-    selector, tested, unless_head_threatens, unless_member_threatens, unless_places_threaten,
+    Counted, FunctionResult, Locals, Opened, Outcome, Row, Target, arm_form, assigned, behind_arm,
+    behind_arms, behind_statement, behind_then, call_arguments, case_form, component_rule,
+    compound_form, control_named, counted_by, denoted, falls_by, for_form, for_in_form, head,
+    identifier, if_form, is_threatened_in, item_at, member_head, named_record, named_target,
+    no_otherwise, one_more, otherwise_form, own_ranges, refused_at, repeat_form, selector, tested,
+    unless_head_threatens, unless_member_threatens, unless_places_threaten,
     unless_statement_threatens, unless_value_threatens, while_form, with_form, write_to,
 };
 use ep_threats::{Entire, Routines};
