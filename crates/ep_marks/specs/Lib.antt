@@ -1,0 +1,4 @@
+pub mod Marks
+pub mod Productions
+pub mod Styles
+pub mod Texts
