@@ -2,4 +2,5 @@ mod Branches
 mod BuiltParts
 mod Called
 mod CaseParts
+mod Openings
 mod Rows
