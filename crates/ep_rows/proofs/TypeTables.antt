@@ -1,11 +1,13 @@
 -- Which number a type has, for src/type_table.rt.
-use Rattle.std.proofs.Common.{◌≡◌, ℕ, zero, suc, ◌+◌, Bool, true, false, List, [], ◌∷◌, ◌++◌, length, take, ◌<◌, Option, None, Some, cond, position, refl, sym, ap, ◌∙◌, arith}
+use Rattle.std.proofs.Common.{◌≡◌, ℕ, zero, suc, ◌+◌, Bool, true, false, List, [], ◌∷◌, ◌++◌, length, take, ◌<◌, Option, None, Some, cond, position, slice_get, get_or, subst, ℤ, refl, sym, ap, ◌∙◌, arith}
 use Rattle.std.specs.Prelude.{IfSome, nat_lt, if◌then◌else◌}
 use Rattle.std.specs.List.{list_any, position_or_len}
 use Rattle.std.proofs.lemmas.Bool.Decides.{nat_tests}
 use Rattle.ep_object.specs.State.{TypeTable}
-use Rattle.ep_object.specs.Types.{same_entry, entry_number}
+use Rattle.ep_object.specs.Types.{same_entry, entry_number, ordinal_entry}
 use Rattle.ep_object.specs.declared.state.TypeEntry.{TypeEntry}
+use Rattle.ep_rows.specs.Notes.{AllNoted}
+use Rattle.ep_rows.specs.declared.type_table.Note.{Note}
 
 less_by_one : (m n : ℕ) → nat_lt (1 + m) (suc n) ≡ false → nat_lt m n ≡ false
 less_by_one m n h = grind (arith, nat_tests)
@@ -75,3 +77,17 @@ absent p xs h = by (nat_lt (position_or_len p xs) (length xs)) refl
 pub entered : (types : TypeTable) (e : TypeEntry) → entry_number e types ≡ None
     → (if list_any (same_entry e) types then types else types ++ e ∷ []) ≡ types ++ e ∷ []
 entered types e h = ap (λ c. if c then types else types ++ e ∷ []) (absent (same_entry e) types h)
+
+-- ---- what a note says
+
+found : (notes : List Note) (i : ℕ) (d : Note) → i < length notes → slice_get notes i ≡ Some (get_or notes i d)
+found [] i d h = absurd (omega (arith, h))
+found (x ∷ xs) zero d h = refl
+found (x ∷ xs) (suc i) d h = found xs i d (omega (arith, h))
+
+pub noted_at : (notes : List Note) (types : TypeTable) (i : ℕ) (d x : Note) (lo hi : ℤ) → AllNoted notes types → i < length notes → x ≡ get_or notes i d → x.low ≡ lo → x.high ≡ hi
+    → x.number < 4294967295 → entry_number (ordinal_entry lo hi) types ≡ Some x.number
+noted_at notes types i d x lo hi all within is low high less =
+    let has : slice_get notes i ≡ Some x = found notes i d within ∙ ap (λ n. Some n) (sym is) in
+    let number : entry_number (ordinal_entry x.low x.high) types ≡ Some x.number = all i x has less in
+    subst (λ l. entry_number (ordinal_entry l hi) types ≡ Some x.number) low (subst (λ h. entry_number (ordinal_entry x.low h) types ≡ Some x.number) high number)

@@ -1,5 +1,6 @@
 pub mod Meeting
 pub mod Members
+pub mod Notes
 pub mod Parts
 pub mod Printing
 pub mod Records

@@ -1,7 +1,7 @@
 //! The types that are met, each once, under their numbers. Which number a type has is found by hash.
 
 ghost use Rattle.std.specs.Prelude.{◌≡◌, ◌<◌, ◌∷◌, ◌++◌, [], length, Some, None, IfSome, OnOk, OnErr};
-ghost use Rattle.ep_object.specs.Types.{entry_number};
+ghost use Rattle.ep_object.specs.Types.{entry_number, ordinal_entry};
 
 use ep_base::NoMemory;
 use ep_object::TypeEntry;
@@ -22,22 +22,55 @@ fn number_in_front(entry: &TypeEntry, types: &[TypeEntry]) -> Option<usize>
     types.iter().take(FRONT).position(|e| *entry == *e)
 }
 
-/// The types that were met, in the order in which they were.
+/// How many ordinal types are noted.
+const NOTES: usize = 16;
+
+/// The number of a note of no type.
+const NONE: u32 = u32::MAX;
+
+/// The number of an ordinal type.
+#[derive(Clone, Copy, Drop)]
+pub struct Note {
+    /// Its lower bound.
+    pub low: i64,
+    /// Its upper bound.
+    pub high: i64,
+    /// The number.
+    pub number: u32,
+}
+
+/// Where an ordinal type is noted, if it is.
+#[inline(always)]
+fn note_place(low: i64, high: i64) -> usize
+    ensures { result < 16 }
+{
+    low.wrapping_add(high).rem_euclid(16) as usize
+}
+
+/// The types that were met, in the order in which they were. The numbers of some ordinal types are noted, since most
+/// variables are made with a type whose bounds are constants, and such a type is met again at each of them.
 pub struct TypeTable {
     entries: IndexSet<TypeEntry>,
+    notes: [Note; NOTES],
 }
 
 impl Model for TypeTable {
     ghost use Rattle.ep_object.specs.State.{TypeTable as Entries};
+    ghost use Rattle.ep_rows.specs.Notes.{AllNoted};
 
     ghost Value = { Entries };
 
     ghost view = { λ t. t.entries.keys };
+
+    ghost invariant = { λ t. AllNoted t.notes t.entries.keys };
 }
 
 impl Drop for TypeTable {
     fn drop(self) {
-        let TypeTable { entries: _ } = self;
+        let TypeTable {
+            entries: _,
+            notes: _,
+        } = self;
     }
 }
 
@@ -48,7 +81,35 @@ impl TypeTable {
     {
         TypeTable {
             entries: IndexSet::new(alloc),
+            notes: [Note {
+                low: 0,
+                high: 0,
+                number: NONE,
+            }; NOTES],
         }
+    }
+
+    /// The number of an ordinal type, if it is noted.
+    #[inline(always)]
+    pub fn noted(&self, low: i64, high: i64) -> Option<u32>
+        ensures { IfSome result (λ number. entry_number (ordinal_entry low high) self.now ≡ Some number) }
+    {
+        let Some(note) = self.notes.get(note_place(low, high)) else {
+            return None;
+        };
+        if note.low == low && note.high == high && note.number < NONE {
+            Some(note.number)
+        } else {
+            None
+        }
+    }
+
+    /// The number of an ordinal type is noted.
+    pub fn note(&mut self, low: i64, high: i64, number: u32)
+        requires { entry_number (ordinal_entry low high) self.old ≡ Some number }
+        ensures { self.new ≡ self.old }
+    {
+        self.notes[note_place(low, high)] = Note { low, high, number };
     }
 
     /// The types by number.

@@ -197,6 +197,37 @@ fn ordinal_entry(lo: i64, hi: i64) -> TypeEntry
     plain(Kind::Ord(lo, hi), 1)
 }
 
+/// The number that the ordinal type with two bounds has, or a new one.
+#[inline(always)]
+fn meet_ordinal(lo: i64, hi: i64, types: &mut TypeTable, memory: &mut Memory) -> Result<usize, Step>
+    ensures met { IsMet (ordinal lo hi) types.old memory.old result types.new memory.new }
+    ensures small { IfOk result (λ number. number < 2 ^ 63) }
+    ensures segments { memory.new.segments ≡ memory.old.segments }
+{
+    if let Some(number) = types.noted(lo, hi) {
+        return Ok(number as usize);
+    }
+    meet_other(lo, hi, types, memory)
+}
+
+/// The same of one that is not noted yet.
+#[inline(never)]
+fn meet_other(lo: i64, hi: i64, types: &mut TypeTable, memory: &mut Memory) -> Result<usize, Step>
+    ensures met { IsMet (ordinal lo hi) types.old memory.old result types.new memory.new }
+    ensures small { IfOk result (λ number. number < 2 ^ 63) }
+    ensures segments { memory.new.segments ≡ memory.old.segments }
+{
+    let entry = ordinal_entry(lo, hi);
+    let count = types.entries().len();
+    let Some(number) = types.number_of(&entry) else {
+        return add(entry, count, types, memory);
+    };
+    if let Ok(small) = u32::try_from(number) {
+        types.note(lo, hi, small);
+    }
+    Ok(number)
+}
+
 /// The ordinal type with two bounds.
 #[inline(always)]
 pub fn ord(types: &mut TypeTable, memory: &mut Memory, stack: &mut Stack) -> Step
@@ -209,7 +240,10 @@ pub fn ord(types: &mut TypeTable, memory: &mut Memory, stack: &mut Stack) -> Ste
             if lo > hi {
                 return Step::Error(run_error::OUTSIDE_DOMAIN);
             }
-            intern(ordinal_entry(lo, hi), types, memory, stack)
+            match meet_ordinal(lo, hi, types, memory) {
+                Ok(number) => words::push_word(stack, number as i64),
+                Err(step) => step,
+            }
         }
         None => Step::Broken,
     }
