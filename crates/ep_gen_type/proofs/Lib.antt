@@ -1,4 +1,4 @@
 mod InitialStates
+mod KnownHosts
 pub mod public
 mod TypeForms
-mod TypeNames

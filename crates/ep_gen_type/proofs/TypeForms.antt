@@ -1,8 +1,7 @@
 -- The code of a type, from that of its parts.
-use Rattle.std.proofs.Common.{◌≡◌, ◌∙◌, ℕ, ℤ, pos, zero, suc, ◌+◌, ◌-◌, ◌<◌, ◌≤◌, true, false, ltb, List, [], ◌∷◌, ◌++◌, length, map, take, Some, None, slice_get, get_or, append-nil, append_assoc, refl, sym, ap, subst, arith, rules}
+use Rattle.std.proofs.Common.{◌≡◌, ◌∙◌, ℕ, ℤ, pos, suc, ◌+◌, ◌<◌, true, false, List, [], ◌∷◌, ◌++◌, length, map, take, Some, get_or, append-nil, append_assoc, refl, sym, ap, subst, rules}
 use Rattle.std.specs.Bool.{◌==◌}
 use Rattle.std.proofs.lemmas.List.{nil_from_length}
-use Rattle.std.proofs.lemmas.Option.{slice_get_past, slice_get_read}
 use Rattle.ep_gen_code.specs.Referring.{type_reference}
 use Rattle.ep_gen_code.specs.Instructions.{bare, instr, members_code, push}
 use Rattle.ep_gen_code.specs.Growth.{Grows}
@@ -11,29 +10,17 @@ use Rattle.std.proofs.lemmas.List.{map_more, take_more}
 use Rattle.ep_gen_code.proofs.public.Growing.{grows_at, grows_none}
 use Rattle.ep_gen_expr.specs.ExprCode.{begin_code, end_code, first_code, first_index, ranges_code, reach_code}
 use Rattle.ep_gen_type.specs.TypeCode.{each_code, how_many, ordinal_code, part_code, parts_code, start_code, type_code}
-use Rattle.std.specs.Prelude.{Bool, is_some}
-use Rattle.ep_typed.specs.Denoters.{found_of, host_within}
 use Rattle.ep_typed.specs.Trees as tree
-use Rattle.ep_typed.specs.Viewed.{bound_of, components_of, denoter_of, denoter_step, field_of, field_step, part_step, selector_of, selector_step, variant_of, variant_part_step, variant_step, variants_of}
+use Rattle.ep_typed.specs.Viewed.{bound_of, components_of, denoter_step, field_of, field_step, part_step, selector_of, selector_step, variant_of, variant_part_step, variant_step, variants_of}
 use Rattle.ep_typed.specs.declared.denoter.Denoter.TheFolds.{fold-roll-FieldPart, fold-roll-VariantPart}
 use Rattle.ep_typed.specs.declared.denoter.FieldPart.{FieldPart, fold-FieldPart, out-FieldPart, roll-FieldPart, roll-out-FieldPart}
 use Rattle.ep_typed.specs.declared.denoter.VariantPart.{VariantPart, fold-VariantPart, out-VariantPart, roll-VariantPart, roll-out-VariantPart}
 use Rattle.ep_typed.specs.declared.denoter.Bound.{Bound}
-use Rattle.ep_typed.specs.declared.unit.UnitType.{UnitType}
 use Rattle.ep_typed.specs.declared.tree.CaseRange.{CaseRange}
 use Rattle.ep_object.specs.declared.op.TheConstants as op
 
 pub grows_ordinal : {a b c d : Code} (low high : ℤ) → Grows a b (push a.line low ∷ []) → Grows b c (push b.line high ∷ []) → Grows c d (bare c.line op.T_ORD ∷ []) → Grows a d (ordinal_code a.line low high)
 grows_ordinal low high p q r = grows_at (λ l. bare l op.T_ORD ∷ []) (grows_at (λ l. push l high ∷ []) p q) r
-
--- a test of `get` that was passed, and one that was not
-pub found : {X : Type 0} (xs : List X) (i : ℕ) (x : X) → true ≡ ltb i (length xs) → x ≡ get_or xs i x → slice_get xs i ≡ Some x
-found xs i x less is =
-    let within : i < length xs = search rules in slice_get_read xs (length xs) i x refl within is
-
-missing : {X : Type 0} (xs : List X) (i : ℕ) → false ≡ ltb i (length xs) → slice_get xs i ≡ None
-missing xs i past =
-    let behind : length xs ≤ i = search rules in slice_get_past xs i behind
 
 -- a list of which a test says that it is empty
 empty : {X : Type 0} (xs : List X) → true ≡ (length xs == 0) → xs ≡ []
@@ -127,25 +114,6 @@ pub variants_some : (part : VariantPart) (x : FieldPart) → (out-VariantPart pa
 variants_some part x is =
     ap (fold-VariantPart tree.Denoter tree.Denoter (List tree.Denoter) tree.Denoter tree.Denoter (List tree.Denoter) denoter_step selector_step part_step field_step variant_step variant_part_step) (sym (roll-out-VariantPart part) ∙ ap (λ o. roll-VariantPart (record { selector = (out-VariantPart part).selector; variants = (out-VariantPart part).variants; completing = o })) is)
     ∙ fold-roll-VariantPart tree.Denoter tree.Denoter (List tree.Denoter) tree.Denoter tree.Denoter (List tree.Denoter) denoter_step selector_step part_step field_step variant_step variant_part_step (record { selector = (out-VariantPart part).selector; variants = (out-VariantPart part).variants; completing = Some x })
-
--- ---- the host of a name
-
--- no definition has it
-pub no_host : (types : List UnitType) (left k : ℕ) (tuple : List Bound) → true ≡ (length tuple == 0) → false ≡ ltb k (length types) → false ≡ is_some (host_within types (suc left) (tree.Named k (map bound_of tuple)))
-no_host types left k tuple none past =
-    subst (λ bs. false ≡ is_some (host_within types (suc left) (tree.Named k (map bound_of bs)))) (sym (empty tuple none))
-    (subst (λ o. false ≡ is_some (found_of (host_within types left) o)) (sym (missing types k past)) refl)
-
--- it is that of the definition
-pub by_host : (types : List UnitType) (left k : ℕ) (tuple : List Bound) (t : UnitType) (b : Bool) → 1 ≤ left → true ≡ (length tuple == 0) → slice_get types k ≡ Some t → b ≡ is_some (host_within types (suc (left - 1)) (denoter_of t.entry.denoter))
-    → b ≡ is_some (host_within types (suc left) (tree.Named k (map bound_of tuple)))
-by_host types zero k tuple t b le none is h = absurd (omega (arith, le))
-by_host types (suc left) k tuple t b le none is h =
-    subst (λ bs. b ≡ is_some (host_within types (suc (suc left)) (tree.Named k (map bound_of bs)))) (sym (empty tuple none))
-    (subst (λ o. b ≡ is_some (found_of (host_within types (suc left)) o)) (sym is) (subst (λ n. b ≡ is_some (host_within types (suc n) (denoter_of t.entry.denoter))) one_less h))
-  where
-    one_less : suc left - 1 ≡ left
-    one_less = omega arith
 
 -- ---- initial states that are sets
 

@@ -1,1 +1,2 @@
+pub mod Ordinals
 pub mod TypeCode

@@ -8,6 +8,8 @@
 //! are in ep_gen_unit.
 #![tactic(auto)]
 
+mod ordinals;
 mod types;
 
-pub use types::{elaborate, is_ordinal};
+pub use ordinals::OrdinalTypes;
+pub use types::elaborate;

@@ -1,6 +1,6 @@
 //! The code that elaborates types (ISO 10206, 6.4.1).
 
-ghost use Rattle.std.specs.Prelude.{◌≡◌, [], ◌∷◌, IfOk, OnOk, suc, is_some, length, map, Some};
+ghost use Rattle.std.specs.Prelude.{◌≡◌, [], ◌∷◌, IfOk, OnOk, length, map, Some};
 ghost use Rattle.ep_typed.specs.Denoters as denoters;
 ghost use Rattle.ep_typed.specs.Trees.{denoters as in_order, elements, Array, AtField, AtRanges, Initial, Named, Record, Set, SetConstant, Structured};
 ghost use Rattle.ep_typed.specs.Viewed.{bound_of, components_of, constant_expr, denoter_of, element_of, expr_of, field_of, selector_of, variant_of, variants_of};
@@ -15,7 +15,7 @@ use ep_gen_expr::{
 use ep_object::op;
 use ep_typed::{
     Bound, CaseRange, Denoter, Element, FieldPart, RecordField, RequiredType, Selector, TypedExpr,
-    UnitType, Value, Variant, VariantPart,
+    Value, Variant, VariantPart,
 };
 
 /// Appends the code that elaborates a denoter and leaves the type. What has no type value has no meaning and no code.
@@ -309,42 +309,6 @@ fn variants_count(part: &VariantPart) -> Result<u32, NoMemory>
         Some(_) => 1,
     };
     place_number(1 + count as u64 + completing)
-}
-
-/// Whether a denoter is that of an ordinal type, in which names are those of this list of types.
-pub fn is_ordinal(types: &[UnitType], denoter: &Denoter) -> bool
-    ensures { result ≡ is_some (denoters.host_of types.now (denoter_of denoter.now)) }
-{
-    is_ordinal_within(types, types.len(), denoter)
-}
-
-/// The same where behind a name at most so many others are followed.
-#[cycle(hosts)]
-fn is_ordinal_within(types: &[UnitType], left: usize, denoter: &Denoter) -> bool
-    ensures { result ≡ is_some (denoters.host_within types.now (suc left) (denoter_of denoter.now)) }
-{
-    match denoter {
-        Denoter::Required(_) => true,
-        Denoter::Named(index, tuple) => is_ordinal_name(types, left, *index, tuple.items()),
-        Denoter::Subrange(host, _, _) => is_ordinal_within(types, left, host.get()),
-        Denoter::Enumeration(names) => !names.items().is_empty(),
-        Denoter::Array(_, _) | Denoter::Record(_) | Denoter::Set(_) => false,
-        Denoter::Initial(of, _) => is_ordinal_within(types, left, of.get()),
-    }
-}
-
-/// Whether the definition behind a name is of an ordinal type, where another name may be followed.
-#[cycle(hosts)]
-fn is_ordinal_name(types: &[UnitType], left: usize, number: u32, tuple: &[Bound]) -> bool
-    ensures { result ≡ is_some (denoters.host_within types.now (suc left) (Named number (map bound_of tuple.now))) }
-{
-    if left == 0 || !tuple.is_empty() {
-        return false;
-    }
-    match types.get(number as usize) {
-        None => false,
-        Some(t) => is_ordinal_within(types, left - 1, &t.entry.denoter),
-    }
 }
 
 /// Appends the code that leaves a required type.

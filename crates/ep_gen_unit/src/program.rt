@@ -6,6 +6,7 @@ ghost use Rattle.ep_gen_unit.specs.StmtCode.{function_end, result_code, make_cod
 ghost use Rattle.ep_gen_unit.specs.StmtGrowth.{AppendsArrays, AppendsEnd, AppendsFill, AppendsShuffle, AppendsStart, AppendsRoutine, AppendsRoutines, AppendsSwap, AppendsType, AppendsTypes, Follows, IsCompact, MakesBlock, MakesOwn, MakesResult, assembled};
 ghost use Rattle.ep_typed.specs.Auxiliaries.{block_auxiliaries, with_variables};
 ghost use Rattle.ep_typed.specs.Denoters.{host_of};
+ghost use Rattle.ep_gen_type.specs.Ordinals.{Knows};
 ghost use Rattle.ep_meaning.specs.Meaning.{line_where};
 ghost use Rattle.ep_typed.specs.Viewed.{denoter_of, stmt_of};
 ghost use Rattle.ep_gen_unit.specs.UnitCode.{IsProgramCode, routine_at};
@@ -17,7 +18,7 @@ use crate::statements::statement_code;
 use ep_base::{Line, List, Name, NoMemory};
 use ep_gen_code::{Code, NO_LINE, SWAP, emit, field_number, next_place};
 use ep_gen_expr::apply_binary;
-use ep_gen_type::{elaborate, is_ordinal};
+use ep_gen_type::{OrdinalTypes, elaborate};
 use ep_object::{CodeRoutine, CodeRoutines, Object, op};
 use ep_typed::{
     Denoter, Formal, FormalMode, TypedStmt, Unit, UnitRoutine, UnitType, UnitVariable,
@@ -255,8 +256,9 @@ fn routines_code(
     ensures { IfOk result (λ entries. AppendsRoutines code.old code.new types.now routines.now entries) }
 {
     let mut entries = List::new(alloc);
+    let ordinals = OrdinalTypes::of(alloc, types)?;
     for routine in routines {
-        let entry = routine_code(alloc, types, routine, code)?;
+        let entry = routine_code(alloc, types, &ordinals, routine, code)?;
         entries.push(entry)?;
     }
     Ok(entries)
@@ -266,9 +268,11 @@ fn routines_code(
 fn routine_code(
     alloc: Global,
     types: &[UnitType],
+    ordinals: &OrdinalTypes,
     routine: &UnitRoutine,
     code: &mut Code,
 ) -> Result<CodeRoutine, NoMemory>
+    requires { Knows types.now ordinals.now }
     ensures { IfOk result (λ entry. AppendsRoutine code.old code.new types.now routine.now entry) }
 {
     let formals = routine.formals.items();
@@ -277,7 +281,7 @@ fn routine_code(
     take_all(routine.line, formals, code)?;
     let slots = make_own(alloc, routine, code)?;
     statement_code(alloc, &routine.block, code)?;
-    end_routine(types, routine, arguments, code)?;
+    end_routine(types, ordinals, routine, arguments, code)?;
     Ok(routine_at(entry, arguments, slots))
 }
 
@@ -352,10 +356,12 @@ fn make_result(routine: &UnitRoutine, code: &mut Code) -> Result<u32, NoMemory>
 /// Appends the code with which a routine ends. A function has its result in the variable of this number.
 fn end_routine(
     types: &[UnitType],
+    ordinals: &OrdinalTypes,
     routine: &UnitRoutine,
     number: u32,
     code: &mut Code,
 ) -> Result<(), NoMemory>
+    requires { Knows types.now ordinals.now }
     ensures { OnOk result (AppendsEnd code.old code.new types.now routine.now number) }
 {
     match &routine.result {
@@ -365,7 +371,7 @@ fn end_routine(
         }
         Some(result) => {
             code.line = routine.line;
-            end_function(types, &result.denoter, number, code)
+            end_function(types, ordinals, &result.denoter, number, code)
         }
     }
 }
@@ -373,14 +379,16 @@ fn end_routine(
 /// Appends the code with which a function with a result of this denoter ends.
 fn end_function(
     types: &[UnitType],
+    ordinals: &OrdinalTypes,
     denoter: &Denoter,
     number: u32,
     code: &mut Code,
 ) -> Result<(), NoMemory>
+    requires { Knows types.now ordinals.now }
     ensures { OnOk result (Grows code.old code.new (function_end
         (host_of types.now (denoter_of denoter.now)) code.old.line number (length code.old.instructions))) }
 {
-    if is_ordinal(types, denoter) {
+    if ordinals.has(types, denoter) {
         return give_result(number, code);
     }
     emit(code, op::SLOT, number as i64, 0)?;

@@ -10,5 +10,5 @@ use Rattle.ep_gen_unit.proofs.program.end_function.Goals as goal
 pub returns : goal.returns
 returns c =
     let slot = to_z_pos w64 c.args.number (omega (arith, c.ranges.number.fits)) in
-    let none : is_some (host_of c.args.types.now (denoter_of c.args.denoter.now)) ≡ false = sym c.if-is_ordinal.ensures in
+    let none : is_some (host_of c.args.types.now (denoter_of c.args.denoter.now)) ≡ false = sym c.if-has.ensures in
     on_ok c.emit-3.result (grows_whole (host_of c.args.types.now (denoter_of c.args.denoter.now)) c.args.number none (rw slot at c.in_ok-emit.ensures) c.in_ok-emit-2.ensures) c.emit-3.ensures
