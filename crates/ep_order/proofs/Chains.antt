@@ -1,12 +1,12 @@
 -- Lists of which each element is in a relation to the next, such lists that are closed to a ring, and lists of which no
 -- element stands twice.
-use Rattle.std.proofs.Common.{◌≡◌, ℕ, ◌+◌, List, [], ◌∷◌, ◌++◌, map, reverse, take, drop, slice_get, Some, ◌⊎◌, inl, inr, refl, sym, subst, ◌∙◌, ap, append_assoc, append-nil}
+use Rattle.std.proofs.Common.{◌≡◌, ℕ, ◌+◌, List, [], ◌∷◌, ◌++◌, map, reverse, take, drop, slice_get, Some, inl, inr, sym, subst, ◌∙◌, ap, append_assoc, append-nil}
 use Rattle.std.specs.List.{Contains}
 use Rattle.std.proofs.lemmas.List.{reverse-append, take-append-drop}
-use Rattle.std.proofs.lemmas.List.Elements.{Contains-push_cases, Contains-append_right}
+use Rattle.std.proofs.lemmas.List.Elements.{Contains-push_cases}
 use Rattle.std.proofs.lemmas.List.Sorted.{Contains-permutation, IsPermutation-reverse, IsPermutation-sym}
 use Rattle.ep_order.specs.Circles.{Follows, IsApart}
-use Rattle.ep_order.proofs.Lists.{contains_none, contains_first, contains_more, contains_cases, contains_map_back, drop_at}
+use Rattle.ep_order.proofs.Lists.{contains_none, contains_first, contains_more, contains_map_back, drop_at}
 
 reverse_more : {X : Type 0} (x : X) (xs : List X) → reverse (x ∷ xs) ≡ reverse xs ++ x ∷ []
 reverse_more x xs = reverse-append (x ∷ []) xs

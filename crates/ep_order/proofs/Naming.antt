@@ -1,5 +1,5 @@
 -- Units by their places in a list, and by their names in its system.
-use Rattle.std.proofs.Common.{◌≡◌, ℕ, ◌<◌, false, true, List, [], ◌∷◌, length, map, Some, get_or, slice_get, refl, sym, subst, ◌∙◌, ap}
+use Rattle.std.proofs.Common.{◌≡◌, ℕ, ◌<◌, false, true, List, length, Some, get_or, slice_get, refl, sym, subst, ◌∙◌, ap}
 use Rattle.std.specs.List.{All, Contains}
 use Rattle.std.proofs.lemmas.Option.{same_Some, slice_get_within, slice_get_read}
 use Rattle.ep_order.specs.declared.dependent.Dependent.{Dependent}
@@ -98,3 +98,9 @@ program_read units place unit p read = ap (λ (u : Dependent). u.is_program) (sa
 
 pub module_read : (units : List Dependent) (place : ℕ) (unit : Dependent) → IsModuleAt units place → unit ≡ get_or units place unit → unit.is_program ≡ false
 module_read units place unit m read = (unit_at units place unit m read).1
+
+-- a unit that stands at a place is the one that is read there
+pub read_is : (units : List Dependent) (k place : ℕ) (stands unit : Dependent) → StandsAt units k stands → k ≡ place → unit ≡ get_or units place unit → stands ≡ unit
+read_is units k place stands unit at e read =
+    let here : StandsAt units place stands = subst (λ p. StandsAt units p stands) e at in
+    same_Some stands unit (sym here ∙ stands_read units place unit (slice_get_within units place stands here) read)

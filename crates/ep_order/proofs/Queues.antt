@@ -1,18 +1,17 @@
 -- For `Queue`: what is kept when a module is put in.
-use Rattle.std.proofs.Common.{◌≡◌, ◌≢◌, ℕ, ◌<◌, ◌≤◌, ◌+◌, Bool, true, false, cond, List, [], ◌∷◌, ◌++◌, length, get_or, slice_get, slice_set, Option, None, Some, ◌⊎◌, inl, inr, refl, sym, subst, ◌∙◌, ap, arith}
+use Rattle.std.proofs.Common.{◌≡◌, ◌≢◌, ℕ, ◌<◌, ◌≤◌, Bool, true, false, cond, List, [], ◌∷◌, ◌++◌, length, get_or, slice_get, slice_set, Some, ◌⊎◌, inl, inr, refl, sym, subst, ◌∙◌, ap, arith}
 use Rattle.std.specs.List.{All, Contains}
 use Rattle.std.specs.Str.{bytes_eq}
 use Rattle.std.specs.Cmp.Lexicographic.{bytes_decides}
 use Rattle.std.specs.declared.vec.Vec.{Vec}
 use Rattle.std.specs.declared.alloc.Global.{Global}
 use Rattle.std.proofs.lemmas.Option.{slice_get-get_or, slice_get_within, same_Some}
-use Rattle.std.proofs.lemmas.Grind.{common_steps}
 use Rattle.std.proofs.lemmas.List.Elements.{Contains-push, Contains-push_cases, Contains-append_left, All-contains}
 use Rattle.ep_order.specs.declared.dependent.Dependent.{Dependent}
 use Rattle.ep_order.specs.declared.queue.Waiter.{Waiter}
 use Rattle.ep_order.specs.declared.queue.Queue.{Queue}
 use Rattle.ep_order.specs.Dependents.{StandsAt, IsModuleAt, IsSystem, name_at, name_of}
-use Rattle.ep_order.specs.Placings.{SuppliesAt, IsReadyAt, ArePlacedBefore}
+use Rattle.ep_order.specs.Placings.{IsReadyAt, ArePlacedBefore}
 use Rattle.ep_order.specs.Queues.{ready_under, Waits, IsWaiter, IsSound, IsKept}
 use Rattle.ep_order.proofs.Lists.{set_same, set_other, length-set, same_or_not}
 

@@ -1,5 +1,5 @@
 -- For `Queue`: a module is taken out and placed, and those that wait for it go on.
-use Rattle.std.proofs.Common.{◌≡◌, ◌≢◌, ℕ, ◌<◌, ◌≤◌, ◌+◌, Bool, true, false, cond, List, [], ◌∷◌, ◌++◌, length, drop, slice_get, slice_set, Option, None, Some, ◌⊎◌, inl, inr, refl, sym, subst, ◌∙◌, ap, arith}
+use Rattle.std.proofs.Common.{◌≡◌, ◌≢◌, ℕ, ◌≤◌, ◌+◌, Bool, true, false, cond, List, [], ◌∷◌, ◌++◌, length, drop, slice_get, slice_set, None, Some, ◌⊎◌, inl, inr, refl, sym, subst, ◌∙◌, ap}
 use Rattle.std.specs.List.{Contains}
 use Rattle.std.specs.Str.{bytes_eq}
 use Rattle.std.specs.Cmp.Lexicographic.{bytes_decides}
@@ -12,8 +12,8 @@ use Rattle.ep_order.specs.declared.dependent.Dependent.{Dependent}
 use Rattle.ep_order.specs.declared.queue.Waiter.{Waiter}
 use Rattle.ep_order.specs.declared.queue.Queue.{Queue}
 use Rattle.ep_order.specs.Systems.{IsUpTo}
-use Rattle.ep_order.specs.Dependents.{StandsAt, IsModuleAt, IsSystem, name_at}
-use Rattle.ep_order.specs.Placings.{SuppliesAt, IsReadyAt, IsPlacing, IsStuck, ArePlacedBefore}
+use Rattle.ep_order.specs.Dependents.{IsModuleAt, IsSystem, name_at}
+use Rattle.ep_order.specs.Placings.{SuppliesAt, IsReadyAt, IsPlacing, IsStuck}
 use Rattle.ep_order.specs.Queues.{ready_under, Waits, IsWaiter, IsSound, IsKept, IsWhole, IsWoken, IsTaken}
 use Rattle.ep_order.proofs.Lists.{set_same, set_other, length-set, same_or_not, contains_at, contains_none, contains_cases, drop_at}
 use Rattle.ep_order.proofs.Naming.{one_place}

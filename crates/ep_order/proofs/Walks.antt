@@ -1,5 +1,5 @@
 -- Walks from units to suppliers of theirs, and the circles at their ends.
-use Rattle.std.proofs.Common.{◌≡◌, ℕ, ◌<◌, ◌+◌, Bool, true, false, ◌⊎◌, arith, List, [], ◌∷◌, ◌++◌, length, map, reverse, take, drop, get_or, slice_get, Some, inl, inr, refl, sym, subst, ◌∙◌, ap}
+use Rattle.std.proofs.Common.{◌≡◌, ℕ, ◌<◌, ◌+◌, Bool, true, false, ◌⊎◌, arith, List, [], ◌∷◌, ◌++◌, length, reverse, take, drop, get_or, slice_get, Some, inl, inr, sym, subst, ◌∙◌, ap}
 use Rattle.std.specs.List.{All, Contains}
 use Rattle.std.specs.Ordering.{is_lt, nat_cmp}
 use Rattle.std.specs.declared.cmp.Ordering.{Ordering}

@@ -1,5 +1,5 @@
 -- Circles of units that supply one another.
-use Rattle.std.specs.Prelude.{◌≡◌, ℕ, List, [], ◌∷◌, ◌++◌}
+use Rattle.std.specs.Prelude.{ℕ, List, [], ◌∷◌, ◌++◌}
 use Rattle.std.specs.List.{All, Contains}
 use Rattle.ep_order.specs.Systems.{NamedUnit, Supplies, IsUpTo}
 

@@ -1,6 +1,6 @@
 -- Systems as the linker has them, where a unit names its suppliers by their places in the list of units.
-use Rattle.std.specs.Prelude.{◌≡◌, ℕ, ◌<◌, ◌^◌, false, true, List, [], ◌∷◌, map, length, Option, Some, None, slice_get}
-use Rattle.std.specs.List.{All, Contains}
+use Rattle.std.specs.Prelude.{◌≡◌, ℕ, ◌<◌, ◌^◌, false, true, List, [], map, length, Option, Some, None, slice_get}
+use Rattle.std.specs.List.{All}
 use Rattle.ep_order.specs.declared.dependent.Dependent.{Dependent}
 use Rattle.ep_order.specs.declared.dependent.Activation.{Activation}
 use Rattle.ep_order.specs.declared.dependent.Activation.TheVariants.{Ordered, Circle}

@@ -6,3 +6,4 @@ pub mod Places
 pub mod Placings
 pub mod Queues
 pub mod Laws
+pub mod Tests

@@ -18,3 +18,6 @@ mod queue;
 pub use dependent::{Activation, Dependent};
 pub use laws::laws_of_activation;
 pub use order::activation_order;
+
+#[cfg(test)]
+mod tests;

@@ -1,6 +1,6 @@
 -- There is one order at most, and none where there is a circle.
-use Rattle.std.proofs.Common.{◌≡◌, ℕ, Bool, true, false, List, [], ◌∷◌, ◌++◌, ◌⊎◌, inl, inr, refl, sym, subst, ◌∙◌, ap, append_assoc, append-nil}
-use Rattle.std.specs.List.{All, Contains}
+use Rattle.std.proofs.Common.{◌≡◌, ℕ, true, false, List, [], ◌∷◌, ◌++◌, inl, inr, refl, sym, subst, ◌∙◌, ap, append_assoc, append-nil}
+use Rattle.std.specs.List.{Contains}
 use Rattle.std.specs.Ordering.{is_gt, is_lt, is_eq, nat_cmp, ordering_reverse}
 use Rattle.std.specs.declared.cmp.Ordering.{Ordering}
 use Rattle.std.specs.declared.cmp.Ordering.TheVariants.{Less, Equal, Greater}
@@ -8,9 +8,9 @@ use Rattle.std.specs.Cmp.Lexicographic.{slice_cmp, bytes_decides}
 use Rattle.std.proofs.lemmas.Cmp.{nat_list_cmp_total, upto, tied_itself}
 use Rattle.std.proofs.lemmas.Map.Text.{is_eq-slice_cmp}
 use Rattle.std.proofs.lemmas.List.Elements.{All-contains, Contains-push, Contains-push_cases, Contains-append_left}
-use Rattle.ep_order.specs.Systems.{NamedUnit, IsModule, IsProgram, Supplies, IsUpTo}
-use Rattle.ep_order.specs.Orders.{IsReady, IsNext, EachIsNext, IsOrder}
-use Rattle.ep_order.specs.Circles.{Follows, IsApart, IsCircle}
+use Rattle.ep_order.specs.Systems.{NamedUnit, Supplies, IsUpTo}
+use Rattle.ep_order.specs.Orders.{IsReady, EachIsNext, IsOrder}
+use Rattle.ep_order.specs.Circles.{Follows, IsCircle}
 use Rattle.ep_order.proofs.Lists.{contains_none, contains_first, contains_more, contains_cases, contains_at, all_from}
 
 -- ---- the order of names

@@ -1,4 +1,4 @@
-use Rattle.std.proofs.Common.{◌≡◌, ◌<◌, get_or, length, inl, inr, sym, subst, arith}
+use Rattle.std.proofs.Common.{◌≡◌, get_or, inl, inr, subst, arith}
 use Rattle.ep_order.specs.Systems.{IsUpTo}
 use Rattle.ep_order.specs.Dependents.{name_at}
 use Rattle.ep_order.proofs.Lists.{default_same}

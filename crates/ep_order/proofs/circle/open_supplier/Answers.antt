@@ -3,7 +3,6 @@ use Rattle.std.specs.List.{Contains}
 use Rattle.std.proofs.lemmas.Option.{slice_get_within, get_or_from_slice_get}
 use Rattle.std.proofs.lemmas.List.Elements.{Contains-get_or}
 use Rattle.ep_order.specs.declared.dependent.Dependent.{Dependent}
-use Rattle.ep_order.specs.Placings.{SuppliesAt}
 use Rattle.ep_order.proofs.Naming.{unit_at, suppliers_within, supplier_module}
 use Rattle.ep_order.proofs.Queues.{ready_from}
 use Rattle.ep_order.proofs.circle.open_supplier.Goals as goal

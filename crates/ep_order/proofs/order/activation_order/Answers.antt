@@ -1,6 +1,6 @@
 use Rattle.std.proofs.Common.{sym, subst}
 use Rattle.std.specs.List.{Contains}
-use Rattle.ep_order.specs.Dependents.{names_at, system_of}
+use Rattle.ep_order.specs.Dependents.{system_of}
 use Rattle.ep_order.proofs.public.Laws.{circle_unordered}
 use Rattle.ep_order.proofs.order.activation_order.Goals as goal
 

@@ -1,4 +1,4 @@
-use Rattle.std.proofs.Common.{◌≡◌, length, sym, subst, ◌∙◌, arith}
+use Rattle.std.proofs.Common.{sym, subst, ◌∙◌, arith}
 use Rattle.ep_order.specs.Placings.{IsPlacing}
 use Rattle.ep_order.specs.Queues.{IsWoken}
 use Rattle.ep_order.proofs.Naming.{module_within}

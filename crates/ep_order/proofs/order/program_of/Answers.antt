@@ -1,4 +1,4 @@
-use Rattle.std.proofs.Common.{◌≡◌, ◌<◌, true, false, length, sym, ◌∙◌, below_more, arith}
+use Rattle.std.proofs.Common.{◌≡◌, true, false, sym, ◌∙◌, below_more, arith}
 use Rattle.std.proofs.lemmas.Option.{slice_get_within}
 use Rattle.ep_order.proofs.Naming.{program_read}
 use Rattle.ep_order.proofs.order.program_of.Goals as goal

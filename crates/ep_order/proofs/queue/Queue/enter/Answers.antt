@@ -1,14 +1,12 @@
-use Rattle.std.proofs.Common.{◌≡◌, ℕ, ◌<◌, false, get_or, slice_get, length, Some, refl, sym, subst, ap, ◌∙◌, arith}
+use Rattle.std.proofs.Common.{◌≡◌, ◌<◌, get_or, slice_get, length, Some, refl, sym, subst, ap, ◌∙◌, arith}
 use Rattle.std.specs.List.{Contains}
 use Rattle.std.specs.Vec.{with_item}
-use Rattle.std.proofs.lemmas.Option.{same_Some, slice_get_within, slice_get-get_or, get_or_from_slice_get, slice_get_read}
-use Rattle.std.proofs.lemmas.List.Elements.{All-get_or, All-contains}
+use Rattle.std.proofs.lemmas.Option.{same_Some, slice_get_within, slice_get-get_or, slice_get_read}
 use Rattle.std.proofs.lemmas.Map.Text.{btree_map_updates_str}
-use Rattle.ep_order.specs.Dependents.{StandsAt, name_at, name_of}
-use Rattle.ep_order.specs.Placings.{IsReadyAt, ArePlacedBefore}
-use Rattle.ep_order.specs.Queues.{IsWaiter}
+use Rattle.ep_order.specs.Dependents.{name_of}
+use Rattle.ep_order.specs.Placings.{ArePlacedBefore}
 use Rattle.ep_order.proofs.Naming.{unit_at, suppliers_within}
-use Rattle.ep_order.proofs.Queues.{ready_from, waiter_from, IsReadied, readied_sound, readied_kept, readied_entered, IsWaiting, waiting_sound, waiting_kept, waiting_entered}
+use Rattle.ep_order.proofs.Queues.{ready_from, waiter_from, readied_sound, readied_kept, readied_entered, waiting_sound, waiting_kept, waiting_entered}
 use Rattle.ep_order.proofs.queue.Queue.enter.Goals as goal
 
 pub first_open-requires-clause-within : goal.first_open-requires-clause-within

@@ -1,7 +1,6 @@
 -- What leaves is the least name, and the others keep their places.
-use Rattle.std.proofs.Common.{◌≡◌, ℕ, List, Some, IsSome, refl, sym, subst}
+use Rattle.std.proofs.Common.{IsSome, refl, sym, subst}
 use Rattle.std.proofs.lemmas.Map.Text.{btree_map_updates_str}
-use Rattle.ep_order.specs.Queues.{ready_under}
 use Rattle.ep_order.proofs.queue.Queue.next.Goals as goal
 
 pub returns-in-Some : goal.returns-in-Some

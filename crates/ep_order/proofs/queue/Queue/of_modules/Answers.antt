@@ -1,5 +1,5 @@
-use Rattle.std.proofs.Common.{◌≡◌, ◌<◌, ℕ, true, false, length, inl, inr, sym, subst, ◌∙◌, arith}
-use Rattle.ep_order.specs.Dependents.{IsModuleAt, StandsAt}
+use Rattle.std.proofs.Common.{◌≡◌, true, false, inl, inr, sym, subst, ◌∙◌, arith}
+use Rattle.ep_order.specs.Dependents.{IsModuleAt}
 use Rattle.ep_order.specs.Queues.{IsSound, IsKept}
 use Rattle.ep_order.proofs.Lists.{same_or_not}
 use Rattle.ep_order.proofs.Naming.{stands_read, module_read, module_within}
