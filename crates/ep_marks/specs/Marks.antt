@@ -1,5 +1,6 @@
 -- The marks of the tokens of a text: which of them start a line, and how deep each stands.
-use Rattle.std.specs.Prelude.{replicate, ℕ, zero, suc, ◌-◌, Bool, true, false, if◌then◌else◌, List, [], ◌∷◌, ◌++◌, length, map}
+use Rattle.std.specs.Prelude.{ℕ, zero, suc, ◌-◌, Bool, true, false, if◌then◌else◌}
+use Rattle.std.specs.Prelude.{List, [], ◌∷◌, ◌++◌, length, map, replicate}
 use Rattle.std.specs.Prelude.{Option, Some, None, Ok, Err}
 use Rattle.ep_token.specs.declared.token.Token.{Token}
 use Rattle.ep_grammar.specs.Classes.{Class, has, class_of}
@@ -45,7 +46,8 @@ by_step more (More x) = more
 by_step more (Last q) = λ i. []
 
 -- the marks of the steps of a row; the number bounds the turns, as in the reading of a row
-abbrev pub step_marks : {A B : Type 0} → List Class → Parser (Step A B) → (List Token → List Mark) → ℕ → List Token → List Mark
+abbrev pub step_marks :
+    {A B : Type 0} → List Class → Parser (Step A B) → (List Token → List Mark) → ℕ → List Token → List Mark
 step_marks cs step mark zero = λ i. []
 step_marks cs step mark (suc n) =
     λ i. if has cs (class_of i) then mark i ++ and_marks (step i) (by_step (step_marks cs step mark n)) else []

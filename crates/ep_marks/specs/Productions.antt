@@ -87,7 +87,8 @@ loop_statement = choice while_statement (choice repeat_statement (choice for_sta
 
 -- `stmt`
 abbrev pub statement : Style
-statement = choice plain (choice (plain & compound) (choice if_statement (choice case_statement (choice loop_statement plain))))
+statement =
+    choice plain (choice (plain & compound) (choice if_statement (choice case_statement (choice loop_statement plain))))
 
 -- ---- types
 
@@ -219,8 +220,9 @@ finalization = level (plain <* new_line <* plain & action)
 -- `[ "to" "begin" "do" stmt ";" ] [ "to" "end" "do" stmt ";" ]`
 abbrev pub actions : Style
 actions =
-    choice (level (plain <* new_line & choice (plain <* plain & action & optional finalization) (plain <* plain & action)))
-    plain
+    choice (
+    level (
+    plain <* new_line & choice (plain <* plain & action & optional finalization) (plain <* plain & action))) plain
 
 -- `modblock`
 abbrev pub block : Style

@@ -20,8 +20,11 @@ text_marks k ts = marks (inside_at k) (inner_at k) components grammar.components
 
 -- Each production has a style of its own forms, which overlooks nothing that has lines of its own.
 abbrev pub StylesFit : Type 0
-StylesFit = (fits components grammar.components ≡ true) × ((in_record : Bool) (n : Nonterminal) → fits (style in_record n) (rule n) ≡ true)
+StylesFit =
+    (fits components grammar.components ≡ true) ×
+    ((in_record : Bool) (n : Nonterminal) → fits (style in_record n) (rule n) ≡ true)
 
 -- A text that is derived has a mark for each of its tokens.
 abbrev pub EachTokenIsMarked : Type 0
-EachTokenIsMarked = (k : ℕ) (ts : List Token) (cs : List Component) → Grammar k ts cs → length (text_marks k ts) ≡ length ts
+EachTokenIsMarked =
+    (k : ℕ) (ts : List Token) (cs : List Component) → Grammar k ts cs → length (text_marks k ts) ≡ length ts
