@@ -14,7 +14,8 @@ AreBytes bytes = (i : ℕ) → get_or bytes i 0 < 256
 abbrev pub IsReadAgain : {A : Type 0} → (Position → Reading A) → List ℕ → A → Type 0
 IsReadAgain read spelled x =
     (place : ℕ) (rest : List ℕ)
-    → read (record { place = place; rest = spelled ++ rest }) ≡ Ok (x, record { place = place + length spelled; rest = rest })
+    → read (record { place = place; rest = spelled ++ rest })
+    ≡ Ok (x, record { place = place + length spelled; rest = rest })
 
 -- the field is spelled so, and stands between the two positions
 pub record Stood (p q : Position) (spelled : List ℕ) : Type 0 where

@@ -38,7 +38,8 @@ abbrev pub IsFirstOpen : List ℕ → List ℕ → ℕ → Type 0
 IsFirstOpen placed suppliers number = (supplier : ℕ) × (slice_get suppliers number ≡ Some supplier)
     × ¬ Contains placed supplier × ArePlacedBefore placed suppliers number
 
--- a walk from units to suppliers of theirs that has come to this place: no place of it stands twice, and all are modules
+-- a walk from units to suppliers of theirs that has come to this place: no place of it stands twice, and all are
+-- modules
 pub record IsWalk (units : List Dependent) (path : List ℕ) (place : ℕ) : Type 0 where
   pub apart : IsApart path
   pub modules : (other : ℕ) → Contains (path ++ place ∷ []) other → IsModuleAt units other

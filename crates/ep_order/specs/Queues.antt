@@ -61,5 +61,6 @@ pub record IsWoken (units : List Dependent) (placed : List ℕ) (queue : Queue) 
 pub record IsTaken (before after : Queue) (place : ℕ) (name : List ℕ) : Type 0 where
   pub was : ready_under before name ≡ Some place
   pub least : (other : List ℕ) (second : ℕ) → ready_under before other ≡ Some second → IsUpTo name other
-  pub others : (other : List ℕ) → ready_under after other ≡ (if bytes_eq name other then None else ready_under before other)
+  pub others : (other : List ℕ)
+      → ready_under after other ≡ (if bytes_eq name other then None else ready_under before other)
   pub waiting : after.waiting ≡ before.waiting

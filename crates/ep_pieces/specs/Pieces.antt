@@ -1,5 +1,6 @@
 -- The pieces of a source text: its tokens and comments in order, without what the text may be written otherwise in.
-use Rattle.std.specs.Prelude.{◌≡◌, ℕ, ◌-◌, ◌==◌, ◌||◌, Bool, false, if◌then◌else◌, List, [], ◌∷◌, ◌++◌, length, take, drop}
+use Rattle.std.specs.Prelude.{◌≡◌, ℕ, ◌-◌, ◌==◌, ◌||◌, Bool, false, if◌then◌else◌, List, [], ◌∷◌, ◌++◌, length}
+use Rattle.std.specs.Prelude.{take, drop}
 use Rattle.std.specs.Prelude.{slice_index, map, Option, Some, None}
 use Rattle.std.specs.Option.{option_to_list}
 use Rattle.ep_base.specs.Identifiers.{lower_case}
