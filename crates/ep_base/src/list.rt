@@ -71,7 +71,7 @@ impl<T: Copy> List<T> {
 }
 
 impl<T: Drop> List<T> {
-    /// An empty list with room for so many items; one that grows from nothing takes room for four at once.
+    /// An empty list with room for so many items.
     pub fn with_room(alloc: Global, room: usize) -> Result<List<T>, NoMemory>
         ensures { IfOk result (λ l. l ≡ []) }
     {
@@ -79,12 +79,24 @@ impl<T: Drop> List<T> {
         Ok(List { items })
     }
 
-    /// Adds an item at the end. Where memory is wanting the list is as before, and the item is dropped.
+    /// Adds an item at the end. Where memory is wanting the list is as before, and the item is dropped. The first item has room
+    /// for itself alone, since most lists of a tree have one item.
     pub fn push(&mut self, item: T) -> Result<(), NoMemory>
         ensures ok { OnOk result (self.new ≡ self.old ++ item ∷ []) }
         ensures err { OnErr result (self.new ≡ self.old) }
     {
+        self.room_for_first()?;
         self.items.push(item)?;
+        Ok(())
+    }
+
+    /// Takes room for one item where there is none: a vector would take room for four.
+    fn room_for_first(&mut self) -> Result<(), NoMemory>
+        ensures { self.new ≡ self.old }
+    {
+        if self.items.capacity() == 0 {
+            self.items.reserve_exact(1)?;
+        }
         Ok(())
     }
 

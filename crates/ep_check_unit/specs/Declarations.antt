@@ -77,7 +77,8 @@ use Rattle.ep_unit_rules.specs.Constants.{entry_denoter, with_entry}
 use Rattle.ep_unit_rules.specs.InitialStates.{may_begin}
 use Rattle.ep_unit_rules.specs.Records.{Field, fields_named, own_fields, fields_nodes, field_part}
 use Rattle.ep_unit_rules.specs.Sets.{are_members}
-use Rattle.ep_unit_rules.specs.Types.{type_denoter, required_host, counted, subrange_nodes, written_by, subrange_denoter, common_host, ordered, index_host}
+use Rattle.ep_unit_rules.specs.Types.{type_denoter, required_host, counted, subrange_nodes, written_by}
+use Rattle.ep_unit_rules.specs.Types.{subrange_denoter, common_host, ordered, index_host}
 use Rattle.ep_unit_rules.specs.Variants.{Tag, variant_nodes, all_fields}
 
 -- ---- names

@@ -30,8 +30,8 @@ abbrev pub known_of : List (Option Bool) → Decisive → Option Bool
 known_of known (Itself is) = Some is
 known_of known (ByType index) = known_at (slice_get known index)
 
--- What is known of types by their names is so: where it is known, it takes no more names than there are types up to this
--- one, and so is the same for each greater number of them.
+-- What is known of types by their names is so: where it is known, it takes no more names than there are types up to
+-- this one, and so is the same for each greater number of them.
 abbrev pub AreKnown : List UnitType → List (Option Bool) → Type 0
 AreKnown types known =
     (index n : ℕ) (is : Bool) → slice_get known index ≡ Some (Some is) → suc (suc index) ≤ n

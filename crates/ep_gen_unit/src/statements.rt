@@ -43,7 +43,7 @@ pub fn statement_code(alloc: Global, s: &TypedStmt, code: &mut Code) -> Result<(
             assign_tag_code(
                 alloc,
                 *line,
-                control,
+                control.get(),
                 whole,
                 selection.get(),
                 value.get(),
@@ -67,13 +67,13 @@ pub fn statement_code(alloc: Global, s: &TypedStmt, code: &mut Code) -> Result<(
             repeat_code(alloc, *line, body.items(), condition.get(), code)
         }
         TypedStmt::ForIn(line, control, set, body) => {
-            for_in_code(alloc, *line, control, set.get(), body.get(), code)
+            for_in_code(alloc, *line, control.get(), set.get(), body.get(), code)
         }
         TypedStmt::For(line, control, initial, last, body) => {
             for_code(
                 alloc,
                 *line,
-                control,
+                control.get(),
                 initial.get(),
                 last.get(),
                 body.get(),

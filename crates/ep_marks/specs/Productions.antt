@@ -88,7 +88,8 @@ loop_statement = choice while_statement (choice repeat_statement (choice for_sta
 -- `stmt`
 abbrev pub statement : Style
 statement =
-    choice plain (choice (plain & compound) (choice if_statement (choice case_statement (choice loop_statement plain))))
+    choice plain
+        (choice (plain & compound) (choice if_statement (choice case_statement (choice loop_statement plain))))
 
 -- ---- types
 
@@ -110,7 +111,8 @@ structured = level (plain & plain & plain & choice array (choice record_structur
 
 -- `[ "bindable" ] core`
 abbrev pub plain_type : Style
-plain_type = plain & plain & plain & choice plain (choice plain (choice structured (choice plain (choice plain plain))))
+plain_type =
+    plain & plain & plain & choice plain (choice plain (choice structured (choice plain (choice plain plain))))
 
 -- `plain [ "value" cvalue ]`
 abbrev pub type_denoter : Style

@@ -4,7 +4,8 @@ use Rattle.std.specs.Prelude.{Bool, true, false, ◌&&◌, List}
 use Rattle.ep_grammar.specs.Classes.{Class}
 use Rattle.ep_grammar.specs.Descriptions.{Nonterminal, expressions, factors, component_values, elements}
 use Rattle.ep_grammar.specs.Descriptions.{bracketed_values, plains, field_lists, statements, routines}
-use Rattle.ep_grammar.specs.Descriptions.{Syntax, give, token, line, inside, apply, either, switch, row, deeper, shaped}
+use Rattle.ep_grammar.specs.Descriptions.{Syntax, give, token, line, inside, apply, either, switch, row}
+use Rattle.ep_grammar.specs.Descriptions.{deeper, shaped}
 
 -- the style of a part of a production
 pub data Style : Type 0 where

@@ -1,5 +1,6 @@
 -- What words of a set come to.
-use Rattle.std.specs.Prelude.{◌≡◌, ℕ, ℤ, pos, ◌+◌, ◌*◌, ◌<◌, ◌==◌, ◌&&◌, ◌||◌, not, int_le, leb, ltb, List, Option, Some, None, Bool, true, false}
+use Rattle.std.specs.Prelude.{◌≡◌, ℕ, ℤ, pos, ◌+◌, ◌*◌, ◌<◌, ◌==◌, ◌&&◌, ◌||◌, not, int_le, leb, ltb}
+use Rattle.std.specs.Prelude.{List, Option, Some, None, Bool, true, false}
 use Rattle.std.specs.Int.{bit_at}
 use Rattle.ep_object.specs.Sets.{member_limit, word_members}
 use Rattle.ep_object.specs.WordRows.{is_between}

@@ -1,5 +1,6 @@
 -- What a call answers of what is judged: the typed form, or one of the rules that fail; want of memory is free.
-use Rattle.std.specs.Prelude.{◌≡◌, ℕ, ◌+◌, suc, nat_eq, nat_le, Bool, true, false, List, map, None, Result, Ok, Err, IsTrue, ⊤}
+use Rattle.std.specs.Prelude.{◌≡◌, ℕ, ◌+◌, suc, nat_eq, nat_le, Bool, true, false, IsTrue, ⊤}
+use Rattle.std.specs.Prelude.{List, map, None, Result, Ok, Err}
 use Rattle.std.specs.List.{list_any}
 use Rattle.std.specs.Option.{option_map}
 use Rattle.ep_typed.specs.Viewed.{actual_of, designator_of, expr_of}

@@ -1,5 +1,6 @@
 -- The records that `with` statements open, and how the code finds their fields (ISO 10206, 6.9.3.10).
-use Rattle.std.specs.Prelude.{◌≡◌, ◌<◌, ◌++◌, ⊤, ℕ, List, [], ◌∷◌, Option, Some, None, length, nat_lt, slice_get, if◌then◌else◌}
+use Rattle.std.specs.Prelude.{◌≡◌, ◌<◌, ◌++◌, ⊤, ℕ, List, [], ◌∷◌, length, nat_lt, slice_get}
+use Rattle.std.specs.Prelude.{Option, Some, None, if◌then◌else◌}
 use Rattle.std.specs.Global.{Vec}
 use Rattle.std.specs.Map.{lookup}
 use Rattle.std.specs.Option.{option_or}
@@ -109,9 +110,11 @@ AreLayers (l ∷ ls) = IsLayer l × AreLayers ls
 -- places with those of these fields of the record of this number, in place of those that have their names
 abbrev pub HasFields : List (Vec ℕ × FieldPlace) → ℕ → List FieldType → List (Vec ℕ × FieldPlace) → Type 0
 HasFields old number fields new =
-    (name : List ℕ) → small_place new name ≡ option_or (place_of number (field_number fields name)) (small_place old name)
+    (name : List ℕ) →
+        small_place new name ≡ option_or (place_of number (field_number fields name)) (small_place old name)
 
 -- a table with a record more, which is asked itself or has its fields there
 pub data Adds (old : FieldTable) (number : ℕ) (fields : List FieldType) (new : FieldTable) : Type 0 where
   Asked : new.places ≡ old.places → new.large ≡ old.large ++ number ∷ [] → Adds old number fields new
-  Listed : new.large ≡ old.large → HasFields old.places.entries number fields new.places.entries → Adds old number fields new
+  Listed :
+    new.large ≡ old.large → HasFields old.places.entries number fields new.places.entries → Adds old number fields new

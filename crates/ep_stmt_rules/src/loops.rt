@@ -41,7 +41,7 @@ pub struct Counted<'a> {
 /// A `for` statement without its body: what it counts with, and the initial and the final value.
 pub struct ForHead {
     /// What it counts with.
-    control: ForControl,
+    control: Boxed<ForControl>,
     /// The initial value.
     initial: Boxed<TypedExpr>,
     /// The final value.
@@ -214,20 +214,23 @@ fn for_control(
     locals: Locals<'_>,
     counted: Counted<'_>,
     falls: bool,
-) -> Result<ForControl, NoMemory>
+) -> Result<Boxed<ForControl>, NoMemory>
     ensures { IfOk result (λ control.
         control_of control ≡ for_control (locals_of locals.entry) falls (counted_of counted.entry)) }
 {
     let variable = counted.variable.to_owned(alloc)?;
     let (initial, last) = auxiliaries(alloc, locals)?;
-    Ok(ForControl {
-        variable,
-        initial,
-        last,
-        falls,
-        low: least(counted.host),
-        high: greatest(counted.host),
-    })
+    Boxed::new(
+        alloc,
+        ForControl {
+            variable,
+            initial,
+            last,
+            falls,
+            low: least(counted.host),
+            high: greatest(counted.host),
+        },
+    )
 }
 
 /// The head of a `for` of these bounds, where both are built.
@@ -323,7 +326,7 @@ fn value_threatens_one(x: &TypedExpr, routines: &[UnitRoutine], controls: &[Enti
 fn head_threatens(head: &ForHead, routines: &[UnitRoutine], control: Entire<'_>) -> bool
     ensures { result ≡ head_threat (map routine_form routines.now) (entire_of control.entry) (head_of head.now) }
 {
-    is_same(control, &head.control.variable)
+    is_same(control, &head.control.get().variable)
         || expr_threatens(head.initial.get(), routines, control)
         || expr_threatens(head.last.get(), routines, control)
 }

@@ -31,7 +31,7 @@ use std::alloc::Global;
 /// A `for` statement over members without its body: what it goes by, and the set.
 pub struct MemberHead {
     /// What it goes by.
-    control: MemberControl,
+    control: Boxed<MemberControl>,
     /// The set.
     set: Boxed<TypedExpr>,
 }
@@ -73,13 +73,13 @@ fn member_control(
     locals: Locals<'_>,
     number: u32,
     counted: Counted<'_>,
-) -> Result<MemberControl, NoMemory>
+) -> Result<Boxed<MemberControl>, NoMemory>
     ensures { IfOk result (λ control.
         member_control_of control ≡ member_control (locals_of locals.entry) number (counted_of counted.entry)) }
 {
     let variable = counted.variable.to_owned(alloc)?;
     let rest = block_variable(alloc, locals, number)?;
-    Ok(MemberControl { variable, rest })
+    Boxed::new(alloc, MemberControl { variable, rest })
 }
 
 /// A `for` statement over members of its head and its body, in order.
@@ -107,7 +107,8 @@ fn member_threatens(head: &MemberHead, routines: &[UnitRoutine], control: Entire
     ensures { result ≡ member_threat (map routine_form routines.now) (entire_of control.entry)
         (member_head_of head.now) }
 {
-    is_same(control, &head.control.variable) || expr_threatens(head.set.get(), routines, control)
+    is_same(control, &head.control.get().variable)
+        || expr_threatens(head.set.get(), routines, control)
 }
 
 /// Whether it threatens one of these.

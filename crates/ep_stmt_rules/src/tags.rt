@@ -54,6 +54,7 @@ pub fn assignment(
                 low: tag.low,
                 high: tag.high,
             };
+            let control = Boxed::new(alloc, control)?;
             let selection = tag.selection.share()?;
             let form = TypedStmt::AssignTag(line, control, whole, selection, value);
             Boxed::new(alloc, form)

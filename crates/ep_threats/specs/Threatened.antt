@@ -50,5 +50,7 @@ one_threatens routines variable = list_any (λ r. threatens (formals_at routines
 -- the numbers are those of the variables that routines threaten
 abbrev pub KnowsThreats : Gathered → List RoutineForm → List ℕ → Type 0
 KnowsThreats gathered.Nothing routines numbers = Unit {0}
-KnowsThreats (gathered.OfUnit unit) routines numbers = (n : ℕ) → has numbers n ≡ one_threatens routines (OfUnit unit.now n)
-KnowsThreats (gathered.OfRoutine routine) routines numbers = (n : ℕ) → has numbers n ≡ inner_threatens routine routines n
+KnowsThreats (gathered.OfUnit unit) routines numbers =
+    (n : ℕ) → has numbers n ≡ one_threatens routines (OfUnit unit.now n)
+KnowsThreats (gathered.OfRoutine routine) routines numbers =
+    (n : ℕ) → has numbers n ≡ inner_threatens routine routines n

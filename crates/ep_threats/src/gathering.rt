@@ -203,13 +203,13 @@ pub(crate) fn gather(
             expr_gathered(condition.get(), of, routines, found)
         }
         TypedStmt::For(_, control, initial, last, body) => {
-            add_variable(of, &control.variable, found)?;
+            add_variable(of, &control.get().variable, found)?;
             expr_gathered(initial.get(), of, routines, found)?;
             expr_gathered(last.get(), of, routines, found)?;
             gather(body.get(), of, routines, found)
         }
         TypedStmt::ForIn(_, control, set, body) => {
-            add_variable(of, &control.variable, found)?;
+            add_variable(of, &control.get().variable, found)?;
             expr_gathered(set.get(), of, routines, found)?;
             gather(body.get(), of, routines, found)
         }

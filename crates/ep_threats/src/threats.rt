@@ -166,13 +166,13 @@ pub fn statement_threatens(s: &TypedStmt, routines: &[UnitRoutine], variable: En
                 || expr_threatens(condition.get(), routines, variable)
         }
         TypedStmt::For(_, control, initial, last, body) => {
-            is_same(variable, &control.variable)
+            is_same(variable, &control.get().variable)
                 || expr_threatens(initial.get(), routines, variable)
                 || expr_threatens(last.get(), routines, variable)
                 || statement_threatens(body.get(), routines, variable)
         }
         TypedStmt::ForIn(_, control, set, body) => {
-            is_same(variable, &control.variable)
+            is_same(variable, &control.get().variable)
                 || expr_threatens(set.get(), routines, variable)
                 || statement_threatens(body.get(), routines, variable)
         }

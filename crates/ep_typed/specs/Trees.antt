@@ -252,8 +252,8 @@ abbrev pub other : Option (List Stmt) → Other
 other None = no_other
 other (Some ss) = otherwise_do (stmts ss)
 
--- a `with` of several records: what stands in a list sees the fields of what stands before it, so that `with a, b do s`
--- is `with a do with b do s`
+-- a `with` of several records: what stands in a list sees the fields of what stands before it, so that
+-- `with a, b do s` is `with a do with b do s`
 abbrev pub with_form : ℕ → List WithRecord → Stmt → Stmt
 with_form line [] s = s
 with_form line (r ∷ more) s = With line r.variable r.of r.place (with_form line more s)

@@ -284,12 +284,12 @@ fn own_nodes(s: &TypedStmt) -> u64
         | TypedStmt::Repeat(_, _, condition)
         | TypedStmt::Case(_, condition, _, _) => expression(condition.get()).saturating_add(1),
         TypedStmt::ForIn(_, control, set, _) => {
-            entire(&control.variable)
+            entire(&control.get().variable)
                 .saturating_add(expression(set.get()))
                 .saturating_add(1)
         }
         TypedStmt::For(_, control, initial, last, _) => {
-            entire(&control.variable)
+            entire(&control.get().variable)
                 .saturating_add(expression(initial.get()))
                 .saturating_add(expression(last.get()))
                 .saturating_add(1)

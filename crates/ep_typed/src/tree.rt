@@ -325,7 +325,7 @@ pub enum TypedStmt {
     /// An assignment.
     Assign(Line, TypedPlace, Boxed<TypedExpr>),
     /// An assignment to the tag of a record: what it works with, the record, how its variants are selected, and the value.
-    AssignTag(Line, TagControl, TypedPlace, SharedSelection, Boxed<TypedExpr>),
+    AssignTag(Line, Boxed<TagControl>, TypedPlace, SharedSelection, Boxed<TypedExpr>),
     /// `if`; a missing `else` is the empty statement.
     If(Line, Boxed<TypedExpr>, Boxed<TypedStmt>, Boxed<TypedStmt>),
     /// `while`
@@ -333,9 +333,9 @@ pub enum TypedStmt {
     /// `repeat`: the statements, and then the condition.
     Repeat(Line, TypedStmts, Boxed<TypedExpr>),
     /// `for`: what it counts with, the initial and the final value, and the statement.
-    For(Line, ForControl, Boxed<TypedExpr>, Boxed<TypedExpr>, Boxed<TypedStmt>),
+    For(Line, Boxed<ForControl>, Boxed<TypedExpr>, Boxed<TypedExpr>, Boxed<TypedStmt>),
     /// `for` over the members of a set: what it goes by, the set, and the statement.
-    ForIn(Line, MemberControl, Boxed<TypedExpr>, Boxed<TypedStmt>),
+    ForIn(Line, Boxed<MemberControl>, Boxed<TypedExpr>, Boxed<TypedStmt>),
     /// `with`: the records that it opens, each where those before it are open, and the statement (ISO 10206, 6.9.3.10).
     With(Line, WithRecords, Boxed<TypedStmt>),
     /// A procedure statement: the procedure, and what it is given for its parameters (ISO 10206, 6.9.2.3).

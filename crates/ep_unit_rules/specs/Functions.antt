@@ -69,8 +69,8 @@ abbrev pub is_that_function : List ℕ → ℕ → Meant → Bool
 is_that_function unit number (Declares d) = is_function d.what && bytes_eq d.unit unit && d.number == number
 is_that_function unit number _ = false
 
--- The text of statements gives a result by this name: they assign to it, where it is that of the function, and do so to
--- the variable with this name or give it elsewhere where it is one of its own.
+-- The text of statements gives a result by this name: they assign to it, where it is that of the function, and do so
+-- to the variable with this name or give it elsewhere where it is one of its own.
 abbrev pub text_gives : Bool → List ℕ → Compound → Bool
 text_gives named name c = if named then gives name c else assigns name c
 
