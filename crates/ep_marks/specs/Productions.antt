@@ -89,7 +89,7 @@ loop_statement = choice while_statement (choice repeat_statement (choice for_sta
 abbrev pub statement : Style
 statement =
     choice plain
-        (choice (plain & compound) (choice if_statement (choice case_statement (choice loop_statement plain))))
+    (choice (plain & compound) (choice if_statement (choice case_statement (choice loop_statement plain))))
 
 -- ---- types
 

@@ -111,10 +111,10 @@ AreLayers (l ∷ ls) = IsLayer l × AreLayers ls
 abbrev pub HasFields : List (Vec ℕ × FieldPlace) → ℕ → List FieldType → List (Vec ℕ × FieldPlace) → Type 0
 HasFields old number fields new =
     (name : List ℕ) →
-        small_place new name ≡ option_or (place_of number (field_number fields name)) (small_place old name)
+    small_place new name ≡ option_or (place_of number (field_number fields name)) (small_place old name)
 
 -- a table with a record more, which is asked itself or has its fields there
 pub data Adds (old : FieldTable) (number : ℕ) (fields : List FieldType) (new : FieldTable) : Type 0 where
   Asked : new.places ≡ old.places → new.large ≡ old.large ++ number ∷ [] → Adds old number fields new
   Listed :
-    new.large ≡ old.large → HasFields old.places.entries number fields new.places.entries → Adds old number fields new
+      new.large ≡ old.large → HasFields old.places.entries number fields new.places.entries → Adds old number fields new
