@@ -1,0 +1,6 @@
+mod ConstantTypeLaws
+mod Fields
+mod ImageLaws
+mod Items
+mod Lists
+mod Rows

@@ -1,0 +1,3 @@
+pub mod ConstantTypes
+pub mod Formats
+pub mod Images
