@@ -184,16 +184,25 @@ pub record Spells (p : Piece) : Type 0 where
   pub spelled : IsSpelled (written p) kind
   pub is : piece_of (written p) kind ≡ Some p
 
+-- the text of a token's piece spells the token
+pub token-spelled : (text : List ℕ) (kind : TokenKind) → IsSpelled text (Some kind) → IsSpelled (token_piece text kind).text (Some kind)
+token-spelled text (Word w) s = (identifier-lower text ∙ s.0, ap (place_of word_symbols) (lower-lower text) ∙ s.1)
+token-spelled text (Id n) s =
+    (identifier-lower text ∙ s.0, omega (arith, length-lower text, s.1), ap (place_of word_symbols) (lower-lower text) ∙ s.2, s.3 ∙ sym (lower-lower text))
+token-spelled text (Number n) s = (s.0, number-lower text s.0 s.1, s.2)
+token-spelled text (Str b) s = s
+token-spelled text (Sym n) s = ap (place_of special_symbols) (spelling-once text) ∙ s
+
 pub token-spells : (text : List ℕ) (kind : TokenKind) → IsSpelled text (Some kind) → Spells (token_piece text kind)
 token-spells text (Word w) s =
-    record { kind = Some (Word w); spelled = (identifier-lower text ∙ s.0, ap (place_of word_symbols) (lower-lower text) ∙ s.1); is = ap (λ l. Some (record { kind = 0; text = l })) (lower-lower text) }
+    record { kind = Some (Word w); spelled = token-spelled text (Word w) s; is = ap (λ l. Some (record { kind = 0; text = l })) (lower-lower text) }
 token-spells text (Id n) s =
-    record { kind = Some (Id n); spelled = (identifier-lower text ∙ s.0, omega (arith, length-lower text, s.1), ap (place_of word_symbols) (lower-lower text) ∙ s.2, s.3 ∙ sym (lower-lower text)); is = ap (λ l. Some (record { kind = 1; text = l })) (lower-lower text) }
+    record { kind = Some (Id n); spelled = token-spelled text (Id n) s; is = ap (λ l. Some (record { kind = 1; text = l })) (lower-lower text) }
 token-spells text (Number n) s =
-    record { kind = Some (Number n); spelled = (s.0, number-lower text s.0 s.1, s.2); is = ap (λ l. Some (record { kind = 2; text = l })) (lower-lower text) }
+    record { kind = Some (Number n); spelled = token-spelled text (Number n) s; is = ap (λ l. Some (record { kind = 2; text = l })) (lower-lower text) }
 token-spells text (Str b) s = record { kind = Some (Str b); spelled = s; is = refl }
 token-spells text (Sym n) s =
-    record { kind = Some (Sym n); spelled = ap (place_of special_symbols) (spelling-once text) ∙ s; is = ap (λ l. Some (record { kind = 4; text = l })) (spelling-once text) }
+    record { kind = Some (Sym n); spelled = token-spelled text (Sym n) s; is = ap (λ l. Some (record { kind = 4; text = l })) (spelling-once text) }
 
 braced-spells : (body : List ℕ) → IsComment (123 ∷ (body ++ 125 ∷ [])) → comment_body (123 ∷ (body ++ 125 ∷ [])) ≡ body → Spells (record { kind = 5; text = body })
 braced-spells body c e = record { kind = None; spelled = inr c; is = ap (λ l. Some (record { kind = 5; text = l })) e }

@@ -7,3 +7,4 @@ mod Joints
 mod Once
 mod Rows
 mod Spellings
+mod TokenKinds

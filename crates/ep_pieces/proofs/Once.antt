@@ -36,7 +36,7 @@ ends-alone text (Some (Str s)) = tt
 ends-alone text (Some (Sym s)) = λ _. refl
 
 -- a spelling that stands alone is taken whole
-alone : (text : List ℕ) (kind : Option TokenKind) → IsSpelled text kind → IsTaken text (length text) kind
+pub alone : (text : List ℕ) (kind : Option TokenKind) → IsSpelled text kind → IsTaken text (length text) kind
 alone text kind s =
     record {
       can = record {
@@ -66,12 +66,12 @@ spelled-one text kind other s o =
     ∙ ap first_kind (tokens-one text (tokens_of text 0 ((length text, kind) ∷ [])) (tokens_of text 0 ((length text, other) ∷ [])) (alone-row text kind s) (alone-row text other o))
     ∙ alone-tokens text (length text) other
 
-taken-one : (bytes : List ℕ) (n m : ℕ) (kind other : Option TokenKind) → IsTaken bytes n kind → IsTaken bytes m other → (n ≡ m) × (kind ≡ other)
+pub taken-one : (bytes : List ℕ) (n m : ℕ) (kind other : Option TokenKind) → IsTaken bytes n kind → IsTaken bytes m other → (n ≡ m) × (kind ≡ other)
 taken-one bytes n m kind other a b =
     let len = taken-length bytes n m kind other a b in
     (len, spelled-one (take m bytes) kind other (subst (λ k. IsSpelled (take k bytes) kind) len a.can.spelled) b.can.spelled)
 
-empty-read : piece_at 1 [] ≡ Err (NoToken 1)
+pub empty-read : piece_at 1 [] ≡ Err (NoToken 1)
 unfolding piece_at symbol_at special_symbols reference_spelling is_separator
 empty-read = refl
 
@@ -79,7 +79,7 @@ pair-is : (p q : Taken) → (p.0 ≡ q.0) × (p.1 ≡ q.1) → p ≡ q
 pair-is p q e = ap (λ n. (n, p.1)) e.0 ∙ ap (λ k. (q.0, k)) e.1
 
 -- a text is one row
-row-one : (bytes : List ℕ) (ps qs : List Taken) → AreTaken bytes ps [] → AreTaken bytes qs [] → ps ≡ qs
+pub row-one : (bytes : List ℕ) (ps qs : List Taken) → AreTaken bytes ps [] → AreTaken bytes qs [] → ps ≡ qs
 row-one bytes [] [] a b = refl
 row-one bytes [] (q ∷ qs) a b = absurd (piece-none 1 [] (NoToken 1) empty-read q.0 q.1 (subst (λ t. CanBeTaken t q.0 q.1) a b.0.can))
 row-one bytes (p ∷ ps) [] a b = absurd (piece-none 1 [] (NoToken 1) empty-read p.0 p.1 (subst (λ t. CanBeTaken t p.0 p.1) b a.0.can))
@@ -97,21 +97,21 @@ tokens-of bytes list p = (tokens_of bytes 0 p.row, record { pieces = p.row; take
 
 -- ---- the tokens are the pieces that are no comments
 
-no-comment : (text : List ℕ) (kind : TokenKind) (ps : List Piece) → without_comments (token_piece text kind ∷ ps) ≡ token_piece text kind ∷ without_comments ps
+pub no-comment : (text : List ℕ) (kind : TokenKind) (ps : List Piece) → without_comments (token_piece text kind ∷ ps) ≡ token_piece text kind ∷ without_comments ps
 no-comment text (Word w) ps = refl
 no-comment text (Id n) ps = refl
 no-comment text (Number n) ps = refl
 no-comment text (Str s) ps = refl
 no-comment text (Sym s) ps = refl
 
-blank-pieces : (text : List ℕ) (ps : List Piece) → without_comments (option_to_list (piece_of text None) ++ ps) ≡ without_comments ps
+pub blank-pieces : (text : List ℕ) (ps : List Piece) → without_comments (option_to_list (piece_of text None) ++ ps) ≡ without_comments ps
 blank-pieces text ps =
     elim (truth (opens_comment text)) [
       | inl h ↦ rw h refl
       | inr h ↦ rw h refl
     ]
 
-drop-add : (n m : ℕ) (l : List ℕ) → drop m (drop n l) ≡ drop (n + m) l
+pub drop-add : (n m : ℕ) (l : List ℕ) → drop m (drop n l) ≡ drop (n + m) l
 drop-add n m l = grind (arith, common_steps)
 
 row-tokens : (bytes : List ℕ) (place : ℕ) (row : List Taken) → without_comments (pieces_of (drop place bytes) row) ≡ map (token_piece_at bytes) (tokens_of bytes place row)

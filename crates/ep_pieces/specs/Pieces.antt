@@ -1,7 +1,7 @@
 -- The pieces of a source text: its tokens and comments in order, without what the text may be written otherwise in.
 use Rattle.std.specs.Prelude.{◌≡◌, ℕ, ◌-◌, ◌==◌, ◌||◌, Bool, false, if◌then◌else◌, List, [], ◌∷◌, ◌++◌, length}
 use Rattle.std.specs.Prelude.{take, drop}
-use Rattle.std.specs.Prelude.{slice_index, map, Option, Some, None}
+use Rattle.std.specs.Prelude.{slice_index, map, Option, Some, None, Result, Ok, Err}
 use Rattle.std.specs.Option.{option_to_list}
 use Rattle.ep_base.specs.Identifiers.{lower_case}
 use Rattle.ep_token.specs.declared.token.Token.{Token}
@@ -12,6 +12,8 @@ use Rattle.ep_token.specs.Comments.{opens_comment}
 use Rattle.ep_token.specs.Symbols.{reference_spelling}
 use Rattle.ep_token.specs.Tokens.{AreTaken, Tokens}
 use Rattle.ep_token.specs.Tokens.{Piece as Taken}
+use Rattle.ep_token.specs.Reading.{piece_at as read_at}
+use Rattle.ep_token.specs.declared.refusal.TokenRefusal.{TokenRefusal}
 use Rattle.ep_pieces.specs.declared.piece.Piece.{Piece}
 use Rattle.ep_pieces.specs.declared.kind.TheConstants as kind
 
@@ -93,3 +95,21 @@ starts_at place (t ∷ ts) = t.start == place
 -- a text has one list of pieces
 abbrev pub OneListOfPieces : Type 0
 OneListOfPieces = (bytes : List ℕ) (list other : List Piece) → Pieces bytes list → Pieces bytes other → list ≡ other
+
+-- the kind of what is read, if it is a token
+abbrev pub kind_read : Result Taken TokenRefusal → Option TokenKind
+kind_read (Ok p) = p.1
+kind_read (Err e) = None
+
+-- the kind of the token that a piece spells
+abbrev pub kind_of : Piece → Option TokenKind
+kind_of p = kind_read (read_at 1 p.text)
+
+abbrev pub token_kind : Token → Option TokenKind
+token_kind t = Some t.kind
+
+-- The pieces of a text tell the kinds of its tokens.
+abbrev pub KindsArePieces : Type 0
+KindsArePieces =
+    (bytes : List ℕ) (tokens : List Token) (pieces : List Piece) → Tokens bytes tokens → Pieces bytes pieces →
+    map kind_of (without_comments pieces) ≡ map token_kind tokens

@@ -1,5 +1,6 @@
 -- The laws of pieces.
 use Rattle.ep_pieces.proofs.Once.{pieces-one, tokens-are-pieces}
+use Rattle.ep_pieces.proofs.TokenKinds.{kinds-are-pieces}
 use Rattle.ep_pieces.proofs.Gaps.{gaps-keep-pieces}
 use Rattle.ep_pieces.proofs.laws.laws_of_pieces.Goals as goal
 
@@ -11,3 +12,6 @@ returns-clause-tokens c = tokens-are-pieces
 
 pub returns-clause-gaps : goal.returns-clause-gaps
 returns-clause-gaps c = gaps-keep-pieces
+
+pub returns-clause-kinds : goal.returns-clause-kinds
+returns-clause-kinds c = kinds-are-pieces

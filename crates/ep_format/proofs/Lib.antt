@@ -1,0 +1,4 @@
+mod Examples
+mod Formatted
+mod kinds
+mod Lines
