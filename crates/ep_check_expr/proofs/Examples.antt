@@ -1,5 +1,5 @@
 -- What the rules say of small expressions.
-use Rattle.std.proofs.Common.{◌≡◌, ℕ, pos, false, List, [], ◌∷◌, Some, None, refl, codes}
+use Rattle.std.proofs.Common.{◌≡◌, ℕ, pos, false, List, [], ◌∷◌, ◌++◌, Some, None, refl, codes}
 use Rattle.ep_tree.specs.Nodes.{expression_node, comparison_node, simple_node, addend_node, term_node, multiplier_node, access_node, argument_node}
 use Rattle.ep_tree.specs.declared.expression.Argument.{Argument}
 use Rattle.ep_tree.specs.declared.expression.Expression.{Expression}
@@ -14,7 +14,7 @@ use Rattle.ep_tree.specs.declared.operator.RelationalOperator.TheVariants as rel
 use Rattle.ep_typed.specs.Trees.{Expr, Field, Accessed, Callee, Constant, Evaluated, FieldValue, Function, Indexed, IndexedValue, OfUnit, Own, Place, Read, Two, Step, Variable, next_actual, no_actual}
 use Rattle.ep_values.specs.declared.operations.Binary.TheVariants as binary
 use Rattle.ep_typed.specs.declared.value.Value.TheVariants as value
-use Rattle.ep_scope.specs.Scopes.{Region, within}
+use Rattle.ep_scope.specs.Scopes.{Region, empty_region, within}
 use Rattle.ep_scope.specs.declared.structure.Composition.TheVariants as composition
 use Rattle.ep_scope.specs.declared.structure.FieldType.{FieldType}
 use Rattle.ep_scope.specs.declared.structure.StructuredType.{StructuredType}
@@ -132,9 +132,9 @@ giving_row parameters = declaration.Function parameters (written (type_name.Entr
 -- r with a value parameter and s without any, which give arrays, and k and l, which take one as f and g take an integer
 abbrev scope : List Region
 scope = record {
-  entries = (codes "red", declares 0 (declaration.Constant (kind.Ordinal color) (value.Word (pos 0)) 1)) ∷ (codes "x", declares 0 (declaration.Variable (type_name.Required simple.Integer) integer))
+  entries = (codes "red", declares 0 (declaration.Constant (kind.Ordinal color) (value.Word (pos 0)) 1)) ∷ (codes "x", declares 0 (declaration.Variable (type_name.Required simple.Integer) integer protection.Unprotected))
       ∷ (codes "f", declares 0 (function_of mode.Value)) ∷ (codes "g", declares 1 (function_of mode.Variable)) ∷ (codes "h", declares 2 (declaration.Function [] (written (type_name.Required simple.Integer)) integer))
-      ∷ (codes "a", declares 6 (declaration.Variable (type_name.Entry 3) (kind.Structured 3))) ∷ (codes "b", declares 7 (declaration.Variable (type_name.Entry 4) (kind.Structured 4)))
+      ∷ (codes "a", declares 6 (declaration.Variable (type_name.Entry 3) (kind.Structured 3) protection.Unprotected)) ∷ (codes "b", declares 7 (declaration.Variable (type_name.Entry 4) (kind.Structured 4) protection.Unprotected))
       ∷ (codes "r", declares 3 (giving_row (integer_parameter mode.Value ∷ []))) ∷ (codes "s", declares 4 (giving_row [])) ∷ (codes "k", declares 5 (function_of_row mode.Value)) ∷ (codes "l", declares 6 (function_of_row mode.Variable)) ∷ [];
   qualified = [];
   structures = row ∷ table ∷ [];
@@ -149,10 +149,11 @@ of_program number = record { unit = codes "p"; number = number; levels = 0 }
 abbrev integer_variable : Declaration
 integer_variable = declaration.Own (type_name.Required simple.Integer) integer protection.Unprotected
 
--- In the block of a routine in a routine, of which the outer one has the integer y and the function i, and the inner one the integer z.
+-- In the block of a routine in a routine, of which the outer one has the integer y and the function i, and the inner one the integer z,
+-- where nothing is around the block of the program.
 abbrev inside : List Region
 inside = record { entries = (codes "z", declares_at 2 4 integer_variable) ∷ []; qualified = []; structures = []; records = [] }
-    ∷ record { entries = (codes "y", declares_at 1 3 integer_variable) ∷ (codes "i", declares_at 1 5 (declaration.Function [] (written (type_name.Required simple.Integer)) integer)) ∷ []; qualified = []; structures = []; records = [] } ∷ scope
+    ∷ record { entries = (codes "y", declares_at 1 3 integer_variable) ∷ (codes "i", declares_at 1 5 (declaration.Function [] (written (type_name.Required simple.Integer)) integer)) ∷ []; qualified = []; structures = []; records = [] } ∷ (scope ++ empty_region ∷ [])
 
 -- y + z, by the levels between
 levels_between : judged inside (sum (name (codes "y")) (name (codes "z"))) ≡ Accepts (record { form = Some (Two binary.Add (Read (Own 1 3)) (Read (Own 0 4))); kind = integer; depth = 3; access = access.Value })
@@ -379,9 +380,9 @@ points = record { number = 6; composition = composition.Array (record { index = 
 -- the record c, the array d, a function e that gives such an array, the integer x, and an interface that exports a color x
 abbrev with_records : List Region
 with_records = record {
-  entries = (codes "c", declares 8 (declaration.Variable (type_name.Entry 5) (kind.Structured 5))) ∷ (codes "d", declares 9 (declaration.Variable (type_name.Entry 6) (kind.Structured 6)))
+  entries = (codes "c", declares 8 (declaration.Variable (type_name.Entry 5) (kind.Structured 5) protection.Unprotected)) ∷ (codes "d", declares 9 (declaration.Variable (type_name.Entry 6) (kind.Structured 6) protection.Unprotected))
       ∷ (codes "e", declares 2 (declaration.Function [] (written (type_name.Entry 6)) (kind.Structured 6)))
-      ∷ (codes "x", declares 0 (declaration.Variable (type_name.Required simple.Integer) integer)) ∷ (codes "red", declares 0 (declaration.Constant (kind.Ordinal color) (value.Word (pos 0)) 1)) ∷ [];
+      ∷ (codes "x", declares 0 (declaration.Variable (type_name.Required simple.Integer) integer protection.Unprotected)) ∷ (codes "red", declares 0 (declaration.Constant (kind.Ordinal color) (value.Word (pos 0)) 1)) ∷ [];
   qualified = (codes "shades", (codes "x", declares 1 (declaration.Constant (kind.Ordinal color) (value.Word (pos 1)) 1)) ∷ []) ∷ [];
   structures = point ∷ points ∷ [];
   records = [];

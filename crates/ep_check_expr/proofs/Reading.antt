@@ -57,7 +57,7 @@ function-placed callee k (Breaks rules) = tt
 declared-placed : (depth : ℕ) (d : Declared) (what : Declaration) → Satisfies IsPlaced (value_declared depth d what)
 declared-placed depth d (declaration.Constant k v deep) = tt
 declared-placed depth d (declaration.«Type» of h nodes) = tt
-declared-placed depth d (declaration.Variable of k) = (Variable d.unit d.number, refl)
+declared-placed depth d (declaration.Variable of k guarded) = (Variable d.unit d.number, refl)
 declared-placed depth d (declaration.Own of k guarded) = (own_place depth d, refl)
 declared-placed depth d (declaration.Procedure parameters) = tt
 declared-placed depth d (declaration.Function parameters of k) = function-placed (callee_at depth d) k (arguments_judged parameters [])
@@ -65,7 +65,7 @@ declared-placed depth d (declaration.Function parameters of k) = function-placed
 called-placed : (depth : ℕ) (d : Declared) (what : Declaration) (gs : List Given) → Satisfies IsPlaced (call_declared depth d what gs)
 called-placed depth d (declaration.Constant k v deep) gs = tt
 called-placed depth d (declaration.«Type» of h nodes) gs = tt
-called-placed depth d (declaration.Variable of k) gs = tt
+called-placed depth d (declaration.Variable of k guarded) gs = tt
 called-placed depth d (declaration.Own of k guarded) gs = tt
 called-placed depth d (declaration.Procedure parameters) gs = tt
 called-placed depth d (declaration.Function parameters of k) gs = function-placed (callee_at depth d) k (arguments_judged parameters gs)

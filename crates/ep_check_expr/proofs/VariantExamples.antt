@@ -41,7 +41,7 @@ shape = record {
 -- a variable v of this type, a function w that gives such a record, and g with a variable parameter
 abbrev with_variants : List Region
 with_variants = record {
-  entries = (codes "v", declares 8 (declaration.Variable (type_name.Entry 5) (kind.Structured 5))) ∷ (codes "w", declares 2 (declaration.Function [] (written (type_name.Entry 5)) (kind.Structured 5)))
+  entries = (codes "v", declares 8 (declaration.Variable (type_name.Entry 5) (kind.Structured 5) protection.Unprotected)) ∷ (codes "w", declares 2 (declaration.Function [] (written (type_name.Entry 5)) (kind.Structured 5)))
       ∷ (codes "g", declares 1 (function_of mode.Variable)) ∷ [];
   qualified = [];
   structures = shape ∷ [];

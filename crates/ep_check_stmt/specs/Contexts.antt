@@ -11,7 +11,7 @@ context_of c =
     record {
       unit = c.unit.now;
       scopes = c.scopes.now;
-      output = c.output;
+      files = c.files;
       results = map result_of c.results.now;
       locals = locals_of c.locals;
       members = c.members;

@@ -21,8 +21,8 @@ use ep_base::{Boxed, Line, List, Name};
 use ep_check_expr::{asked_by, typed_arguments, typed_expression, typed_value};
 use ep_rules::{Refusal, callee_at, undeclared};
 use ep_scope::{
-    Declaration, Declared, FormalParameter, Host, Meaning, Procedure, Required, View, depth_in,
-    meaning_of, rule,
+    Declaration, Declared, FormalParameter, Host, Meaning, Procedure, Required, StandardFiles,
+    View, depth_in, meaning_of, rule,
 };
 use ep_stmt_rules::{
     Counted, FunctionResult, Locals, Opened, Outcome, Row, Target, arm_form, assigned, behind_arm,
@@ -49,8 +49,8 @@ pub struct Context<'a> {
     pub unit: &'a Name,
     /// The scopes, the innermost first.
     pub scopes: &'a View<'a>,
-    /// Whether `output` is a parameter or imported.
-    pub output: bool,
+    /// The standard files that are parameters or imported.
+    pub files: StandardFiles,
     /// The functions in whose blocks it is and whose results have no names, the innermost first.
     pub results: &'a [FunctionResult],
     /// The variables of the block.
@@ -207,7 +207,7 @@ impl<'a> Context<'a> {
             alloc: self.alloc,
             unit: self.unit,
             scopes: self.scopes,
-            output: self.output,
+            files: self.files,
             results: self.results,
             locals: self.locals,
             members: self.members,
@@ -257,7 +257,7 @@ impl<'a> Context<'a> {
             alloc: self.alloc,
             unit: self.unit,
             scopes: &scopes,
-            output: self.output,
+            files: self.files,
             results: self.results,
             locals: self.locals,
             members: self.members,
@@ -514,7 +514,7 @@ impl<'a> Context<'a> {
             Declaration::Function(_, _, _) => Err(Refusal::Rule(rule::PROCEDURE)),
             Declaration::Constant(_, _, _) => Err(Refusal::Rule(rule::OTHER_THING)),
             Declaration::Type(_, _, _) => Err(Refusal::Rule(rule::OTHER_THING)),
-            Declaration::Variable(_, _) => Err(Refusal::Rule(rule::OTHER_THING)),
+            Declaration::Variable(_, _, _) => Err(Refusal::Rule(rule::OTHER_THING)),
             Declaration::Own(_, _, _) => Err(Refusal::Rule(rule::OTHER_THING)),
         }
     }
@@ -651,7 +651,7 @@ impl<'a> Context<'a> {
             ends_line,
             arguments,
         )?;
-        if self.output {
+        if self.files.has(StandardFile::Output) {
             Ok(form)
         } else {
             Err(Refusal::Rule(rule::STANDARD_FILE))

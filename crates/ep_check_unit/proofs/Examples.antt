@@ -25,6 +25,7 @@ use Rattle.ep_scope.specs.declared.parameter.TypeName.{TypeName}
 use Rattle.ep_scope.specs.declared.parameter.TypeName.TheVariants as type_name
 use Rattle.ep_scope.specs.declared.parameter.WrittenType.{WrittenType}
 use Rattle.ep_scope.specs.declared.rule.TheConstants as rule
+use Rattle.ep_scope.specs.declared.standard.StandardFiles.{StandardFiles}
 use Rattle.ep_scope.specs.declared.thing.Declaration.TheVariants as declaration
 use Rattle.ep_scope.specs.declared.thing.Thing.TheVariants as thing
 use Rattle.ep_rules.specs.Judgements.{Judged, Accepts, Breaks}
@@ -57,20 +58,27 @@ abbrev verdict : {A : Type 0} → Judged A → List ℕ
 verdict (Accepts a) = []
 verdict (Breaks rules) = rules
 
+-- no standard file is a parameter, or `output` alone
+abbrev none_given : StandardFiles
+none_given = record { input = false; output = false }
+
+abbrev output_given : StandardFiles
+output_given = record { input = false; output = true }
+
 abbrev block_in : Judged Headed → Block
 block_in (Accepts h) = h.block
-block_in (Breaks rules) = first_block [] false
+block_in (Breaks rules) = first_block [] none_given
 
 abbrev stands : Judged Block → Block
 stands (Accepts b) = b
-stands (Breaks rules) = first_block [] false
+stands (Breaks rules) = first_block [] none_given
 
 -- procedure p; forward; function f(a: integer): integer; forward; function g = r: integer; forward;
 abbrev before : Block
 before =
     block_in
     (headed_first (codes "g") 3 [] (Some (result (Some (codes "r"))))
-    (block_in (headed_first (codes "f") 2 parameters (Some (result None)) (block_in (headed_first (codes "p") 1 [] None (first_block (codes "u") true))))))
+    (block_in (headed_first (codes "f") 2 parameters (Some (result None)) (block_in (headed_first (codes "p") 1 [] None (first_block (codes "u") output_given))))))
 
 -- a heading that is given once more, with a body
 abbrev again : Option HeadingResult → List FormalParameter → List ℕ → List ℕ
@@ -82,7 +90,7 @@ alone is_forward name b = verdict (function_identified is_forward name b)
 -- the block of a function
 abbrev inside : Judged Headed → Block
 inside (Accepts h) = stands (heading_entered h (scope_opened h h.block))
-inside (Breaks rules) = first_block [] false
+inside (Breaks rules) = first_block [] none_given
 
 abbrev inside_f : Block
 inside_f = inside (function_identified false (codes "f") before)
@@ -170,7 +178,7 @@ result_entered_there : look_up inside_g.scopes.inner.entries (codes "r") ≡ Som
 result_entered_there = refl
 
 -- function h(a: integer) = a: integer
-result_twice : verdict (heading_entered (record { number = 3; parameters = parameters; result = Some (result (Some (codes "a"))); block = before }) (first_block (codes "u") true)) ≡ rule.TWICE ∷ []
+result_twice : verdict (heading_entered (record { number = 3; parameters = parameters; result = Some (result (Some (codes "a"))); block = before }) (first_block (codes "u") output_given)) ≡ rule.TWICE ∷ []
 result_twice = refl
 
 -- f means the function in its block
@@ -264,7 +272,7 @@ threatened_nowhere = refl
 
 -- const s = [..], with values of this kind
 abbrev entries : Kind → Value → List ConstantEntry
-entries k v = (with_constant (codes "s") k v 1 (first_block (codes "u") true)).constants
+entries k v = (with_constant (codes "s") k v 1 (first_block (codes "u") output_given)).constants
 
 -- ['a']
 letters_entered : entries (kind.Set host.Char) (value.Set (97 ∷ [])) ≡ record { name = codes "s"; denoter = denoter.Set (denoter.Required simple.Char); value = value.Set (97 ∷ []) } ∷ []

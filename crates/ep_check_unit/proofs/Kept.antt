@@ -89,7 +89,7 @@ module _ (n : List ℕ) where
   declared_type-kept : (d : Declared) (what : Declaration) (b : Block) → IsOf b → Fits IsIn (declared_type d what b)
   declared_type-kept d (declaration.«Type» of h nodes) b i = i
   declared_type-kept d (declaration.Constant k v deep) b i = tt
-  declared_type-kept d (declaration.Variable of k) b i = tt
+  declared_type-kept d (declaration.Variable of k guarded) b i = tt
   declared_type-kept d (declaration.Own of k guarded) b i = tt
   declared_type-kept d (declaration.Procedure ps) b i = tt
   declared_type-kept d (declaration.Function ps of h) b i = tt
@@ -340,7 +340,7 @@ module _ (n : List ℕ) where
   declared_routine-kept number (declaration.Function ps of h) b i = i
   declared_routine-kept number (declaration.Constant k v deep) b i = tt
   declared_routine-kept number (declaration.«Type» of h nodes) b i = tt
-  declared_routine-kept number (declaration.Variable of k) b i = tt
+  declared_routine-kept number (declaration.Variable of k guarded) b i = tt
   declared_routine-kept number (declaration.Own of k guarded) b i = tt
 
   routine_there-kept : (t : Thing) (b : Block) → IsOf b → Fits IsHeaded (routine_there t b)

@@ -1,9 +1,10 @@
 -- What has been declared in a block, as plain data.
-use Rattle.std.specs.Prelude.{ℕ, Bool, List, map, Option}
+use Rattle.std.specs.Prelude.{ℕ, List, map, Option}
 use Rattle.ep_typed.specs.declared.interface.ConstantEntry.{ConstantEntry}
 use Rattle.ep_typed.specs.declared.unit.UnitType.{UnitType}
 use Rattle.ep_typed.specs.declared.unit.UnitVariable.{UnitVariable}
 use Rattle.ep_scope.specs.Scopes.{Row}
+use Rattle.ep_scope.specs.declared.standard.StandardFiles.{StandardFiles}
 pub use Rattle.ep_threats.specs.RoutineForms.{RoutineForm, routine_form}
 use Rattle.ep_check_unit.specs.declared.block.Block as declared
 use Rattle.ep_check_unit.specs.declared.block.Forward.{Forward}
@@ -12,8 +13,8 @@ use Rattle.ep_unit_rules.specs.declared.own.OwnVariables.{OwnVariables}
 -- what has been declared so far in the block of a unit
 pub record Block : Type 0 where
   pub unit : List ℕ
-  -- whether `output` is a parameter
-  pub output : Bool
+  -- the standard files that are parameters or imported
+  pub files : StandardFiles
   -- the scopes in view
   pub scopes : Row
   pub types : List UnitType
@@ -36,7 +37,7 @@ abbrev pub block_of : declared.Block → Block
 block_of b =
     record {
       unit = b.unit;
-      output = b.output;
+      files = b.files;
       scopes = b.scopes;
       types = b.types;
       constants = b.constants;

@@ -695,7 +695,7 @@ new_variable line d name b =
 -- it is one of the unit
 abbrev pub with_unit_variable : ℕ → Denoter → TypeName → Kind → List ℕ → Block → Block
 with_unit_variable line d of k name b =
-    with_name name (own_thing b (length b.variables) (declaration.Variable of k))
+    with_name name (own_thing b (length b.variables) (declaration.Variable of k protection.Unprotected))
     (record b { variables = b.variables ++ new_variable line d name b ∷ [] })
 
 -- it is one of the routine whose block is under way, where it comes behind the formal parameters and the result

@@ -130,7 +130,7 @@ declared_routine number (declaration.Function ps of k) b =
     })
 declared_routine number (declaration.Constant k v deep) b = Breaks (rule.TWICE ∷ [])
 declared_routine number (declaration.«Type» of h nodes) b = Breaks (rule.TWICE ∷ [])
-declared_routine number (declaration.Variable of k) b = Breaks (rule.TWICE ∷ [])
+declared_routine number (declaration.Variable of k guarded) b = Breaks (rule.TWICE ∷ [])
 declared_routine number (declaration.Own of k guarded) b = Breaks (rule.TWICE ∷ [])
 
 abbrev pub routine_there : Thing → Block → Judged Headed
@@ -271,7 +271,7 @@ context_of b c =
     record {
       unit = b.unit;
       scopes = scopes_of b;
-      output = b.output;
+      files = b.files;
       results = assigned_functions b.own.enclosing;
       locals = locals_of b;
       members = members_of (scopes_of b) (locals_of b) c;

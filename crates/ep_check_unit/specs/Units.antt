@@ -12,8 +12,9 @@ use Rattle.ep_typed.specs.declared.interface.ImportSpec.{ImportSpec}
 use Rattle.ep_typed.specs.declared.tree.StandardFile.{StandardFile}
 use Rattle.ep_typed.specs.declared.tree.StandardFile.TheVariants as file
 use Rattle.ep_typed.specs.declared.unit.Unit.{Unit as TypedUnit}
-use Rattle.ep_scope.specs.Scopes.{row_of}
+use Rattle.ep_scope.specs.Scopes.{empty_region, row_in}
 use Rattle.ep_scope.specs.declared.rule.TheConstants as rule
+use Rattle.ep_scope.specs.declared.standard.StandardFiles.{StandardFiles}
 use Rattle.ep_scope.specs.declared.thing.Thing.TheVariants as thing
 use Rattle.ep_rules.specs.Judgements.{Judged, Accepts, unbuilt, when_accepted}
 use Rattle.ep_stmt_rules.specs.Statements.{Judgement, Passes, Waits, Fails, fails_at, after}
@@ -41,13 +42,13 @@ parameters_entered [] b = Accepts b
 parameters_entered (name ∷ names) b =
     when_accepted (parameters_entered names) (parameter_entered name (standard_file name) b)
 
--- nothing is declared yet in the block of a unit, which has `output` as a parameter or has not
-abbrev pub first_block : List ℕ → Bool → Block
-first_block name output =
+-- nothing is declared yet in the block of a unit, which may use these standard files, and no name is around it
+abbrev pub first_block : List ℕ → StandardFiles → Block
+first_block name files =
     record {
       unit = name;
-      output = output;
-      scopes = row_of [];
+      files = files;
+      scopes = row_in empty_region;
       types = [];
       constants = [];
       variables = [];
@@ -70,9 +71,13 @@ pub record ProgramForm : Type 0 where
 abbrev pub has_name : List ℕ → List (List ℕ) → Bool
 has_name name names = list_any (λ other. bytes_eq other name) names
 
+-- the standard files that are parameters
+abbrev pub files_given : List (List ℕ) → StandardFiles
+files_given names = record { input = has_name (codes "input") names; output = has_name (codes "output") names }
+
 -- the block of a program, in which nothing is declared yet
 abbrev pub program_block : Program → Block
-program_block p = first_block p.name (has_name (codes "output") p.parameters)
+program_block p = first_block p.name (files_given p.parameters)
 
 -- the line of the first `forward` declaration whose routine has no body
 abbrev pub first_missing : List Forward → List ℕ → Option ℕ

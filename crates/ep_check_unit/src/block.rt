@@ -10,7 +10,9 @@ ghost use Rattle.ep_check_unit.specs.Units.{first_block};
 
 use ep_base::{Line, List, Name, NoMemory};
 use ep_rules::Refusal;
-use ep_scope::{Declaration, Declared, Kind, ScopeRefusal, Scopes, Thing, rule};
+use ep_scope::{
+    Declaration, Declared, Kind, Scope, ScopeRefusal, Scopes, StandardFiles, Thing, rule,
+};
 use ep_threats::RoutineTable;
 use ep_typed::{
     ConstantEntries, ConstantEntry, ImportSpecs, TypeEntry, TypedStmt, TypedStmts, Unit, UnitType,
@@ -23,8 +25,8 @@ use std::alloc::{AllocError, Global};
 pub(crate) struct Block {
     /// The unit.
     pub(crate) unit: Name,
-    /// Whether `output` is a parameter.
-    pub(crate) output: bool,
+    /// The standard files that are parameters or imported.
+    pub(crate) files: StandardFiles,
     /// The scopes in view: the names that are declared, and what they stand for.
     pub(crate) scopes: Scopes,
     /// The types.
@@ -51,7 +53,7 @@ impl Drop for Block {
     fn drop(self) {
         let Block {
             unit: _,
-            output: _,
+            files: _,
             scopes: _,
             types: _,
             constants: _,
@@ -76,14 +78,14 @@ pub(crate) struct Forward {
 }
 
 impl Block {
-    /// A block in which nothing is declared yet, of a unit that has `output` as a parameter or has not.
-    pub(crate) fn new(alloc: Global, unit: Name, output: bool) -> Result<Block, NoMemory>
-        ensures { IfOk result (λ b. block_of b ≡ first_block unit output) }
+    /// A block in which nothing is declared yet, of a unit that may use these standard files.
+    pub(crate) fn new(alloc: Global, unit: Name, files: StandardFiles) -> Result<Block, NoMemory>
+        ensures { IfOk result (λ b. block_of b ≡ first_block unit files) }
     {
-        let scopes = Scopes::new(alloc)?;
+        let scopes = Scopes::within(alloc, Scope::new(alloc))?;
         Ok(Block {
             unit,
-            output,
+            files,
             scopes,
             types: List::new(alloc),
             constants: List::new(alloc),
@@ -103,7 +105,7 @@ impl Block {
     {
         let Block {
             unit,
-            output: _,
+            files: _,
             scopes: _,
             types,
             constants,

@@ -7,12 +7,12 @@ ghost use Rattle.ep_built.specs.Built.{component_unbuilt, is_among, program_para
 ghost use Rattle.ep_check_unit.specs.Answers.{AnswersBlock};
 ghost use Rattle.ep_check_unit.specs.Blocks.{block_of};
 ghost use Rattle.ep_check_unit.specs.Checks.{AnswersBuilt, AnswersMissing, IsChecked, IsRefusal, IsRefusalOf, unit_in};
-ghost use Rattle.ep_check_unit.specs.Units.{IsTypedProgram, first_missing, has_name, imports_of, parameters_entered, program_judged, standard_file, standard_import, standard_interface};
+ghost use Rattle.ep_check_unit.specs.Units.{IsTypedProgram, files_given, first_missing, has_name, imports_of, parameters_entered, program_judged, standard_file, standard_import, standard_interface};
 
 use crate::block::{Block, Forward};
 use ep_base::{Line, List, Name, NameRefusal, NoMemory};
 use ep_rules::Refusal;
-use ep_scope::{Thing, rule};
+use ep_scope::{StandardFiles, Thing, rule};
 use ep_stmt_rules::{CheckRefusal, Outcome, refused_at};
 use ep_tree::{Component, Program};
 use ep_typed::{ImportSpec, ImportSpecs, Interface, StandardFile, TypedStmts, Unit};
@@ -77,8 +77,8 @@ fn check_program(alloc: Global, p: &Program) -> Result<Unit, CheckRefusal>
     ensures typed { IfOk result (λ u. IsTypedProgram p.now u) }
     ensures refused { IfErr result (λ refusal. IsRefusalOf (program_judged p.now) refusal) }
 {
-    let output = has_name(p.parameters.items(), b"output");
-    let mut block = Block::new(alloc, p.name.copy(alloc)?, output)?;
+    let files = files_given(p.parameters.items());
+    let mut block = Block::new(alloc, p.name.copy(alloc)?, files)?;
     if let Err(refusal) = block.enter_parameters(alloc, p.parameters.items()) {
         return Err(refused_at(p.line, refusal));
     }
@@ -121,6 +121,16 @@ fn has_name(names: &[Name], name: &[u8]) -> bool
     ensures { result ≡ has_name name.now names.now }
 {
     names.iter().any(|other| other.bytes() == name)
+}
+
+/// The standard files that are parameters.
+fn files_given(parameters: &[Name]) -> StandardFiles
+    ensures { result ≡ files_given parameters.now }
+{
+    StandardFiles {
+        input: has_name(parameters, b"input"),
+        output: has_name(parameters, b"output"),
+    }
 }
 
 /// The standard file of a program parameter.

@@ -192,7 +192,7 @@ impl Block {
             name.now (block_of self.old)) }
     {
         let number = number(self.variables.items().len())?;
-        let what = Declaration::Variable(named.of, named.kind);
+        let what = Declaration::Variable(named.of, named.kind, Protection::Unprotected);
         let thing = self.own_thing(alloc, number, what)?;
         self.enter(alloc, name, thing)?;
         let variable = self.new_variable(alloc, line, named, name)?;

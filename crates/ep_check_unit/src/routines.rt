@@ -297,7 +297,7 @@ impl Block {
             alloc,
             unit: &self.unit,
             scopes: &scopes,
-            output: self.output,
+            files: self.files,
             results: results.items(),
             locals,
             members,

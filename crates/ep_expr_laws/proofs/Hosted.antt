@@ -222,7 +222,7 @@ module _ (scopes : List Region) where
   declared_comes : (depth : ℕ) (d : Declared) (what : Declaration) → ((h : Host) → DeclaresHost what h → ScopesHaveHost scopes h) → Comes (value_declared depth d what)
   declared_comes depth d (declaration.Constant k v deep) f = kind_comes k f
   declared_comes depth d (declaration.«Type» of h nodes) f = tt
-  declared_comes depth d (declaration.Variable of k) f = kind_comes k f
+  declared_comes depth d (declaration.Variable of k guarded) f = kind_comes k f
   declared_comes depth d (declaration.Own of k guarded) f = kind_comes k f
   declared_comes depth d (declaration.Procedure parameters) f = tt
   declared_comes depth d (declaration.Function parameters of k) f = function_comes (callee_at depth d) k (arguments_judged parameters []) (kind_comes k f)
@@ -230,7 +230,7 @@ module _ (scopes : List Region) where
   call_comes : (depth : ℕ) (d : Declared) (what : Declaration) (gs : List Given) → ((h : Host) → DeclaresHost what h → ScopesHaveHost scopes h) → Comes (call_declared depth d what gs)
   call_comes depth d (declaration.Constant k v deep) gs f = tt
   call_comes depth d (declaration.«Type» of h nodes) gs f = tt
-  call_comes depth d (declaration.Variable of k) gs f = tt
+  call_comes depth d (declaration.Variable of k guarded) gs f = tt
   call_comes depth d (declaration.Own of k guarded) gs f = tt
   call_comes depth d (declaration.Procedure parameters) gs f = tt
   call_comes depth d (declaration.Function parameters of k) gs f = function_comes (callee_at depth d) k (arguments_judged parameters gs) (kind_comes k f)

@@ -407,7 +407,7 @@ module _ (declared : Declarations) (types : TypeValues) (structures : List Struc
   abbrev pub IsDeclaration : Declared → Declaration → Type 0
   IsDeclaration d (declaration.Constant kind value deep) = IsConstantIn declared types structures kind value
   IsDeclaration d (declaration.«Type» of kind nodes) = IsKind kind
-  IsDeclaration d (declaration.Variable of kind) =
+  IsDeclaration d (declaration.Variable of kind guarded) =
       IsStoredIn declared types structures (Variable d.unit d.number) kind
       × IsOfType declared types (Variable d.unit d.number) of
   IsDeclaration d (declaration.Own of kind guarded) =

@@ -34,7 +34,7 @@ HasHost kind.File h = ⊥
 abbrev pub DeclaresHost : Declaration → Host → Type 0
 DeclaresHost (declaration.Constant k v deep) h = HasHost k h
 DeclaresHost (declaration.«Type» of k nodes) h = HasHost k h
-DeclaresHost (declaration.Variable of k) h = HasHost k h
+DeclaresHost (declaration.Variable of k guarded) h = HasHost k h
 DeclaresHost (declaration.Own of k guarded) h = HasHost k h
 DeclaresHost (declaration.Procedure parameters) h = ⊥
 DeclaresHost (declaration.Function parameters of k) h = HasHost k h

@@ -14,7 +14,6 @@ use Rattle.ep_scope.specs.Scopes as meaning
 use Rattle.ep_scope.specs.declared.kind.Host.{Host}
 use Rattle.ep_scope.specs.declared.kind.Kind.{Kind}
 use Rattle.ep_scope.specs.declared.kind.Kind.TheVariants as kind
-use Rattle.ep_scope.specs.declared.parameter.Protection.TheVariants as protection
 use Rattle.ep_scope.specs.declared.required.Required.{Required}
 use Rattle.ep_scope.specs.declared.required.Required.TheVariants as required
 use Rattle.ep_scope.specs.declared.required.RequiredConstant.{RequiredConstant}
@@ -79,8 +78,8 @@ field_read f =
 abbrev pub value_declared : ℕ → Declared → Declaration → Judged Typed
 value_declared depth d (declaration.Constant kind value deep) = constant_typed kind value deep
 value_declared depth d (declaration.«Type» of host nodes) = Breaks (rule.OTHER_THING ∷ [])
-value_declared depth d (declaration.Variable of kind) =
-    reading (Read (Variable d.unit d.number)) kind (access.Variable of protection.Unprotected)
+value_declared depth d (declaration.Variable of kind guarded) =
+    reading (Read (Variable d.unit d.number)) kind (access.Variable of guarded)
 value_declared depth d (declaration.Own of kind guarded) =
     reading (Read (own_place depth d)) kind (access.Variable of guarded)
 value_declared depth d (declaration.Procedure parameters) = Breaks (rule.PROCEDURE ∷ rule.OTHER_THING ∷ [])
@@ -135,7 +134,7 @@ call_declared depth d (declaration.Procedure parameters) gs =
     Breaks (rule.PROCEDURE ∷ rule.OTHER_THING ∷ all_faults gs)
 call_declared depth d (declaration.Constant kind value deep) gs = Breaks (rule.OTHER_THING ∷ all_faults gs)
 call_declared depth d (declaration.«Type» of host nodes) gs = Breaks (rule.OTHER_THING ∷ all_faults gs)
-call_declared depth d (declaration.Variable of kind) gs = Breaks (rule.OTHER_THING ∷ all_faults gs)
+call_declared depth d (declaration.Variable of kind guarded) gs = Breaks (rule.OTHER_THING ∷ all_faults gs)
 call_declared depth d (declaration.Own of kind guarded) gs = Breaks (rule.OTHER_THING ∷ all_faults gs)
 
 -- a name with arguments

@@ -15,7 +15,7 @@ use crate::forms::{Refusal, Typed};
 use crate::levels::{field_place, own_place};
 use ep_base::{Boxed, Name};
 use ep_scope::{
-    Declaration, Declared, FormalParameter, Host, Kind, Meaning, OpenField, Protection, Required,
+    Declaration, Declared, FormalParameter, Host, Kind, Meaning, OpenField, Required,
     RequiredConstant, View, depth_in, meaning_in, meaning_of, rule,
 };
 use ep_typed::{TypedExpr, TypedPlace};
@@ -62,9 +62,9 @@ fn declared_value(alloc: Global, depth: u32, d: &Declared) -> Result<Typed, Refu
     match &d.what {
         Declaration::Constant(kind, value, deep) => Typed::value(alloc, value, *kind, *deep),
         Declaration::Type(_, _, _) => Err(Refusal::Rule(rule::OTHER_THING)),
-        Declaration::Variable(of, kind) => {
+        Declaration::Variable(of, kind, guarded) => {
             let unit = d.unit.copy(alloc)?;
-            let access = Access::Variable(*of, Protection::Unprotected);
+            let access = Access::Variable(*of, *guarded);
             Typed::read(alloc, TypedPlace::Variable(unit, d.number), *kind, access)
         }
         Declaration::Own(of, kind, guarded) => {

@@ -3,3 +3,4 @@ mod Layers
 mod Opened
 mod Parameters
 mod Places
+mod RuleNumbers

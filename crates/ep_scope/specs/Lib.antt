@@ -9,3 +9,4 @@ pub mod Parameters
 pub mod Records
 pub mod Required
 pub mod Scopes
+pub mod Standard

@@ -1,5 +1,5 @@
 -- What names stand for: lists of declarations, and what a name means in them.
-use Rattle.std.specs.Prelude.{ℕ, ◌==◌, List, [], ◌∷◌, ◌++◌, length, slice_get, Option, Some, None, if◌then◌else◌}
+use Rattle.std.specs.Prelude.{ℕ, ◌-◌, ◌==◌, List, [], ◌∷◌, ◌++◌, length, slice_get, Option, Some, None, if◌then◌else◌}
 use Rattle.std.specs.Str.{bytes_eq}
 use Rattle.ep_typed.specs.Trees.{Entire}
 use Rattle.ep_typed.specs.declared.tree.StandardFile.{StandardFile}
@@ -141,10 +141,10 @@ abbrev pub meant : List Region → List ℕ → Meant
 meant [] name = as_required (required_of name)
 meant (r ∷ rs) name = or_field (field_among r.records name) (or_outside (look_up r.entries name) (meant rs name))
 
--- how many routines are around code that sees these scopes, of which the outermost is that of a unit's block
+-- How many routines are around code that sees these scopes. The last one is around the block of the unit and counts as
+-- no level, and the one before it is that of the block.
 abbrev pub depth_in : List Region → ℕ
-depth_in [] = 0
-depth_in (r ∷ rs) = length rs
+depth_in rs = length rs - 2
 
 -- nothing where the name of the interface is that of something else
 abbrev pub unless_hidden : Option Thing → Meant → Meant
@@ -176,10 +176,15 @@ within_all (r ∷ rs) scopes = within r (within_all rs scopes)
 
 -- ---- the scopes in view at a place of a text
 
--- the innermost one, and those around it from the inside to the outside (ISO 10206, 6.2.2)
+-- The innermost one, and those around it from the inside to the outside (ISO 10206, 6.2.2). The last one is that of no
+-- block: it is around the block of the unit and has what the unit's heading imports (own).
 pub record Row : Type 0 where
   pub inner : Region
   pub outer : List Region
+
+-- the row in the block of a unit that has no name yet, where this scope is around it
+abbrev pub row_in : Region → Row
+row_in around = record { inner = empty_region; outer = around ∷ [] }
 
 -- all of them, the innermost first
 abbrev pub in_view : Row → List Region

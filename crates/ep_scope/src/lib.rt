@@ -7,7 +7,7 @@
 //! A required identifier: specs/Required.antt, src/required.rt. The number of a static rule: src/rule.rt. What is
 //! declared of a name: src/thing.rt, of parameters src/parameter.rt, of structured types src/structure.rt, and how they
 //! and the fields of records are found src/structures.rt and src/fields.rt with specs/Numbers.antt and specs/Fields.antt.
-//! Kinds: src/kind.rt, specs/Kinds.antt. Records that `with` opens: src/record.rt, specs/Records.antt, and how their
+//! Kinds: src/kind.rt, specs/Kinds.antt. Which standard files code may use: src/standard.rt, specs/Standard.antt. Records that `with` opens: src/record.rt, specs/Records.antt, and how their
 //! fields are found src/layer.rt, specs/Layers.antt.
 #![tactic(auto)]
 
@@ -22,6 +22,7 @@ mod required;
 pub mod rule;
 mod scope;
 mod scopes;
+mod standard;
 mod structure;
 mod structures;
 mod thing;
@@ -38,6 +39,7 @@ pub use record::{OpenField, OpenRecord, RecordVariable};
 pub use required::{Function, Procedure, Required, RequiredConstant, required_identifier};
 pub use scope::{Scope, ScopeRefusal};
 pub use scopes::Scopes;
+pub use standard::StandardFiles;
 pub use structure::{
     ArrayType, Composition, FieldType, StructuredType, TagType, VariantPath, VariantStep,
 };

@@ -3,7 +3,7 @@
 ghost use Rattle.std.specs.Prelude.{◌≡◌, [], IfOk, OnOk, OnErr};
 ghost use Rattle.std.specs.Option.{option_copied};
 ghost use Rattle.ep_scope.specs.Required.{look_up};
-ghost use Rattle.ep_scope.specs.Scopes.{closed, empty_region, in_view, opened, row_of, with_inner_structure};
+ghost use Rattle.ep_scope.specs.Scopes.{closed, empty_region, in_view, opened, row_in, with_inner_structure};
 ghost use Rattle.ep_scope.specs.Entering.{AnswersInner};
 
 use crate::scope::{Scope, ScopeRefusal};
@@ -14,7 +14,8 @@ use ep_base::{Name, NoMemory};
 use std::alloc::Global;
 use std::marker::Model;
 
-/// The scopes in view, of which there is always one: the innermost one, and those around it.
+/// The scopes in view, of which there is always one: the innermost one, and those around it. The last one is around the
+/// block of the unit, and has what the unit's heading imports.
 pub struct Scopes {
     alloc: Global,
     all: Vec<Scope>,
@@ -42,12 +43,13 @@ impl Drop for Scopes {
 }
 
 impl Scopes {
-    /// One scope without names.
-    pub fn new(alloc: Global) -> Result<Scopes, NoMemory>
-        ensures { IfOk result (λ scopes. scopes ≡ row_of []) }
+    /// That of the block of a unit, without names, where this scope is around it.
+    pub fn within(alloc: Global, around: Scope) -> Result<Scopes, NoMemory>
+        ensures { IfOk result (λ scopes. scopes ≡ row_in around) }
     {
         let mut all = Vec::new(alloc);
         all.push(Scope::new(alloc))?;
+        all.push(around)?;
         Ok(Scopes { alloc, all })
     }
 

@@ -52,8 +52,8 @@ pub enum Declaration {
     Constant(Kind, Value, u32),
     /// A name of this type, its kind, and how many nodes it has (ISO 10206, 6.4.1).
     Type(TypeName, Kind, u32),
-    /// A variable of this type (ISO 10206, 6.5.1).
-    Variable(TypeName, Kind),
+    /// A variable of a unit, of this type (ISO 10206, 6.5.1). In the unit that declares it nothing protects it.
+    Variable(TypeName, Kind, Protection),
     /// A variable of a routine, one of its formal parameters, or its result (ISO 10206, 6.5.1, 6.7.2 and 6.7.3).
     Own(TypeName, Kind, Protection),
     /// A procedure with these formal parameters (ISO 10206, 6.7.1).
@@ -67,7 +67,7 @@ impl Drop for Declaration {
         match self {
             Declaration::Constant(_, _, _) => {}
             Declaration::Type(_, _, _) => {}
-            Declaration::Variable(_, _) => {}
+            Declaration::Variable(_, _, _) => {}
             Declaration::Own(_, _, _) => {}
             Declaration::Procedure(_) => {}
             Declaration::Function(_, _, _) => {}

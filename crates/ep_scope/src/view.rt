@@ -141,12 +141,12 @@ impl<'a> Inner<'a> {
     }
 }
 
-/// How many routines are around code that sees these scopes, of which the outermost is that of a unit's block. It takes no
-/// memory; an error comes where 32 bits do not hold the number.
+/// How many routines are around code that sees these scopes, of which the last one is around the block of the unit. It takes
+/// no memory; an error comes where 32 bits do not hold the number.
 pub fn depth_in(view: &View<'_>) -> Result<u32, NoMemory>
     ensures { IfOk result (λ depth. depth ≡ depth_in view.now) }
 {
-    match u32::try_from(view.scopes.len().saturating_sub(1)) {
+    match u32::try_from(view.scopes.len().saturating_sub(2)) {
         Ok(depth) => Ok(depth),
         Err(_) => Err(AllocError),
     }

@@ -33,7 +33,7 @@ use Rattle.ep_check_expr.proofs.public.Nodes.{access-judged, argument-judged, ex
 use Rattle.ep_check_expr.specs.Expressions.{judged}
 use Rattle.ep_rules.specs.Judgements.{Judged, Accepts, Breaks, both}
 use Rattle.ep_threats.specs.RoutineForms.{RoutineForm}
-use Rattle.ep_stmt_rules.specs.Statements.{At, Context, FunctionResult, MemberHead, OfRoutine, OfUnit, assigned, counted_by, declared_called, declared_control, function_target, is_threatened_in, members_judged, stmt_threat, target_judged, unless_threatening}
+use Rattle.ep_stmt_rules.specs.Statements.{At, Context, FunctionResult, MemberHead, OfRoutine, OfUnit, assigned, counted_by, declared_called, declared_control, declared_target, function_target, is_threatened_in, members_judged, stmt_threat, target_judged, unless_threatening}
 
 -- an expression of one factor
 abbrev bare : Factor → Expression
@@ -75,13 +75,13 @@ context =
       scopes =
           record {
             entries =
-                (codes "x", thing.Declared (declares 0 (declaration.Variable (type_name.Required simple.Integer) (kind.Ordinal host.Integer))))
-                ∷ (codes "c", thing.Declared (declares 1 (declaration.Variable (type_name.Required simple.Char) (kind.Ordinal host.Char)))) ∷ [];
+                (codes "x", thing.Declared (declares 0 (declaration.Variable (type_name.Required simple.Integer) (kind.Ordinal host.Integer) protection.Unprotected)))
+                ∷ (codes "c", thing.Declared (declares 1 (declaration.Variable (type_name.Required simple.Char) (kind.Ordinal host.Char) protection.Unprotected))) ∷ [];
             qualified = [];
             structures = [];
             records = [];
           } ∷ [];
-      output = false;
+      files = record { input = false; output = false };
       results = [];
       locals = OfUnit (codes "u") 2;
       members = 2;
@@ -108,7 +108,7 @@ other_type = simp (argument-judged, expression-judged, simple-judged, term-judge
 -- ---- control variables
 
 abbrev x : Declaration
-x = declaration.Variable (type_name.Required simple.Integer) (kind.Ordinal host.Integer)
+x = declaration.Variable (type_name.Required simple.Integer) (kind.Ordinal host.Integer) protection.Unprotected
 
 -- a variable of a routine, or a formal parameter of it
 abbrev own : Declaration
@@ -131,6 +131,16 @@ parameter_does_not = refl
 -- nor does a variable of a routine around, whatever its number
 around_does_not : declared_control (OfRoutine 4 1 3) 2 (declares_at 1 1 own) own ≡ Breaks (rule.CONTROL_VARIABLE ∷ [])
 around_does_not = refl
+
+-- what another unit exports as protected does not count, and its turns would threaten it; nor is it assigned to
+abbrev imported : Declared
+imported = record { unit = codes "m"; number = 0; level = 0; what = declaration.Variable (type_name.Required simple.Integer) (kind.Ordinal host.Integer) protection.Protected }
+
+imported_does_not : declared_control (OfUnit (codes "u") 2) 0 imported imported.what ≡ Breaks (rule.CONTROL_VARIABLE ∷ rule.PROTECTED ∷ [])
+imported_does_not = refl
+
+imported_is_not_assigned : declared_target 0 (codes "u") [] imported imported.what ≡ Breaks (rule.PROTECTED ∷ [])
+imported_is_not_assigned = refl
 
 -- ---- threats from inside
 
@@ -189,7 +199,7 @@ row = record { number = 3; composition = composition.Array (record { index = col
 
 -- a variable of the array type of a number
 abbrev array : ℕ → Declaration
-array number = declaration.Variable (type_name.Entry number) (kind.Structured number)
+array number = declaration.Variable (type_name.Entry number) (kind.Structured number) protection.Unprotected
 
 -- a protected parameter of the type of the row
 abbrev guarded : Declaration

@@ -60,7 +60,7 @@ abbrev in_view : List Region
 in_view =
     record {
       entries =
-          (codes "red", declares 0 (declaration.Constant (kind.Ordinal color) (value.Word (pos 0)) 1)) ∷ (codes "v", declares 7 (declaration.Variable (type_name.Entry 5) (kind.Structured 5)))
+          (codes "red", declares 0 (declaration.Constant (kind.Ordinal color) (value.Word (pos 0)) 1)) ∷ (codes "v", declares 7 (declaration.Variable (type_name.Entry 5) (kind.Structured 5) protection.Unprotected))
           ∷ (codes "g", declares 0 (declaration.Own (type_name.Entry 5) (kind.Structured 5) protection.Protected)) ∷ [];
       qualified = [];
       structures = shape ∷ [];
@@ -72,7 +72,7 @@ abbrev opened : Protection → List Region
 opened guarded = within (record { variable = tree.OfUnit (codes "u") 9; guarded = guarded; fields = fields }) in_view
 
 abbrev context : List Region → Context
-context scopes = record { unit = codes "u"; scopes = scopes; output = false; results = []; locals = OfUnit (codes "u") 2; members = 2; routines = []; withs = 9 }
+context scopes = record { unit = codes "u"; scopes = scopes; files = record { input = false; output = false }; results = []; locals = OfUnit (codes "u") 2; members = 2; routines = []; withs = 9 }
 
 -- a name, and one with a field
 abbrev alone : List ℕ → Access

@@ -34,6 +34,7 @@ use Rattle.ep_typed.specs.declared.tree.StandardFile.TheVariants as file
 use Rattle.ep_typed.specs.declared.unit.UnitVariable.{UnitVariable}
 use Rattle.ep_scope.specs.Scopes.{OpenField, Region, Meant, Declares, Standard, Requires, FieldOf, Nothing, depth_in}
 use Rattle.ep_scope.specs.Scopes.{meant, structure_in, within}
+use Rattle.ep_scope.specs.Standard.{is_usable}
 use Rattle.ep_scope.specs.declared.kind.Host.{Host}
 use Rattle.ep_scope.specs.declared.kind.Host.TheVariants as host
 use Rattle.ep_scope.specs.declared.kind.Kind.{Kind}
@@ -45,6 +46,7 @@ use Rattle.ep_scope.specs.declared.required.Procedure.TheVariants as procedure
 use Rattle.ep_scope.specs.declared.required.Required.{Required}
 use Rattle.ep_scope.specs.declared.required.Required.TheVariants as required
 use Rattle.ep_scope.specs.declared.rule.TheConstants as rule
+use Rattle.ep_scope.specs.declared.standard.StandardFiles.{StandardFiles}
 use Rattle.ep_scope.specs.declared.structure.Composition.{Composition}
 use Rattle.ep_scope.specs.declared.structure.Composition.TheVariants as composition
 use Rattle.ep_scope.specs.declared.structure.FieldType.{FieldType}
@@ -57,7 +59,7 @@ use Rattle.ep_rules.specs.declared.access.Access.TheVariants as access
 use Rattle.ep_rules.specs.Arguments.{arguments_judged, callee_at, given_to, own_place, place_read, tagged_read}
 use Rattle.ep_rules.specs.Arguments.{unless_protected}
 use Rattle.ep_rules.specs.Hosts.{typed_host}
-use Rattle.ep_rules.specs.Judgements.{Judged, Accepts, Breaks, Typed, when_accepted, both}
+use Rattle.ep_rules.specs.Judgements.{Judged, Accepts, Breaks, Typed, when_accepted, both, faults}
 use Rattle.ep_rules.specs.Functions.{Given}
 use Rattle.ep_rules.specs.Names.{field_place, tagged_place, undeclared}
 use Rattle.ep_rules.specs.Operators.{map_both}
@@ -173,8 +175,9 @@ field_target f = when_accepted (λ done. Accepts (field_target_of f f.field.tag)
 module _ (depth : ℕ) (unit : List ℕ) (results : List FunctionResult) where
   -- a declared name that is assigned to
   abbrev pub declared_target : Declared → Declaration → Judged Target
-  declared_target d (declaration.Variable of k) =
-      Accepts (record { receiver = Some (At (tree.Variable d.unit d.number)); kind = k })
+  declared_target d (declaration.Variable of k guarded) =
+      when_accepted (λ done. Accepts (record { receiver = Some (At (tree.Variable d.unit d.number)); kind = k }))
+      (unless_protected guarded)
   declared_target d (declaration.Own of k guarded) =
       when_accepted (λ done. Accepts (record { receiver = Some (At (own_place depth d)); kind = k }))
       (unless_protected guarded)
@@ -319,10 +322,9 @@ written f line ends_line gs =
     both (λ some items. Accepts (to_file f (option_map (λ is. tree.Write line is ends_line) items)))
     (something ends_line gs) (items_judged gs)
 
--- `output` is a parameter of the program or imported
-abbrev pub available : Bool → Judged (Unit {0})
-available true = Accepts tt
-available false = Breaks (rule.STANDARD_FILE ∷ [])
+-- a standard file that is used by default is a parameter of the program or the module, or is imported
+abbrev pub available : StandardFiles → StandardFile → Judged (Unit {0})
+available files f = if is_usable files f then Accepts tt else Breaks (rule.STANDARD_FILE ∷ [])
 
 -- ---- statements
 
@@ -370,16 +372,18 @@ pub record Named : Type 0 where
   pub variable : Entire
   pub kind : Kind
 
-abbrev pub control_if : Bool → Named → Judged Named
-control_if true v = Accepts v
-control_if false v = no_control []
+-- it is one where the block declares it and it is not protected, since the `for` threatens it (ISO 10206, 6.9.4)
+abbrev pub control_if : Bool → Protection → Named → Judged Named
+control_if true guarded v = when_accepted (λ done. Accepts v) (unless_protected guarded)
+control_if false guarded v = no_control (faults (unless_protected guarded))
 
 -- a declared name as a control variable
 abbrev pub declared_control : Locals → ℕ → Declared → Declaration → Judged Named
-declared_control locals depth d (declaration.Variable of k) =
-    control_if (declares_variable locals d.unit) (record { variable = tree.OfUnit d.unit d.number; kind = k })
+declared_control locals depth d (declaration.Variable of k guarded) =
+    control_if (declares_variable locals d.unit) guarded
+    (record { variable = tree.OfUnit d.unit d.number; kind = k })
 declared_control locals depth d (declaration.Own of k guarded) =
-    control_if (declares_own locals depth d)
+    control_if (declares_own locals depth d) guarded
     (record { variable = tree.OfRoutine (depth - d.level) d.number; kind = k })
 declared_control locals depth d (declaration.Constant k value deep) =
     no_control (rule.CONSTANT_THREATENED ∷ rule.VARIABLE_NEEDED ∷ [])
@@ -522,14 +526,14 @@ abbrev pub halt_judged : ℕ → List Argument → Judged (Option Stmt)
 halt_judged line [] = Accepts (Some (tree.Halt line))
 halt_judged line (first ∷ more) = Breaks (rule.ARGUMENTS ∷ [])
 
--- What a block knows: its unit, its scopes, the innermost first, whether `output` is a parameter or imported, the
+-- What a block knows: its unit, its scopes, the innermost first, which standard files are parameters or imported, the
 -- functions in whose blocks it is and whose results have no names, the innermost first, its own variables, the number
 -- of the auxiliary variable of `for` over members among these, the routines of the unit, and the number of the
 -- variable of the next `with`.
 pub record Context : Type 0 where
   pub unit : List ℕ
   pub scopes : List Region
-  pub output : Bool
+  pub files : StandardFiles
   pub results : List FunctionResult
   pub locals : Locals
   pub members : ℕ
@@ -599,7 +603,7 @@ declared_rules (declaration.Procedure parameters) = rule.PROCEDURE ∷ rule.OTHE
 declared_rules (declaration.Function parameters of h) = rule.PROCEDURE ∷ []
 declared_rules (declaration.Constant k value deep) = rule.OTHER_THING ∷ []
 declared_rules (declaration.«Type» of h nodes) = rule.OTHER_THING ∷ []
-declared_rules (declaration.Variable of k) = rule.OTHER_THING ∷ []
+declared_rules (declaration.Variable of k guarded) = rule.OTHER_THING ∷ []
 declared_rules (declaration.Own of k guarded) = rule.OTHER_THING ∷ []
 
 abbrev pub required_rules : Required → List ℕ
@@ -628,7 +632,7 @@ module _ (context : Context) where
   abbrev pub usually_written : ℕ → Bool → List Argument → Judged (Option Stmt)
   usually_written line ends_line arguments =
       both (λ form there. Accepts form) (written file.Output line ends_line (map (given context.scopes) arguments))
-      (available context.output)
+      (available context.files file.Output)
 
   abbrev pub written_or : Option StandardFile → ℕ → Bool → Argument → List Argument → Judged (Option Stmt)
   written_or (Some f) line ends_line first more = written f line ends_line (map (given context.scopes) more)
@@ -668,7 +672,7 @@ module _ (context : Context) where
   declared_called line d (declaration.Function parameters of h) arguments = Breaks (rule.PROCEDURE ∷ [])
   declared_called line d (declaration.Constant k value deep) arguments = Breaks (rule.OTHER_THING ∷ [])
   declared_called line d (declaration.«Type» of h nodes) arguments = Breaks (rule.OTHER_THING ∷ [])
-  declared_called line d (declaration.Variable of k) arguments = Breaks (rule.OTHER_THING ∷ [])
+  declared_called line d (declaration.Variable of k guarded) arguments = Breaks (rule.OTHER_THING ∷ [])
   declared_called line d (declaration.Own of k guarded) arguments = Breaks (rule.OTHER_THING ∷ [])
 
   -- a statement of a name that means this, with these arguments

@@ -44,7 +44,7 @@ of_field f = record { kind = f.kind; is_tag = is_some f.tag }
 
 -- what is declared, where it is a variable
 abbrev pub declared_reached : Declaration → Option Reached
-declared_reached (declaration.Variable of k) = Some (of_kind k)
+declared_reached (declaration.Variable of k guarded) = Some (of_kind k)
 declared_reached (declaration.Own of k guarded) = Some (of_kind k)
 declared_reached (declaration.Constant k value deep) = None
 declared_reached (declaration.«Type» of k nodes) = None

@@ -22,7 +22,7 @@ use crate::outcome::Outcome;
 use crate::statements::{Locals, Row};
 use ep_base::{Boxed, Line, List, Name, NoMemory};
 use ep_check_expr::typed_expression;
-use ep_rules::{Refusal, given_value, greatest, least, undeclared};
+use ep_rules::{Refusal, given_value, greatest, least, undeclared, unless_protected};
 use ep_scope::{Declaration, Declared, Host, Kind, Meaning, View, depth_in, meaning_of, rule};
 use ep_threats::{Entire, Routines, expr_threatens, inner_threatens, is_same, statement_threatens};
 use ep_tree::{Direction, Expression};
@@ -117,10 +117,12 @@ fn declared_control<'a>(
         (declared_control (locals_of locals.entry) depth declared.now declared.now.what) }
 {
     match &declared.what {
-        Declaration::Variable(_, kind) if declares_variable(locals, &declared.unit) => {
+        Declaration::Variable(_, kind, protection) if declares_variable(locals, &declared.unit) => {
+            unless_protected(*protection)?;
             Ok((Entire::Variable(&declared.unit, declared.number), *kind))
         }
-        Declaration::Own(_, kind, _) if declares_own(locals, depth, declared) => {
+        Declaration::Own(_, kind, protection) if declares_own(locals, depth, declared) => {
+            unless_protected(*protection)?;
             let up = depth.saturating_sub(declared.level);
             Ok((Entire::Own(up, declared.number), *kind))
         }

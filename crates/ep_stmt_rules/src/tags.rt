@@ -99,7 +99,9 @@ fn name_reached(meaning: Meaning<'_>) -> Option<Reached>
 {
     match meaning {
         Meaning::Declared(declared) => match &declared.what {
-            Declaration::Variable(_, kind) | Declaration::Own(_, kind, _) => Some(of_kind(*kind)),
+            Declaration::Variable(_, kind, _) | Declaration::Own(_, kind, _) => {
+                Some(of_kind(*kind))
+            }
             _ => None,
         },
         Meaning::Field(field) => Some(of_field(field.field)),

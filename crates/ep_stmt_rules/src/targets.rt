@@ -210,7 +210,8 @@ fn declared_target(
         declared.now declared.now.what) }
 {
     match &declared.what {
-        Declaration::Variable(_, kind) => {
+        Declaration::Variable(_, kind, protection) => {
+            unless_protected(*protection)?;
             let unit = declared.unit.copy(alloc)?;
             let place = TypedPlace::Variable(unit, declared.number);
             Ok(Target::at(place, *kind))

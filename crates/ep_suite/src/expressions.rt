@@ -3,7 +3,7 @@
 use crate::texts::parsed;
 use ep_base::Name;
 use ep_expr_laws::{ExpressionRefusal, constant, expression};
-use ep_scope::{Declaration, Declared, Host, Kind, Scope, Thing, TypeName};
+use ep_scope::{Declaration, Declared, Host, Kind, Protection, Scope, Thing, TypeName};
 use ep_tree::{Component, ComponentValue, Expression, Statement};
 use ep_typed::{RequiredType, Value};
 use std::alloc::{AllocError, Global};
@@ -43,7 +43,11 @@ fn declared(alloc: Global, what: Declaration) -> Option<Thing> {
 /// The scope of the variable.
 fn variable(alloc: Global) -> Option<Scope> {
     let integer = TypeName::Required(RequiredType::Integer);
-    let what = Declaration::Variable(integer, Kind::Ordinal(Host::Integer));
+    let what = Declaration::Variable(
+        integer,
+        Kind::Ordinal(Host::Integer),
+        Protection::Unprotected,
+    );
     let x = declared(alloc, what)?;
     let name = Name::from_bytes(alloc, b"x").ok()?;
     let mut scope = Scope::new(alloc);

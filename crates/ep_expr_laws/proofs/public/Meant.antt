@@ -162,7 +162,7 @@ module _ (declared : Declarations) (types : TypeValues) (structures : List Struc
   value_declared-fits : (d : Declared) (what : Declaration) → IsDeclaration declared types structures depth d what → Holds (value_declared depth d what)
   value_declared-fits d (declaration.Constant k v deep) s = (constant-fits k v s, tt)
   value_declared-fits d (declaration.«Type» of host nodes) s = tt
-  value_declared-fits d (declaration.Variable of k) s = (variable-fits (Variable d.unit d.number) k s.0, (Variable d.unit d.number, refl, s.1))
+  value_declared-fits d (declaration.Variable of k guarded) s = (variable-fits (Variable d.unit d.number) k s.0, (Variable d.unit d.number, refl, s.1))
   value_declared-fits d (declaration.Own of k guarded) s = (variable-fits (own_place depth d) k s.0, (own_place depth d, refl, s.1))
   value_declared-fits d (declaration.Procedure parameters) s = tt
   value_declared-fits d (declaration.Function parameters of k) s = function_called-fits declared types structures (callee_at depth d) parameters k [] s tt
@@ -187,7 +187,7 @@ module _ (declared : Declarations) (types : TypeValues) (structures : List Struc
   call_declared-fits : (d : Declared) (what : Declaration) (gs : List Given) → IsDeclaration declared types structures depth d what → AreGiven (IsForm declared types structures) gs → Holds (call_declared depth d what gs)
   call_declared-fits d (declaration.Constant k v deep) gs s p = tt
   call_declared-fits d (declaration.«Type» of host nodes) gs s p = tt
-  call_declared-fits d (declaration.Variable of k) gs s p = tt
+  call_declared-fits d (declaration.Variable of k guarded) gs s p = tt
   call_declared-fits d (declaration.Own of k guarded) gs s p = tt
   call_declared-fits d (declaration.Procedure parameters) gs s p = tt
   call_declared-fits d (declaration.Function parameters of k) gs s p = function_called-fits declared types structures (callee_at depth d) parameters k gs s p

@@ -81,7 +81,8 @@ module _ (depth : ℕ) (unit : List ℕ) (results : List FunctionResult) where
       go false others = others
 
   declared_targets : (d : Declared) (what : Declaration) → Fits (Targets (said (tags.declared_reached what))) (declared_target depth unit results d what)
-  declared_targets d (declaration.Variable of k) = refl
+  declared_targets d (declaration.Variable of k guarded) =
+      fits_then Any (Targets false) (λ done. Accepts (record { receiver = Some (At (tree.Variable d.unit d.number)); kind = k })) (unless_protected guarded) (fits_any (unless_protected guarded)) (λ a p. refl)
   declared_targets d (declaration.Own of k guarded) =
       fits_then Any (Targets false) (λ done. Accepts (record { receiver = Some (At (own_place depth d)); kind = k })) (unless_protected guarded) (fits_any (unless_protected guarded)) (λ a p. refl)
   declared_targets d (declaration.Constant k v deep) = tt

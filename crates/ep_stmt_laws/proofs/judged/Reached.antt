@@ -100,7 +100,7 @@ function_reached callee k (Breaks rules) = tt
 declared_reached : (depth : ℕ) (d : Declared) (what : Declaration) → Fits (IsReached (tags.declared_reached what)) (value_declared depth d what)
 declared_reached depth d (declaration.Constant k v deep) = tt
 declared_reached depth d (declaration.«Type» of h nodes) = tt
-declared_reached depth d (declaration.Variable of k) = (refl, refl)
+declared_reached depth d (declaration.Variable of k guarded) = (refl, refl)
 declared_reached depth d (declaration.Own of k guarded) = (refl, refl)
 declared_reached depth d (declaration.Procedure parameters) = tt
 declared_reached depth d (declaration.Function parameters of k) = function_reached (callee_at depth d) k (arguments_judged parameters [])
@@ -130,7 +130,7 @@ named_reached depth name Nothing = tt
 declared_called : (depth : ℕ) (d : Declared) (what : Declaration) (gs : List Given) → Fits (IsReached None) (call_declared depth d what gs)
 declared_called depth d (declaration.Constant k v deep) gs = tt
 declared_called depth d (declaration.«Type» of h nodes) gs = tt
-declared_called depth d (declaration.Variable of k) gs = tt
+declared_called depth d (declaration.Variable of k guarded) gs = tt
 declared_called depth d (declaration.Own of k guarded) gs = tt
 declared_called depth d (declaration.Procedure parameters) gs = tt
 declared_called depth d (declaration.Function parameters of k) gs = function_reached (callee_at depth d) k (arguments_judged parameters gs)

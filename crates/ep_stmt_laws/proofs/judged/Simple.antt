@@ -54,8 +54,8 @@ written_simple f line ends_line gs = fits_both Any Any (IfForm IsSimple) _ (some
 module _ (c : Context) where
   usually_simple : (line : ℕ) (ends_line : Bool) (arguments : List Argument) → Fits (IfForm IsSimple) (usually_written c line ends_line arguments)
   usually_simple line ends_line arguments =
-      fits_both (IfForm IsSimple) Any (IfForm IsSimple) (λ form there. Accepts form) (written file.Output line ends_line (map (given c.scopes) arguments)) (available c.output)
-      (written_simple file.Output line ends_line (map (given c.scopes) arguments)) (fits_any (available c.output)) (λ form there p q. p)
+      fits_both (IfForm IsSimple) Any (IfForm IsSimple) (λ form there. Accepts form) (written file.Output line ends_line (map (given c.scopes) arguments)) (available c.files file.Output)
+      (written_simple file.Output line ends_line (map (given c.scopes) arguments)) (fits_any (available c.files file.Output)) (λ form there p q. p)
 
   written_or_simple : (f : Option StandardFile) (line : ℕ) (ends_line : Bool) (first : Argument) (more : List Argument) → Fits (IfForm IsSimple) (written_or c f line ends_line first more)
   written_or_simple (Some f) line ends_line first more = written_simple f line ends_line (map (given c.scopes) more)
@@ -92,7 +92,7 @@ module _ (c : Context) where
   declared_simple line d (declaration.Function parameters of h) arguments = tt
   declared_simple line d (declaration.Constant k v deep) arguments = tt
   declared_simple line d (declaration.«Type» of h nodes) arguments = tt
-  declared_simple line d (declaration.Variable of k) arguments = tt
+  declared_simple line d (declaration.Variable of k guarded) arguments = tt
   declared_simple line d (declaration.Own of k guarded) arguments = tt
 
   meant_simple : (line : ℕ) (name : List ℕ) (m : Meant) (arguments : List Argument) → Fits (IfForm IsSimple) (call_judged c line name m arguments)

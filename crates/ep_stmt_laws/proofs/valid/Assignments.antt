@@ -210,7 +210,8 @@ module _ (declared : Declarations) (values : ValuesAreSound) (variables : Variab
 
   module _ (unit : List ℕ) (results : List FunctionResult) (there : ResultsAreThere declared agrees.0 depth results) where
     declared_fits : (d : Declared) (what : Declaration) → IsDeclaration declared agrees.0 structures depth d what → Fits IsTarget (declared_target depth unit results d what)
-    declared_fits d (declaration.Variable of k) x = variable_fits (tree.Variable d.unit d.number) k x.0
+    declared_fits d (declaration.Variable of k guarded) x =
+        fits_then Any IsTarget (λ done. Accepts (record { receiver = Some (At (tree.Variable d.unit d.number)); kind = k })) (unless_protected guarded) (fits_any (unless_protected guarded)) (λ a i. variable_fits (tree.Variable d.unit d.number) k x.0)
     declared_fits d (declaration.Own of k guarded) x =
         fits_then Any IsTarget (λ done. Accepts (record { receiver = Some (At (own_place depth d)); kind = k })) (unless_protected guarded) (fits_any (unless_protected guarded)) (λ a i. variable_fits (own_place depth d) k x.0)
     declared_fits d (declaration.Constant k v deep) x = tt

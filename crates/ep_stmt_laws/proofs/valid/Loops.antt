@@ -12,6 +12,8 @@ use Rattle.ep_scope.specs.Scopes.{Region, Meant, Declares, Standard, Requires, F
 use Rattle.ep_scope.specs.declared.kind.Host.{Host}
 use Rattle.ep_scope.specs.declared.kind.Kind.{Kind}
 use Rattle.ep_scope.specs.declared.kind.Kind.TheVariants as kind
+use Rattle.ep_scope.specs.declared.parameter.Protection.{Protection}
+use Rattle.ep_scope.specs.declared.parameter.Protection.TheVariants as protection
 use Rattle.ep_scope.specs.declared.rule.TheConstants as rule
 use Rattle.ep_scope.specs.declared.thing.Declaration.{Declaration}
 use Rattle.ep_scope.specs.declared.thing.Declaration.TheVariants as declaration
@@ -62,13 +64,14 @@ module _ (declared : Declarations) (scopes : List Region) (agrees : Agrees decla
   stored_fits place kind.Text x = tt
   stored_fits place kind.File x = tt
 
-  if_fits : (own : Bool) (t : Named) → IsVariable t → Fits IsVariable (control_if own t)
-  if_fits true t x = x
-  if_fits false t x = tt
+  if_fits : (own : Bool) (guarded : Protection) (t : Named) → IsVariable t → Fits IsVariable (control_if own guarded t)
+  if_fits true protection.Unprotected t x = x
+  if_fits true protection.Protected t x = tt
+  if_fits false guarded t x = tt
 
   declared_fits : (locals : Locals) (d : Declared) (what : Declaration) → IsDeclaration declared agrees.0 (structures_of scopes) (depth_in scopes) d what → Fits IsVariable (declared_control locals (depth_in scopes) d what)
-  declared_fits locals d (declaration.Variable of k) x = if_fits (declares_variable locals d.unit) (record { variable = tree.OfUnit d.unit d.number; kind = k }) (stored_fits (tree.Variable d.unit d.number) k x.0)
-  declared_fits locals d (declaration.Own of k guarded) x = if_fits (declares_own locals (depth_in scopes) d) (record { variable = tree.OfRoutine (depth_in scopes - d.level) d.number; kind = k }) (stored_fits (own_place (depth_in scopes) d) k x.0)
+  declared_fits locals d (declaration.Variable of k guarded) x = if_fits (declares_variable locals d.unit) guarded (record { variable = tree.OfUnit d.unit d.number; kind = k }) (stored_fits (tree.Variable d.unit d.number) k x.0)
+  declared_fits locals d (declaration.Own of k guarded) x = if_fits (declares_own locals (depth_in scopes) d) guarded (record { variable = tree.OfRoutine (depth_in scopes - d.level) d.number; kind = k }) (stored_fits (own_place (depth_in scopes) d) k x.0)
   declared_fits locals d (declaration.Constant k v deep) x = tt
   declared_fits locals d (declaration.«Type» of h nodes) x = tt
   declared_fits locals d (declaration.Procedure parameters) x = tt

@@ -222,8 +222,8 @@ module _ (declared : Declarations) (expressions : ExpressionsAreSound) (passed :
 
   usually_fits : (c : Context) → c.scopes ≡ scopes → (line : ℕ) (ends_line : Bool) (arguments : List Argument) → Fits (IfForm (IsStmt declared)) (usually_written c line ends_line arguments)
   usually_fits c is line ends_line arguments =
-      fits_both (IfForm (IsStmt declared)) Any (IfForm (IsStmt declared)) (λ form there. Accepts form) _ (available c.output)
-      (subst (λ s. Fits (IfForm (IsStmt declared)) (written file.Output line ends_line (map (given s) arguments))) (sym is) (written_fits file.Output line ends_line arguments)) (fits_any (available c.output)) (λ form there p q. p)
+      fits_both (IfForm (IsStmt declared)) Any (IfForm (IsStmt declared)) (λ form there. Accepts form) _ (available c.files file.Output)
+      (subst (λ s. Fits (IfForm (IsStmt declared)) (written file.Output line ends_line (map (given s) arguments))) (sym is) (written_fits file.Output line ends_line arguments)) (fits_any (available c.files file.Output)) (λ form there p q. p)
 
   written_or_fits : (c : Context) → c.scopes ≡ scopes → (f : Option StandardFile) (line : ℕ) (ends_line : Bool) (first : Argument) (more : List Argument) → Fits (IfForm (IsStmt declared)) (written_or c f line ends_line first more)
   written_or_fits c is (Some f) line ends_line first more = subst (λ s. Fits (IfForm (IsStmt declared)) (written f line ends_line (map (given s) more))) (sym is) (written_fits f line ends_line more)
@@ -299,7 +299,7 @@ module _ (declared : Declarations) (expressions : ExpressionsAreSound) (passed :
   declared_call_fits c is line d (declaration.Function parameters of h) arguments x = tt
   declared_call_fits c is line d (declaration.Constant k v deep) arguments x = tt
   declared_call_fits c is line d (declaration.«Type» of h nodes) arguments x = tt
-  declared_call_fits c is line d (declaration.Variable of k) arguments x = tt
+  declared_call_fits c is line d (declaration.Variable of k guarded) arguments x = tt
   declared_call_fits c is line d (declaration.Own of k guarded) arguments x = tt
 
   call_fits : (c : Context) → c.scopes ≡ scopes → (line : ℕ) (name : List ℕ) (m : Meant) (arguments : List Argument) → IsMeant declared agrees.0 structures depth m → Fits (IfForm (IsStmt declared)) (call_judged c line name m arguments)
