@@ -8,6 +8,7 @@ use Rattle.ep_simulation.specs.Tells.{Tells}
 use Rattle.ep_meaning.proofs.public.Lasting.{meanings_last}
 use Rattle.ep_typed.specs.Auxiliaries.{block_auxiliaries}
 use Rattle.ep_meaning.specs.Calls.{Argument, Handler, activation_words, in_call}
+use Rattle.ep_typed.specs.Trees as tree
 use Rattle.ep_typed.specs.Trees.{Callee}
 use Rattle.ep_values.specs.Events.{Trace, Does}
 use Rattle.ep_meaning.specs.Laws.{IsLonger}
@@ -201,7 +202,7 @@ same_calls u v (suc d) a t r =
 
 -- the meaning is that of the name, the types, the variables, the routines and the statements
 same_meaning : (u v : TypedUnit) (m : ℕ) → AreAlike u v → meaning (u ∷ []) m ≡ meaning (v ∷ []) m
-same_meaning u v m s = let call = same_calls u v m s.names s.types s.routines in λ i. go_on (spend 1 (bind (make_all (call i) m (s.names i) 0 (s.variables i ++ block_auxiliaries (s.starts i))) (λ _. exec (call i) m (s.names i) (s.starts i))) m first_state) (λ _. stop meant.Normal)
+same_meaning u v m s = let call = same_calls u v m s.names s.types s.routines in λ i. go_on (spend 1 (bind (make_all (call i) m (s.names i) 0 (s.variables i ++ block_auxiliaries (tree.Compound (tree.next (s.starts i) (tree.next (s.stops i) tree.none))))) (λ _. exec (call i) m (s.names i) (s.starts i))) m first_state) (λ _. stop meant.Normal)
 
 -- a text has one meaning
 text_means : (text : List ℕ) (u v : TypedUnit) (m : ℕ) → IsProgramText text u → IsProgramText text v → meaning (u ∷ []) m ≡ meaning (v ∷ []) m

@@ -52,6 +52,7 @@ pub record SameParts (u v : TypedUnit) : Type 0 where
   pub types : u.types ≡ v.types
   pub variables : u.variables ≡ v.variables
   pub starts : stmt_of u.start ≡ stmt_of v.start
+  pub stops : stmt_of u.stop ≡ stmt_of v.stop
   pub routines : map routine_form u.routines ≡ map routine_form v.routines
   pub nodes : unit_nodes u ≡ unit_nodes v
 
@@ -78,6 +79,7 @@ one_unit (component_is.Program p) u v a b =
           types = types;
           variables = variables;
           starts = starts;
+          stops = stops;
           routines = routines;
           nodes = λ i.
               length (imports i) + sum (map type_nodes (types i)) + sum (map constant_nodes (constants i)) + sum (map variable_nodes (variables i))

@@ -99,6 +99,7 @@ pub record AreAlike (u v : TypedUnit) : Type 0 where
   pub types : u.types ≡ v.types
   pub variables : u.variables ≡ v.variables
   pub starts : stmt_of u.start ≡ stmt_of v.start
+  pub stops : stmt_of u.stop ≡ stmt_of v.stop
   pub routines : map routine_form u.routines ≡ map routine_form v.routines
 
 pub one_program : (text : List ℕ) (u v : TypedUnit) → IsProgramText text u → IsProgramText text v → AreAlike u v
@@ -106,7 +107,7 @@ one_program text u v p q =
     both_built text (λ c. IsProgram c u) (λ c. IsProgram c v) (λ c a b. of (one_unit c u v a.typed b.typed)) p q
   where
     of : SameParts u v → AreAlike u v
-    of s = record { names = s.names; types = s.types; variables = s.variables; starts = s.starts; routines = s.routines }
+    of s = record { names = s.names; types = s.types; variables = s.variables; starts = s.starts; stops = s.stops; routines = s.routines }
 
 -- the first of a list of one
 only_item : (all : List Component) (c d : Component) → all ≡ c ∷ [] → d ≡ get_or all 0 d → d ≡ c

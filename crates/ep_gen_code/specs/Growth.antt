@@ -4,6 +4,7 @@ use Rattle.ep_outside.specs.Known.{IsPrefix}
 use Rattle.ep_gen_code.specs.Instructions.{reference}
 use Rattle.ep_gen_code.specs.Referring.{type_reference}
 use Rattle.ep_simulation.specs.Promises.{swap_routine}
+use Rattle.ep_typed.specs.Routines.{first_private}
 use Rattle.ep_object.specs.declared.code.Instr.{Instr}
 use Rattle.ep_object.specs.declared.code.Reference.{Reference}
 use Rattle.ep_typed.specs.declared.unit.Unit.{Unit as TypedUnit}
@@ -21,7 +22,7 @@ begun_code u =
     record {
       instructions = [];
       texts = [];
-      references = in_row u.name (swap_routine (length u.routines)) (type_reference (length u.types));
+      references = in_row u.name (swap_routine (first_private u)) (type_reference (length u.types));
       constant_types = [];
       line = code.NO_LINE;
     }

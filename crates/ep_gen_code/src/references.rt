@@ -4,6 +4,7 @@ ghost use Rattle.std.specs.Prelude.{◌≡◌, IfOk, length, pos};
 ghost use Rattle.ep_gen_code.specs.Growth.{IsTable, in_row};
 ghost use Rattle.ep_gen_code.specs.Referring.{type_reference};
 ghost use Rattle.ep_simulation.specs.Promises.{swap_routine};
+ghost use Rattle.ep_typed.specs.Routines.{first_private};
 
 use crate::jumps::{field_number, place_number};
 use crate::tables::ReferenceTable;
@@ -43,7 +44,7 @@ pub fn type_reference(number: u32) -> i64
 pub fn first_references(alloc: Global, unit: &Unit) -> Result<ReferenceTable, NoMemory>
     ensures row { IfOk result
         (λ references. references
-        ≡ in_row unit.now.name (swap_routine (length unit.now.routines)) (type_reference (length
+        ≡ in_row unit.now.name (swap_routine (first_private unit.now)) (type_reference (length
         unit.now.types))) }
     ensures small { IfOk result (λ references. IsTable references) }
 {

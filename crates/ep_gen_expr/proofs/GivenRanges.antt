@@ -14,6 +14,7 @@ use Rattle.ep_gen_expr.proofs.public.StructuredValues.{IsElementFollowed, elemen
 use Rattle.ep_gen_expr.proofs.public.Stays.{spreads_length}
 use Rattle.ep_gen_expr.specs.ExprCode.{drops_code, given_code, spread_code, spreads_code, tested_code}
 use Rattle.ep_simulation.specs.Follows.{After, Bare, Facts, Follows, Fragment, Inside, IsNotLeft, Lands, Lasts, OnTop, PlaceOnTop, point}
+use Rattle.ep_simulation.specs.Layouts.{Layout}
 use Rattle.ep_simulation.specs.Matching.{Injection, IsLike, IsSpot, Matches, MachineMemory, Slots, at as standing}
 use Rattle.ep_object.specs.Operands.{Operand, Word, weight}
 use Rattle.ep_object.specs.Operands as operand
@@ -106,7 +107,7 @@ index_within low high z k h = by_gap (gap low z) refl h
         let less : i < count_of low high = grind (arith, nat_tests, x.0) in
         (gap_order low z i near, by_count i (gap low high) near refl less)
 
-module _ (declared : Declarations) (G : Image) (untouched : Slots) (Here : Facts) (p : Placement) (call : Handler) (g : ℕ) (unit : List ℕ) (line n : ℕ) (low high : ℤ) (of : TypeValue) where
+module _ (layout : Layout) (G : Image) (untouched : Slots) (Here : Facts) (p : Placement) (call : Handler) (g : ℕ) (unit : List ℕ) (line n : ℕ) (low high : ℤ) (of : TypeValue) where
   -- The indexes of a range are below the place of the array, which has both.
   pub record RangeBelow (q : PlaceOf) (rest : List Operand) (range : CaseRange) (injection : Injection) (memory : MachineMemory) (operands : List Operand) : Type 0 where
     pub first : ℕ
@@ -121,17 +122,17 @@ module _ (declared : Declarations) (G : Image) (untouched : Slots) (Here : Facts
   IsRangeFollowed r at code =
       (injection : Injection) (memory : MachineMemory) (rest : List Operand) (a : Component) (q : PlaceOf) (d : ℕ) → element_credit ≤ d → unit_in G memory.frames ≡ unit
       → IsSpot injection memory.types a q → IsLike memory.types q.type_number (type.Array low high of)
-      → Fragment declared G Here n (point injection memory (p.instructions.before + at) (operand.Place q ∷ rest)) (indexes call g unit line a r) (p.instructions.before + (at + length code)) (λ range. Inside untouched injection memory (RangeBelow q rest range)) d (λ range. d)
+      → Fragment layout G Here n (point injection memory (p.instructions.before + at) (operand.Place q ∷ rest)) (indexes call g unit line a r) (p.instructions.before + (at + length code)) (λ range. Inside untouched injection memory (RangeBelow q rest range)) d (λ range. d)
 
   -- so with those of ranges, in order
   abbrev pub AreRangesFollowed : Designators → ℕ → List Instr → Type 0
   AreRangesFollowed no_member at code = code ≡ []
   AreRangesFollowed (next_member r more) at code = (xs ys : List Instr) × IsRangeFollowed r at xs × AreRangesFollowed more (at + length xs) ys × (code ≡ xs ++ ys)
 
-module _ (declared : Declarations) (G : Image) (untouched : Slots) (Here : Facts) (lasts : Lasts untouched Here) (ps : List Placement) (p : Placement) (references : List Reference) (call : Handler) (steady_call : IsSteadyHandler call) (g : ℕ) (unit : List ℕ) (line n : ℕ)
+module _ (declared : Declarations) (layout : Layout) (G : Image) (untouched : Slots) (Here : Facts) (lasts : Lasts untouched Here) (ps : List Placement) (p : Placement) (references : List Reference) (call : Handler) (steady_call : IsSteadyHandler call) (g : ℕ) (unit : List ℕ) (line n : ℕ)
     (room : p.instructions.before + p.instructions.own ≤ length G.instructions)
-    (swap : SwapStands G ps unit (length (declared.routines unit))) (swap_referred : IsSwapReferred declared unit references)
-    (arrays : ArrayRoutinesStand G ps unit (length (declared.routines unit))) (arrays_referred : AreArraysReferred declared unit references)
+    (swap : SwapStands G ps unit (declared.first_private unit)) (swap_referred : IsSwapReferred declared unit references)
+    (arrays : ArrayRoutinesStand G ps unit (declared.first_private unit)) (arrays_referred : AreArraysReferred declared unit references)
     (low high : ℤ) (small : IsTrue (is_integer low)) (large : IsTrue (is_integer high)) (of : TypeValue) (k : Kind) (of_kind : IsTypeOfKind k of) where
   abbrev pub array : TypeValue
   array = type.Array low high of
@@ -147,18 +148,18 @@ module _ (declared : Declarations) (G : Image) (untouched : Slots) (Here : Facts
 
   located_follows : (place : ℕ) → slice_get G.instructions place ≡ Some (bare line op.INDEX) → (z : ℤ) (injection : Injection) (memory : MachineMemory) (below : List Operand) (a : Component) (q : PlaceOf) (d d1 : ℕ) → 1 + d1 ≤ d → unit_in G memory.frames ≡ unit
       → IsSpot injection memory.types a q → IsLike memory.types q.type_number array
-      → Fragment declared G Here n (point injection memory place (Word z ∷ operand.Place q ∷ below)) (located call g unit line a z) (place + 1) (λ c. Inside untouched injection memory (Located z below a c)) d (λ c. d1)
+      → Fragment layout G Here n (point injection memory place (Word z ∷ operand.Place q ∷ below)) (located call g unit line a z) (place + 1) (λ c. Inside untouched injection memory (Located z below a c)) d (λ c. d1)
   located_follows place has z injection memory below a q d d1 enough home spot described =
       fragment_using {e = λ c. d1} a.allocation
-      (λ s matches ended. subst (λ u. FailsWith G (standing place (Word z ∷ operand.Place q ∷ below) memory s.trace) 0 run_error.DISPOSED u line s) home (index_fails declared G place line below low high of z a q has injection memory spot described s matches ended)) (omega (arith, enough))
+      (λ s matches ended. subst (λ u. FailsWith G (standing place (Word z ∷ operand.Place q ∷ below) memory s.trace) 0 run_error.DISPOSED u line s) home (index_fails layout G place line below low high of z a q has injection memory spot described s matches ended)) (omega (arith, enough))
       (λ s matches known living. follows_fetched {d1 = d1} (point injection memory place (Word z ∷ operand.Place q ∷ below)) (λ t. component_number (type_at a t) z) (λ i. component a i) s
-      (subst (λ u. Reads declared G Here (standing place (Word z ∷ operand.Place q ∷ below) memory s.trace) run_error.INDEX u line (place + 1) (λ i. Inside untouched injection memory (Located z below a (component a i))) s (component_number (type_at a s) z)) home
-      (finds s (component_number (type_at a s) z) (number_is declared G place line below low high of z a q has injection memory spot described s matches living) (index_reads declared G place line below low high of z a q has injection memory spot described s matches living known)))
+      (subst (λ u. Reads layout G Here (standing place (Word z ∷ operand.Place q ∷ below) memory s.trace) run_error.INDEX u line (place + 1) (λ i. Inside untouched injection memory (Located z below a (component a i))) s (component_number (type_at a s) z)) home
+      (finds s (component_number (type_at a s) z) (number_is layout G place line below low high of z a q has injection memory spot described s matches living) (index_reads layout G place line below low high of z a q has injection memory spot described s matches living known)))
       (omega (arith, enough)))
     where
       finds : (s : meaning.State) (o : Option ℕ) → o ≡ component_at low high z
-          → Reads declared G Here (standing place (Word z ∷ operand.Place q ∷ below) memory s.trace) run_error.INDEX (unit_in G memory.frames) line (place + 1) (λ i. Inside untouched injection memory (PlaceOnTop of below (component a i))) s o
-          → Reads declared G Here (standing place (Word z ∷ operand.Place q ∷ below) memory s.trace) run_error.INDEX (unit_in G memory.frames) line (place + 1) (λ i. Inside untouched injection memory (Located z below a (component a i))) s o
+          → Reads layout G Here (standing place (Word z ∷ operand.Place q ∷ below) memory s.trace) run_error.INDEX (unit_in G memory.frames) line (place + 1) (λ i. Inside untouched injection memory (PlaceOnTop of below (component a i))) s o
+          → Reads layout G Here (standing place (Word z ∷ operand.Place q ∷ below) memory s.trace) run_error.INDEX (unit_in G memory.frames) line (place + 1) (λ i. Inside untouched injection memory (Located z below a (component a i))) s o
       finds s o same (Misses is fails) = Misses is fails
       finds s o same (Finds i is x) =
           let post = x.post in
@@ -176,8 +177,8 @@ module _ (declared : Declarations) (G : Image) (untouched : Slots) (Here : Facts
 
   -- the call that leaves what tests them
   ranged_follows : {A : Type 0} {c : Computation A} {to : ℕ} {P : A → After} {e : A → ℕ} (place : ℕ) → (let r = arrays.range in CallsAt G place r.routine 0 line) → (injection : Injection) (memory : MachineMemory) (q : PlaceOf) (from upto : ℤ) (below : List Operand) (d : ℕ) → Steady c
-      → Fragment declared G Here n (point injection memory (place + 1) (Word from ∷ operand.Place q ∷ Word upto ∷ operand.Place q ∷ operand.Place q ∷ Word upto ∷ Word from ∷ below)) c to P d e
-      → Fragment declared G Here n (point injection memory place (Word upto ∷ Word from ∷ operand.Place q ∷ below)) (bind (change with_depth) (λ _. c)) to P (range_ticks + d) e
+      → Fragment layout G Here n (point injection memory (place + 1) (Word from ∷ operand.Place q ∷ Word upto ∷ operand.Place q ∷ operand.Place q ∷ Word upto ∷ Word from ∷ below)) c to P d e
+      → Fragment layout G Here n (point injection memory place (Word upto ∷ Word from ∷ operand.Place q ∷ below)) (bind (change with_depth) (λ _. c)) to P (range_ticks + d) e
   ranged_follows place calls injection memory q from upto below d steady next =
       record {
         by = λ s matches here.
@@ -210,7 +211,7 @@ module _ (declared : Declarations) (G : Image) (untouched : Slots) (Here : Facts
     -- Both indexes are tested.
     ranging_follows : (injection : Injection) (memory : MachineMemory) (rest : List Operand) (a : Component) (q : PlaceOf) (from upto : ℤ) (d : ℕ) → 16 ≤ d → unit_in G memory.frames ≡ unit
         → IsSpot injection memory.types a q → IsLike memory.types q.type_number array
-        → Fragment declared G Here n (point injection memory to_call (Word upto ∷ Word from ∷ operand.Place q ∷ rest)) (ranging call g unit line a from upto) (p.instructions.before + (at + 5)) (λ range. Inside untouched injection memory (RangeBelow declared G untouched Here p call g unit line n low high of q rest range)) d (λ range. d + 40)
+        → Fragment layout G Here n (point injection memory to_call (Word upto ∷ Word from ∷ operand.Place q ∷ rest)) (ranging call g unit line a from upto) (p.instructions.before + (at + 5)) (λ range. Inside untouched injection memory (RangeBelow layout G untouched Here p call g unit line n low high of q rest range)) d (λ range. d + 40)
     ranging_follows injection memory rest a q from upto d enough home spot described =
         fragment_credit {d = range_ticks + (d - range_ticks)} {e = λ range. d + 40} (omega (arith, enough)) (λ range. omega (arith, enough))
         (ranged_follows to_call range_called injection memory q from upto rest (d - range_ticks)
@@ -220,13 +221,13 @@ module _ (declared : Declarations) (G : Image) (untouched : Slots) (Here : Facts
         (located_follows (to_call + 1) first_test from injection memory (Word upto ∷ operand.Place q ∷ operand.Place q ∷ Word upto ∷ Word from ∷ rest) a q (d - range_ticks) (d - 12) (omega (arith, enough)) home spot described)
         (λ c v1 m1 pushed1 grown1 routine1 one.
         let top1 = one.top in
-        subst (λ st. Fragment declared G Here n (point v1 m1 (to_call + 1 + 1) st) (bind (located call g unit line a upto) (λ _. spend 1 (give range))) (p.instructions.before + (at + 5)) (λ r. Inside untouched v1 m1 (RangeBelow declared G untouched Here p call g unit line n low high of q rest r)) (d - 12) (λ r. d + 40)) (sym top1.is)
+        subst (λ st. Fragment layout G Here n (point v1 m1 (to_call + 1 + 1) st) (bind (located call g unit line a upto) (λ _. spend 1 (give range))) (p.instructions.before + (at + 5)) (λ r. Inside untouched v1 m1 (RangeBelow layout G untouched Here p call g unit line n low high of q rest r)) (d - 12) (λ r. d + 40)) (sym top1.is)
         (fragment_waits {d1 = d - 13} (λ s matches. outcome_at G (bare line op.DROP) (to_call + 1 + 1) (operand.Place top1.place ∷ Word upto ∷ operand.Place q ∷ operand.Place q ∷ Word upto ∷ Word from ∷ rest) m1 s.trace first_drop) (omega (arith, enough))
         (inside_bind {First = Located upto (operand.Place q ∷ Word upto ∷ Word from ∷ rest) a} {e = λ c. d - 14} (λ _. steady_spend 1 (steady_give range))
         (located_follows (to_call + 1 + 1 + 1) second_test upto v1 m1 (operand.Place q ∷ Word upto ∷ Word from ∷ rest) a q (d - 13) (d - 14) (omega (arith, enough)) (unit_in-same G routine1 ∙ home) (is_spot-grown grown1 spot) (describes-grown q.type_number array grown1 described))
         (λ b v2 m2 pushed2 grown2 routine2 two.
         let top2 = two.top in
-        subst (λ st. Fragment declared G Here n (point v2 m2 (to_call + 1 + 1 + 1 + 1) st) (spend 1 (give range)) (p.instructions.before + (at + 5)) (λ r. Inside untouched v2 m2 (RangeBelow declared G untouched Here p call g unit line n low high of q rest r)) (d - 14) (λ r. d + 40)) (sym top2.is)
+        subst (λ st. Fragment layout G Here n (point v2 m2 (to_call + 1 + 1 + 1 + 1) st) (spend 1 (give range)) (p.instructions.before + (at + 5)) (λ r. Inside untouched v2 m2 (RangeBelow layout G untouched Here p call g unit line n low high of q rest r)) (d - 14) (λ r. d + 40)) (sym top2.is)
         (fragment_to {to = to_call + 1 + 1 + 1 + 1 + 1} (omega arith)
         (fragment_less {n = suc n} (omega arith)
         (fragment_one {d1 = d + 40} (λ s matches. outcome_at G (bare line op.DROP) (to_call + 1 + 1 + 1 + 1) (operand.Place top2.place ∷ operand.Place q ∷ Word upto ∷ Word from ∷ rest) m2 s.trace second_drop) (omega (arith, enough))
@@ -236,8 +237,8 @@ module _ (declared : Declarations) (G : Image) (untouched : Slots) (Here : Facts
         range = record { low = from; high = upto }
 
   -- an index alone, which is both the first and the last one
-  pub single_follows : (h : Host) (x : Expr) (at : ℕ) (xs : List Instr) → IsFollowed declared G untouched Here p call g unit n (Ordinal h) x line at xs → CodeStands G ps p references at (xs ++ bare line op.DUP ∷ tested_code line)
-      → IsRangeFollowed declared G untouched Here p call g unit line n low high of (Single x) at (xs ++ bare line op.DUP ∷ tested_code line)
+  pub single_follows : (h : Host) (x : Expr) (at : ℕ) (xs : List Instr) → IsFollowed layout G untouched Here p call g unit n (Ordinal h) x line at xs → CodeStands G ps p references at (xs ++ bare line op.DUP ∷ tested_code line)
+      → IsRangeFollowed layout G untouched Here p call g unit line n low high of (Single x) at (xs ++ bare line op.DUP ∷ tested_code line)
   single_follows h x at xs follows stands injection memory rest a q d enough home spot described =
       let behind = code_back G ps p references at xs (bare line op.DUP ∷ tested_code line) stands in
       let place : ℕ = p.instructions.before + (at + length xs) in
@@ -250,9 +251,9 @@ module _ (declared : Declarations) (G : Image) (untouched : Slots) (Here : Facts
       (ranging_follows (at + length xs + 1) behind.1 v1 m1 rest a q z z (d + 7) (omega (arith, enough)) (unit_in-same G routine1 ∙ home) (is_spot-grown grown1 spot) (describes-grown q.type_number array grown1 described))))))
 
   -- the first and the last one
-  pub pair_follows : (h : Host) (x y : Expr) (at : ℕ) (xs ys : List Instr) → IsFollowed declared G untouched Here p call g unit n (Ordinal h) x line at xs → IsFollowed declared G untouched Here p call g unit n (Ordinal h) y line (at + length xs) ys
+  pub pair_follows : (h : Host) (x y : Expr) (at : ℕ) (xs ys : List Instr) → IsFollowed layout G untouched Here p call g unit n (Ordinal h) x line at xs → IsFollowed layout G untouched Here p call g unit n (Ordinal h) y line (at + length xs) ys
       → CodeStands G ps p references at (xs ++ (ys ++ tested_code line))
-      → IsRangeFollowed declared G untouched Here p call g unit line n low high of (Range x y) at (xs ++ (ys ++ tested_code line))
+      → IsRangeFollowed layout G untouched Here p call g unit line n low high of (Range x y) at (xs ++ (ys ++ tested_code line))
   pair_follows h x y at xs ys first second stands injection memory rest a q d enough home spot described =
       let behind = code_back G ps p references (at + length xs) ys (tested_code line) (code_back G ps p references at xs (ys ++ tested_code line) stands) in
       fragment_to {to = p.instructions.before + (at + length xs + length ys + 5)} (omega (arith, length-append xs (ys ++ tested_code line), length-append ys (tested_code line)))
@@ -268,8 +269,8 @@ module _ (declared : Declarations) (G : Image) (untouched : Slots) (Here : Facts
 
   -- the call that leaves what they are given by
   spreading_follows : {A : Type 0} {c : Computation A} {to : ℕ} {P : A → After} {e : A → ℕ} (place : ℕ) → (let r = arrays.spread in CallsAt G place r.routine 0 line) → (injection : Injection) (memory : MachineMemory) (q : PlaceOf) (from upto : ℤ) (o : Operand) (below : List Operand) (d : ℕ) → Steady c
-      → Fragment declared G Here n (point injection memory (place + 1) (Word (ordinal_of (int_le from upto)) ∷ Word from ∷ operand.Place q ∷ o ∷ Word upto ∷ Word from ∷ Word from ∷ operand.Place q ∷ o ∷ operand.Place q ∷ below)) c to P d e
-      → Fragment declared G Here n (point injection memory place (o ∷ o ∷ operand.Place q ∷ Word upto ∷ Word from ∷ below)) (bind (change with_depth) (λ _. c)) to P (spread_ticks (weight o) + d) e
+      → Fragment layout G Here n (point injection memory (place + 1) (Word (ordinal_of (int_le from upto)) ∷ Word from ∷ operand.Place q ∷ o ∷ Word upto ∷ Word from ∷ Word from ∷ operand.Place q ∷ o ∷ operand.Place q ∷ below)) c to P d e
+      → Fragment layout G Here n (point injection memory place (o ∷ o ∷ operand.Place q ∷ Word upto ∷ Word from ∷ below)) (bind (change with_depth) (λ _. c)) to P (spread_ticks (weight o) + d) e
   spreading_follows place calls injection memory q from upto o below d steady next =
       record {
         by = λ s matches here.
@@ -343,12 +344,12 @@ module _ (declared : Declarations) (G : Image) (untouched : Slots) (Here : Facts
 
       -- The components have what the first one has.
       filled_follows : (injection : Injection) (memory : MachineMemory) → IsValueOf injection memory k r o → IsSpot injection memory.types a q → IsLike memory.types q.type_number array
-          → suits (Some of) r ≡ true → (s : meaning.State) → Matches declared G injection s memory → Here injection s memory → has_ended a.allocation s ≡ false → value_at (component a f) s ≡ value_of r → (d : ℕ) → 1 ≤ d
-          → Follows (λ l. IsNotLeft memory.frames l.frames) G n (standing (to_find + 1 + 1 + 1) row memory s.trace) s (fills_all a r (range ∷ [])) (λ u. Lands declared G Here end (Inside untouched injection memory (Bare kept u))) d (λ u. d)
+          → suits (Some of) r ≡ true → (s : meaning.State) → Matches layout G injection s memory → Here injection s memory → has_ended a.allocation s ≡ false → value_at (component a f) s ≡ value_of r → (d : ℕ) → 1 ≤ d
+          → Follows (λ l. IsNotLeft memory.frames l.frames) G n (standing (to_find + 1 + 1 + 1) row memory s.trace) s (fills_all a r (range ∷ [])) (λ u. Lands layout G Here end (Inside untouched injection memory (Bare kept u))) d (λ u. d)
       filled_follows injection memory value spot described suited s matches here living has d enough =
-          follows_bind {P = λ u. FilledAt declared G a f (value_of r) injection s memory (to_find + 1 + 1 + 1 + 1) kept} {e = λ u. 20 + (d - 1)} (λ u. steady_give tt)
+          follows_bind {P = λ u. FilledAt layout G a f (value_of r) injection s memory (to_find + 1 + 1 + 1 + 1) kept} {e = λ u. 20 + (d - 1)} (λ u. steady_give tt)
           (follows_credit {d = 1 + (d - 1)} {e = λ u. 20 + (d - 1)} (omega (arith, enough)) (λ u. omega (arith, enough))
-          (fills_follow declared G fill.routine fill.is (to_find + 1 + 1 + 1) line fill_called low high of k of_kind a q from from upto f at_first r suited (gives_back k of of_kind injection memory r o value) injection memory o value spot described kept s matches living has n (d - 1) between.0 between.1 between.2 between.3 between.4
+          (fills_follow layout G fill.routine fill.is (to_find + 1 + 1 + 1) line fill_called low high of k of_kind a q from from upto f at_first r suited (gives_back k of of_kind injection memory r o value) injection memory o value spot described kept s matches living has n (d - 1) between.0 between.1 between.2 between.3 between.4
           (integer_between low high from small large first_within.0 first_within.1) (integer_between low high upto small large last_within.0 last_within.1)))
           (λ u t l filled_at.
           let filled = filled_at.filled in
@@ -360,7 +361,7 @@ module _ (declared : Declarations) (G : Image) (untouched : Slots) (Here : Facts
           (follows_waits (not_left-later (still_routine routine) (not_left-here (let m = filled_at.after in m.frames))) (jump_jumps G (to_find + 1 + 1 + 1 + 1) line kept end inside_image leads_out filled_at.after t.trace)
           (follows_give tt (omega arith) (record { injection = filled_at.longer; memory = filled_at.after; operands = kept; is = refl; matches = filled.matches; here = holds_grown lasts since here; post = record { grown = grown; routine = routine; operands_are = refl } })))))
         where
-          fill : FillStands G ps unit (length (declared.routines unit))
+          fill : FillStands G ps unit (declared.first_private unit)
           fill = arrays.fill
 
           between : (b left : ℕ) × (gap low from ≡ Some b) × (gap from upto ≡ Some left) × (b + left < count_of low high)
@@ -372,17 +373,17 @@ module _ (declared : Declarations) (G : Image) (untouched : Slots) (Here : Facts
       -- The first one is given the value, and then all of them have it.
       stored_follows : (injection : Injection) (memory : MachineMemory) (t : PlaceOf) → IsValueOf injection memory k r o → unit_in G memory.frames ≡ unit
           → IsSpot injection memory.types a q → IsLike memory.types q.type_number array → IsSpot injection memory.types (component a f) t → IsLike memory.types t.type_number of → (d : ℕ) → 1 ≤ d
-          → Fragment declared G Here n (point injection memory (to_find + 1 + 1) (o ∷ operand.Place t ∷ row)) (bind (given call g unit line (component a f) r) (λ _. fills_all a r (range ∷ []))) end (λ u. Inside untouched injection memory (Bare kept u)) (d + 1 + weight_of r) (λ u. d)
+          → Fragment layout G Here n (point injection memory (to_find + 1 + 1) (o ∷ operand.Place t ∷ row)) (bind (given call g unit line (component a f) r) (λ _. fills_all a r (range ∷ []))) end (λ u. Inside untouched injection memory (Bare kept u)) (d + 1 + weight_of r) (λ u. d)
       stored_follows injection memory t value home spot described spot_t described_t d enough =
           record {
             by = λ s matches here.
-                follows_bind {P = λ u. Stored declared G untouched Here lasts ps p references call steady_call g unit line n arrays.fill arrays_referred.fill low high small large of k of_kind injection memory a f r row (to_find + 1 + 1 + 1)} {e = λ u. d} (λ u. steady_fills_all a r (range ∷ []))
-                (first_given declared G untouched Here lasts ps p references call steady_call g unit line n arrays.fill arrays_referred.fill low high small large of k of_kind a f t row r o (to_find + 1 + 1) stores injection memory value home spot_t described_t s matches here d)
+                follows_bind {P = λ u. Stored declared layout G untouched Here lasts ps p references call steady_call g unit line n arrays.fill arrays_referred.fill low high small large of k of_kind injection memory a f r row (to_find + 1 + 1 + 1)} {e = λ u. d} (λ u. steady_fills_all a r (range ∷ []))
+                (first_given declared layout G untouched Here lasts ps p references call steady_call g unit line n arrays.fill arrays_referred.fill low high small large of k of_kind a f t row r o (to_find + 1 + 1) stores injection memory value home spot_t described_t s matches here d)
                 (λ u t2 l stored.
                 let lands = stored.lands in
                 let post = lands.post in
                 follows_from lands.is
-                (subst (λ st. Follows (λ m. IsNotLeft memory.frames m.frames) G n (standing (to_find + 1 + 1 + 1) st lands.memory t2.trace) t2 (fills_all a r (range ∷ [])) (λ w. Lands declared G Here end (Inside untouched injection memory (Bare kept w))) d (λ w. d)) (sym post.operands_are)
+                (subst (λ st. Follows (λ m. IsNotLeft memory.frames m.frames) G n (standing (to_find + 1 + 1 + 1) st lands.memory t2.trace) t2 (fills_all a r (range ∷ [])) (λ w. Lands layout G Here end (Inside untouched injection memory (Bare kept w))) d (λ w. d)) (sym post.operands_are)
                 (follows_wider (λ m stays. not_left-later (still_routine post.routine) stays)
                 (follows_post (λ w t3 l3 final. record { injection = final.injection; memory = final.memory; operands = final.operands; is = final.is; matches = final.matches; here = final.here; post = inside_later post.grown post.routine final.post })
                 (filled_follows lands.injection lands.memory (value-grown k r o post.grown value) (is_spot-grown post.grown spot) (describes-grown q.type_number array post.grown described) stored.suited t2 lands.matches lands.here stored.living stored.has d enough)))));
@@ -391,7 +392,7 @@ module _ (declared : Declarations) (G : Image) (untouched : Slots) (Here : Facts
       -- where there are some
       some_follow : (injection : Injection) (memory : MachineMemory) → IsValueOf injection memory k r o → unit_in G memory.frames ≡ unit
           → IsSpot injection memory.types a q → IsLike memory.types q.type_number array → (d : ℕ) → 8 + 3 * weight_of r ≤ d
-          → Fragment declared G Here n (point injection memory to_find (Word from ∷ operand.Place q ∷ o ∷ row)) (bind (located call g unit line a from) (λ c. bind (change with_depth) (λ _. bind (given call g unit line c r) (λ _. fills_all a r (range ∷ []))))) end (λ u. Inside untouched injection memory (Bare kept u)) d (λ u. d - (7 + 3 * weight_of r))
+          → Fragment layout G Here n (point injection memory to_find (Word from ∷ operand.Place q ∷ o ∷ row)) (bind (located call g unit line a from) (λ c. bind (change with_depth) (λ _. bind (given call g unit line c r) (λ _. fills_all a r (range ∷ []))))) end (λ u. Inside untouched injection memory (Bare kept u)) d (λ u. d - (7 + 3 * weight_of r))
       some_follow injection memory value home spot described d enough =
           inside_bind {First = Located from (o ∷ row) a} {e = λ c. d - 1} (λ c. steady_bind (steady_change grows_depth) (λ _. steady_bind (steady_given call steady_call g unit line c r) (λ _. steady_fills_all a r (range ∷ []))))
           (located_follows to_find finds_it from injection memory (o ∷ row) a q d (d - 1) (omega (arith, enough)) home spot described)
@@ -399,16 +400,16 @@ module _ (declared : Declarations) (G : Image) (untouched : Slots) (Here : Facts
           let top = one.top in
           let same : c ≡ component a f = one.is_component ∙ ap (component a) (same_Some one.number f (sym one.at_number ∙ at_first)) in
           let spot_t : IsSpot v1 m1.types (component a f) top.place = subst (λ b. IsSpot v1 m1.types b top.place) same top.spot in
-          subst (λ b. Fragment declared G Here n (point v1 m1 (to_find + 1) pushed) (bind (change with_depth) (λ _. bind (given call g unit line b r) (λ _. fills_all a r (range ∷ [])))) end (λ u. Inside untouched v1 m1 (Bare kept u)) (d - 1) (λ u. d - (7 + 3 * weight_of r))) (sym same)
-          (subst (λ st. Fragment declared G Here n (point v1 m1 (to_find + 1) st) (bind (change with_depth) (λ _. bind (given call g unit line (component a f) r) (λ _. fills_all a r (range ∷ [])))) end (λ u. Inside untouched v1 m1 (Bare kept u)) (d - 1) (λ u. d - (7 + 3 * weight_of r))) (sym top.is)
+          subst (λ b. Fragment layout G Here n (point v1 m1 (to_find + 1) pushed) (bind (change with_depth) (λ _. bind (given call g unit line b r) (λ _. fills_all a r (range ∷ [])))) end (λ u. Inside untouched v1 m1 (Bare kept u)) (d - 1) (λ u. d - (7 + 3 * weight_of r))) (sym same)
+          (subst (λ st. Fragment layout G Here n (point v1 m1 (to_find + 1) st) (bind (change with_depth) (λ _. bind (given call g unit line (component a f) r) (λ _. fills_all a r (range ∷ [])))) end (λ u. Inside untouched v1 m1 (Bare kept u)) (d - 1) (λ u. d - (7 + 3 * weight_of r))) (sym top.is)
           (fragment_credit {d = swap_ticks o (operand.Place top.place) + (d - (7 + 3 * weight_of r) + 1 + weight_of r)} {e = λ u. d - (7 + 3 * weight_of r)} (omega (arith, enough, value_weight injection memory k r o value)) (λ u. omega (arith, enough, value_weight injection memory k r o value))
-          (swapped_follows declared G untouched Here lasts ps p references call steady_call g unit line n swap swap_referred (to_find + 1) swap_called v1 m1 o (operand.Place top.place) row (d - (7 + 3 * weight_of r) + 1 + weight_of r)
+          (swapped_follows declared layout G untouched Here lasts ps p references call steady_call g unit line n swap swap_referred (to_find + 1) swap_called v1 m1 o (operand.Place top.place) row (d - (7 + 3 * weight_of r) + 1 + weight_of r)
           (steady_bind (steady_given call steady_call g unit line (component a f) r) (λ _. steady_fills_all a r (range ∷ [])))
           (stored_follows v1 m1 top.place (value-grown k r o grown value) (unit_in-same G routine ∙ home) (is_spot-grown grown spot) (describes-grown q.type_number array grown described) spot_t top.described (d - (7 + 3 * weight_of r)) (omega (arith, enough)))))))
 
     -- where there are none
     none_follow : (o : Operand) (q : PlaceOf) (rest : List Operand) (injection : Injection) (memory : MachineMemory) (d : ℕ) → 7 + weight o ≤ d
-        → Fragment declared G Here n (point injection memory skipped (Word from ∷ operand.Place q ∷ o ∷ Word upto ∷ Word from ∷ Word from ∷ operand.Place q ∷ o ∷ operand.Place q ∷ rest)) (give tt) end (λ u. Inside untouched injection memory (Bare (o ∷ operand.Place q ∷ rest) u)) d (λ u. d - (7 + weight o))
+        → Fragment layout G Here n (point injection memory skipped (Word from ∷ operand.Place q ∷ o ∷ Word upto ∷ Word from ∷ Word from ∷ operand.Place q ∷ o ∷ operand.Place q ∷ rest)) (give tt) end (λ u. Inside untouched injection memory (Bare (o ∷ operand.Place q ∷ rest) u)) d (λ u. d - (7 + weight o))
     none_follow o q rest injection memory d enough =
         fragment_to {to = skipped + 1 + 1 + 1 + 1 + 1 + 1 + 1} (omega arith)
         (fragment_waits {d1 = d - 1} (λ s matches. outcome_at G (bare line op.DROP) skipped (Word from ∷ operand.Place q ∷ o ∷ Word upto ∷ Word from ∷ Word from ∷ operand.Place q ∷ o ∷ operand.Place q ∷ rest) memory s.trace (instr_at G (omega arith) drops.0)) (omega (arith, enough))
@@ -423,7 +424,7 @@ module _ (declared : Declarations) (G : Image) (untouched : Slots) (Here : Facts
     -- The components with the indexes of the range are given the value.
     given_each_follows : (r : Result) (o : Operand) (a : Component) (q : PlaceOf) (rest : List Operand) (injection : Injection) (memory : MachineMemory) → IsValueOf injection memory k r o → unit_in G memory.frames ≡ unit
         → IsSpot injection memory.types a q → IsLike memory.types q.type_number array → (d : ℕ)
-        → Fragment declared G Here n (point injection memory place (o ∷ operand.Place q ∷ Word upto ∷ Word from ∷ rest)) (given_each call g unit line a range r) end (λ u. Inside untouched injection memory (Bare (o ∷ operand.Place q ∷ rest) u)) (d + weight_of r) (λ u. d + weight_of r)
+        → Fragment layout G Here n (point injection memory place (o ∷ operand.Place q ∷ Word upto ∷ Word from ∷ rest)) (given_each call g unit line a range r) end (λ u. Inside untouched injection memory (Bare (o ∷ operand.Place q ∷ rest) u)) (d + weight_of r) (λ u. d + weight_of r)
     given_each_follows r o a q rest injection memory value home spot described d =
         let heavy = value_weight injection memory k r o value in
         fragment_less {n = suc n} (omega arith)
@@ -454,34 +455,34 @@ module _ (declared : Declarations) (G : Image) (untouched : Slots) (Here : Facts
   AreGivenFollowed ds value at end =
       (injection : Injection) (memory : MachineMemory) (rest : List Operand) (a : Component) (q : PlaceOf) (d : ℕ) → element_credit ≤ d → unit_in G memory.frames ≡ unit
       → IsSpot injection memory.types a q → IsLike memory.types q.type_number array
-      → Fragment declared G Here n (point injection memory (p.instructions.before + at) (operand.Place q ∷ rest)) (given_at call g unit line a ds value) (p.instructions.before + end) (λ r. Inside untouched injection memory (OnTop k (operand.Place q ∷ rest) r)) d (λ r. d + 1 + weight_of r)
+      → Fragment layout G Here n (point injection memory (p.instructions.before + at) (operand.Place q ∷ rest)) (given_at call g unit line a ds value) (p.instructions.before + end) (λ r. Inside untouched injection memory (OnTop k (operand.Place q ∷ rest) r)) d (λ r. d + 1 + weight_of r)
 
   -- the value alone
-  pub value_alone : (x : Expr) (at : ℕ) (xs : List Instr) → IsFollowed declared G untouched Here p call g unit n k x line at xs → AreGivenFollowed no_member (eval call g unit line x) at (at + length xs)
+  pub value_alone : (x : Expr) (at : ℕ) (xs : List Instr) → IsFollowed layout G untouched Here p call g unit n k x line at xs → AreGivenFollowed no_member (eval call g unit line x) at (at + length xs)
   value_alone x at xs follows injection memory rest a q d enough home spot described =
       fragment_credit {d = d} {e = λ r. d + 8 + weight_of r} (omega arith) (λ r. omega arith) (follows injection memory (operand.Place q ∷ rest) d (omega (arith, enough)) home)
 
   -- behind the indexes of a range
-  pub next_given : (r : Designator) (ds : Designators) (value : Computation Result) → Steady value → (at middle : ℕ) (xs : List Instr) → IsRangeFollowed declared G untouched Here p call g unit line n low high of r at xs → AreGivenFollowed ds value (at + length xs) middle
+  pub next_given : (r : Designator) (ds : Designators) (value : Computation Result) → Steady value → (at middle : ℕ) (xs : List Instr) → IsRangeFollowed layout G untouched Here p call g unit line n low high of r at xs → AreGivenFollowed ds value (at + length xs) middle
       → middle + 15 < p.instructions.own → CodeStands G ps p references middle (spread_code line middle)
       → AreGivenFollowed (next_member r ds) value at (middle + 15)
   next_given r ds value steady at middle xs first others inside stands injection memory rest a q d enough home spot described =
-      inside_bind {First = RangeBelow declared G untouched Here p call g unit line n low high of q rest} {e = λ range. d} (λ range. steady_bind (steady_given_at call steady_call g unit line a ds steady) (λ x. steady_bind (steady_given_each call steady_call g unit line a range x) (λ _. steady_give x)))
+      inside_bind {First = RangeBelow layout G untouched Here p call g unit line n low high of q rest} {e = λ range. d} (λ range. steady_bind (steady_given_at call steady_call g unit line a ds steady) (λ x. steady_bind (steady_given_each call steady_call g unit line a range x) (λ _. steady_give x)))
       (first injection memory rest a q d enough home spot described)
       (λ range v1 m1 pushed1 grown1 routine1 both.
-      subst (λ st. Fragment declared G Here n (point v1 m1 (p.instructions.before + (at + length xs)) st) (bind (given_at call g unit line a ds value) (λ x. bind (given_each call g unit line a range x) (λ _. give x))) (p.instructions.before + (middle + 15)) (λ x. Inside untouched v1 m1 (OnTop k (operand.Place q ∷ rest) x)) d (λ x. d + 1 + weight_of x)) (sym both.is)
+      subst (λ st. Fragment layout G Here n (point v1 m1 (p.instructions.before + (at + length xs)) st) (bind (given_at call g unit line a ds value) (λ x. bind (given_each call g unit line a range x) (λ _. give x))) (p.instructions.before + (middle + 15)) (λ x. Inside untouched v1 m1 (OnTop k (operand.Place q ∷ rest) x)) d (λ x. d + 1 + weight_of x)) (sym both.is)
       (inside_bind {First = OnTop k (operand.Place q ∷ Word range.high ∷ Word range.low ∷ rest)} {e = λ x. d + 1 + weight_of x} (λ x. steady_bind (steady_given_each call steady_call g unit line a range x) (λ _. steady_give x))
       (others v1 m1 (Word range.high ∷ Word range.low ∷ rest) a q d enough (unit_in-same G routine1 ∙ home) (is_spot-grown grown1 spot) (describes-grown q.type_number array grown1 described))
       (λ x v2 m2 pushed2 grown2 routine2 top.
       let v = value_on_top k (operand.Place q ∷ Word range.high ∷ Word range.low ∷ rest) x v2 m2 pushed2 top in
-      subst (λ st. Fragment declared G Here n (point v2 m2 (p.instructions.before + middle) st) (bind (given_each call g unit line a range x) (λ _. give x)) (p.instructions.before + (middle + 15)) (λ y. Inside untouched v2 m2 (OnTop k (operand.Place q ∷ rest) y)) (d + 1 + weight_of x) (λ y. d + 1 + weight_of y)) (sym v.2)
+      subst (λ st. Fragment layout G Here n (point v2 m2 (p.instructions.before + middle) st) (bind (given_each call g unit line a range x) (λ _. give x)) (p.instructions.before + (middle + 15)) (λ y. Inside untouched v2 m2 (OnTop k (operand.Place q ∷ rest) y)) (d + 1 + weight_of x) (λ y. d + 1 + weight_of y)) (sym v.2)
       (inside_bind {First = Bare (v.0 ∷ operand.Place q ∷ rest)} {e = λ u. d + 1 + weight_of x} (λ u. steady_give x)
       (given_each_follows middle inside stands range.low range.high both.first both.last both.at_first both.at_last x v.0 a q rest v2 m2 v.1 (unit_in-same G routine2 ∙ (unit_in-same G routine1 ∙ home)) (is_spot-grown grown2 (is_spot-grown grown1 spot)) (describes-grown q.type_number array grown2 (describes-grown q.type_number array grown1 described)) (d + 1))
       (λ u v3 m3 pushed3 grown3 routine3 is.
       fragment_give (omega arith) (inside_here (on_top k (operand.Place q ∷ rest) x v.0 v3 m3 pushed3 (value-grown k x v.0 grown3 v.1) is)))))))
 
   -- behind those of all ranges
-  pub all_given : (ds : Designators) (value : Computation Result) → Steady value → (at middle : ℕ) (xs : List Instr) → AreRangesFollowed declared G untouched Here p call g unit line n low high of ds at xs → AreGivenFollowed no_member value (at + length xs) middle
+  pub all_given : (ds : Designators) (value : Computation Result) → Steady value → (at middle : ℕ) (xs : List Instr) → AreRangesFollowed layout G untouched Here p call g unit line n low high of ds at xs → AreGivenFollowed no_member value (at + length xs) middle
       → CodeStands G ps p references middle (spreads_code line middle (designators_count ds)) → middle + 15 * designators_count ds < p.instructions.own
       → AreGivenFollowed ds value at (middle + 15 * designators_count ds)
   all_given no_member value steady at middle xs none alone stands inside =
@@ -498,13 +499,13 @@ module _ (declared : Declarations) (G : Image) (untouched : Slots) (Here : Facts
 
   -- the value goes
   pub at_indexes_follow : (ds : Designators) (x : Expr) (at middle : ℕ) (code : List Instr) → AreGivenFollowed ds (eval call g unit line x) at middle → slice_get G.instructions (p.instructions.before + middle) ≡ Some (bare line op.DROP) → middle + 1 ≡ at + length code
-      → IsElementFollowed declared G untouched Here lasts ps p references call steady_call g unit line n array (AtIndexes ds x) at code
+      → IsElementFollowed layout G untouched Here lasts ps p references call steady_call g unit line n array (AtIndexes ds x) at code
   at_indexes_follow ds x at middle code follows drops ends injection memory rest a q d enough home spot described =
       fragment_to {to = p.instructions.before + middle + 1} (omega (arith, ends))
       (inside_bind {First = OnTop k (operand.Place q ∷ rest)} {e = λ r. d + 1 + weight_of r} (λ r. steady_give tt)
       (follows injection memory rest a q d enough home spot described)
       (λ r v1 m1 pushed grown routine top.
       let v = value_on_top k (operand.Place q ∷ rest) r v1 m1 pushed top in
-      subst (λ st. Fragment declared G Here n (point v1 m1 (p.instructions.before + middle) st) (give tt) (p.instructions.before + middle + 1) (λ u. Inside untouched v1 m1 (Bare (operand.Place q ∷ rest) u)) (d + 1 + weight_of r) (λ u. d)) (sym v.2)
+      subst (λ st. Fragment layout G Here n (point v1 m1 (p.instructions.before + middle) st) (give tt) (p.instructions.before + middle + 1) (λ u. Inside untouched v1 m1 (Bare (operand.Place q ∷ rest) u)) (d + 1 + weight_of r) (λ u. d)) (sym v.2)
       (fragment_waits {d1 = d} (λ s matches. outcome_at G (bare line op.DROP) (p.instructions.before + middle) (v.0 ∷ operand.Place q ∷ rest) m1 s.trace drops) (omega (arith, enough, value_weight v1 m1 k r v.0 v.1))
       (fragment_give (omega arith) (inside_here refl)))))

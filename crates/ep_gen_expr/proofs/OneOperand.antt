@@ -2,6 +2,7 @@
 use Rattle.std.proofs.Common.{◌≡◌, ℕ, ℤ, pos, suc, ◌+◌, ◌%◌, IsTrue, List, ◌∷◌, length, refl, arith}
 use Rattle.ep_simulation.specs.Follows.{Facts}
 use Rattle.std.specs.Prelude.{◌-ℤ◌, ◌*ℤ◌, neg_ℤ, unsigned_abs}
+use Rattle.ep_simulation.specs.Layouts.{Layout}
 use Rattle.ep_simulation.specs.Matching.{Slots, MachineMemory, Injection}
 use Rattle.ep_object.specs.Operands.{Operand, Word}
 use Rattle.ep_object.specs.Placing.{Placement, CodeStands}
@@ -14,7 +15,7 @@ use Rattle.ep_simulation.proofs.public.rows.Rows.{RowAnswers, push_pushes, neg_a
 use Rattle.ep_simulation.proofs.public.rows.TextRows.{drop_drops, dup_pushes}
 use Rattle.ep_meaning.specs.Calls.{Handler}
 use Rattle.ep_values.specs.Operations.{Number, last_char, unary_answer}
-use Rattle.ep_meaning.specs.Valid.{Declarations, Kind, Ordinal, IsUnary}
+use Rattle.ep_meaning.specs.Valid.{Kind, Ordinal, IsUnary}
 use Rattle.ep_values.specs.declared.operations.Unary.{Unary}
 use Rattle.ep_values.specs.declared.operations.Unary.TheVariants as unary
 use Rattle.ep_typed.specs.Hosts.{Host, is_of_host}
@@ -26,14 +27,14 @@ use Rattle.ep_gen_expr.proofs.Hosts.{given, integer_answer, within_answer, odd_b
 use Rattle.ep_gen_code.proofs.public.Placed.{instr_at}
 use Rattle.ep_values.specs.declared.run_error.TheConstants as run_error
 
-module _ (declared : Declarations) (G : Image) (untouched : Slots) (Here : Facts) (ps : List Placement) (p : Placement) (references : List Reference) (call : Handler) (g : ℕ) (unit : List ℕ) (line : ℕ) where
+module _ (layout : Layout) (G : Image) (untouched : Slots) (Here : Facts) (ps : List Placement) (p : Placement) (references : List Reference) (call : Handler) (g : ℕ) (unit : List ℕ) (line : ℕ) where
   -- from the value of the operand, the machine follows the operation to the end of its code
   abbrev Operates : ℕ → ℕ → Unary → Host → Host → Type 0
   Operates n at operation operand result =
       (z : ℤ) → IsTrue (is_of_host operand z)
       → (injection : Injection) (memory : MachineMemory) (below : List Operand) (d : ℕ)
       → unit_in G memory.frames ≡ unit
-      → Evaluates declared G untouched Here n injection memory (p.instructions.before + at) (Word z ∷ below) (answering call g unit line (unary_answer operation z)) (p.instructions.before + (at + length (one_code line operation))) (Ordinal result) below (d + 8) (d + 8)
+      → Evaluates layout G untouched Here n injection memory (p.instructions.before + at) (Word z ∷ below) (answering call g unit line (unary_answer operation z)) (p.instructions.before + (at + length (one_code line operation))) (Ordinal result) below (d + 8) (d + 8)
 
   -- the same where the kinds of the operand and the result are those
   pub record UnaryFollows (n at : ℕ) (operation : Unary) (operand_kind result_kind : Kind) : Type 0 where

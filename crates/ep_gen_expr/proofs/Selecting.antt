@@ -2,6 +2,7 @@
 use Rattle.std.proofs.Common.{◌≡◌, ℕ, ℤ, pos, ◌+◌, ◌*◌, ◌≤◌, ◌<◌, Bool, true, false, ◌&&◌, List, ◌∷◌, length, Some, slice_get, refl, ap, ◌∙◌, subst, arith}
 use Rattle.std.specs.Prelude.{if◌then◌else◌}
 use Rattle.ep_simulation.specs.Follows.{point, Facts, After, Fragment}
+use Rattle.ep_simulation.specs.Layouts.{Layout}
 use Rattle.ep_simulation.specs.Matching.{MachineMemory, Injection}
 use Rattle.ep_object.specs.Operands.{Operand, Word}
 use Rattle.ep_object.specs.Placing.{Placement, CodeStands}
@@ -18,7 +19,6 @@ use Rattle.ep_meaning.specs.Meaning.{selects}
 use Rattle.ep_meaning.specs.Steps.{Computation, is_number, stop}
 use Rattle.ep_typed.specs.Selections.{variant_number}
 use Rattle.ep_meaning.specs.Steps as meaning
-use Rattle.ep_meaning.specs.Valid.{Declarations}
 use Rattle.ep_values.specs.declared.run_error.TheConstants as run_error
 use Rattle.ep_typed.specs.declared.tree.Selection.{Selection}
 use Rattle.ep_gen_code.specs.Instructions.{instr}
@@ -58,14 +58,14 @@ module _ (G : Image) (ps : List Placement) (p : Placement) (references : List Re
   pub field_at : slice_get G.instructions (p.instructions.before + (bad_place at s + 2)) ≡ Some (instr op.FIELD (pos (variant_number s number)) 0 line)
   field_at = instr_at G (omega arith) behind_tests.1.1.1.0
 
-  module _ {A : Type 0} {declared : Declarations} {Here : Facts} (call : Handler) (g : ℕ) (unit : List ℕ) (room : p.instructions.before + p.instructions.own ≤ length G.instructions)
+  module _ {A : Type 0} {layout : Layout} {Here : Facts} (call : Handler) (g : ℕ) (unit : List ℕ) (room : p.instructions.before + p.instructions.own ≤ length G.instructions)
       (n : ℕ) (injection : Injection) (memory : MachineMemory) (below : List Operand) (home : unit_in G memory.frames ≡ unit) {to d : ℕ} {P : A → After} {e : A → ℕ} (taken : Computation A)
-      (takes : Fragment declared G Here n (point injection memory (p.instructions.before + (bad_place at s + 2)) below) taken to P d e) where
+      (takes : Fragment layout G Here n (point injection memory (p.instructions.before + (bad_place at s + 2)) below) taken to P d e) where
     abbrev inactive : Computation A
     inactive = stop (meaning.Error run_error.INACTIVE_VARIANT unit line)
 
     -- over the value of the tag: what is done with the variant, without that value, or the error
-    chosen_follows : (z : ℤ) (x : Bool) → Fragment declared G Here n (point injection memory (p.instructions.before + (if x then bad_place at s + 1 else bad_place at s)) (Word z ∷ below)) (if x then taken else inactive) to P (d + 1) e
+    chosen_follows : (z : ℤ) (x : Bool) → Fragment layout G Here n (point injection memory (p.instructions.before + (if x then bad_place at s + 1 else bad_place at s)) (Word z ∷ below)) (if x then taken else inactive) to P (d + 1) e
     chosen_follows z true =
         row_waits {d1 = d} (drop_drops G (p.instructions.before + (bad_place at s + 1)) line below (Word z) (instr_at G (omega arith) behind_tests.1.1.0)) (omega arith) (fragment_from (omega arith) takes)
     chosen_follows z false =
@@ -74,19 +74,19 @@ module _ (G : Image) (ps : List Placement) (p : Placement) (references : List Re
 
     -- where no label has the value
     rest_follows : (z : ℤ) (x : Bool) → slice_get G.instructions (p.instructions.before + (at + 6 * labels_count s.labels)) ≡ Some (instr op.JUMP (pos (p.instructions.before + (if x then bad_place at s + 1 else bad_place at s))) 0 line)
-        → Fragment declared G Here n (point injection memory (p.instructions.before + (at + 6 * labels_count s.labels)) (Word z ∷ below)) (if x then taken else inactive) to P (d + 2) e
+        → Fragment layout G Here n (point injection memory (p.instructions.before + (at + 6 * labels_count s.labels)) (Word z ∷ below)) (if x then taken else inactive) to P (d + 2) e
     rest_follows z x has =
         let goal : ℕ = if x then bad_place at s + 1 else bad_place at s in
         fragment_waits {place1 = p.instructions.before + goal} {d1 = d + 1} (λ st matches. jump_jumps G (p.instructions.before + (at + 6 * labels_count s.labels)) line (Word z ∷ below) (p.instructions.before + goal) (omega (arith, room, within_one x)) has memory st.trace) (omega arith) (chosen_follows z x)
 
     completing_follows : (z : ℤ) (completed last : Bool)
         → slice_get G.instructions (p.instructions.before + (at + 6 * labels_count s.labels)) ≡ Some (instr op.JUMP (pos (p.instructions.before + (if completed && last then bad_place at s + 1 else bad_place at s))) 0 line)
-        → Fragment declared G Here n (point injection memory (p.instructions.before + (at + 6 * labels_count s.labels)) (Word z ∷ below)) (if completed then (if last then taken else inactive) else inactive) to P (d + 2) e
+        → Fragment layout G Here n (point injection memory (p.instructions.before + (at + 6 * labels_count s.labels)) (Word z ∷ below)) (if completed then (if last then taken else inactive) else inactive) to P (d + 2) e
     completing_follows z true last has = rest_follows z last has
     completing_follows z false last has = rest_follows z false has
 
     -- the tests, with the value of the tag on top
-    pub selecting_follows : (z : ℤ) → Fragment declared G Here n (point injection memory (p.instructions.before + at) (Word z ∷ below)) (selects call g unit s z (λ j. if is_number j number then taken else inactive) inactive) to P (d + 8) e
+    pub selecting_follows : (z : ℤ) → Fragment layout G Here n (point injection memory (p.instructions.before + at) (Word z ∷ below)) (selects call g unit s z (λ j. if is_number j number then taken else inactive) inactive) to P (d + 8) e
     selecting_follows z =
         let completes : Bool = s.completed && is_number (length s.labels) number in
         labels_follow ps p references call g unit room n line (bad_place at s + 1) (bad_place at s) number 0 at s.labels z (code_front G ps p references at tests last stands) (within_one true) (within_one false) (omega (arith, within)) injection memory below {d = d + 8} (omega arith)

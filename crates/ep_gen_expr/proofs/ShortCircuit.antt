@@ -3,6 +3,7 @@ use Rattle.std.proofs.Common.{◌≡◌, ℕ, ℤ, pos, suc, ◌+◌, ◌≤◌,
 use Rattle.std.specs.Prelude.{if◌then◌else◌, ◌-ℤ◌}
 use Rattle.std.proofs.Math.Bool.{not-not}
 use Rattle.ep_simulation.specs.Follows.{Facts}
+use Rattle.ep_simulation.specs.Layouts.{Layout}
 use Rattle.ep_simulation.specs.Matching.{Slots, MachineMemory, Injection, at as standing}
 use Rattle.ep_object.specs.Operands.{Operand, Word}
 use Rattle.ep_object.specs.Placing.{Placement, CodeStands}
@@ -25,7 +26,7 @@ use Rattle.ep_meaning.specs.Steady.{IsSteadyHandler}
 use Rattle.ep_meaning.proofs.public.Steady.{steady_spend, steady_give}
 use Rattle.ep_meaning.specs.Steps.{Computation, give, bind, spend}
 use Rattle.ep_typed.specs.Trees.{Expr}
-use Rattle.ep_meaning.specs.Valid.{Declarations, Ordinal}
+use Rattle.ep_meaning.specs.Valid.{Ordinal}
 use Rattle.ep_values.specs.declared.operations.ShortOperation.{ShortOperation}
 use Rattle.ep_values.specs.declared.operations.ShortOperation.TheVariants as short
 use Rattle.ep_typed.specs.Hosts.{is_of_host}
@@ -43,12 +44,12 @@ use Rattle.ep_object.specs.declared.op.TheConstants as op
 abbrev rest : Handler → ℕ → List ℕ → ℕ → Bool → Result → Expr → Computation Result
 rest call g unit line b a y = if b then spend 1 (give a) else bind (eval call g unit line y) (λ r. spend 1 (give r))
 
-module _ {declared : Declarations} {G : Image} {untouched : Slots} {Here : Facts} (ps : List Placement) (p : Placement) (references : List Reference) (call : Handler) (steady_call : IsSteadyHandler call) (g : ℕ) (unit : List ℕ) (line : ℕ) (room : p.instructions.before + p.instructions.own ≤ length G.instructions) where
+module _ {layout : Layout} {G : Image} {untouched : Slots} {Here : Facts} (ps : List Placement) (p : Placement) (references : List Reference) (call : Handler) (steady_call : IsSteadyHandler call) (g : ℕ) (unit : List ℕ) (line : ℕ) (room : p.instructions.before + p.instructions.own ≤ length G.instructions) where
   -- The jump, with the left operand below the word that it tests: it leads behind the right operand where the left one decides.
-  jump_follows : (n place right end : ℕ) (y : Expr) (ys : List Instr) → IsFollowed declared G untouched Here p call g unit n (Ordinal host.Boolean) y line right ys → place + 2 ≡ p.instructions.before + right → end ≡ right + length ys → end < p.instructions.own
+  jump_follows : (n place right end : ℕ) (y : Expr) (ys : List Instr) → IsFollowed layout G untouched Here p call g unit n (Ordinal host.Boolean) y line right ys → place + 2 ≡ p.instructions.before + right → end ≡ right + length ys → end < p.instructions.own
       → slice_get G.instructions place ≡ Some (instr op.JUMP_FALSE (pos (p.instructions.before + end)) 0 line) → slice_get G.instructions (place + 1) ≡ Some (bare line op.DROP)
       → (t z : ℤ) → IsTrue (is_of_host host.Boolean z) → (injection : Injection) (memory : MachineMemory) (below : List Operand) (d : ℕ) → least_credit ≤ d → unit_in G memory.frames ≡ unit → (b : Bool) → is_true t ≡ not b
-      → Evaluates declared G untouched Here n injection memory place (Word t ∷ Word z ∷ below) (rest call g unit line b (result.Number z) y) (p.instructions.before + end) (Ordinal host.Boolean) below (d + 6) (d + 8)
+      → Evaluates layout G untouched Here n injection memory place (Word t ∷ Word z ∷ below) (rest call g unit line b (result.Number z) y) (p.instructions.before + end) (Ordinal host.Boolean) below (d + 6) (d + 8)
   jump_follows n place right end y ys second behind ends inside at_jump at_drop t z of_z injection memory below d le unit_is true e =
       fragment_less {n = suc n} (omega arith) (fragment_one {n = n} {d1 = d + 8} (λ s matches. jump_false_jumps G place line (Word z ∷ below) t (p.instructions.before + end) (omega (arith, room)) at_jump memory s.trace ∙ ap (λ c. record { weight = 0; to = Running 0 (standing (if c then place + 1 else p.instructions.before + end) (Word z ∷ below) memory s.trace) }) e) (omega arith)
       (fragment_give (omega arith) (inside_here (record { number = z; is_number = refl; of_host = of_z; is = refl }))))
@@ -60,10 +61,10 @@ module _ {declared : Declarations} {G : Image} {untouched : Slots} {Here : Facts
       fragment_less {n = suc n} (omega arith) (fragment_move {d1 = d + 8} (omega arith) (fragment_give (omega arith) (inside_here (record { number = w; is_number = refl; of_host = of_w; is = refl })))))))))
 
   -- From the left operand, the machine follows the rest to the end of the code.
-  pub kept_follows : (n at right end : ℕ) (operation : ShortOperation) (y : Expr) (ys : List Instr) → IsFollowed declared G untouched Here p call g unit n (Ordinal host.Boolean) y line right ys → right ≡ at + length (keep_code line operation) + 2 → end ≡ right + length ys → end < p.instructions.own
+  pub kept_follows : (n at right end : ℕ) (operation : ShortOperation) (y : Expr) (ys : List Instr) → IsFollowed layout G untouched Here p call g unit n (Ordinal host.Boolean) y line right ys → right ≡ at + length (keep_code line operation) + 2 → end ≡ right + length ys → end < p.instructions.own
       → CodeStands G ps p references at (keep_code line operation ++ instr op.JUMP_FALSE (pos end) 0 line ∷ bare line op.DROP ∷ [])
       → (z : ℤ) → IsTrue (is_of_host host.Boolean z) → (injection : Injection) (memory : MachineMemory) (below : List Operand) (d : ℕ) → least_credit ≤ d → unit_in G memory.frames ≡ unit
-      → Evaluates declared G untouched Here n injection memory (p.instructions.before + at) (Word z ∷ below) (rest call g unit line (decides operation z) (result.Number z) y) (p.instructions.before + end) (Ordinal host.Boolean) below (d + 8) (d + 8)
+      → Evaluates layout G untouched Here n injection memory (p.instructions.before + at) (Word z ∷ below) (rest call g unit line (decides operation z) (result.Number z) y) (p.instructions.before + end) (Ordinal host.Boolean) below (d + 8) (d + 8)
   kept_follows n at right end short.AndThen y ys second behind ends inside stands z of_z injection memory below d le unit_is =
       let place : ℕ = p.instructions.before + at in
       row_waits {d1 = d + 7} (dup_pushes G place line below z stands.0) (omega arith)

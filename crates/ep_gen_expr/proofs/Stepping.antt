@@ -2,6 +2,7 @@
 use Rattle.std.proofs.Common.{◌≡◌, ℕ, ℤ, pos, ◌+◌, Bool, true, false, IsTrue, List, [], ◌∷◌, length, Some, slice_get, ap, ◌∙◌, arith}
 use Rattle.ep_simulation.specs.Follows.{Facts}
 use Rattle.std.specs.Prelude.{◌+ℤ◌, neg_ℤ}
+use Rattle.ep_simulation.specs.Layouts.{Layout}
 use Rattle.ep_simulation.specs.Matching.{Slots, MachineMemory, Injection}
 use Rattle.ep_object.specs.Operands.{Operand, Word}
 use Rattle.ep_object.specs.Placing.{Placement, CodeStands}
@@ -13,7 +14,7 @@ use Rattle.ep_simulation.proofs.public.following.Fragments.{fragment_to, fragmen
 use Rattle.ep_simulation.proofs.public.rows.Rows.{instr, RowPushes, push_pushes, neg_answers, step_answers}
 use Rattle.ep_meaning.specs.Calls.{Handler}
 use Rattle.ep_values.specs.Operations.{step_answer}
-use Rattle.ep_meaning.specs.Valid.{Declarations, Ordinal}
+use Rattle.ep_meaning.specs.Valid.{Ordinal}
 use Rattle.ep_typed.specs.Hosts.{Host, least, greatest, is_of_host}
 use Rattle.ep_typed.specs.Hosts as host
 use Rattle.ep_gen_code.specs.Instructions.{push, bare}
@@ -31,13 +32,13 @@ neg_pushes : (G : Image) (place line : ℕ) (below : List Operand) (n : ℤ) →
 neg_pushes G place line below n of_host has memory trace =
     neg_answers G place line below n has memory trace ∙ ap (λ a. record { weight = 0; to = going_of (place + 1) below memory (unit_in G memory.frames) line trace a }) (negated n of_host)
 
-module _ (declared : Declarations) (G : Image) (untouched : Slots) (Here : Facts) (ps : List Placement) (p : Placement) (references : List Reference) (call : Handler) (g : ℕ) (unit : List ℕ) (line : ℕ) where
+module _ (layout : Layout) (G : Image) (untouched : Slots) (Here : Facts) (ps : List Placement) (p : Placement) (references : List Reference) (call : Handler) (g : ℕ) (unit : List ℕ) (line : ℕ) where
   -- the sum of a value and a count, within the bounds of the host
   bounded_follows : (n at : ℕ) (h : Host) (low high : ℤ) → low ≡ least h → high ≡ greatest h
       → CodeStands G ps p references at (push line low ∷ push line high ∷ bare line op.STEP ∷ [])
       → (x count : ℤ) (injection : Injection) (memory : MachineMemory) (below : List Operand) (d : ℕ)
       → unit_in G memory.frames ≡ unit
-      → Evaluates declared G untouched Here n injection memory (p.instructions.before + at) (Word count ∷ Word x ∷ below) (answering call g unit line (step_answer false low high x count)) (p.instructions.before + (at + 3)) (Ordinal h) below (d + 15) (d + 8)
+      → Evaluates layout G untouched Here n injection memory (p.instructions.before + at) (Word count ∷ Word x ∷ below) (answering call g unit line (step_answer false low high x count)) (p.instructions.before + (at + 3)) (Ordinal h) below (d + 15) (d + 8)
   bounded_follows n at h low high is_low is_high stands x count injection memory below d unit_is =
       let place : ℕ = p.instructions.before + at in
       let values : List Operand = Word count ∷ Word x ∷ below in
@@ -51,7 +52,7 @@ module _ (declared : Declarations) (G : Image) (untouched : Slots) (Here : Facts
       → IsTrue (is_of_host host.Integer count)
       → (injection : Injection) (memory : MachineMemory) (below : List Operand) (d : ℕ)
       → unit_in G memory.frames ≡ unit
-      → Evaluates declared G untouched Here n injection memory (p.instructions.before + at) (Word count ∷ Word x ∷ below) (answering call g unit line (step_answer down low high x count)) (p.instructions.before + (at + length (step_code line down low high))) (Ordinal h) below (d + 16) (d + 8)
+      → Evaluates layout G untouched Here n injection memory (p.instructions.before + at) (Word count ∷ Word x ∷ below) (answering call g unit line (step_answer down low high x count)) (p.instructions.before + (at + length (step_code line down low high))) (Ordinal h) below (d + 16) (d + 8)
   step_follows n at h false low high is_low is_high stands x count of_host injection memory below d unit_is =
       fragment_credit {d = d + 15} (omega arith) (λ r. omega arith) (bounded_follows n at h low high is_low is_high stands x count injection memory below d unit_is)
   step_follows n at h true low high is_low is_high stands x count of_host injection memory below d unit_is =

@@ -2,6 +2,7 @@
 use Rattle.std.proofs.Common.{◌≡◌, ℕ, ℤ, ◌+◌, not, ◌&&◌, ◌||◌, IsTrue, List, [], ◌∷◌, arith}
 use Rattle.ep_simulation.specs.Follows.{Facts}
 use Rattle.std.specs.Prelude.{◌+ℤ◌, ◌-ℤ◌, ◌*ℤ◌, int_le, int_lt}
+use Rattle.ep_simulation.specs.Layouts.{Layout}
 use Rattle.ep_simulation.specs.Matching.{Slots, MachineMemory, Injection}
 use Rattle.ep_object.specs.Operands.{Operand, Word}
 use Rattle.ep_object.specs.Placing.{Placement, CodeStands}
@@ -12,7 +13,7 @@ use Rattle.ep_simulation.proofs.public.following.Fragments.{fragment_to}
 use Rattle.ep_simulation.proofs.public.rows.Rows.{RowAnswers, add_answers, sub_answers, mul_answers, div_answers, mod_answers, and_answers, or_answers, equal_answers, unequal_answers, less_answers, greater_answers, at_most_answers, at_least_answers}
 use Rattle.ep_meaning.specs.Calls.{Handler}
 use Rattle.ep_values.specs.Operations.{Number, is_same, is_true, ordinal_of, binary_answer}
-use Rattle.ep_meaning.specs.Valid.{Declarations, Kind, Ordinal, IsArithmetic, IsLogical, IsComparison, IsBinary}
+use Rattle.ep_meaning.specs.Valid.{Kind, Ordinal, IsArithmetic, IsLogical, IsComparison, IsBinary}
 use Rattle.ep_values.specs.declared.operations.Binary.{Binary}
 use Rattle.ep_values.specs.declared.operations.Binary.TheVariants as binary
 use Rattle.ep_typed.specs.Hosts.{Host, is_of_host}
@@ -21,14 +22,14 @@ use Rattle.ep_gen_expr.specs.ExprCode.{two_code}
 use Rattle.ep_gen_expr.proofs.public.Answering.{Evaluates, answering, answer_follows}
 use Rattle.ep_gen_expr.proofs.Hosts.{given, integer_answer, divided_answer, modulo_answer, ordinal_boolean}
 
-module _ (declared : Declarations) (G : Image) (untouched : Slots) (Here : Facts) (ps : List Placement) (p : Placement) (references : List Reference) (call : Handler) (g : ℕ) (unit : List ℕ) (line : ℕ) where
+module _ (layout : Layout) (G : Image) (untouched : Slots) (Here : Facts) (ps : List Placement) (p : Placement) (references : List Reference) (call : Handler) (g : ℕ) (unit : List ℕ) (line : ℕ) where
   -- from the values of both operands, the machine follows the operation to the end of its code
   abbrev Operates : ℕ → ℕ → Binary → Host → Host → Type 0
   Operates n at operation operand result =
       (x y : ℤ) → IsTrue (is_of_host operand x) → IsTrue (is_of_host operand y)
       → (injection : Injection) (memory : MachineMemory) (below : List Operand) (d : ℕ)
       → unit_in G memory.frames ≡ unit
-      → Evaluates declared G untouched Here n injection memory (p.instructions.before + at) (Word y ∷ Word x ∷ below) (answering call g unit line (binary_answer operation x y)) (p.instructions.before + (at + 1)) (Ordinal result) below (d + 16) (d + 8)
+      → Evaluates layout G untouched Here n injection memory (p.instructions.before + at) (Word y ∷ Word x ∷ below) (answering call g unit line (binary_answer operation x y)) (p.instructions.before + (at + 1)) (Ordinal result) below (d + 16) (d + 8)
 
   -- the same where the kinds of the operands and the result are those
   pub record BinaryFollows (n at : ℕ) (operation : Binary) (left right result_kind : Kind) : Type 0 where

@@ -6,7 +6,9 @@ use Rattle.ep_gen_code.specs.Referring.{AreReferred, AreArraysReferred, IsSwapRe
 use Rattle.ep_gen_expr.specs.ExprCode.{IsPlaceCode, IsExprCode}
 use Rattle.ep_simulation.specs.Activations.{MatchesNames}
 use Rattle.ep_simulation.specs.Follows.{point, Since, Fragment, Inside, Operands, OnTop, PlaceOnTop}
-use Rattle.ep_simulation.specs.Matching.{MachineMemory, Injection, Slots, AreAmong, kept_slots, HasType, HasOwnType}
+use Rattle.ep_simulation.specs.Layouts.{Layout}
+use Rattle.ep_simulation.specs.Matching.{MachineMemory, Injection, Slots, AreAmong, kept_slots, HasTypeUnder}
+use Rattle.ep_simulation.specs.Matching.{HasOwnType}
 use Rattle.ep_object.specs.Operands.{Operand}
 use Rattle.ep_object.specs.Placing.{Placement, CodeStands}
 use Rattle.ep_simulation.specs.Promises.{CallsAreKept}
@@ -32,12 +34,12 @@ use Rattle.ep_values.specs.TypeValues.{type_among}
 -- place of the object. Behind the code the same routine runs, memory has grown, the slots that are named are
 -- untouched, and what held and lasts still does, what the computation gives lies on the operands below, and the credit
 -- has risen by this gain.
-abbrev pub IsFollowedThrough : {A : Type 0} → Declarations → Image → Placement → List ℕ → Slots → ℕ → ℕ → List Instr
-    → Computation A → (List Operand → A → Operands) → (A → ℕ) → Type 0
-IsFollowedThrough declared G p unit untouched n at code c Then gain =
+abbrev pub IsFollowedThrough : {A : Type 0} → Declarations → Layout → Image → Placement → List ℕ → Slots → ℕ → ℕ
+    → List Instr → Computation A → (List Operand → A → Operands) → (A → ℕ) → Type 0
+IsFollowedThrough declared layout G p unit untouched n at code c Then gain =
     (begun : State) (injection : Injection) (memory : MachineMemory) → MatchesNames declared injection begun memory
     → (below : List Operand) (credit : ℕ) → least_credit ≤ credit → unit_in G memory.frames ≡ unit
-    → Fragment declared G (Since untouched injection begun memory) n
+    → Fragment layout G (Since untouched injection begun memory) n
     (point injection memory (p.instructions.before + at) below) c (p.instructions.before + (at ▸ code))
     (λ a. Inside untouched injection memory (Then below a)) credit (λ a. credit + gain a)
 
@@ -46,7 +48,7 @@ IsFollowedThrough declared G p unit untouched n at code c Then gain =
 -- components of an array, of a component of a record, or of a variant of one whose tag is of an ordinal type
 abbrev pub HasPlaceType : Declarations → Place → TypeValue → Type 0
 HasPlaceType declared (Variable unit k) t =
-    (v : UnitVariable) × (declared.variables unit k ≡ Some v) × HasType declared unit v t
+    (v : UnitVariable) × (declared.variables unit k ≡ Some v) × HasTypeUnder (declared.types unit) v t
 HasPlaceType declared (Own up k) t =
     (v : UnitVariable) × (slice_get (variables_up declared up) k ≡ Some v) × HasOwnType declared v t
 HasPlaceType declared (Standard file) t = ⊥
@@ -70,18 +72,20 @@ IsValidPlace declared = IsPlaceWhere declared (λ types d. ⊤)
 -- named are among those that calls leave as they are.
 abbrev pub PlacesAreFollowed : Type 0
 PlacesAreFollowed =
-    (declared : Declarations) (G : Image) (ps : List Placement) (p : Placement) (texts : List (List ℕ)) (references :
-    List Reference)
-    → Scene declared G ps p texts
+    (declared : Declarations) (layout : Layout) (G : Image) (ps : List Placement) (p : Placement)
+    (texts : List (List ℕ)) (references : List Reference)
+    → Scene declared layout G ps p texts
     → (call : Handler) → IsSteadyHandler call → (turns : ℕ) (unit : List ℕ) (q : Place) → IsValidPlace declared q
     → (t : TypeValue) → HasPlaceType declared q t
     → (line at : ℕ) (code : List Instr) → IsPlaceCode texts references line at q code
     → CodeStands G ps p references at code → at ▸ code < p.instructions.own
     → p.instructions.before + p.instructions.own ≤ length G.instructions
-    → (untouched : Slots) → AreAmong untouched (kept_slots declared G) → (n : ℕ) → CallsAreKept declared G ps call n
+    → (untouched : Slots) → AreAmong untouched (kept_slots layout G)
+    → (n : ℕ) → CallsAreKept declared layout G ps call n
     → unit ≡ declared.routine_unit → AreReferred declared unit declared.routine_types references
     → IsSwapReferred declared unit references → AreArraysReferred declared unit references
-    → IsFollowedThrough declared G p unit untouched n at code (place call turns unit line q) (PlaceOnTop t) (λ a. 8)
+    → IsFollowedThrough declared layout G p unit untouched n at code (place call turns unit line q) (PlaceOnTop t)
+    (λ a. 8)
 
 -- Wherever the code of an expression that is valid under the declarations stands in an image with a scene, with more
 -- code
@@ -92,16 +96,17 @@ PlacesAreFollowed =
 -- leave as they are.
 abbrev pub ExpressionsAreFollowed : Type 0
 ExpressionsAreFollowed =
-    (declared : Declarations) (G : Image) (ps : List Placement) (p : Placement) (texts : List (List ℕ)) (references :
-    List Reference)
-    → Scene declared G ps p texts
+    (declared : Declarations) (layout : Layout) (G : Image) (ps : List Placement) (p : Placement)
+    (texts : List (List ℕ)) (references : List Reference)
+    → Scene declared layout G ps p texts
     → (call : Handler) → IsSteadyHandler call → (turns : ℕ) (unit : List ℕ) (kind : Kind) (x : Expr)
     → IsExpr declared kind x
     → (line at : ℕ) (code : List Instr) → IsExprCode texts references line at x code
     → CodeStands G ps p references at code → at ▸ code < p.instructions.own
     → p.instructions.before + p.instructions.own ≤ length G.instructions
-    → (untouched : Slots) → AreAmong untouched (kept_slots declared G) → (n : ℕ) → CallsAreKept declared G ps call n
+    → (untouched : Slots) → AreAmong untouched (kept_slots layout G)
+    → (n : ℕ) → CallsAreKept declared layout G ps call n
     → unit ≡ declared.routine_unit → AreReferred declared unit declared.routine_types references
     → IsSwapReferred declared unit references → AreArraysReferred declared unit references
-    → IsFollowedThrough declared G p unit untouched n at code (eval call turns unit line x) (OnTop kind)
+    → IsFollowedThrough declared layout G p unit untouched n at code (eval call turns unit line x) (OnTop kind)
     (λ r. 8 + weight_of r)

@@ -8,11 +8,11 @@ use Rattle.ep_simulation.proofs.public.matching.MoreMemory.{slice_get-prefix}
 use Rattle.ep_simulation.specs.Scene.{HaveValidTypes}
 use Rattle.ep_meaning.proofs.public.Auxiliaries.{block_valid, withs_denoted}
 use Rattle.ep_typed.specs.Auxiliaries.{block_auxiliaries, with_variables}
-use Rattle.ep_typed.specs.Routines.{made_by_unit, unit_variables}
+use Rattle.ep_typed.specs.Routines.{made_by_unit, unit_block, unit_variables}
 use Rattle.ep_typed.specs.Trees.{Stmt}
 use Rattle.ep_typed.specs.declared.unit.UnitType.{UnitType}
 use Rattle.ep_meaning.specs.Valid.{Declarations, IsDenoter, IsValid, IsVariable, own}
-use Rattle.ep_typed.specs.Viewed.{denoter_of, stmt_of}
+use Rattle.ep_typed.specs.Viewed.{denoter_of}
 use Rattle.ep_typed.specs.declared.unit.UnitVariable.{UnitVariable}
 use Rattle.ep_typed.specs.declared.unit.Unit.{Unit as TypedUnit}
 
@@ -61,8 +61,8 @@ pub own_valid : (u : TypedUnit) → IsValid u → HaveValidTypes (own u)
 own_valid u valid unit k v h =
     let w = own_is u unit k v h in
     let types : (own u).types unit ≡ u.types = ap (λ n. (own u).types n) (sym w.0) ∙ own_types u in
-    subst (λ ts. IsDenoter ts (denoter_of v.denoter)) (sym types) (either (slice_get-either (made_by_unit u) (with_variables (stmt_of u.start)) k v w.1))
+    subst (λ ts. IsDenoter ts (denoter_of v.denoter)) (sym types) (either (slice_get-either (made_by_unit u) (with_variables (unit_block u)) k v w.1))
   where
-    either : (slice_get (made_by_unit u) k ≡ Some v) ⊎ ((j : ℕ) × (slice_get (with_variables (stmt_of u.start)) j ≡ Some v)) → IsDenoter u.types (denoter_of v.denoter)
-    either (inl e) = (variables_valid u.types u.variables (stmt_of u.start) valid.variables k v e).denoter
-    either (inr e) = withs_denoted (own u) u.types refl (own_types u) valid.types (stmt_of u.start) valid.start e.0 v e.1
+    either : (slice_get (made_by_unit u) k ≡ Some v) ⊎ ((j : ℕ) × (slice_get (with_variables (unit_block u)) j ≡ Some v)) → IsDenoter u.types (denoter_of v.denoter)
+    either (inl e) = (variables_valid u.types u.variables (unit_block u) valid.variables k v e).denoter
+    either (inr e) = withs_denoted (own u) u.types refl (own_types u) valid.types (unit_block u) (valid.start, (valid.stop, tt)) e.0 v e.1

@@ -7,6 +7,7 @@ use Rattle.ep_gen_expr.proofs.public.PlaceTypes.{kind_place}
 use Rattle.ep_gen_code.proofs.public.Placed.{jump_has, jump_false_has}
 use Rattle.ep_gen_unit.proofs.Parts.{code_stands-parts, Moves, ExpressionsFollow, PlacesFollow, statement_credit, ordinal_of_host}
 use Rattle.ep_simulation.specs.Follows.{point, Facts, Lasts, Fragment, Follows, Lands, Inside, Bare, IsNotLeft}
+use Rattle.ep_simulation.specs.Layouts.{Layout}
 use Rattle.ep_simulation.specs.Matching.{Slots, MachineMemory, Injection, IsLike, IsSpot, at as standing}
 use Rattle.ep_object.specs.Operands.{Operand, Word}
 use Rattle.ep_object.specs.Operands as operand
@@ -138,26 +139,26 @@ jump_where : (b : Bool) (x y : ℕ) → (if is_true (ordinal_of (not b)) then x 
 jump_where true x y = refl
 jump_where false x y = refl
 
-module _ {declared : Declarations} {G : Image} {untouched : Slots} {Here : Facts} (lasts : Lasts untouched Here) (ps : List Placement) (p : Placement) (texts : List (List ℕ)) (references : List Reference) (call : Handler) (steady_call : IsSteadyHandler call) (n : ℕ) (unit : List ℕ) (room : p.instructions.before + p.instructions.own ≤ length G.instructions)
-    (scene : Scene declared G ps p texts) (expressions : ExpressionsFollow declared G untouched Here ps p texts references call n unit) (places : PlacesFollow declared G untouched Here ps p texts references call n unit) where
+module _ {declared : Declarations} {layout : Layout} {G : Image} {untouched : Slots} {Here : Facts} (lasts : Lasts untouched Here) (ps : List Placement) (p : Placement) (texts : List (List ℕ)) (references : List Reference) (call : Handler) (steady_call : IsSteadyHandler call) (n : ℕ) (unit : List ℕ) (room : p.instructions.before + p.instructions.own ≤ length G.instructions)
+    (scene : Scene declared layout G ps p texts) (expressions : ExpressionsFollow declared layout G untouched Here ps p texts references call n unit) (places : PlacesFollow declared layout G untouched Here ps p texts references call n unit) where
   -- ---- the end
 
   -- the instruction that makes a variable undefined
   pub undefine_moves : (low high : ℤ) (a : Component) (q : PlaceOf) (line at : ℕ) → CodeStands G ps p references at (bare line op.UNDEFINE ∷ []) → (injection : Injection) (memory : MachineMemory) (below : List Operand) (d : ℕ) → 2 ≤ d → unit_in G memory.frames ≡ unit → IsSpot injection memory.types a q → IsLike memory.types q.type_number (type.Ordinal low high)
-      → Fragment declared G Here n (point injection memory (p.instructions.before + at) (operand.Place q ∷ below)) (using (meaning.Error run_error.DISPOSED unit line) a.allocation (spend 1 (change (assigned a Undefined)))) (p.instructions.before + at + 1) (λ b. Inside untouched injection memory (Bare below b)) d (λ b. d)
+      → Fragment layout G Here n (point injection memory (p.instructions.before + at) (operand.Place q ∷ below)) (using (meaning.Error run_error.DISPOSED unit line) a.allocation (spend 1 (change (assigned a Undefined)))) (p.instructions.before + at + 1) (λ b. Inside untouched injection memory (Bare below b)) d (λ b. d)
   undefine_moves low high a q line at stands injection memory below d enough home spot described =
       fragment_less {n = suc n} (omega arith) (fragment_using {n = suc n} {e = λ b. d} a.allocation
-      (λ s matches ended. subst (λ u. FailsWith G (standing (p.instructions.before + at) (operand.Place q ∷ below) memory s.trace) 1 11 u line s) home (undefine_fails_ended declared G (p.instructions.before + at) line below low high a q stands.0 injection memory spot described s matches ended))
+      (λ s matches ended. subst (λ u. FailsWith G (standing (p.instructions.before + at) (operand.Place q ∷ below) memory s.trace) 1 11 u line s) home (undefine_fails_ended layout G (p.instructions.before + at) line below low high a q stands.0 injection memory spot described s matches ended))
       (omega (arith, enough))
-      (λ s matches here living. lives s (undefine_does declared G (p.instructions.before + at) line below low high a q stands.0 injection memory spot described s matches living lasts here)))
+      (λ s matches here living. lives s (undefine_does layout G (p.instructions.before + at) line below low high a q stands.0 injection memory spot described s matches living lasts here)))
     where
-      lives : (s : meaning.State) → Does declared G Here (standing (p.instructions.before + at) (operand.Place q ∷ below) memory s.trace) 1 (p.instructions.before + at + 1) (Inside untouched injection memory (Bare below tt)) (assigned a Undefined s)
-          → Follows (λ k. IsNotLeft memory.frames k.frames) G (suc n) (standing (p.instructions.before + at) (operand.Place q ∷ below) memory s.trace) s (spend 1 (change (assigned a Undefined))) (λ b. Lands declared G Here (p.instructions.before + at + 1) (Inside untouched injection memory (Bare below b))) d (λ b. d)
-      lives s does = follows_paid {v = 1} {w = 0} {d1 = d} (not_left-here memory.frames) refl does.does (omega arith) (omega arith) (omega arith) (follows_changed {n = n} (assigned a Undefined) {P = λ b. Lands declared G Here (p.instructions.before + at + 1) (Inside untouched injection memory (Bare below b))} {d = d} {e = λ b. d} (omega arith) (landed does))
+      lives : (s : meaning.State) → Does layout G Here (standing (p.instructions.before + at) (operand.Place q ∷ below) memory s.trace) 1 (p.instructions.before + at + 1) (Inside untouched injection memory (Bare below tt)) (assigned a Undefined s)
+          → Follows (λ k. IsNotLeft memory.frames k.frames) G (suc n) (standing (p.instructions.before + at) (operand.Place q ∷ below) memory s.trace) s (spend 1 (change (assigned a Undefined))) (λ b. Lands layout G Here (p.instructions.before + at + 1) (Inside untouched injection memory (Bare below b))) d (λ b. d)
+      lives s does = follows_paid {v = 1} {w = 0} {d1 = d} (not_left-here memory.frames) refl does.does (omega arith) (omega arith) (omega arith) (follows_changed {n = n} (assigned a Undefined) {P = λ b. Lands layout G Here (p.instructions.before + at + 1) (Inside untouched injection memory (Bare below b))} {d = d} {e = λ b. d} (omega arith) (landed does))
 
   -- the control variable becomes undefined, and the statement spends its step
   pub end_moves : (line at : ℕ) (q : Entire) (h : Host) (is : List Instr) → IsPlace declared h (entire q) → IsUndefineCode texts references line at q is → CodeStands G ps p references at is → at + length is < p.instructions.own
-      → Moves declared G untouched Here ps p texts references call n unit at (at + length is) (bind (undefines call n unit line (entire q)) (λ b. spend 1 (give tt)))
+      → Moves layout G untouched Here ps p texts references call n unit at (at + length is) (bind (undefines call n unit line (entire q)) (λ b. spend 1 (give tt)))
   end_moves line at q h is is_place code stands inside injection memory below d enough home =
       let v = kind_place declared scene.types_valid scene.own_types_valid (kind.Ordinal h) (entire q) is_place in
       let t = ordinal_of_host h v.type_value v.of_kind in
@@ -185,8 +186,8 @@ module _ {declared : Declarations} {G : Image} {untouched : Slots} {Here : Facts
     pub inside : back_at + 1 < p.instructions.own
 
   module _ (line body_at test_at back_at : ℕ) (c : Control) (h : Host) (s : Stmt) (control : IsControl declared h c) (x : TurnsStand line body_at test_at back_at c)
-      (body : Moves declared G untouched Here ps p texts references call n unit body_at test_at (exec call n unit s))
-      (next : Moves declared G untouched Here ps p texts references call n unit (test_at + 1 + length x.read + 2) back_at (assigns call n unit line (entire c.variable) (next_value c))) where
+      (body : Moves layout G untouched Here ps p texts references call n unit body_at test_at (exec call n unit s))
+      (next : Moves layout G untouched Here ps p texts references call n unit (test_at + 1 + length x.read + 2) back_at (assigns call n unit line (entire c.variable) (next_value c))) where
     steady_next : (k : ℕ) (z : ℤ) → Steady (bind (assigns call n unit line (entire c.variable) (next_value c)) (λ b. turns_to call n unit k line c z (exec call n unit s)))
     steady_next k z = steady_bind (steady_assigns call steady_call n unit line (entire c.variable) (next_value c)) (λ b. steady_turns_to call steady_call n unit k line c z (steady_exec call steady_call n unit s))
 
@@ -194,7 +195,7 @@ module _ {declared : Declarations} {G : Image} {untouched : Slots} {Here : Facts
     steady_tested k z w = steady_spend 1 (steady_if (is_same z w) (steady_give tt) (steady_next k z))
 
     pub turns_follow : (z : ℤ) (k : ℕ) → k ≤ n → (injection : Injection) (memory : MachineMemory) (below : List Operand) (d : ℕ) → statement_credit ≤ d → unit_in G memory.frames ≡ unit
-        → Fragment declared G Here k (point injection memory (p.instructions.before + body_at) (Word z ∷ below)) (turns_to call n unit k line c z (exec call n unit s)) (p.instructions.before + (back_at + 2)) (λ b. Inside untouched injection memory (Bare below b)) d (λ b. d)
+        → Fragment layout G Here k (point injection memory (p.instructions.before + body_at) (Word z ∷ below)) (turns_to call n unit k line c z (exec call n unit s)) (p.instructions.before + (back_at + 2)) (λ b. Inside untouched injection memory (Bare below b)) d (λ b. d)
     turns_follow z zero le injection memory below d enough home = fragment_cut
     turns_follow z (suc k) le injection memory below d enough home =
         fragment_bind_bare {e = λ b. d} (λ b. steady_bind (steady_eval call steady_call n unit line (Read (entire c.variable))) (λ r. steady_tested k z (number_of r)))
@@ -227,7 +228,7 @@ module _ {declared : Declarations} {G : Image} {untouched : Slots} {Here : Facts
 
   module _ (line at : ℕ) (c : Control) (x y : Expr) (s : Stmt) (bounds first body test next ends : List Instr) (h : Host) (control : IsControl declared h c) (valid_initial : IsExpr declared (kind.Ordinal h) x) (valid_last : IsExpr declared (kind.Ordinal h) y)
       (parts : ForStands G ps p texts references line at c x y bounds first body test next ends)
-      (body_moves : Moves declared G untouched Here ps p texts references call n unit (body_at G ps p texts references line at c x y bounds first body test next ends) (test_at G ps p texts references line at c x y bounds first body test next ends) (exec call n unit s)) where
+      (body_moves : Moves layout G untouched Here ps p texts references call n unit (body_at G ps p texts references line at c x y bounds first body test next ends) (test_at G ps p texts references line at c x y bounds first body test next ends) (exec call n unit s)) where
     abbrev f_at : ℕ
     f_at = at + length bounds + 1
 
@@ -269,11 +270,11 @@ module _ {declared : Declarations} {G : Image} {untouched : Slots} {Here : Facts
           inside = omega (arith, parts.room);
         }
 
-    next_moves : Moves declared G untouched Here ps p texts references call n unit (t_at + 1 + length turns_stand.read + 2) k_at (assigns call n unit line (entire c.variable) (next_value c))
+    next_moves : Moves layout G untouched Here ps p texts references call n unit (t_at + 1 + length turns_stand.read + 2) k_at (assigns call n unit line (entire c.variable) (next_value c))
     next_moves =
         let code = parts.is_test in
         let long : n_at ≡ t_at + 1 + length code.0 + 2 = omega (arith, ap length code.2, length-append code.0 (two_code line binary.Unequal ∷ [])) in
-        subst (λ w. Moves declared G untouched Here ps p texts references call n unit w k_at (assigns call n unit line (entire c.variable) (next_value c))) long
+        subst (λ w. Moves layout G untouched Here ps p texts references call n unit w k_at (assigns call n unit line (entire c.variable) (next_value c))) long
         (assigned_moves lasts ps p texts references call steady_call n unit scene expressions places line n_at (entire c.variable) (kind.Ordinal h) (kind.Ordinal h) (ordinal_takes h h) (next_value c) next control.variable (next_value_valid declared h c control) parts.is_next (omega (arith, parts.room)) parts.next_stands)
 
     steady_turns : (w : ℤ) → Steady (turns_to call n unit n line c w (exec call n unit s))
@@ -281,7 +282,7 @@ module _ {declared : Declarations} {G : Image} {untouched : Slots} {Here : Facts
 
     -- the turns, and what comes before them
     counts_moves : (injection : Injection) (memory : MachineMemory) (below : List Operand) (d : ℕ) → statement_credit ≤ d → unit_in G memory.frames ≡ unit
-        → Fragment declared G Here n (point injection memory (p.instructions.before + f_at) below) (counts call n unit line c (exec call n unit s)) (p.instructions.before + whole) (λ b. Inside untouched injection memory (Bare below b)) (d + 7) (λ b. d)
+        → Fragment layout G Here n (point injection memory (p.instructions.before + f_at) below) (counts call n unit line c (exec call n unit s)) (p.instructions.before + whole) (λ b. Inside untouched injection memory (Bare below b)) (d + 7) (λ b. d)
     counts_moves injection memory below d enough home =
         let code = parts.is_first in
         let all = subst (λ w. CodeStands G ps p references f_at w) code.6 parts.first_stands in
@@ -312,7 +313,7 @@ module _ {declared : Declarations} {G : Image} {untouched : Slots} {Here : Facts
     steady_end = steady_bind (steady_undefines call steady_call n unit line (entire c.variable)) (λ b. steady_spend 1 (steady_give tt))
 
     -- whether there is a turn, and the turns where there is one
-    choice_moves : (tests : List Instr) (at_test : ℕ) → IsExprCode texts references line at_test (in_order c) tests → CodeStands G ps p references at_test tests → at_test + length tests ≡ at + length bounds → Moves declared G untouched Here ps p texts references call n unit at_test whole choice
+    choice_moves : (tests : List Instr) (at_test : ℕ) → IsExprCode texts references line at_test (in_order c) tests → CodeStands G ps p references at_test tests → at_test + length tests ≡ at + length bounds → Moves layout G untouched Here ps p texts references call n unit at_test whole choice
     choice_moves tests at_test code stands ends_at injection memory below d enough home =
         let skip_at : ℕ = p.instructions.before + (at + length bounds) in
         fragment_bind_number {host = host.Boolean} {e = λ r. d + 8 + weight_of r} (λ r. steady_if (is_true (number_of r)) steady_counted (steady_give tt))
@@ -322,7 +323,7 @@ module _ {declared : Declarations} {G : Image} {untouched : Slots} {Here : Facts
         (λ is. fragment_from {place = p.instructions.before + f_at} (omega arith) (counts_moves v1 m1 below d enough (unit_in-same G routine1 ∙ home)))
         (λ is. fragment_give (omega arith) (inside_here refl)))
 
-    pub for_parts : Moves declared G untouched Here ps p texts references call n unit at (at + length (for_code line at bounds first body test next ends)) (exec call n unit (For line c x y s))
+    pub for_parts : Moves layout G untouched Here ps p texts references call n unit at (at + length (for_code line at bounds first body test next ends)) (exec call n unit (For line c x y s))
     for_parts injection memory below d enough home =
         let code = parts.is_bounds in
         let all = subst (λ w. CodeStands G ps p references at w) code.6 parts.bounds_stand in

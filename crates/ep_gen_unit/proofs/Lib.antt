@@ -10,6 +10,7 @@ mod ItemForms
 mod Makes
 mod MemberForms
 mod MemberMoves
+mod Objects
 mod OwnMakes
 mod Parts
 mod ProcedureMoves

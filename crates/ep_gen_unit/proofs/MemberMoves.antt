@@ -11,6 +11,7 @@ use Rattle.ep_gen_unit.proofs.Parts.{code_stands-parts, Moves, ExpressionsFollow
 use Rattle.ep_gen_unit.proofs.Simple.{assigned_moves, store_moves}
 use Rattle.ep_gen_unit.proofs.StmtStays.{for_in_length}
 use Rattle.ep_simulation.specs.Follows.{point, Facts, Lasts, Fragment, Inside, Bare, OnTop}
+use Rattle.ep_simulation.specs.Layouts.{Layout}
 use Rattle.ep_simulation.specs.Matching.{Slots, IsLike}
 use Rattle.ep_object.specs.Operands.{Operand, Word, Set}
 use Rattle.ep_object.specs.Operands as operand
@@ -140,11 +141,11 @@ module _ (G : Image) (ps : List Placement) (p : Placement) (texts : List (List �
         total = total;
       }
 
-module _ {declared : Declarations} {G : Image} {untouched : Slots} {Here : Facts} (lasts : Lasts untouched Here) (ps : List Placement) (p : Placement) (texts : List (List ℕ)) (references : List Reference) (call : Handler) (steady_call : IsSteadyHandler call) (n : ℕ) (unit : List ℕ) (room : p.instructions.before + p.instructions.own ≤ length G.instructions)
-    (scene : Scene declared G ps p texts) (expressions : ExpressionsFollow declared G untouched Here ps p texts references call n unit) (places : PlacesFollow declared G untouched Here ps p texts references call n unit) where
+module _ {declared : Declarations} {layout : Layout} {G : Image} {untouched : Slots} {Here : Facts} (lasts : Lasts untouched Here) (ps : List Placement) (p : Placement) (texts : List (List ℕ)) (references : List Reference) (call : Handler) (steady_call : IsSteadyHandler call) (n : ℕ) (unit : List ℕ) (room : p.instructions.before + p.instructions.own ≤ length G.instructions)
+    (scene : Scene declared layout G ps p texts) (expressions : ExpressionsFollow declared layout G untouched Here ps p texts references call n unit) (places : PlacesFollow declared layout G untouched Here ps p texts references call n unit) where
   -- the variable becomes undefined
   undefined_moves : (line at : ℕ) (q : Entire) (h : Host) (is : List Instr) → IsPlace declared h (entire q) → IsUndefineCode texts references line at q is → CodeStands G ps p references at is → at + length is < p.instructions.own
-      → Moves declared G untouched Here ps p texts references call n unit at (at + length is) (undefines call n unit line (entire q))
+      → Moves layout G untouched Here ps p texts references call n unit at (at + length is) (undefines call n unit line (entire q))
   undefined_moves line at q h is is_place code stands inside injection memory below d enough home =
       let v = kind_place declared scene.types_valid scene.own_types_valid (kind.Ordinal h) (entire q) is_place in
       let t = ordinal_of_host h v.type_value v.of_kind in
@@ -155,7 +156,7 @@ module _ {declared : Declarations} {G : Image} {untouched : Slots} {Here : Facts
 
   -- the control variable gets the least member
   least_moves : (line at : ℕ) (c : MemberControl) (h : Host) (is : List Instr) → IsMemberControl declared h c → IsLeastCode texts references line at c is → CodeStands G ps p references at is → at + length is < p.instructions.own
-      → Moves declared G untouched Here ps p texts references call n unit at (at + length is) (takes_least call n unit line c)
+      → Moves layout G untouched Here ps p texts references call n unit at (at + length is) (takes_least call n unit line c)
   least_moves line at c h is control code stands inside injection memory below d enough home =
       let vs : List Instr = code.0 in
       let rs : List Instr = code.1 in
@@ -172,16 +173,16 @@ module _ {declared : Declarations} {G : Image} {untouched : Slots} {Here : Facts
       let ms : List ℕ = top.members in
       let i = least_host ms in
       let stores = store_moves lasts ps p texts references call steady_call n unit (kind.Ordinal i.0) v.type_value (result.Number (least_member ms)) (Word (least_member ms)) a place_here (ordinal_takes h i.0 v.type_value v.of_kind) line (next_at + 1) two.1.1 last final (least_member ms, refl, i.1, refl) below (d + 8) (omega (arith, enough)) (unit_in-same G routine2 ∙ (unit_in-same G routine ∙ home)) (is_spot-grown grown2 spot) (describes-grown place_here.type_number v.type_value grown2 described) in
-      let taken : Fragment declared G Here n (point last final (p.instructions.before + next_at) (Set ms ∷ Word (pos 0) ∷ operand.Place place_here ∷ below)) (assign call n unit line a (result.Number (least_member ms))) (p.instructions.before + (at + length is)) (λ b. Inside untouched last final (Bare below b)) (d + 7 + 8) (λ b. d) =
+      let taken : Fragment layout G Here n (point last final (p.instructions.before + next_at) (Set ms ∷ Word (pos 0) ∷ operand.Place place_here ∷ below)) (assign call n unit line a (result.Number (least_member ms))) (p.instructions.before + (at + length is)) (λ b. Inside untouched last final (Bare below b)) (d + 7 + 8) (λ b. d) =
       fragment_waits {d1 = d + 8} (λ s matches. least_pushes G (p.instructions.before + next_at) line (operand.Place place_here ∷ below) ms two.1.0 final s.trace) (omega arith)
       (fragment_from {place = p.instructions.before + (next_at + 1)} (omega arith) (fragment_to {to = p.instructions.before + (next_at + 1) + 1} (omega (arith, ends)) (fragment_credit {d = d + 8 + 0} {e = λ b. d + 8} (omega arith) (λ b. omega arith) stores))) in
-      subst (λ st. Fragment declared G Here n (point last final (p.instructions.before + next_at) st) (assign call n unit line a (result.Number (least_member (members_of r)))) (p.instructions.before + (at + length is)) (λ b. Inside untouched last final (Bare below b)) (d + 7 + 8 + weight_of r) (λ b. d)) (sym top.is)
-      (subst (λ w. Fragment declared G Here n (point last final (p.instructions.before + next_at) (Set ms ∷ Word (pos 0) ∷ operand.Place place_here ∷ below)) (assign call n unit line a (result.Number (least_member (members_of w)))) (p.instructions.before + (at + length is)) (λ b. Inside untouched last final (Bare below b)) (d + 7 + 8 + weight_of w) (λ b. d)) (sym top.is_members)
+      subst (λ st. Fragment layout G Here n (point last final (p.instructions.before + next_at) st) (assign call n unit line a (result.Number (least_member (members_of r)))) (p.instructions.before + (at + length is)) (λ b. Inside untouched last final (Bare below b)) (d + 7 + 8 + weight_of r) (λ b. d)) (sym top.is)
+      (subst (λ w. Fragment layout G Here n (point last final (p.instructions.before + next_at) (Set ms ∷ Word (pos 0) ∷ operand.Place place_here ∷ below)) (assign call n unit line a (result.Number (least_member (members_of w)))) (p.instructions.before + (at + length is)) (λ b. Inside untouched last final (Bare below b)) (d + 7 + 8 + weight_of w) (λ b. d)) (sym top.is_members)
       (fragment_credit {d = d + 7 + 8} {e = λ b. d} (omega arith) (λ b. omega arith) taken))))))
 
   module _ (line at : ℕ) (c : MemberControl) (x : Expr) (s : Stmt) (sets test first kept body ends : List Instr) (h : Host) (control : IsMemberControl declared h c) (valid : IsExpr declared (kind.Set h) x)
       (parts : MembersStand G ps p texts references line at c x sets test first kept body ends)
-      (body_moves : Moves declared G untouched Here ps p texts references call n unit (body_at G ps p texts references line at c x sets test first kept body ends) (store_at G ps p texts references line at c x sets test first kept body ends) (exec call n unit s)) where
+      (body_moves : Moves layout G untouched Here ps p texts references call n unit (body_at G ps p texts references line at c x sets test first kept body ends) (store_at G ps p texts references line at c x sets test first kept body ends) (exec call n unit s)) where
     abbrev m_at : ℕ
     m_at = at + length sets
 
@@ -204,7 +205,7 @@ module _ {declared : Declarations} {G : Image} {untouched : Slots} {Here : Facts
     steady_turn = steady_member_turn call steady_call n unit line c (steady_exec call steady_call n unit s)
 
     -- a turn, up to the jump back
-    turn_moves : Moves declared G untouched Here ps p texts references call n unit f_at (s_at + 1) (member_turn call n unit line c (exec call n unit s))
+    turn_moves : Moves layout G untouched Here ps p texts references call n unit f_at (s_at + 1) (member_turn call n unit line c (exec call n unit s))
     turn_moves injection memory below d enough home =
         let code = parts.is_kept in
         let vs : List Instr = code.0 in
@@ -220,7 +221,7 @@ module _ {declared : Declarations} {G : Image} {untouched : Slots} {Here : Facts
         (expressions (kind.Set host.Integer) (others c) (others_valid declared h c control) line (k_at + length vs) xs code.3 two.1 (omega (arith, long, parts.room)) v2 m2 (operand.Place place_here ∷ below) (d + 8) (omega (arith, enough)) (unit_in-same G routine2 ∙ (unit_in-same G routine1 ∙ home))) (λ r v3 m3 pushed grown3 routine3 top.
         let value = value_on_top (kind.Set host.Integer) (operand.Place place_here ∷ below) r v3 m3 pushed top in
         let home3 = unit_in-same G routine3 ∙ (unit_in-same G routine2 ∙ (unit_in-same G routine1 ∙ home)) in
-        subst (λ st. Fragment declared G Here n (point v3 m3 (p.instructions.before + (k_at + length vs + length xs)) st) (bind (exec call n unit s) (λ b. assign call n unit line a r)) (p.instructions.before + (s_at + 1)) (λ b. Inside untouched v3 m3 (Bare below b)) (d + 8 + 8 + weight_of r) (λ b. d)) (sym value.2)
+        subst (λ st. Fragment layout G Here n (point v3 m3 (p.instructions.before + (k_at + length vs + length xs)) st) (bind (exec call n unit s) (λ b. assign call n unit line a r)) (p.instructions.before + (s_at + 1)) (λ b. Inside untouched v3 m3 (Bare below b)) (d + 8 + 8 + weight_of r) (λ b. d)) (sym value.2)
         (fragment_from {place = p.instructions.before + b_at} (ap (λ w. p.instructions.before + w) long)
         (fragment_bind_bare {e = λ b. d + 8 + 8 + weight_of r} (λ b. steady_assign call steady_call n unit line a r)
         (body_moves v3 m3 (value.0 ∷ operand.Place place_here ∷ below) (d + 8 + 8 + weight_of r) (omega (arith, enough)) home3) (λ b v4 m4 grown4 routine4.
@@ -229,7 +230,7 @@ module _ {declared : Declarations} {G : Image} {untouched : Slots} {Here : Facts
         (is_spot-grown grown4 (is_spot-grown grown3 spot)) (describes-grown place_here.type_number v.type_value grown4 (describes-grown place_here.type_number v.type_value grown3 described))))))))))
 
     -- the turns
-    turns_follow : Moves declared G untouched Here ps p texts references call n unit m_at done (turns call n unit n (eval call n unit line (has_more c)) (member_turn call n unit line c (exec call n unit s)))
+    turns_follow : Moves layout G untouched Here ps p texts references call n unit m_at done (turns call n unit n (eval call n unit line (has_more c)) (member_turn call n unit line c (exec call n unit s)))
     turns_follow injection memory below d enough home =
         fragment_turns {place = p.instructions.before + m_at} {test_end = p.instructions.before + (m_at + length test)} {body_place = p.instructions.before + (m_at + length test) + 1} {body_end = p.instructions.before + (s_at + 1)} {to = p.instructions.before + done} call n unit d (steady_eval call steady_call n unit line (has_more c)) steady_turn injection memory
         (λ longer after grown routine. fragment_credit {d = d} {e = λ r. d + 8 + weight_of r} (omega arith) (λ r. omega arith) (expressions (kind.Ordinal host.Boolean) (has_more c) (has_more_valid declared h c control) line m_at test parts.is_more parts.more_stands (omega (arith, parts.room)) longer after below d (omega arith) (unit_in-same G routine ∙ home)))
@@ -239,7 +240,7 @@ module _ {declared : Declarations} {G : Image} {untouched : Slots} {Here : Facts
         n (omega arith) injection memory (grown_refl injection memory) (same_routine-refl memory.frames)
 
     -- all of it
-    pub members_parts : Moves declared G untouched Here ps p texts references call n unit at (at + length (for_in_code line at sets test first kept body ends)) (exec call n unit (ForIn line c x s))
+    pub members_parts : Moves layout G untouched Here ps p texts references call n unit at (at + length (for_in_code line at sets test first kept body ends)) (exec call n unit (ForIn line c x s))
     members_parts injection memory below d enough home =
         let set_is = assigned_moves lasts ps p texts references call steady_call n unit scene expressions places line at (entire c.rest) (kind.Set host.Integer) (kind.Set h) (set_takes host.Integer h) x sets control.rest valid parts.is_set (omega (arith, parts.room)) parts.set_stands in
         let end_is = undefined_moves line done c.variable h ends control.variable parts.is_end parts.ends_stand parts.room in

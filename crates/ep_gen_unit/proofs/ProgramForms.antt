@@ -8,7 +8,7 @@ use Rattle.ep_object.specs.declared.code.CodeRoutine.{CodeRoutine}
 use Rattle.ep_object.specs.declared.code.Object.{Object}
 use Rattle.ep_typed.specs.Auxiliaries.{block_auxiliaries, with_variables}
 use Rattle.ep_typed.specs.Trees.{Stmt}
-use Rattle.ep_typed.specs.Routines.{formal_variable, made_by_unit, made_variables, result_variable, unit_variables, variables_of}
+use Rattle.ep_typed.specs.Routines.{first_private, formal_variable, made_by_unit, made_variables, result_variable, unit_block, unit_variables, variables_of}
 use Rattle.ep_typed.specs.Viewed.{denoter_of, stmt_of}
 use Rattle.ep_typed.specs.declared.unit.Unit.{Unit as TypedUnit}
 use Rattle.ep_typed.specs.declared.unit.UnitRoutine.{UnitRoutine}
@@ -36,8 +36,8 @@ use Rattle.std.specs.Prelude.{is_some, true, false}
 use Rattle.ep_typed.specs.Denoters.{host_of}
 use Rattle.ep_typed.specs.Hosts.{Host}
 use Rattle.ep_gen_code.specs.Jumps.{IsNextPlace}
-use Rattle.ep_gen_unit.specs.StmtGrowth.{Follows, AppendsStmt, AppendsStart, AppendsRoutine, AppendsRoutines, AppendsArrays, AppendsFill, AppendsShuffle, AppendsSwap, AppendsType, AppendsTypes, IsCompact, MakesBlock, MakesOwn, MakesResult, assembled}
-use Rattle.ep_gen_unit.specs.UnitCode.{IsProgramCode, IsSwapCode, swap_code, IsFillCode, IsShuffleCode, fill_code, IsRoutineCode, IsTypeCode, AreRoutinesCode, AreTypesCode, StandsIn, elaborating_code, own_code, its_end, entry_of, plain_at, routine_at}
+use Rattle.ep_gen_unit.specs.StmtGrowth.{Follows, AppendsBlock, AppendsStmt, AppendsStart, AppendsRoutine, AppendsRoutines, AppendsArrays, AppendsFill, AppendsShuffle, AppendsSwap, AppendsType, AppendsTypes, IsCompact, MakesBlock, MakesOwn, MakesResult, assembled}
+use Rattle.ep_gen_unit.specs.UnitCode.{IsUnitCode, HasProgramParts, IsSwapCode, swap_code, IsFillCode, IsShuffleCode, fill_code, IsRoutineCode, IsTypeCode, AreRoutinesCode, AreTypesCode, StandsIn, elaborating_code, own_code, its_end, entry_of, plain_at, routine_at}
 use Rattle.ep_gen_unit.proofs.Following.{later_follows, stmt_later, follows_none, follows_grows, follows_line, follows_then, grown_length}
 use Rattle.ep_object.specs.declared.op.TheConstants as op
 
@@ -99,24 +99,36 @@ takes_whole a line fs g = follows_line a line (follows_grows g)
 nothing_distinct : {A : Type 0} → AreDistinct {A = A} []
 nothing_distinct = λ j k x p q. cc
 
+-- a block, and the `Return` behind it
+pub appends_block : {b c d : Code} (block : Stmt) → AppendsStmt b c block → Grows (record c { line = code.NO_LINE }) d (return_code ∷ []) → AppendsBlock b d block
+appends_block {b = b} {c = c} {d = d} block s r =
+    let ends : Follows c d (return_code ∷ []) = follows_line c code.NO_LINE (follows_grows r) in
+    record {
+      code = s.code;
+      is_code = stmt_later (length b.instructions) block s.code (later_follows ends) s.is_code;
+      follows = follows_then s.follows ends;
+    }
+
 -- the code of the start and of the stop, from that of their parts
-module _ (u : TypedUnit) {a b c d e : Code} (vs : List UnitVariable) (variables_are : vs ≡ u.variables) (makes : Follows a b (make_all_code 0 (vs ++ block_auxiliaries (stmt_of u.start)))) (s : AppendsStmt b c (stmt_of u.start)) (r : Grows (record c { line = code.NO_LINE }) d (return_code ∷ [])) (last : Grows d e (bare d.line op.RETURN ∷ [])) (stop_entry : ℕ) (next : IsNextPlace d stop_entry) where
-  m : Follows a b (make_all_code 0 (made_by_unit u))
-  m = subst (λ l. Follows a b (make_all_code 0 (l ++ block_auxiliaries (stmt_of u.start)))) variables_are makes
-
-  ends : Follows c e (return_code ∷ return_code ∷ [])
-  ends = follows_line c code.NO_LINE (follows_grows (grows_at (λ l. bare l op.RETURN ∷ []) r last))
-
+module _ (u : TypedUnit) {a b c d : Code} (makes : Follows a b (make_all_code 0 (made_by_unit u))) (start : AppendsBlock b c (stmt_of u.start)) (stop_entry : ℕ) (next : IsNextPlace c stop_entry) (stop : AppendsBlock c d (stmt_of u.stop)) where
   made : length b.instructions ≡ length a.instructions + length (make_all_code 0 (made_by_unit u))
-  made = grown_length m
+  made = grown_length makes
 
-  pub appends_start : AppendsStart a e u stop_entry
+  -- the stop stands behind the `Return` of the start
+  stops : length c.instructions ≡ length a.instructions + length (make_all_code 0 (made_by_unit u)) + length start.code + 1
+  stops = omega (arith, made, grown_length start.follows, length-append start.code (return_code ∷ []))
+
+  blocks : Follows b d (start.code ++ return_code ∷ (stop.code ++ return_code ∷ []))
+  blocks = subst (λ l. Follows b d l) (append_assoc start.code (return_code ∷ []) (stop.code ++ return_code ∷ [])) (follows_then start.follows stop.follows)
+
+  pub appends_start : AppendsStart a d u stop_entry
   appends_start = record {
-    code = s.code;
-    is_code = subst (λ at. IsStmtCode e.texts e.references at (stmt_of u.start) s.code) made (stmt_later (length b.instructions) (stmt_of u.start) s.code (later_follows ends) s.is_code);
-    follows = follows_then m (follows_then s.follows ends);
-    stops = omega (arith, next.is_length, made, grown_length s.follows, grown_length (follows_line c code.NO_LINE (follows_grows r)));
-    small = omega (arith, next.is_length, next.small, grown_length (follows_grows last));
+    code = start.code;
+    is_code = subst (λ at. IsStmtCode d.texts d.references at (stmt_of u.start) start.code) made (stmt_later (length b.instructions) (stmt_of u.start) start.code (later_follows stop.follows) start.is_code);
+    stop_code = stop.code;
+    is_stop_code = subst (λ at. IsStmtCode d.texts d.references at (stmt_of u.stop) stop.code) stops stop.is_code;
+    follows = follows_then makes blocks;
+    stops = next.is_length ∙ stops;
   }
 
 -- ---- routines
@@ -160,6 +172,12 @@ if_ok_then (Err e) f h = tt
 -- those that a block declares, and then its auxiliary ones
 pub makes_block : {b c : Code} (a : Code) (first : ℕ) (vs ws : List UnitVariable) → Follows a b (make_all_code first vs) → Follows b c (make_all_code (first + length vs) ws) → Follows a c (make_all_code first (vs ++ ws))
 makes_block {c = c} a first vs ws p q = subst (λ l. Follows a c l) (sym (make_append first vs ws)) (follows_then p q)
+
+-- those of a unit
+pub makes_unit : {b c : Code} (a : Code) (u : TypedUnit) (vs ws ys : List UnitVariable) → vs ≡ u.variables → ws ≡ block_auxiliaries (unit_block u) → ys ≡ ws → Follows a b (make_all_code 0 vs) → Follows b c (make_all_code (length vs) ys) → Follows a c (make_all_code 0 (made_by_unit u))
+makes_unit {b = b} {c = c} a u vs ws ys variables_are is same p q =
+    subst (λ l. Follows a c (make_all_code 0 l)) {x = vs ++ ys} {y = made_by_unit u} (λ i. variables_are i ++ (same ∙ is) i)
+    (makes_block a 0 vs ys p (subst (λ n. Follows b c (make_all_code n ys)) {x = length vs} {y = 0 + length vs} (omega arith) q))
 
 -- both, by the steps of its function
 pub block_made : {b c : Code} (a : Code) (first middle behind : ℕ) (vs ws ys zs : List UnitVariable) (block : Stmt) → middle ≡ first + length vs → ws ≡ block_auxiliaries block → ys ≡ ws → zs ≡ ws → behind ≡ middle + length ys → Follows a b (make_all_code first vs) → Follows b c (make_all_code middle zs)
@@ -489,8 +507,15 @@ module _ (u : TypedUnit) {a b e h i f : Code} (begins : a ≡ begun_code u) (few
   begins_block : 0 + length (make_all_code 0 (made_by_unit u)) ≡ length (make_all_code 0 (made_by_unit u))
   begins_block = omega arith
 
-  stops : stop_entry ≡ length (make_all_code 0 (made_by_unit u)) + length whole.code + 1
-  stops = omega (arith, whole.stops)
+  stop_begins : stop_entry ≡ length (make_all_code 0 (made_by_unit u)) + length whole.code + 1
+  stop_begins = omega (arith, whole.stops)
+
+  stop_at : 0 + length (make_all_code 0 (made_by_unit u)) + length whole.code + 1 ≡ length (make_all_code 0 (made_by_unit u)) + length whole.code + 1
+  stop_at = omega arith
+
+  -- the code of the start and of the stop
+  abbrev blocks_code : List Instr
+  blocks_code = whole.code ++ return_code ∷ (whole.stop_code ++ return_code ∷ [])
 
   behind_swap : Follows h f (arrays.code ++ last.code)
   behind_swap = follows_then arrays.follows last.follows
@@ -510,7 +535,7 @@ module _ (u : TypedUnit) {a b e h i f : Code} (begins : a ≡ begun_code u) (few
       routines_longer u.types u.routines entries behind_routines
       (subst (λ l. AreRoutinesCode e.texts e.references e.instructions l u.routines entries) types_are (subst (λ l. AreRoutinesCode e.texts e.references e.instructions types l entries) routines_are more.blocks))
 
-  all_code : Follows (begun_code u) f ((make_all_code 0 (made_by_unit u) ++ (whole.code ++ return_code ∷ return_code ∷ [])) ++ (more.code ++ rest))
+  all_code : Follows (begun_code u) f ((make_all_code 0 (made_by_unit u) ++ blocks_code) ++ (more.code ++ rest))
   all_code = follows_then whole.follows behind_start
 
   abbrev its_arrays : List CodeRoutine
@@ -520,14 +545,17 @@ module _ (u : TypedUnit) {a b e h i f : Code} (begins : a ≡ begun_code u) (few
   abbrev three : List CodeRoutine
   three = plain_at 0 ∷ plain_at (length (make_all_code 0 (made_by_unit u)) + length whole.code + 1) ∷ routine_at swap_entry 2 0 ∷ []
 
-  pub is_program : slots ≡ length (unit_variables u) → IsProgramCode u o
-  is_program n = subst (λ object. IsProgramCode u object) (sym is) (record {
+  pub is_unit : slots ≡ length (unit_variables u) → IsUnitCode u o
+  is_unit n = subst (λ object. IsUnitCode u object) (sym is) (record {
     code = whole.code;
     is_code = subst (λ at. IsStmtCode f.texts f.references at (stmt_of u.start) whole.code) begins_block (stmt_later (0 + length (make_all_code 0 (made_by_unit u))) (stmt_of u.start) whole.code (later_follows behind_start) whole.is_code);
+    stop_code = whole.stop_code;
+    is_stop_code = subst (λ at. IsStmtCode f.texts f.references at (stmt_of u.stop) whole.stop_code) stop_at (stmt_later (0 + length (make_all_code 0 (made_by_unit u)) + length whole.code + 1) (stmt_of u.stop) whole.stop_code (later_follows behind_start) whole.is_stop_code);
     others = more.code ++ rest;
     instructions =
-        all_code.instructions ∙ (append_assoc (make_all_code 0 (made_by_unit u)) (whole.code ++ return_code ∷ return_code ∷ []) (more.code ++ rest)
-        ∙ ap (λ l. make_all_code 0 (made_by_unit u) ++ l) (append_assoc whole.code (return_code ∷ return_code ∷ []) (more.code ++ rest)));
+        all_code.instructions ∙ (append_assoc (make_all_code 0 (made_by_unit u)) blocks_code (more.code ++ rest)
+        ∙ ap (λ l. make_all_code 0 (made_by_unit u) ++ l) (append_assoc whole.code (return_code ∷ (whole.stop_code ++ return_code ∷ [])) (more.code ++ rest)
+        ∙ ap (λ l. whole.code ++ return_code ∷ l) (append_assoc whole.stop_code (return_code ∷ []) (more.code ++ rest))));
     entries = entries;
     blocks = its_blocks;
     swapping = routine_at swap_entry 2 0;
@@ -541,16 +569,16 @@ module _ (u : TypedUnit) {a b e h i f : Code} (begins : a ≡ begun_code u) (few
     elaborating = last.entries;
     types = subst (λ l. AreTypesCode f.instructions l last.entries) ts_are last.types;
     named = all_code.references.begins;
-    routines = last.are ∙ (ap (λ l. l ++ last.entries) (arrays.are ∙ ap (λ l. l ++ its_arrays) (all ∙ ap (λ at. entries ++ plain_at 0 ∷ plain_at at ∷ routine_at swap_entry 2 0 ∷ []) stops)) ∙ (ap (λ l. l ++ last.entries) (append_assoc entries three its_arrays) ∙ append_assoc entries (three ++ its_arrays) last.entries));
+    routines = last.are ∙ (ap (λ l. l ++ last.entries) (arrays.are ∙ ap (λ l. l ++ its_arrays) (all ∙ ap (λ at. entries ++ plain_at 0 ∷ plain_at at ∷ routine_at swap_entry 2 0 ∷ []) stop_begins)) ∙ (ap (λ l. l ++ last.entries) (append_assoc entries three its_arrays) ∙ append_assoc entries (three ++ its_arrays) last.entries));
     start = starts ∙ its_blocks.count;
     stop = ap (λ k. k + 1) (starts ∙ its_blocks.count);
     unit_slots = n;
     name = named;
-    is_program = refl;
-    interface = refl;
-    imports = refl;
     constant_types = all_code.constant_types;
   })
+
+  pub has_parts : HasProgramParts o
+  has_parts = subst HasProgramParts (sym is) (record { is_program = refl; interface = refl; imports = refl })
 
   pub is_compact : IsTable f.instructions → IsCompact o
   is_compact small = subst (λ object. IsCompact object) (sym is) (record {
@@ -558,5 +586,5 @@ module _ (u : TypedUnit) {a b e h i f : Code} (begins : a ≡ begun_code u) (few
     few_references = all_code.references.small (subst (λ (code : Code). IsTable code.references) begins few);
     few_instructions = small;
     texts = all_code.texts.distinct nothing_distinct;
-    references = all_code.references.distinct (named_distinct u.name (swap_routine (length u.routines)) (type_reference (length u.types)));
+    references = all_code.references.distinct (named_distinct u.name (swap_routine (first_private u)) (type_reference (length u.types)));
   })

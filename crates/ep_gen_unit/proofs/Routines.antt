@@ -10,19 +10,20 @@ use Rattle.ep_meaning.proofs.public.Auxiliaries.{withs_denoted}
 use Rattle.ep_meaning.proofs.public.Bares.{bare_size}
 use Rattle.ep_meaning.proofs.public.Typed.{typed_of_host}
 use Rattle.ep_gen_unit.specs.StmtCode.{IsStmtCode, make_all_code, take_all_code, return_code, result_code, structure_code, function_end, end_code}
-use Rattle.ep_gen_unit.specs.UnitCode.{IsProgramCode, own_code, its_end, entry_of, plain_at}
+use Rattle.ep_gen_unit.specs.UnitCode.{IsUnitCode, own_code, its_end, entry_of, plain_at}
 use Rattle.ep_gen_unit.proofs.Declared.{name_same, same_name, own_types, slice_get-either, variables_valid}
 use Rattle.ep_gen_unit.proofs.OwnMakes.{make_all_own_moves, make_sized_moves, takes_all_moves}
 use Rattle.ep_gen_unit.proofs.Parts.{code_stands-parts}
 use Rattle.ep_gen_unit.proofs.Results.{result_moves, set_moves, structure_moves}
 use Rattle.ep_gen_code.specs.Referring.{AreReferred}
 use Rattle.ep_gen_unit.proofs.StmtMoves.{statement_moves}
-use Rattle.ep_gen_unit.proofs.Referred.{arrays_referred, own_count, swap_referred, types_referred}
+use Rattle.ep_gen_unit.proofs.Referred.{arrays_referred, swap_referred, types_referred}
 use Rattle.ep_gen_unit.proofs.StructureRoutines.{arrays_there, swap_there}
 use Rattle.ep_gen_unit.proofs.TypeRoutines.{call_placed, types_keep, types_none}
 use Rattle.ep_gen_unit.proofs.WithMoves.{own_binds_follow}
 use Rattle.ep_gen_unit.proofs.Units.{of_object, room, routine_there, scene_of, moved_own}
-use Rattle.ep_simulation.proofs.public.following.Declaring.{fragment_outside, calls_kept-inside}
+use Rattle.ep_simulation.specs.Joined.{IsAmong}
+use Rattle.ep_simulation.specs.Layouts.{Layout}
 use Rattle.ep_simulation.proofs.public.following.Fragments.{fragment_bind, fragment_credit, fragment_cut, fragment_from, fragment_give, fragment_to}
 use Rattle.ep_simulation.proofs.public.following.Promising.{lasts_own}
 use Rattle.ep_simulation.proofs.public.following.Routines.{begun_memory, grown_begun, parent_of_call, routine_keeps}
@@ -34,11 +35,11 @@ use Rattle.ep_simulation.specs.Activations.{KnowsNames, IsCallable, InActivation
 use Rattle.ep_simulation.specs.Follows.{Facts, Lasts, Since, Fragment, Inside, Bare, point}
 use Rattle.ep_simulation.specs.Matching.{AreAmong, MachineMemory, Injection, Slots, kept_slots}
 use Rattle.ep_object.specs.Operands.{Operand}
-use Rattle.ep_object.specs.Placing.{Placement, CodeStands, Stands, HasDistinctNames, moved, placed_call, placed_routine}
+use Rattle.ep_object.specs.Placing.{Placement, CodeStands, Stands, HasDistinctNames, moved, placed_routine}
 use Rattle.ep_simulation.specs.Promises.{Passing, ByValue, ByReference, IsPassed, ArePassed, CallsAt, AreArguments, AreResults, ResultsOnTop, RoutineKeeps, CallsAreKept, credit_of}
 use Rattle.ep_object.specs.Routines.{routine_of as routine_there_in}
 use Rattle.ep_object.specs.Runs.{unit_in}
-use Rattle.ep_simulation.specs.Scene.{Scene, HaveValidOwnTypes}
+use Rattle.ep_simulation.specs.Scene.{AreLaidOut, Scene, HaveValidOwnTypes}
 use Rattle.ep_object.specs.Table as table
 use Rattle.ep_object.specs.Table.{op_of}
 use Rattle.ep_object.specs.declared.code.CodeRoutine.{CodeRoutine}
@@ -114,7 +115,7 @@ formal_denoter mode.ProtectedValue types d valid = valid.denoter
 formal_denoter mode.Variable types d valid = valid
 formal_denoter mode.ProtectedVariable types d valid = valid
 
-module _ (u : TypedUnit) (o : Object) (is : IsProgramCode u o) (valid : IsValid u) (G : Image) (ps : List Placement) (p : Placement) (stands : Stands G ps p o) (distinct : HasDistinctNames G) where
+module _ (u : TypedUnit) (o : Object) (is : IsUnitCode u o) (valid : IsValid u) (G : Image) (ps : List Placement) (p : Placement) (stands : Stands G ps p o) (distinct : HasDistinctNames G) (us : List TypedUnit) (among : IsAmong us u) where
   -- where a routine of the unit stands in the image
   record Placed (number : ℕ) (r : UnitRoutine) : Type 0 where
     entry : CodeRoutine
@@ -219,7 +220,7 @@ module _ (u : TypedUnit) (o : Object) (is : IsProgramCode u o) (valid : IsValid 
       of_routine None q is = cc
       of_routine (Some r) q is = variables_typed n r q k v is
 
-  module _ (m : ℕ) (kept : CallsAreKept (own u) G ps (handler_of (u ∷ []) m) m) (number : ℕ) (r : UnitRoutine) (there : slice_get u.routines number ≡ Some r) where
+  module _ (layout : Layout) (laid : AreLaidOut (own u) layout) (m : ℕ) (kept : CallsAreKept (own u) layout G ps (handler_of us m) m) (number : ℕ) (r : UnitRoutine) (there : slice_get u.routines number ≡ Some r) where
     x : Placed number r
     x = placed_at number r there
 
@@ -232,9 +233,6 @@ module _ (u : TypedUnit) (o : Object) (is : IsProgramCode u o) (valid : IsValid 
     passings : (qs : List Passing) × ArePassed u.types formals qs × (length qs ≡ length formals)
     passings = passings_of formals (λ k f e. subst (λ w. IsFormal u.types w) (get_or_from_slice_get formals k f f e) (its.formals k f (slice_get_within formals k f e)))
 
-    abbrev us : List TypedUnit
-    us = u ∷ []
-
     abbrev call : Handler
     call = handler_of us m
 
@@ -244,8 +242,8 @@ module _ (u : TypedUnit) (o : Object) (is : IsProgramCode u o) (valid : IsValid 
     abbrev image_routine : ImageRoutine
     image_routine = placed_routine p x.entry
 
-    among : moved p.routines number ≡ p.routines.before + number
-    among =
+    place_among : moved p.routines number ≡ p.routines.before + number
+    place_among =
         let object = of_object u o is G ps p stands in
         moved_own p.routines number (omega (arith, object.routines, slice_get_within o.routines number x.entry x.in_object))
 
@@ -253,7 +251,7 @@ module _ (u : TypedUnit) (o : Object) (is : IsProgramCode u o) (valid : IsValid 
     exists = routine_there u o is G ps p stands number x.entry x.in_object
 
     numbered : moved p.routines number < length G.routines
-    numbered = omega (arith, among, slice_get_within G.routines (p.routines.before + number) image_routine (stands.routines number x.entry x.in_object))
+    numbered = omega (arith, place_among, slice_get_within G.routines (p.routines.before + number) image_routine (stands.routines number x.entry x.in_object))
 
     takes : image_routine.arguments ≡ length formals
     takes = ap (λ (c : CodeRoutine). c.arguments) x.plain
@@ -291,16 +289,16 @@ module _ (u : TypedUnit) (o : Object) (is : IsProgramCode u o) (valid : IsValid 
     own_types_valid zero k v e = variables_typed number r there k v e
     own_types_valid (suc up) k v e = around_typed r.around up k v e
 
-    scene : Scene within G ps p o.texts
+    scene : Scene within layout G ps p o.texts
     scene =
-        let outer = scene_of u o is G ps p stands valid in
-        record { texts_stand = outer.texts_stand; variables_stand = outer.variables_stand; types_valid = outer.types_valid; own_types_valid = own_types_valid; own_types_are = own_types u }
+        let outer = scene_of u o is G ps p stands valid layout laid in
+        record { texts_stand = outer.texts_stand; variables_stand = outer.variables_stand; types_valid = outer.types_valid; own_types_valid = own_types_valid; own_types_are = own_types u; laid_out = laid }
 
     in_code : p.instructions.before + p.instructions.own ≤ length G.instructions
     in_code = room u o is G ps p stands
 
     abbrev untouched : Slots
-    untouched = kept_slots within G
+    untouched = kept_slots layout G
 
     -- those that the block leaves as they were: its `with` statements change slots of the call
     abbrev left : Slots
@@ -315,12 +313,12 @@ module _ (u : TypedUnit) (o : Object) (is : IsProgramCode u o) (valid : IsValid 
     some_level : within.levels ≡ [] → ⊥
     some_level h = cc
 
-    kept_inside : CallsAreKept within G ps call m
-    kept_inside = calls_kept-inside within.levels (own u) kept
+    kept_inside : CallsAreKept within layout G ps call m
+    kept_inside = record { routines = kept.routines; others = kept.others; types = kept.types; swaps = kept.swaps; of_arrays = kept.of_arrays }
 
     -- each type has a reference of its number
     referred : AreReferred within u.name u.types o.references
-    referred = types_referred within u o is (own_count u)
+    referred = types_referred within u o is refl
 
     abbrev end : ℕ
     end = x.entry.entry + length (own_code r) + length x.code
@@ -352,7 +350,7 @@ module _ (u : TypedUnit) (o : Object) (is : IsProgramCode u o) (valid : IsValid 
       first_field : instruction.a ≡ pos 0
       second_field : instruction.b ≡ 0
       moves : {Here : Facts} → KnowsNames within Here → (longer : Injection) (after : MachineMemory) (below : List Operand) → unit_in G after.frames ≡ u.name
-          → Fragment within G Here m (point longer after (p.instructions.before + end) below) (results_given u.name line_of (length formals) y) place (λ rs. ResultsOnTop ks below rs) (63 + more) (λ rs. 1 + credit_of rs)
+          → Fragment layout G Here m (point longer after (p.instructions.before + end) below) (results_given u.name line_of (length formals) y) place (λ rs. ResultsOnTop ks below rs) (63 + more) (λ rs. 1 + credit_of rs)
 
     abbrev result_of_name : RoutineResult → UnitVariable
     result_of_name y = record { name = result_name r.name y.name; line = line_of; declaration = 0; denoter = y.denoter; tuple = []; parameter = false }
@@ -460,10 +458,10 @@ module _ (u : TypedUnit) (o : Object) (is : IsProgramCode u o) (valid : IsValid 
       counted = hands.many ∙ (passings.2 ∙ sym takes)
 
       abbrev begun : MachineMemory
-      begun = begun_memory (own u) G (moved p.routines number) image_routine exists numbered hands.top counted (weights_of xs) hands.weigh parent place memory
+      begun = begun_memory layout G (moved p.routines number) image_routine exists numbered hands.top counted (weights_of xs) hands.weigh parent place memory
 
       home : unit_in G begun.frames ≡ u.name
-      home = rw (among, stands.routines number x.entry x.in_object, stands.unit) is.name
+      home = rw (place_among, stands.routines number x.entry x.in_object, stands.unit) is.name
 
       abbrev Here : Facts
       Here = InActivation within untouched injection begun
@@ -481,17 +479,17 @@ module _ (u : TypedUnit) (o : Object) (is : IsProgramCode u o) (valid : IsValid 
       awaited : AreAwaited injection begun passings.0 xs 0 (arguments_in begun.frames.calls)
       awaited =
           let none : hands.top ++ [] ≡ hands.top = append-nil hands.top in
-          awaited-grown (grown_begun (own u) G (moved p.routines number) image_routine exists numbered hands.top counted (weights_of xs) hands.weigh {untouched = untouched} parent place injection memory) passings.0 xs 0 (map Some hands.top) (subst (λ l. AreAwaited injection memory passings.0 xs 0 (map Some l)) none (hands.awaited 0 [] refl))
+          awaited-grown (grown_begun layout G (moved p.routines number) image_routine exists numbered hands.top counted (weights_of xs) hands.weigh {untouched = untouched} parent place injection memory) passings.0 xs 0 (map Some hands.top) (subst (λ l. AreAwaited injection memory passings.0 xs 0 (map Some l)) none (hands.awaited 0 [] refl))
 
       -- the block, once the arguments are taken and the variables are made
       runs_block : (longer : Injection) (after : MachineMemory) (pushed : List Operand) → unit_in G after.frames ≡ u.name → pushed ≡ below
-          → Fragment within G Here m (point longer after (p.instructions.before + (x.entry.entry + length (own_code r))) pushed) (exec call m u.name (stmt_of r.block)) (p.instructions.before + end) (λ b. Inside left longer after (Bare below b)) (63 + more) (λ b. 63 + more)
+          → Fragment layout G Here m (point longer after (p.instructions.before + (x.entry.entry + length (own_code r))) pushed) (exec call m u.name (stmt_of r.block)) (p.instructions.before + end) (λ b. Inside left longer after (Bare below b)) (63 + more) (λ b. 63 + more)
       runs_block longer after pushed at_home is_below =
-          subst (λ o. Fragment within G Here m (point longer after (p.instructions.before + (x.entry.entry + length (own_code r))) o) (exec call m u.name (stmt_of r.block)) (p.instructions.before + end) (λ b. Inside left longer after (Bare below b)) (63 + more) (λ b. 63 + more)) (sym is_below)
+          subst (λ o. Fragment layout G Here m (point longer after (p.instructions.before + (x.entry.entry + length (own_code r))) o) (exec call m u.name (stmt_of r.block)) (p.instructions.before + end) (λ b. Inside left longer after (Bare below b)) (63 + more) (λ b. 63 + more)) (sym is_below)
           (statement_moves lasts_left ps p o.texts o.references call steady_call m u.name in_code scene
-          (λ x_kind e is_x line at code is_code x_stands inside v1 m1 operands d enough x_home. expression_follows {untouched = left} ps p o.texts o.references scene knows call steady_call m u.name in_code lasts_left left_among m kept_inside refl referred (swap_referred within u o is (own_count u)) (arrays_referred within u o is (own_count u)) x_kind e is_x line at code is_code x_stands inside v1 m1 operands d (omega arith) x_home)
-          (λ q q_valid t has_type line at code is_code x_stands inside v1 m1 operands d enough x_home. place_follows {untouched = left} ps p o.texts o.references scene knows call steady_call m u.name in_code lasts_left left_among m kept_inside refl referred (swap_referred within u o is (own_count u)) (arrays_referred within u o is (own_count u)) q q_valid t has_type line at code is_code x_stands inside v1 m1 operands d (omega arith) x_home)
-          (λ line at to callee k given xs r keeps given_valid is_code is_declared named xs_stands xs_inside v1 m1 operands d enough x_home rest steady behind. call_then {untouched = left} ps p o.texts o.references scene knows call steady_call m u.name in_code lasts_left left_among m kept_inside refl referred (swap_referred within u o is (own_count u)) (arrays_referred within u o is (own_count u)) {to = to} line at callee k given xs r keeps given_valid is_code is_declared named xs_stands xs_inside v1 m1 operands d enough x_home rest steady (λ rs longer after pushed grown routine top. fragment_credit {d = d} {e = λ b. d} (omega arith) (λ b. omega arith) (behind rs longer after pushed grown routine top)))
+          (λ x_kind e is_x line at code is_code x_stands inside v1 m1 operands d enough x_home. expression_follows {untouched = left} ps p o.texts o.references scene knows call steady_call m u.name in_code lasts_left left_among m kept_inside refl referred (swap_referred within u o is refl) (arrays_referred within u o is refl) x_kind e is_x line at code is_code x_stands inside v1 m1 operands d (omega arith) x_home)
+          (λ q q_valid t has_type line at code is_code x_stands inside v1 m1 operands d enough x_home. place_follows {untouched = left} ps p o.texts o.references scene knows call steady_call m u.name in_code lasts_left left_among m kept_inside refl referred (swap_referred within u o is refl) (arrays_referred within u o is refl) q q_valid t has_type line at code is_code x_stands inside v1 m1 operands d (omega arith) x_home)
+          (λ line at to callee k given xs r keeps given_valid is_code is_declared named xs_stands xs_inside v1 m1 operands d enough x_home rest steady behind. call_then {untouched = left} ps p o.texts o.references scene knows call steady_call m u.name in_code lasts_left left_among m kept_inside refl referred (swap_referred within u o is refl) (arrays_referred within u o is refl) {to = to} line at callee k given xs r keeps given_valid is_code is_declared named xs_stands xs_inside v1 m1 operands d enough x_home rest steady (λ rs longer after pushed grown routine top. fragment_credit {d = d} {e = λ b. d} (omega arith) (λ b. omega arith) (behind rs longer after pushed grown routine top)))
           kept_inside (own_binds_follow ps p o.references call m u.name some_level none_left) (stmt_of r.block) (x.entry.entry + length (own_code r)) x.code its.block x.is_code x.code_stands (omega (arith, x.room_for, end_length u.types line_of (length formals) end r.result)) longer after below (63 + more) (omega arith) at_home)
 
       abbrev gives : Computation (List Result)
@@ -502,46 +500,46 @@ module _ (u : TypedUnit) (o : Object) (is : IsProgramCode u o) (valid : IsValid 
 
       -- and then what it gives
       blocks : (longer : Injection) (after : MachineMemory) (pushed : List Operand) → unit_in G after.frames ≡ u.name → pushed ≡ below
-          → Fragment within G Here m (point longer after (p.instructions.before + (x.entry.entry + length (own_code r))) pushed) (bind (exec call m u.name (stmt_of r.block)) (λ b. gives)) ends.place (λ rs. ResultsOnTop results below rs) (63 + more) (λ rs. 1 + credit_of rs)
+          → Fragment layout G Here m (point longer after (p.instructions.before + (x.entry.entry + length (own_code r))) pushed) (bind (exec call m u.name (stmt_of r.block)) (λ b. gives)) ends.place (λ rs. ResultsOnTop results below rs) (63 + more) (λ rs. 1 + credit_of rs)
       blocks longer after pushed at_home is_below =
           fragment_bind {middle = p.instructions.before + end} {P = λ b. Inside left longer after (Bare below b)} {e = λ b. 63 + more} (λ b. steady_gives)
           (runs_block longer after pushed at_home is_below)
-          (λ b last final above i. (still_routine i.routine, subst (λ st. Fragment within G Here m (point last final (p.instructions.before + end) st) gives ends.place (λ rs. ResultsOnTop results below rs) (63 + more) (λ rs. 1 + credit_of rs)) (sym i.operands_are) (ends.moves knows last final below (unit_in-same G i.routine ∙ at_home))))
+          (λ b last final above i. (still_routine i.routine, subst (λ st. Fragment layout G Here m (point last final (p.instructions.before + end) st) gives ends.place (λ rs. ResultsOnTop results below rs) (63 + more) (λ rs. 1 + credit_of rs)) (sym i.operands_are) (ends.moves knows last final below (unit_in-same G i.routine ∙ at_home))))
 
       -- the making of the variables, of which that of the result leaves a credit
       makes_all : (y : Option RoutineResult) (valid_result : IsResult u.types y) (at : ℕ) → ((i : ℕ) (v : UnitVariable) → slice_get (result_variable r.name line_of y ++ (r.variables ++ block_auxiliaries (stmt_of r.block))) i ≡ Some v → slice_get (variables_up within 0) (length formals + i) ≡ Some v)
           → CodeStands G ps p o.references at (make_all_code (length formals) (result_variable r.name line_of y ++ (r.variables ++ block_auxiliaries (stmt_of r.block))))
           → (longer : Injection) (after : MachineMemory) (below : List Operand) → unit_in G after.frames ≡ u.name
-          → Fragment within G Here m (point longer after (p.instructions.before + at) below) (make_all_own call m u.name (length formals) (result_variable r.name line_of y ++ (r.variables ++ block_auxiliaries (stmt_of r.block)))) (p.instructions.before + (at + length (make_all_code (length formals) (result_variable r.name line_of y ++ (r.variables ++ block_auxiliaries (stmt_of r.block)))))) (λ a. StillBare after below) 63 (λ a. 63 + spare y valid_result)
+          → Fragment layout G Here m (point longer after (p.instructions.before + at) below) (make_all_own call m u.name (length formals) (result_variable r.name line_of y ++ (r.variables ++ block_auxiliaries (stmt_of r.block)))) (p.instructions.before + (at + length (make_all_code (length formals) (result_variable r.name line_of y ++ (r.variables ++ block_auxiliaries (stmt_of r.block)))))) (λ a. StillBare after below) 63 (λ a. 63 + spare y valid_result)
       makes_all None valid_result at are_declared at_stands longer after below at_home =
           fragment_credit {d = 63} {e = λ a. 63} (omega arith) (λ a. omega arith)
-          (make_all_own_moves within G untouched injection begun lasts ps p o.references call steady_call m u.name scene.own_types_valid (own_types u) among_same kept_inside referred (swap_referred within u o is (own_count u)) (arrays_referred within u o is (own_count u)) m (length formals) at (r.variables ++ block_auxiliaries (stmt_of r.block)) are_declared at_stands longer after below 63 (omega arith) at_home)
+          (make_all_own_moves within layout G untouched injection begun lasts ps p o.references call steady_call m u.name scene.own_types_valid (refl, refl) among_same kept_inside referred (swap_referred within u o is refl) (arrays_referred within u o is refl) m (length formals) at (r.variables ++ block_auxiliaries (stmt_of r.block)) are_declared at_stands longer after below 63 (omega arith) at_home)
       makes_all (Some y) valid_result at are_declared at_stands longer after below at_home =
-          make_sized_moves within G untouched injection begun lasts ps p o.references call steady_call m u.name scene.own_types_valid (own_types u) among_same kept_inside referred (swap_referred within u o is (own_count u)) (arrays_referred within u o is (own_count u)) m (length formals) at (result_of_name y) (r.variables ++ block_auxiliaries (stmt_of r.block)) (valid_result.denoter).type_value (valid_result.denoter).has_type are_declared at_stands longer after below 63 (omega arith) at_home
+          make_sized_moves within layout G untouched injection begun lasts ps p o.references call steady_call m u.name scene.own_types_valid (refl, refl) among_same kept_inside referred (swap_referred within u o is refl) (arrays_referred within u o is refl) m (length formals) at (result_of_name y) (r.variables ++ block_auxiliaries (stmt_of r.block)) (valid_result.denoter).type_value (valid_result.denoter).has_type are_declared at_stands longer after below 63 (omega arith) at_home
 
       -- the making of the variables, and then the block
       makes : (longer : Injection) (after : MachineMemory) (pushed : List Operand) → unit_in G after.frames ≡ u.name → pushed ≡ below
-          → Fragment within G Here m (point longer after (p.instructions.before + (x.entry.entry + length takes_code)) pushed) (bind (make_all_own call m u.name (length formals) (made_variables r)) (λ a. bind (exec call m u.name (stmt_of r.block)) (λ b. gives))) ends.place (λ rs. ResultsOnTop results below rs) 63 (λ rs. 1 + credit_of rs)
+          → Fragment layout G Here m (point longer after (p.instructions.before + (x.entry.entry + length takes_code)) pushed) (bind (make_all_own call m u.name (length formals) (made_variables r)) (λ a. bind (exec call m u.name (stmt_of r.block)) (λ b. gives))) ends.place (λ rs. ResultsOnTop results below rs) 63 (λ rs. 1 + credit_of rs)
       makes longer after pushed at_home is_below =
           let parts = code_stands-parts G ps p o.references x.entry.entry takes_code makes_code x.makes_stand in
           let size : x.entry.entry + length takes_code + length makes_code ≡ x.entry.entry + length (own_code r) = omega (arith, length-append takes_code makes_code) in
-          subst (λ st. Fragment within G Here m (point longer after (p.instructions.before + (x.entry.entry + length takes_code)) st) (bind (make_all_own call m u.name (length formals) (made_variables r)) (λ a. bind (exec call m u.name (stmt_of r.block)) (λ b. gives))) ends.place (λ rs. ResultsOnTop results below rs) 63 (λ rs. 1 + credit_of rs)) (sym is_below)
+          subst (λ st. Fragment layout G Here m (point longer after (p.instructions.before + (x.entry.entry + length takes_code)) st) (bind (make_all_own call m u.name (length formals) (made_variables r)) (λ a. bind (exec call m u.name (stmt_of r.block)) (λ b. gives))) ends.place (λ rs. ResultsOnTop results below rs) 63 (λ rs. 1 + credit_of rs)) (sym is_below)
           (fragment_bind {middle = p.instructions.before + (x.entry.entry + length (own_code r))} {e = λ a. 63 + more} (λ a. steady_bind (steady_exec call steady_call m u.name (stmt_of r.block)) (λ b. steady_gives))
           (fragment_to (ap (λ k. p.instructions.before + k) size) (makes_all r.result its.result (x.entry.entry + length takes_code) variable_is parts.1 longer after below at_home))
           (λ a last final above still. (still.runs, blocks last final above (unit_in-still G still.runs ∙ at_home) still.operands_are)))
 
       -- the machine follows the routine, in any activation of it
-      follows : Fragment (own u) G Here m (point injection begun image_routine.entry below) (body xs) ends.place (λ rs. ResultsOnTop results below rs) 63 (λ rs. 1 + credit_of rs)
+      follows : Fragment layout G Here m (point injection begun image_routine.entry below) (body xs) ends.place (λ rs. ResultsOnTop results below rs) 63 (λ rs. 1 + credit_of rs)
       follows =
           let parts = code_stands-parts G ps p o.references x.entry.entry takes_code makes_code x.makes_stand in
-          fragment_outside within.levels (own u) (fragment_from entry
+          fragment_from entry
           (fragment_bind {middle = p.instructions.before + (x.entry.entry + length takes_code)} {e = λ a. 63} (λ a. steady_bind (steady_make_all_own call steady_call m u.name (length formals) (made_variables r)) (λ b. steady_bind (steady_exec call steady_call m u.name (stmt_of r.block)) (λ c. steady_gives)))
-          (takes_all_moves within G untouched injection begun lasts ps p o.references call steady_call m u.name scene.own_types_valid (own_types u) among_same kept_inside referred (swap_referred within u o is (own_count u)) (arrays_referred within u o is (own_count u)) m line_of 0 x.entry.entry formals passings.0 xs passings.1 formal_is parts.0 injection begun below 63 (omega arith) home awaited)
-          (λ a longer after pushed still. (still.runs, makes longer after pushed (unit_in-still G still.runs ∙ home) still.operands_are))))
+          (takes_all_moves within layout G untouched injection begun lasts ps p o.references call steady_call m u.name scene.own_types_valid (refl, refl) among_same kept_inside referred (swap_referred within u o is refl) (arrays_referred within u o is refl) m line_of 0 x.entry.entry formals passings.0 xs passings.1 formal_is parts.0 injection begun below 63 (omega arith) home awaited)
+          (λ a longer after pushed still. (still.runs, makes longer after pushed (unit_in-still G still.runs ∙ home) still.operands_are)))
 
     -- what a call of it does
     found : routine_in us u.name number ≡ Some r
-    found = ap (λ b. if b then slice_get u.routines number else None) (name_same u.name u.name refl) ∙ there
+    found = among.routines number ∙ there
 
     -- the routines around it are the levels in its block but the first
     around_is : (own u).around u.name number ≡ levels_of u.routines r.around
@@ -556,21 +554,21 @@ module _ (u : TypedUnit) (o : Object) (is : IsProgramCode u o) (valid : IsValid 
         → IsCallable ((own u).types u.name) levels ((own u).around u.name number) injection began.calls memory
         → (below operands : List Operand) (arguments : List Argument)
         → AreArguments injection memory passings.0 arguments below operands
-        → Fragment (own u) G (Since (kept_slots (own u) G) injection began memory) (suc m) (point injection memory place operands) ((handler_of us (suc m)).routine (unit_in G memory.frames) line (callee levels) arguments) (place + 1) (λ rs. Inside (kept_slots (own u) G) injection memory (ResultsOnTop results below rs)) 0 credit_of
+        → Fragment layout G (Since (kept_slots layout G) injection began memory) (suc m) (point injection memory place operands) ((handler_of us (suc m)).routine (unit_in G memory.frames) line (callee levels) arguments) (place + 1) (λ rs. Inside (kept_slots layout G) injection memory (ResultsOnTop results below rs)) 0 credit_of
     go place levels line calls injection began memory callable below operands xs are =
         let hands : Handed injection memory passings.0 xs below operands = handed injection memory passings.0 xs below operands are in
-        let does : Option UnitRoutine → Type 0 = λ y. Fragment (own u) G (Since (kept_slots (own u) G) injection began memory) (suc m) (point injection memory place (hands.top ++ below)) (routine_does call m (unit_in G memory.frames) line (callee levels) y xs) (place + 1) (λ rs. Inside (kept_slots (own u) G) injection memory (ResultsOnTop results below rs)) 0 credit_of in
+        let does : Option UnitRoutine → Type 0 = λ y. Fragment layout G (Since (kept_slots layout G) injection began memory) (suc m) (point injection memory place (hands.top ++ below)) (routine_does call m (unit_in G memory.frames) line (callee levels) y xs) (place + 1) (λ rs. Inside (kept_slots layout G) injection memory (ResultsOnTop results below rs)) 0 credit_of in
         let counts = counted place (frame.Unit 0) injection memory below operands xs hands in
         let here : IsCallable u.types levels ((own u).around u.name number) injection began.calls memory = subst (λ ts. IsCallable ts levels ((own u).around u.name number) injection began.calls memory) (own_types u) callable in
-        let parent = parent_of_call (own u) G (moved p.routines number) image_routine exists numbered hands.top counts (weights_of xs) hands.weigh u.types levels ((own u).around u.name number) injection began.calls memory here in
+        let parent = parent_of_call layout G (moved p.routines number) image_routine exists numbered hands.top counts (weights_of xs) hands.weigh u.types levels ((own u).around u.name number) injection began.calls memory here in
         let keeps : does (Some r) =
-        routine_keeps (own u) G (moved p.routines number) image_routine exists numbered hands.top counts (weights_of xs) hands.weigh ends.place ends.instruction ends.stands_there ends.returns ends.first_field ends.second_field within enough_slots ((own u).around u.name number) (λ k. ap (λ ls. slice_get ls k) (sym around_is)) m place levels line calls parent.0 injection began memory below parent.1 here r.name (unit_in G memory.frames) results (body xs) (steady_runs_routine call steady_call m u.name r xs) (kept_slots (own u) G)
+        routine_keeps layout G (moved p.routines number) image_routine exists numbered hands.top counts (weights_of xs) hands.weigh ends.place ends.instruction ends.stands_there ends.returns ends.first_field ends.second_field within enough_slots ((own u).around u.name number) (λ k. ap (λ ls. slice_get ls k) (sym around_is)) m place levels line calls parent.0 injection began memory below parent.1 here r.name (unit_in G memory.frames) results (body xs) (steady_runs_routine call steady_call m u.name r xs) (kept_slots layout G)
         (follows place parent.0 injection memory below operands xs hands) in
         let meant : does (routine_in us u.name number) = subst does (sym found) keeps in
-        subst (λ st. Fragment (own u) G (Since (kept_slots (own u) G) injection began memory) (suc m) (point injection memory place st) ((handler_of us (suc m)).routine (unit_in G memory.frames) line (callee levels) xs) (place + 1) (λ rs. Inside (kept_slots (own u) G) injection memory (ResultsOnTop results below rs)) 0 credit_of) (sym hands.is) meant
+        subst (λ st. Fragment layout G (Since (kept_slots layout G) injection began memory) (suc m) (point injection memory place st) ((handler_of us (suc m)).routine (unit_in G memory.frames) line (callee levels) xs) (place + 1) (λ rs. Inside (kept_slots layout G) injection memory (ResultsOnTop results below rs)) 0 credit_of) (sym hands.is) meant
 
     -- with one step more than the routines keep theirs
-    keeps_own : RoutineKeeps (own u) G ps (handler_of (u ∷ []) (suc m)) (suc m) u.name number (heading_of r)
+    keeps_own : RoutineKeeps layout G ps (handler_of us (suc m)) (suc m) ((own u).types u.name) ((own u).around u.name number) u.name number (heading_of r)
     keeps_own =
         record {
           routine = moved p.routines number;
@@ -583,38 +581,45 @@ module _ (u : TypedUnit) (o : Object) (is : IsProgramCode u o) (valid : IsValid 
         }
 
   -- with no step there is nothing to keep
-  keeps_none : (unit : List ℕ) (number : ℕ) (r : UnitRoutine) → slice_get u.routines number ≡ Some r → u.name ≡ unit → RoutineKeeps (own u) G ps (handler_of (u ∷ []) 0) 0 unit number (heading_of r)
-  keeps_none unit number r there named =
+  keeps_none : (layout : Layout) (number : ℕ) (r : UnitRoutine) → slice_get u.routines number ≡ Some r
+      → RoutineKeeps layout G ps (handler_of us 0) 0 ((own u).types u.name) ((own u).around u.name number) u.name number (heading_of r)
+  keeps_none layout number r there =
       let formals : List Formal = r.formals in
       let its : IsRoutine u number r = valid.routines number r there in
       let passings = passings_of formals (λ k f e. subst (λ w. IsFormal u.types w) (get_or_from_slice_get formals k f f e) (its.formals k f (slice_get_within formals k f e))) in
       record {
         routine = moved p.routines number;
         formals = passings.0;
-        passed = subst (λ n. ArePassed ((own u).types n) formals passings.0) named (subst (λ ts. ArePassed ts formals passings.0) (sym (own_types u)) passings.1);
+        passed = subst (λ ts. ArePassed ts formals passings.0) (sym (own_types u)) passings.1;
         results = (kinds_of r.result its.result).0;
-        given = subst (λ n. AreResults ((own u).types n) r.result (kinds_of r.result its.result).0) named (subst (λ ts. AreResults ts r.result (kinds_of r.result its.result).0) (sym (own_types u)) (kinds_of r.result its.result).1);
-        placed = λ i. subst (λ n. placed_call ps (Some (record { unit = n; number = number })) i ≡ record i { a = pos (moved p.routines number) }) named (call_placed u o is G ps p stands number i);
+        given = subst (λ ts. AreResults ts r.result (kinds_of r.result its.result).0) (sym (own_types u)) (kinds_of r.result its.result).1;
+        placed = call_placed u o is G ps p stands number;
         promise = record { by = λ place levels line calls injection began memory callable below operands arguments are. fragment_cut };
       }
 
+  -- no routine of another unit may be named
+  none_else : (unit : List ℕ) → (unit ≡ u.name → ⊥) → (number : ℕ) (r : RoutineEntry) → slice_get ((own u).routines unit) number ≡ Some r → ⊥
+  none_else unit different number r there = let one = own_routine u unit number r there in different (sym one.named)
+
   -- the routines keep their promises with any number of steps
-  pub routines_kept : (n : ℕ) → CallsAreKept (own u) G ps (handler_of (u ∷ []) n) n
-  routines_kept zero =
+  pub routines_kept : (layout : Layout) → AreLaidOut (own u) layout → (n : ℕ) → CallsAreKept (own u) layout G ps (handler_of us n) n
+  routines_kept layout laid zero =
       record {
-        routines = λ unit number r h.
-            let own_one = own_routine u unit number r h in
-            subst (λ x. RoutineKeeps (own u) G ps (handler_of (u ∷ []) 0) 0 unit number x) own_one.heading (keeps_none unit number own_one.routine own_one.there own_one.named);
-        types = types_none u o is G ps p stands;
-        swaps = swap_there u o is G ps p stands;
-        of_arrays = arrays_there u o is G ps p stands;
+        routines = λ number r h.
+            let one = own_routine u u.name number r h in
+            subst (λ x. RoutineKeeps layout G ps (handler_of us 0) 0 ((own u).types u.name) ((own u).around u.name number) u.name number x) one.heading (keeps_none layout number one.routine one.there);
+        others = λ unit different number r h. absurd (none_else unit different number r h);
+        types = λ index t typed. types_none u o is G ps p stands us layout index t;
+        swaps = λ some. swap_there u o is G ps p stands;
+        of_arrays = λ some. arrays_there u o is G ps p stands;
       }
-  routines_kept (suc m) =
+  routines_kept layout laid (suc m) =
       record {
-        routines = λ unit number r h.
-            let own_one = own_routine u unit number r h in
-            subst (λ x. RoutineKeeps (own u) G ps (handler_of (u ∷ []) (suc m)) (suc m) unit number x) own_one.heading (subst (λ n. RoutineKeeps (own u) G ps (handler_of (u ∷ []) (suc m)) (suc m) n number (heading_of own_one.routine)) own_one.named (keeps_own m (routines_kept m) number own_one.routine own_one.there));
-        types = types_keep u o is G ps p stands m (routines_kept m);
-        swaps = swap_there u o is G ps p stands;
-        of_arrays = arrays_there u o is G ps p stands;
+        routines = λ number r h.
+            let one = own_routine u u.name number r h in
+            subst (λ x. RoutineKeeps layout G ps (handler_of us (suc m)) (suc m) ((own u).types u.name) ((own u).around u.name number) u.name number x) one.heading (keeps_own layout laid m (routines_kept layout laid m) number one.routine one.there);
+        others = λ unit different number r h. absurd (none_else unit different number r h);
+        types = types_keep u o is G ps p stands us among layout m (routines_kept layout laid m);
+        swaps = λ some. swap_there u o is G ps p stands;
+        of_arrays = λ some. arrays_there u o is G ps p stands;
       }

@@ -1,13 +1,12 @@
 -- The routines that structured values call stand in the image.
-use Rattle.std.proofs.Common.{◌≡◌, ℕ, pos, suc, ◌+◌, ◌≤◌, ◌<◌, Bool, true, false, if◌then◌else◌, List, [], ◌∷◌, ◌++◌, length, length-append, map, Some, slice_get, bytes_eq, refl, sym, ap, ◌∙◌, subst, arith}
+use Rattle.std.proofs.Common.{◌≡◌, ℕ, pos, suc, ◌+◌, ◌≤◌, ◌<◌, List, [], ◌∷◌, ◌++◌, length, length-append, map, Some, slice_get, refl, sym, ap, ◌∙◌, subst, arith}
 use Rattle.std.proofs.lemmas.Option.{slice_get_within}
 use Rattle.ep_gen_code.specs.declared.code.TheConstants as code_line
 use Rattle.ep_gen_code.specs.declared.references.TheConstants as routine
 use Rattle.ep_gen_code.specs.Instructions.{instr}
-use Rattle.ep_gen_unit.specs.UnitCode.{IsProgramCode, IsShuffleCode, StandsIn, fill_code, plain_at, swap_code}
-use Rattle.ep_gen_unit.proofs.Declared.{same_name}
+use Rattle.ep_gen_unit.specs.UnitCode.{IsUnitCode, IsShuffleCode, StandsIn, fill_code, plain_at, swap_code}
 use Rattle.ep_gen_unit.proofs.Parts.{code_stands-parts}
-use Rattle.ep_gen_unit.proofs.Referred.{own_count, swap_referred}
+use Rattle.ep_gen_unit.proofs.Referred.{swap_referred}
 use Rattle.ep_gen_unit.proofs.TypeRoutines.{behind_list, call_placed}
 use Rattle.ep_gen_unit.proofs.Units.{moved_own, of_object, routine_there}
 use Rattle.ep_object.specs.Placing.{CodeStands, Placement, Stands, moved, placed, placed_routine}
@@ -20,6 +19,7 @@ use Rattle.ep_object.specs.declared.code.Object.{Object}
 use Rattle.ep_object.specs.declared.code.Reference.{Reference}
 use Rattle.ep_object.specs.declared.op.TheConstants as op
 use Rattle.ep_meaning.specs.Valid.{own}
+use Rattle.ep_typed.specs.Routines.{first_private}
 use Rattle.ep_typed.specs.declared.unit.Unit.{Unit as TypedUnit}
 
 -- code of an object stands in the image as it is placed
@@ -28,9 +28,9 @@ stand_from G ps p references at [] h = tt
 stand_from G ps p references at (i ∷ is) h =
     (h.0, subst (λ m. StandFrom G m (map (placed ps p references) is)) {x = p.instructions.before + (at + 1)} {y = p.instructions.before + at + 1} (omega arith) (stand_from G ps p references (at + 1) is h.1))
 
-module _ (u : TypedUnit) (o : Object) (is : IsProgramCode u o) (G : Image) (ps : List Placement) (p : Placement) (stands : Stands G ps p o) where
+module _ (u : TypedUnit) (o : Object) (is : IsUnitCode u o) (G : Image) (ps : List Placement) (p : Placement) (stands : Stands G ps p o) where
   -- a routine behind those of the unit, its start and its stop
-  behind_stop : (k : ℕ) (x : CodeRoutine) → slice_get (is.swapping ∷ is.filling ∷ is.ranging ∷ is.spreading ∷ is.elaborating) k ≡ Some x → slice_get o.routines (swap_routine (length u.routines) + k) ≡ Some x
+  behind_stop : (k : ℕ) (x : CodeRoutine) → slice_get (is.swapping ∷ is.filling ∷ is.ranging ∷ is.spreading ∷ is.elaborating) k ≡ Some x → slice_get o.routines (swap_routine (first_private u) + k) ≡ Some x
   behind_stop k x there =
       let blocks = is.blocks in
       let behind : slice_get o.routines (length is.entries + suc (suc k)) ≡ slice_get (is.swapping ∷ is.filling ∷ is.ranging ∷ is.spreading ∷ is.elaborating) k = ap (λ l. slice_get l (length is.entries + suc (suc k))) is.routines ∙ behind_list is.entries (plain_at 0 ∷ plain_at _ ∷ is.swapping ∷ is.filling ∷ is.ranging ∷ is.spreading ∷ is.elaborating) (suc (suc k)) in
@@ -63,7 +63,7 @@ module _ (u : TypedUnit) (o : Object) (is : IsProgramCode u o) (G : Image) (ps :
   -- ---- the one that leaves two operands in the other order
 
   abbrev swap_number : ℕ
-  swap_number = swap_routine (length u.routines)
+  swap_number = swap_routine (first_private u)
 
   swapping : Placed swap_number is.swapping swap_code
   swapping =
@@ -88,7 +88,7 @@ module _ (u : TypedUnit) (o : Object) (is : IsProgramCode u o) (G : Image) (ps :
   -- ---- the one that gives the value of a component of an array to others
 
   abbrev fill_number : ℕ
-  fill_number = fill_routine (length u.routines)
+  fill_number = fill_routine (first_private u)
 
   abbrev fill_entry : ℕ
   fill_entry = (is.filling).entry
@@ -100,7 +100,7 @@ module _ (u : TypedUnit) (o : Object) (is : IsProgramCode u o) (G : Image) (ps :
 
   -- the reference to the other one
   swap_named : slice_get o.references routine.SWAP ≡ Some (record { unit = u.name; number = swap_number })
-  swap_named = swap_referred (own u) u o is (own_count u) ∙ ap (λ n. Some (record { unit = u.name; number = swap_routine n })) (own_count u)
+  swap_named = swap_referred (own u) u o is refl
 
   -- its jumps lead to places of its own
   goal_is : (k : ℕ) → k < 21 → moved p.instructions (fill_entry + k) ≡ moved p.instructions fill_entry + k
@@ -143,10 +143,10 @@ module _ (u : TypedUnit) (o : Object) (is : IsProgramCode u o) (G : Image) (ps :
       }
 
   abbrev range_number : ℕ
-  range_number = range_routine (length u.routines)
+  range_number = range_routine (first_private u)
 
   abbrev spread_number : ℕ
-  spread_number = spread_routine (length u.routines)
+  spread_number = spread_routine (first_private u)
 
   ranges : IsRange G (moved p.routines range_number)
   ranges = subst (λ n. IsRange G (moved p.routines n)) {x = swap_number + 2} {y = range_number} (omega arith) (shuffle_placed 2 3 is.ranging ranging_code refl is.ranges (omega arith) refl)
@@ -154,26 +154,15 @@ module _ (u : TypedUnit) (o : Object) (is : IsProgramCode u o) (G : Image) (ps :
   spreads : IsSpread G (moved p.routines spread_number)
   spreads = subst (λ n. IsSpread G (moved p.routines n)) {x = swap_number + 3} {y = spread_number} (omega arith) (shuffle_placed 3 5 is.spreading spreading_code refl is.spreads (omega arith) refl)
 
-  -- ---- each unit that alone declares types has all of them
+  -- ---- the unit has all of them
 
-  module _ (Holds : List ℕ → ℕ → Type 0) (holds : Holds u.name (length u.routines)) where
-    of_unit : (unit : List ℕ) → 0 < length ((own u).types unit) → Holds unit (length ((own u).routines unit))
-    of_unit unit some = go (bytes_eq u.name unit) refl some
-      where
-        go : (b : Bool) → bytes_eq u.name unit ≡ b → 0 < length (if b then u.types else []) → Holds unit (length ((own u).routines unit))
-        go true e less = subst (λ n. Holds n (length ((own u).routines n))) (same_name u.name unit e) (subst (Holds u.name) (sym (own_count u)) holds)
-        go false e less = absurd (omega (arith, less))
+  pub swap_there : SwapStands G ps u.name (first_private u)
+  swap_there = record { routine = moved p.routines swap_number; is = swaps; placed = call_placed u o is G ps p stands swap_number }
 
-  pub swap_there : (unit : List ℕ) → 0 < length ((own u).types unit) → SwapStands G ps unit (length ((own u).routines unit))
-  swap_there = of_unit (SwapStands G ps) (record { routine = moved p.routines swap_number; is = swaps; placed = call_placed u o is G ps p stands swap_number })
-
-  arrays_stand : ArrayRoutinesStand G ps u.name (length u.routines)
-  arrays_stand =
+  pub arrays_there : ArrayRoutinesStand G ps u.name (first_private u)
+  arrays_there =
       record {
         fill = record { routine = moved p.routines fill_number; is = fills; placed = call_placed u o is G ps p stands fill_number };
         range = record { routine = moved p.routines range_number; is = ranges; placed = call_placed u o is G ps p stands range_number };
         spread = record { routine = moved p.routines spread_number; is = spreads; placed = call_placed u o is G ps p stands spread_number };
       }
-
-  pub arrays_there : (unit : List ℕ) → 0 < length ((own u).types unit) → ArrayRoutinesStand G ps unit (length ((own u).routines unit))
-  arrays_there = of_unit (ArrayRoutinesStand G ps) arrays_stand

@@ -16,6 +16,7 @@ use Rattle.ep_gen_unit.proofs.Parts.{code_stands-parts, Moves, ExpressionsFollow
 use Rattle.ep_gen_unit.proofs.Simple.{assigned_moves, store_moves}
 use Rattle.ep_gen_unit.proofs.TagLengths.{number_code_length, selected_code_length, selections_code_length}
 use Rattle.ep_simulation.specs.Follows.{point, Facts, After, Lasts, Follows, Fragment, Inside, Bare, IsNotLeft, Lands, Operands, PlaceOnTop}
+use Rattle.ep_simulation.specs.Layouts.{Layout}
 use Rattle.ep_simulation.specs.Matching.{MachineMemory, Injection, IsLike, IsSpot, Matches, Slots, at as standing}
 use Rattle.ep_object.specs.Operands.{Operand, Word}
 use Rattle.ep_object.specs.Operands as operand
@@ -85,13 +86,13 @@ another_is None (Some k) = refl
 another_is (Some j) None = refl
 another_is (Some j) (Some k) = refl
 
-module _ {A : Type 0} {declared : Declarations} {G : Image} {Here : Facts} (ps : List Placement) (p : Placement) (references : List Reference) (call : Handler) (n : ℕ) (unit : List ℕ) (room : p.instructions.before + p.instructions.own ≤ length G.instructions) where
+module _ {A : Type 0} {layout : Layout} {G : Image} {Here : Facts} (ps : List Placement) (p : Placement) (references : List Reference) (call : Handler) (n : ℕ) (unit : List ℕ) (room : p.instructions.before + p.instructions.own ≤ length G.instructions) where
   -- The tests of the labels of variants, and the number of the one of which a label has the value.
   selections_follow : (line leave k at : ℕ) (labels : List (List CaseRange)) (z : ℤ) → CodeStands G ps p references at (selections_code line leave k at labels) → leave < p.instructions.own → at + selections_length labels < p.instructions.own
       → (injection : Injection) (memory : MachineMemory) (below : List Operand) {to d : ℕ} {chosen : ℕ → Computation A} {fails : Computation A} {P : A → After} {e : A → ℕ} → 8 ≤ d
-      → ((j : ℕ) → Fragment declared G Here n (point injection memory (p.instructions.before + leave) (Word (pos j) ∷ below)) (chosen j) to P (d + 6) e)
-      → Fragment declared G Here n (point injection memory (p.instructions.before + (at + selections_length labels)) (Word z ∷ below)) fails to P d e
-      → Fragment declared G Here n (point injection memory (p.instructions.before + at) (Word z ∷ below)) (selecting call n unit z labels k chosen fails) to P d e
+      → ((j : ℕ) → Fragment layout G Here n (point injection memory (p.instructions.before + leave) (Word (pos j) ∷ below)) (chosen j) to P (d + 6) e)
+      → Fragment layout G Here n (point injection memory (p.instructions.before + (at + selections_length labels)) (Word z ∷ below)) fails to P d e
+      → Fragment layout G Here n (point injection memory (p.instructions.before + at) (Word z ∷ below)) (selecting call n unit z labels k chosen fails) to P d e
   selections_follow line leave k at [] z stands inside inside_end injection memory below enough finds misses = fragment_from (omega arith) misses
   selections_follow line leave k at ([] ∷ more) z stands inside inside_end injection memory below enough finds misses =
       let here : at + 0 ≡ at = omega arith in
@@ -118,9 +119,9 @@ module _ {A : Type 0} {declared : Declarations} {G : Image} {Here : Facts} (ps :
   -- With a value on top, the number of the variant that it selects takes its place, or what stands for none.
   pub number_follows : (line at : ℕ) (s : Selection) (none z : ℤ) → CodeStands G ps p references at (number_code line at s none) → at + number_length s < p.instructions.own
       → (injection : Injection) (memory : MachineMemory) (below : List Operand) {to d : ℕ} {chosen : ℕ → Computation A} {fails : Computation A} {P : A → After} {e : A → ℕ} → 8 ≤ d
-      → ((j : ℕ) → Fragment declared G Here n (point injection memory (p.instructions.before + (at + number_length s)) (Word (pos j) ∷ below)) (chosen j) to P d e)
-      → Fragment declared G Here n (point injection memory (p.instructions.before + (at + number_length s)) (Word none ∷ below)) fails to P d e
-      → Fragment declared G Here n (point injection memory (p.instructions.before + at) (Word z ∷ below)) (selects call n unit s z chosen fails) to P (d + 2) e
+      → ((j : ℕ) → Fragment layout G Here n (point injection memory (p.instructions.before + (at + number_length s)) (Word (pos j) ∷ below)) (chosen j) to P d e)
+      → Fragment layout G Here n (point injection memory (p.instructions.before + (at + number_length s)) (Word none ∷ below)) fails to P d e
+      → Fragment layout G Here n (point injection memory (p.instructions.before + at) (Word z ∷ below)) (selects call n unit s z chosen fails) to P (d + 2) e
   number_follows line at s none z stands inside injection memory below {to = to} {d = d} {chosen = chosen} {fails = fails} {P = P} {e = e} enough finds misses =
       let tests : List Instr = selections_code line (at + number_length s) 0 at s.labels in
       let ends : List Instr = bare line op.DROP ∷ push line (rest_number s none) ∷ [] in
@@ -133,7 +134,7 @@ module _ {A : Type 0} {declared : Declarations} {G : Image} {Here : Facts} (ps :
       (row_waits {d1 = d} (push_pushes G (place + 1) line below (rest_number s none) (instr_at G (omega arith) behind.1.0)) (omega arith)
       (fragment_from {place = p.instructions.before + (at + number_length s)} (omega arith) (rest s.completed))))
     where
-      rest : (completed : Bool) → Fragment declared G Here n (point injection memory (p.instructions.before + (at + number_length s)) (Word (if completed then pos (length s.labels) else none) ∷ below)) (if completed then chosen (length s.labels) else fails) to P d e
+      rest : (completed : Bool) → Fragment layout G Here n (point injection memory (p.instructions.before + (at + number_length s)) (Word (if completed then pos (length s.labels) else none) ∷ below)) (if completed then chosen (length s.labels) else fails) to P d e
       rest true = finds (length s.labels)
       rest false = misses
 
@@ -146,62 +147,62 @@ with_bare (Some u) t e = (u, refl, same_Some (bare_of u) t e)
 abbrev IsCleared : ComponentTypes → ℕ → Type 0
 IsCleared ts k = (t : TypeValue) × (type_among ts k ≡ Some t) × IsTypeValue t
 
-module _ (declared : Declarations) (G : Image) (untouched : Slots) (Here : Facts) (lasts : Lasts untouched Here) (ps : List Placement) (p : Placement) (texts : List (List ℕ)) (references : List Reference) (call : Handler) (steady_call : IsSteadyHandler call) (n : ℕ) (unit : List ℕ) (room : p.instructions.before + p.instructions.own ≤ length G.instructions) where
+module _ (declared : Declarations) (layout : Layout) (G : Image) (untouched : Slots) (Here : Facts) (lasts : Lasts untouched Here) (ps : List Placement) (p : Placement) (texts : List (List ℕ)) (references : List Reference) (call : Handler) (steady_call : IsSteadyHandler call) (n : ℕ) (unit : List ℕ) (room : p.instructions.before + p.instructions.own ≤ length G.instructions) where
   -- ---- components of the record
 
   -- over the place of a record, `Field` leaves that of a component
   component_moves : (line at k : ℕ) (ts : ComponentTypes) (t : TypeValue) (r : Component) (b : PlaceOf) → type_among ts k ≡ Some t → slice_get G.instructions (p.instructions.before + at) ≡ Some (instr op.FIELD (pos k) 0 line)
       → (injection : Injection) (memory : MachineMemory) (below : List Operand) (d : ℕ) → 8 ≤ d → unit_in G memory.frames ≡ unit → IsSpot injection memory.types r b → IsLike memory.types b.type_number (type.Record ts)
-      → Fragment declared G Here n (point injection memory (p.instructions.before + at) (operand.Place b ∷ below)) (selected call n unit line r k) (p.instructions.before + at + 1) (λ a. Inside untouched injection memory (PlaceOnTop t below a)) d (λ a. d + 8)
+      → Fragment layout G Here n (point injection memory (p.instructions.before + at) (operand.Place b ∷ below)) (selected call n unit line r k) (p.instructions.before + at + 1) (λ a. Inside untouched injection memory (PlaceOnTop t below a)) d (λ a. d + 8)
   component_moves line at k ts t r b has_type has injection memory below d enough home spot described =
       let place : ℕ = p.instructions.before + at in
       let among : IsAmong 0 ts k t = among_there 0 ts k t has_type in
       fragment_less {n = suc n} (omega arith) (fragment_using {n = suc n} {d = d} {e = λ a. d + 8} r.allocation
-      (λ st matches ended. subst (λ u. FailsWith G (standing place (operand.Place b ∷ below) memory st.trace) 0 run_error.DISPOSED u line st) home (field_fails declared G place line below ts k t r b has injection memory spot described among st matches ended)) (omega (arith, enough))
+      (λ st matches ended. subst (λ u. FailsWith G (standing place (operand.Place b ∷ below) memory st.trace) 0 run_error.DISPOSED u line st) home (field_fails layout G place line below ts k t r b has injection memory spot described among st matches ended)) (omega (arith, enough))
       (λ st matches here living.
-      let does = field_does declared G place line below ts k t r b has injection memory spot described among {untouched = untouched} {Here = Here} st matches here living in
+      let does = field_does layout G place line below ts k t r b has injection memory spot described among {untouched = untouched} {Here = Here} st matches here living in
       follows_paid {v = 0} {w = 0} {d1 = d + 8} (not_left-here memory.frames) refl does.does (omega arith) (omega arith) (omega arith) (follows_give (component r k) (omega arith) (landed does))))
 
   -- a change of the state that spends so many steps, by an instruction of that weight
   follows_sized : {k : State} {s : meaning.State} {to : ℕ} {Post : Unit {0} → After} (w : ℕ) (memory : MachineMemory) (f : meaning.State → meaning.State) (d : ℕ)
-      → IsNotLeft memory.frames k.frames → k.trace ≡ s.trace → Does declared G Here k w to (Post tt) (f s)
-      → Follows (λ j. IsNotLeft memory.frames j.frames) G n k s (spend w (change f)) (λ a. Lands declared G Here to (Post a)) (d + 1) (λ a. d)
+      → IsNotLeft memory.frames k.frames → k.trace ≡ s.trace → Does layout G Here k w to (Post tt) (f s)
+      → Follows (λ j. IsNotLeft memory.frames j.frames) G n k s (spend w (change f)) (λ a. Lands layout G Here to (Post a)) (d + 1) (λ a. d)
   follows_sized {to = to} {Post = Post} zero memory f d within same does =
-      follows_credit {d = 1 + d} {e = λ a. d} (omega arith) (λ a. omega arith) (follows_waits within does.does (follows_changed {n = n} f {P = λ a. Lands declared G Here to (Post a)} {d = d} {e = λ a. d} (omega arith) (landed does)))
+      follows_credit {d = 1 + d} {e = λ a. d} (omega arith) (λ a. omega arith) (follows_waits within does.does (follows_changed {n = n} f {P = λ a. Lands layout G Here to (Post a)} {d = d} {e = λ a. d} (omega arith) (landed does)))
   follows_sized {k = k} {s = s} {to = to} {Post = Post} (suc w) memory f d within same does =
-      less (follows_paid {n = n} {v = suc w} {w = w} {d = d + 1} {d1 = d} within same does.does (omega arith) (omega arith) (omega arith) (follows_changed {n = n} f {P = λ a. Lands declared G Here to (Post a)} {d = d} {e = λ a. d} (omega arith) (landed does)))
+      less (follows_paid {n = n} {v = suc w} {w = w} {d = d + 1} {d1 = d} within same does.does (omega arith) (omega arith) (omega arith) (follows_changed {n = n} f {P = λ a. Lands layout G Here to (Post a)} {d = d} {e = λ a. d} (omega arith) (landed does)))
     where
-      less : Follows (λ j. IsNotLeft memory.frames j.frames) G (suc n) k s (spend (suc w) (change f)) (λ a. Lands declared G Here to (Post a)) (d + 1) (λ a. d)
-          → Follows (λ j. IsNotLeft memory.frames j.frames) G n k s (spend (suc w) (change f)) (λ a. Lands declared G Here to (Post a)) (d + 1) (λ a. d)
+      less : Follows (λ j. IsNotLeft memory.frames j.frames) G (suc n) k s (spend (suc w) (change f)) (λ a. Lands layout G Here to (Post a)) (d + 1) (λ a. d)
+          → Follows (λ j. IsNotLeft memory.frames j.frames) G n k s (spend (suc w) (change f)) (λ a. Lands layout G Here to (Post a)) (d + 1) (λ a. d)
       less h = record { by = λ m l. h.by m (omega (arith, l)) }
 
   -- a component of a record becomes undefined
   clear_moves : (line at k : ℕ) (ts : ComponentTypes) (t : TypeValue) (r : Component) (b : PlaceOf) → type_among ts k ≡ Some t → IsTypeValue t → CodeStands G ps p references at (clear_code line k)
       → (injection : Injection) (memory : MachineMemory) (below : List Operand) (d : ℕ) → 8 ≤ d → unit_in G memory.frames ≡ unit → IsSpot injection memory.types r b → IsLike memory.types b.type_number (type.Record ts)
-      → Fragment declared G Here n (point injection memory (p.instructions.before + at) (operand.Place b ∷ below)) (clears call n unit line r k) (p.instructions.before + (at + 3)) (λ a. Inside untouched injection memory (Bare (operand.Place b ∷ below) a)) d (λ a. d)
+      → Fragment layout G Here n (point injection memory (p.instructions.before + at) (operand.Place b ∷ below)) (clears call n unit line r k) (p.instructions.before + (at + 3)) (λ a. Inside untouched injection memory (Bare (operand.Place b ∷ below) a)) d (λ a. d)
   clear_moves line at k ts t r b has_type valid stands injection memory below d enough home spot described =
       let place : ℕ = p.instructions.before + at in
       let top : List Operand = operand.Place b ∷ below in
       let among : IsAmong 0 ts k t = among_there 0 ts k t has_type in
       let has : slice_get G.instructions (place + 1) ≡ Some (instr op.FIELD (pos k) 0 line) = instr_at G (omega arith) stands.1.0 in
-      let leads : LeadsTo declared G (place + 1) top k t r b injection memory = field_leads_to declared G (place + 1) line top ts k t r b has injection memory spot described among in
+      let leads : LeadsTo layout G (place + 1) top k t r b injection memory = field_leads_to layout G (place + 1) line top ts k t r b has injection memory spot described among in
       row_waits {d1 = d - 1} (dup_place G place line below b stands.0) (omega (arith, enough))
       (fragment_less {n = suc n} (omega arith) (fragment_using {n = suc n} {d = d - 1} {e = λ a. d} r.allocation
-      (λ st matches ended. subst (λ u. FailsWith G (standing (place + 1) (operand.Place b ∷ top) memory st.trace) 0 run_error.DISPOSED u line st) home (field_fails declared G (place + 1) line top ts k t r b has injection memory spot described among st matches ended)) (omega (arith, enough))
+      (λ st matches ended. subst (λ u. FailsWith G (standing (place + 1) (operand.Place b ∷ top) memory st.trace) 0 run_error.DISPOSED u line st) home (field_fails layout G (place + 1) line top ts k t r b has injection memory spot described among st matches ended)) (omega (arith, enough))
       (λ st matches here living.
-      let does = undefine_does_any declared G (place + 1 + 1) line top {untouched = untouched} {Here = Here} t (component r k) leads.its_place valid (instr_at G (omega arith) stands.1.1.0) injection memory leads.spot leads.described st matches living lasts here in
-      let has_bare : option_map bare_of (type_at (component r k) st) ≡ Some t = variable_type declared G (place + 1 + 1) line top t (component r k) leads.its_place injection memory leads.spot leads.described st matches living in
+      let does = undefine_does_any layout G (place + 1 + 1) line top {untouched = untouched} {Here = Here} t (component r k) leads.its_place valid (instr_at G (omega arith) stands.1.1.0) injection memory leads.spot leads.described st matches living lasts here in
+      let has_bare : option_map bare_of (type_at (component r k) st) ≡ Some t = variable_type layout G (place + 1 + 1) line top t (component r k) leads.its_place injection memory leads.spot leads.described st matches living in
       let its = with_bare (type_at (component r k) st) t has_bare in
       let same : size_of t ≡ size_of its.0 = ap size_of (sym its.2) ∙ bare_size its.0 in
       follows_paid {n = n} {v = 0} {w = 0} {d = d - 1} {d1 = d + 1} (not_left-here memory.frames) refl (leads.leads st matches living) (omega arith) (omega (arith, enough)) (omega arith)
       (follows_found (λ u. meaning.Error run_error.UNDEFINED_VALUE unit line) (type_at (component r k)) (λ u. spend (size_of u) (change (assigned (component r k) Undefined))) (meaning.Error run_error.UNDEFINED_VALUE unit line) (Some its.0) refl its.1
-      (to_end (follows_sized (size_of its.0) memory (assigned (component r k) Undefined) d (not_left-here memory.frames) refl (subst (λ w. Does declared G Here (standing (place + 1 + 1) (operand.Place leads.its_place ∷ top) memory st.trace) w (place + 1 + 1 + 1) (Inside untouched injection memory (Bare top tt)) (assigned (component r k) Undefined st)) same does)))))))
+      (to_end (follows_sized (size_of its.0) memory (assigned (component r k) Undefined) d (not_left-here memory.frames) refl (subst (λ w. Does layout G Here (standing (place + 1 + 1) (operand.Place leads.its_place ∷ top) memory st.trace) w (place + 1 + 1 + 1) (Inside untouched injection memory (Bare top tt)) (assigned (component r k) Undefined st)) same does)))))))
     where
       to_end : {k1 : State} {s : meaning.State} {c : Computation (Unit {0})} {d1 : ℕ} {e : Unit {0} → ℕ}
-          → Follows (λ j. IsNotLeft memory.frames j.frames) G n k1 s c (λ a. Lands declared G Here (p.instructions.before + at + 1 + 1 + 1) (Inside untouched injection memory (Bare (operand.Place b ∷ below) a))) d1 e
-          → Follows (λ j. IsNotLeft memory.frames j.frames) G n k1 s c (λ a. Lands declared G Here (p.instructions.before + (at + 3)) (Inside untouched injection memory (Bare (operand.Place b ∷ below) a))) d1 e
+          → Follows (λ j. IsNotLeft memory.frames j.frames) G n k1 s c (λ a. Lands layout G Here (p.instructions.before + at + 1 + 1 + 1) (Inside untouched injection memory (Bare (operand.Place b ∷ below) a))) d1 e
+          → Follows (λ j. IsNotLeft memory.frames j.frames) G n k1 s c (λ a. Lands layout G Here (p.instructions.before + (at + 3)) (Inside untouched injection memory (Bare (operand.Place b ∷ below) a))) d1 e
       to_end {k1 = k1} {s = s} {c = c} {d1 = d1} {e = e} h =
-          subst (λ to. Follows (λ j. IsNotLeft memory.frames j.frames) G n k1 s c (λ a. Lands declared G Here to (Inside untouched injection memory (Bare (operand.Place b ∷ below) a))) d1 e) {x = p.instructions.before + at + 1 + 1 + 1} {y = p.instructions.before + (at + 3)} (omega arith) h
+          subst (λ to. Follows (λ j. IsNotLeft memory.frames j.frames) G n k1 s c (λ a. Lands layout G Here to (Inside untouched injection memory (Bare (operand.Place b ∷ below) a))) d1 e) {x = p.instructions.before + at + 1 + 1 + 1} {y = p.instructions.before + (at + 3)} (omega arith) h
 
   -- ---- all variants
 
@@ -209,7 +210,7 @@ module _ (declared : Declarations) (G : Image) (untouched : Slots) (Here : Facts
     -- what is followed over the place of the record
     abbrev Clearing : (from to k m : ℕ) → Injection → MachineMemory → List Operand → ℕ → Type 0
     Clearing from to k m injection memory below d =
-        Fragment declared G Here n (point injection memory (p.instructions.before + from) (operand.Place b ∷ below)) (clears_all call n unit line r k m) (p.instructions.before + to) (λ a. Inside untouched injection memory (Bare (operand.Place b ∷ below) a)) d (λ a. d)
+        Fragment layout G Here n (point injection memory (p.instructions.before + from) (operand.Place b ∷ below)) (clears_all call n unit line r k m) (p.instructions.before + to) (λ a. Inside untouched injection memory (Bare (operand.Place b ∷ below) a)) d (λ a. d)
 
     -- the variants with these labels become undefined, and then others
     clears_follow : (labels : List (List CaseRange)) (k m at to : ℕ) → All HasRange labels → CodeStands G ps p references at (clears_code line k labels) → ((i : ℕ) → i < length labels → IsCleared ts (k + i))
@@ -285,11 +286,11 @@ module _ (declared : Declarations) (G : Image) (untouched : Slots) (Here : Facts
         (parts.0, subst (λ k. CodeStands G ps p references k ends) {x = at + 4 + length number} {y = at + 4 + number_length s} (omega (arith, number_code_length line (at + 4) s none_before)) parts.1)
 
     pub selected_now_moves : (injection : Injection) (memory : MachineMemory) (below : List Operand) (d : ℕ) → 8 ≤ d → unit_in G memory.frames ≡ unit → IsSpot injection memory.types v q → IsLike memory.types q.type_number (type.Ordinal low high)
-        → Fragment declared G Here n (point injection memory (p.instructions.before + at) (operand.Place q ∷ below)) (selected_now call n unit line v s) (p.instructions.before + (at + selected_length s)) (λ o. Inside untouched injection memory (Numbered none_before below o)) (d + 7) (λ o. d)
+        → Fragment layout G Here n (point injection memory (p.instructions.before + at) (operand.Place q ∷ below)) (selected_now call n unit line v s) (p.instructions.before + (at + selected_length s)) (λ o. Inside untouched injection memory (Numbered none_before below o)) (d + 7) (λ o. d)
     selected_now_moves injection memory below d enough home spot described =
         row_waits {d1 = d + 6} (dup_place G place line below q stands.0) (omega arith)
         (fragment_using {d = d + 6} {e = λ o. d} v.allocation
-        (λ st matches ended. subst (λ u. FailsWith G (standing (place + 1) (operand.Place q ∷ operand.Place q ∷ below) memory st.trace) 0 run_error.DISPOSED u line st) home (defined_fails declared G (place + 1) line (operand.Place q ∷ below) low high v q at_defined injection memory spot described st matches ended)) (omega arith)
+        (λ st matches ended. subst (λ u. FailsWith G (standing (place + 1) (operand.Place q ∷ operand.Place q ∷ below) memory st.trace) 0 run_error.DISPOSED u line st) home (defined_fails layout G (place + 1) line (operand.Place q ∷ below) low high v q at_defined injection memory spot described st matches ended)) (omega arith)
         (λ st matches here living. looked st (told st matches here living (result_of v st) refl)))
       where
         place : ℕ
@@ -305,19 +306,19 @@ module _ (declared : Declarations) (G : Image) (untouched : Slots) (Here : Facts
         In k = IsNotLeft memory.frames k.frames
 
         After_it : Option ℕ → meaning.State → State → Type 0
-        After_it o = Lands declared G Here end (Inside untouched injection memory (Numbered none_before below o))
+        After_it o = Lands layout G Here end (Inside untouched injection memory (Numbered none_before below o))
 
         -- what is looked at is there at once
         looked : (st : meaning.State) → Follows In G n (standing (place + 1) (operand.Place q ∷ operand.Place q ∷ below) memory st.trace) st (selected_by call n unit s (result_of v st)) After_it (d + 6) (λ o. d)
             → Follows In G n (standing (place + 1) (operand.Place q ∷ operand.Place q ∷ below) memory st.trace) st (bind (looks v) (selected_by call n unit s)) After_it (d + 6) (λ o. d)
         looked st h = record { by = λ m l. h.by m l }
 
-        told : (st : meaning.State) → Matches declared G injection st memory → Here injection st memory → has_ended v.allocation st ≡ false → (o : Option Result) → result_of v st ≡ o
+        told : (st : meaning.State) → Matches layout G injection st memory → Here injection st memory → has_ended v.allocation st ≡ false → (o : Option Result) → result_of v st ≡ o
             → Follows In G n (standing (place + 1) (operand.Place q ∷ operand.Place q ∷ below) memory st.trace) st (selected_by call n unit s o) After_it (d + 6) (λ o. d)
         told st matches here living = by
           where
             asked : outcome G (standing (place + 1) (operand.Place q ∷ operand.Place q ∷ below) memory st.trace) ≡ record { weight = 0; to = Running 0 (standing (place + 1 + 1) (Word (bit (is_some (result_of v st))) ∷ operand.Place q ∷ below) memory st.trace) }
-            asked = defined_tells declared G (place + 1) line (operand.Place q ∷ below) low high v q at_defined injection memory spot described st matches living
+            asked = defined_tells layout G (place + 1) line (operand.Place q ∷ below) low high v q at_defined injection memory spot described st matches living
 
             jumped : (z : ℤ) → outcome G (standing (place + 1 + 1) (Word z ∷ operand.Place q ∷ below) memory st.trace) ≡ record { weight = 0; to = Running 0 (standing (if is_true z then place + 1 + 1 + 1 else p.instructions.before + undefined_at) (operand.Place q ∷ below) memory st.trace) }
             jumped z =
@@ -334,19 +335,19 @@ module _ (declared : Declarations) (G : Image) (untouched : Slots) (Here : Facts
             by : (o : Option Result) → result_of v st ≡ o → Follows In G n (standing (place + 1) (operand.Place q ∷ operand.Place q ∷ below) memory st.trace) st (selected_by call n unit s o) After_it (d + 6) (λ o. d)
             by None none =
                 let at_none : ℕ = p.instructions.before + undefined_at in
-                let rest : Fragment declared G Here n (point injection memory at_none (operand.Place q ∷ below)) (give None) end (λ o. Inside untouched injection memory (Numbered none_before below o)) (d + 4) (λ o. d) =
+                let rest : Fragment layout G Here n (point injection memory at_none (operand.Place q ∷ below)) (give None) end (λ o. Inside untouched injection memory (Numbered none_before below o)) (d + 4) (λ o. d) =
                 row_waits {d1 = d + 3} (drop_drops G at_none line below (operand.Place q) (instr_at G (omega arith) number_parts.1.1.0)) (omega arith)
                 (row_waits {d1 = d + 2} (push_pushes G (at_none + 1) line below none_before (instr_at G (omega arith) number_parts.1.1.1.0)) (omega arith)
                 (fragment_to {to = at_none + 1 + 1} (omega arith) (fragment_give (omega arith) (inside_here refl))))
                 in
                 reached (pos 0) (asked ∙ ap (λ o. record { weight = 0; to = Running 0 (standing (place + 1 + 1) (Word (bit (is_some o)) ∷ operand.Place q ∷ below) memory st.trace) }) none) (rest.by st matches here)
             by (Some x) some =
-                let loads = load_leads declared G (place + 1 + 1 + 1) line below low high v q (instr_at G (omega arith) stands.1.1.1.0) injection memory spot described st matches living x some in
-                let goes : (o : Option ℕ) → Fragment declared G Here n (point injection memory (p.instructions.before + (at + 4 + number_length s)) (Word (number_for none_before o) ∷ below)) (give o) end (λ o. Inside untouched injection memory (Numbered none_before below o)) (d + 1) (λ o. d) =
+                let loads = load_leads layout G (place + 1 + 1 + 1) line below low high v q (instr_at G (omega arith) stands.1.1.1.0) injection memory spot described st matches living x some in
+                let goes : (o : Option ℕ) → Fragment layout G Here n (point injection memory (p.instructions.before + (at + 4 + number_length s)) (Word (number_for none_before o) ∷ below)) (give o) end (λ o. Inside untouched injection memory (Numbered none_before below o)) (d + 1) (λ o. d) =
                 λ o. fragment_waits {place1 = p.instructions.before + (at + 4 + number_length s + 3)} {d1 = d} (λ u same. jump_jumps G (p.instructions.before + (at + 4 + number_length s)) line (Word (number_for none_before o) ∷ below) (p.instructions.before + (at + 4 + number_length s + 3)) (omega (arith, room, inside)) (jump_has G ps p references line (at + 4 + number_length s) (at + 4 + number_length s + 3) (bare line op.DROP ∷ push line none_before ∷ []) (omega (arith, inside)) number_parts.1) memory u.trace) (omega arith)
                 (fragment_to {to = p.instructions.before + (at + 4 + number_length s + 3)} (omega arith) (fragment_give (omega arith) (inside_here refl)))
                 in
-                let rest : Fragment declared G Here n (point injection memory (p.instructions.before + (at + 4)) (Word loads.0 ∷ below)) (selects call n unit s loads.0 (λ j. give (Some j)) (give None)) end (λ o. Inside untouched injection memory (Numbered none_before below o)) (d + 1 + 2) (λ o. d) =
+                let rest : Fragment layout G Here n (point injection memory (p.instructions.before + (at + 4)) (Word loads.0 ∷ below)) (selects call n unit s loads.0 (λ j. give (Some j)) (give None)) end (λ o. Inside untouched injection memory (Numbered none_before below o)) (d + 1 + 2) (λ o. d) =
                 number_follows ps p references call n unit room line (at + 4) s none_before loads.0 number_parts.0 (omega (arith, inside)) injection memory below {d = d + 1} (omega (arith, enough)) (λ j. goes (Some j)) (goes None)
                 in
                 let told_number : Follows In G n (standing (p.instructions.before + (at + 4)) (Word loads.0 ∷ below) memory st.trace) st (selected_by call n unit s (Some x)) After_it (d + 1 + 2) (λ o. d) =
@@ -357,13 +358,13 @@ module _ (declared : Declarations) (G : Image) (untouched : Slots) (Here : Facts
                 (follows_waits (not_left-here memory.frames) loads.2
                 (follows_from (ap (λ k. standing k (Word loads.0 ∷ below) memory st.trace) {x = place + 1 + 1 + 1 + 1} {y = p.instructions.before + (at + 4)} (omega arith)) told_number)))
 
-  module _ (expressions : ExpressionsFollow declared G untouched Here ps p texts references call n unit) where
+  module _ (expressions : ExpressionsFollow declared layout G untouched Here ps p texts references call n unit) where
     -- ---- the value is tried
 
     tried_moves : (line at : ℕ) (c : Tagging) (s : Selection) (ts : ComponentTypes) (r : Component) (b : PlaceOf) (is : List Instr) → IsPlace declared host.Integer (entire c.value) → IsTriedCode texts references line at c s is → CodeStands G ps p references at is → at + length is < p.instructions.own
         → type_among ts s.tag ≡ Some (tag_type c.low c.high)
         → (injection : Injection) (memory : MachineMemory) (below : List Operand) (d : ℕ) → statement_credit ≤ d → unit_in G memory.frames ≡ unit → IsSpot injection memory.types r b → IsLike memory.types b.type_number (type.Record ts)
-        → Fragment declared G Here n (point injection memory (p.instructions.before + at) (operand.Place b ∷ below)) (tag_tested call n unit line c r s) (p.instructions.before + (at + length is)) (λ v. Inside untouched injection memory (PlaceOnTop (type.Ordinal c.low c.high) (operand.Place b ∷ below) v)) d (λ v. d + 8)
+        → Fragment layout G Here n (point injection memory (p.instructions.before + at) (operand.Place b ∷ below)) (tag_tested call n unit line c r s) (p.instructions.before + (at + length is)) (λ v. Inside untouched injection memory (PlaceOnTop (type.Ordinal c.low c.high) (operand.Place b ∷ below) v)) d (λ v. d + 8)
     tried_moves line at c s ts r b is value code stands_is inside has_tag injection memory below d enough home spot described =
         row_waits {d1 = d - 1} (dup_place G (p.instructions.before + at) line below b stands.0) (omega (arith, enough))
         (fragment_from {place = p.instructions.before + (at + 1)} (omega arith)
@@ -399,7 +400,7 @@ module _ (declared : Declarations) (G : Image) (untouched : Slots) (Here : Facts
         steady_checked v z = steady_if (is_within (type.Ordinal c.low c.high) (number_of z)) (steady_give v) (steady_stop (meaning.Error run_error.OUTSIDE_TYPE unit line))
 
         checks : (v : Component) (q : PlaceOf) (z : ℤ) (injection : Injection) (memory : MachineMemory) → unit_in G memory.frames ≡ unit → IsSpot injection memory.types v q → IsLike memory.types q.type_number (type.Ordinal c.low c.high) → (x : Bool) → (int_le c.low z && int_le z c.high) ≡ x
-            → Fragment declared G Here n (point injection memory (p.instructions.before + tests_at + 1 + 1) (Word c.high ∷ Word c.low ∷ Word z ∷ operand.Place q ∷ operand.Place b ∷ below)) (if x then give v else stop (meaning.Error run_error.OUTSIDE_TYPE unit line)) (p.instructions.before + (at + length is)) (λ v. Inside untouched injection memory (PlaceOnTop (type.Ordinal c.low c.high) (operand.Place b ∷ below) v)) (d + 21) (λ v. d + 8)
+            → Fragment layout G Here n (point injection memory (p.instructions.before + tests_at + 1 + 1) (Word c.high ∷ Word c.low ∷ Word z ∷ operand.Place q ∷ operand.Place b ∷ below)) (if x then give v else stop (meaning.Error run_error.OUTSIDE_TYPE unit line)) (p.instructions.before + (at + length is)) (λ v. Inside untouched injection memory (PlaceOnTop (type.Ordinal c.low c.high) (operand.Place b ∷ below) v)) (d + 21) (λ v. d + 8)
         checks v q z injection memory home spot described x is_x = by x is_x
           where
             top : List Operand
@@ -412,7 +413,7 @@ module _ (declared : Declarations) (G : Image) (untouched : Slots) (Here : Facts
             has = instr_at G (omega arith) reads.1.1.1.0
 
             by : (x : Bool) → (int_le c.low z && int_le z c.high) ≡ x
-                → Fragment declared G Here n (point injection memory here (Word c.high ∷ Word c.low ∷ Word z ∷ top)) (if x then give v else stop (meaning.Error run_error.OUTSIDE_TYPE unit line)) (p.instructions.before + (at + length is)) (λ v. Inside untouched injection memory (PlaceOnTop (type.Ordinal c.low c.high) (operand.Place b ∷ below) v)) (d + 21) (λ v. d + 8)
+                → Fragment layout G Here n (point injection memory here (Word c.high ∷ Word c.low ∷ Word z ∷ top)) (if x then give v else stop (meaning.Error run_error.OUTSIDE_TYPE unit line)) (p.instructions.before + (at + length is)) (λ v. Inside untouched injection memory (PlaceOnTop (type.Ordinal c.low c.high) (operand.Place b ∷ below) v)) (d + 21) (λ v. d + 8)
             by true within =
                 fragment_waits {place1 = here + 1} {d1 = d + 20} {operands1 = Word z ∷ top} (λ u same. check_answers G here line top run_error.OUTSIDE_TYPE z c.low c.high refl has memory u.trace ∙ ap (λ w. record { weight = 0; to = checked_to u.trace w }) within) (omega arith)
                 (row_waits {d1 = d + 19} (drop_drops G (here + 1) line top (Word z) (instr_at G (omega arith) reads.1.1.1.1.0)) (omega arith)
@@ -432,7 +433,7 @@ module _ (declared : Declarations) (G : Image) (untouched : Slots) (Here : Facts
     change_moves : (line at : ℕ) (c : Tagging) (s : Selection) (ts : ComponentTypes) (r : Component) (b : PlaceOf) (before : Option ℕ) (is : List Instr) → IsPlace declared host.Integer (entire c.value) → IsChangeCode texts references line at c s is → CodeStands G ps p references at is → at + length is < p.instructions.own
         → All HasRange s.labels → ((i : ℕ) → i < variants_count s → IsCleared ts (variant_number s i))
         → (injection : Injection) (memory : MachineMemory) (below : List Operand) (d : ℕ) → statement_credit ≤ d → unit_in G memory.frames ≡ unit → IsSpot injection memory.types r b → IsLike memory.types b.type_number (type.Record ts)
-        → Fragment declared G Here n (point injection memory (p.instructions.before + at) (Word (number_for none_before before) ∷ operand.Place b ∷ below)) (changes_variant call n unit line c r s before) (p.instructions.before + (at + length is)) (λ a. Inside untouched injection memory (Bare (operand.Place b ∷ below) a)) d (λ a. d)
+        → Fragment layout G Here n (point injection memory (p.instructions.before + at) (Word (number_for none_before before) ∷ operand.Place b ∷ below)) (changes_variant call n unit line c r s before) (p.instructions.before + (at + length is)) (λ a. Inside untouched injection memory (Bare (operand.Place b ∷ below) a)) d (λ a. d)
     change_moves line at c s ts r b before is value code stands_is inside each types injection memory below d enough home spot described =
         fragment_bind_number {host = host.Integer} {e = λ x. d + 8 + weight_of x} (λ z. steady_bind (steady_selected_by call steady_call n unit s (Some z)) (λ now. steady_clearing call steady_call n unit line r s (is_another before now)))
         (expressions (kind.Ordinal host.Integer) (Read (entire c.value)) value line at rs code.1 first.0 (omega (arith, ends, inside)) injection memory (Word old ∷ operand.Place b ∷ below) d (omega (arith, enough)) home) (λ z v1 m1 of_host grown1 routine1.
@@ -443,7 +444,7 @@ module _ (declared : Declarations) (G : Image) (untouched : Slots) (Here : Facts
         let home2 = unit_in-same G routine2 ∙ (unit_in-same G routine1 ∙ home) in
         let spot2 = is_spot-grown grown2 (is_spot-grown grown1 spot) in
         let described2 = describes-grown b.type_number (type.Record ts) grown2 (describes-grown b.type_number (type.Record ts) grown1 described) in
-        subst (λ st. Fragment declared G Here n (point v2 m2 (p.instructions.before + compare_at) st) (if is_another before now then clears_all call n unit line r (variant_number s 0) (variants_count s) else give tt) (p.instructions.before + (at + length is)) (λ a. Inside untouched v2 m2 (Bare (operand.Place b ∷ below) a)) (d + 6) (λ a. d)) (sym top)
+        subst (λ st. Fragment layout G Here n (point v2 m2 (p.instructions.before + compare_at) st) (if is_another before now then clears_all call n unit line r (variant_number s 0) (variants_count s) else give tt) (p.instructions.before + (at + length is)) (λ a. Inside untouched v2 m2 (Bare (operand.Place b ∷ below) a)) (d + 6) (λ a. d)) (sym top)
         (fragment_waits {place1 = p.instructions.before + compare_at + 1} {d1 = d + 5} {operands1 = Word (ordinal_of (not (is_same old new))) ∷ operand.Place b ∷ below} (λ u same. unequal_answers G (p.instructions.before + compare_at) line (operand.Place b ∷ below) old new tests.0 m2 u.trace) (omega arith)
         (fragment_branch {then_place = p.instructions.before + compare_at + 1 + 1} {else_place = p.instructions.before + (compare_at + 2 + length (variants_code line s))} {operands1 = operand.Place b ∷ below} {d1 = d + 4} (is_another before now)
         (λ u same. jump_false_jumps G (p.instructions.before + compare_at + 1) line (operand.Place b ∷ below) (ordinal_of (not (is_same old new))) (p.instructions.before + (compare_at + 2 + length (variants_code line s))) (omega (arith, room, ends, inside)) (instr_at G (omega arith) skips) m2 u.trace
@@ -491,7 +492,7 @@ module _ (declared : Declarations) (G : Image) (untouched : Slots) (Here : Facts
     taken_moves : (line at : ℕ) (c : Tagging) (s : Selection) (ts : ComponentTypes) (r : Component) (b : PlaceOf) (is : List Instr) → IsPlace declared host.Integer (entire c.value) → IsTakenCode texts references line at c s is → CodeStands G ps p references at is → at + length is < p.instructions.own
         → type_among ts s.tag ≡ Some (tag_type c.low c.high)
         → (injection : Injection) (memory : MachineMemory) (below : List Operand) (d : ℕ) → statement_credit ≤ d → unit_in G memory.frames ≡ unit → IsSpot injection memory.types r b → IsLike memory.types b.type_number (type.Record ts)
-        → Fragment declared G Here n (point injection memory (p.instructions.before + at) (operand.Place b ∷ below)) (sets_tag call n unit line c r s) (p.instructions.before + (at + length is)) (λ a. Inside untouched injection memory (Bare below a)) d (λ a. d)
+        → Fragment layout G Here n (point injection memory (p.instructions.before + at) (operand.Place b ∷ below)) (sets_tag call n unit line c r s) (p.instructions.before + (at + length is)) (λ a. Inside untouched injection memory (Bare below a)) d (λ a. d)
     taken_moves line at c s ts r b is value code stands_is inside has_tag injection memory below d enough home spot described =
         fragment_bind_place {type = tag_type c.low c.high} {e = λ a. d + 8} (λ t. steady_bind (steady_selected call steady_call n unit line t 0) (λ v. steady_bind (steady_eval call steady_call n unit line (Read (entire c.value))) (λ z. steady_assign call steady_call n unit line v z)))
         (fragment_to {to2 = p.instructions.before + (at + 1)} (omega arith) (component_moves line at s.tag ts (tag_type c.low c.high) r b has_tag stands.0 injection memory below d (omega (arith, enough)) home spot described)) (λ t its v1 m1 grown1 routine1 spot1 described1.
@@ -544,13 +545,13 @@ tag_record_is declared h c s types d t (ds, is_record, (selection, host_is, type
           (bare_of there.0, among_bare all.types_of (variant_number s i) there.0 there.1, bare_value there.0 there.2);
     }
 
-module _ {declared : Declarations} {G : Image} {untouched : Slots} {Here : Facts} (lasts : Lasts untouched Here) (ps : List Placement) (p : Placement) (texts : List (List ℕ)) (references : List Reference) (call : Handler) (steady_call : IsSteadyHandler call) (n : ℕ) (unit : List ℕ) (room : p.instructions.before + p.instructions.own ≤ length G.instructions)
-    (scene : Scene declared G ps p texts) (expressions : ExpressionsFollow declared G untouched Here ps p texts references call n unit) (places : PlacesFollow declared G untouched Here ps p texts references call n unit) where
+module _ {declared : Declarations} {layout : Layout} {G : Image} {untouched : Slots} {Here : Facts} (lasts : Lasts untouched Here) (ps : List Placement) (p : Placement) (texts : List (List ℕ)) (references : List Reference) (call : Handler) (steady_call : IsSteadyHandler call) (n : ℕ) (unit : List ℕ) (room : p.instructions.before + p.instructions.own ≤ length G.instructions)
+    (scene : Scene declared layout G ps p texts) (expressions : ExpressionsFollow declared layout G untouched Here ps p texts references call n unit) (places : PlacesFollow declared layout G untouched Here ps p texts references call n unit) where
   -- the whole assignment
   pub tag_parts : (line at : ℕ) (c : Tagging) (q : Place) (s : Selection) (x : Expr) (h : Host) (rs vs ts cs ls : List Instr) → IsTagging declared h c q s → IsExpr declared (kind.Ordinal h) x
       → IsPlaceCode texts references line at q rs → IsAssignCode texts references line (at + length rs) (entire c.value) x vs → IsTriedCode texts references line (at + length rs + length vs) c s ts → IsChangeCode texts references line (at + length rs + length vs + length ts + selected_length s) c s cs → IsTakenCode texts references line (at + length rs + length vs + length ts + selected_length s + length cs) c s ls
       → CodeStands G ps p references at (rs ++ (vs ++ (ts ++ (selected_code line (at + length rs + length vs + length ts) s ++ (cs ++ ls))))) → at + length rs + length vs + length ts + selected_length s + length cs + length ls < p.instructions.own
-      → Moves declared G untouched Here ps p texts references call n unit at (at + length rs + length vs + length ts + selected_length s + length cs + length ls) (exec call n unit (AssignTag line c q s x))
+      → Moves layout G untouched Here ps p texts references call n unit at (at + length rs + length vs + length ts + selected_length s + length cs + length ls) (exec call n unit (AssignTag line c q s x))
   tag_parts line at c q s x h rs vs ts cs ls tagging valid is_place is_value is_tried is_change is_taken stands inside injection memory below d enough home =
       fragment_bind_place {type = bare_of whole.type_value} {e = λ r. d + 8} (λ r. steady_bind (steady_assigns call steady_call n unit line (entire c.value) x) (λ a. steady_rest r))
       (places q whole.valid (bare_of whole.type_value) whole.has_type line at rs is_place one.0 (omega (arith, inside)) injection memory below d (omega (arith, enough)) home) (λ r b v1 m1 grown1 routine1 spot1 described1.
@@ -562,20 +563,20 @@ module _ {declared : Declarations} {G : Image} {untouched : Slots} {Here : Facts
       let spot2 = is_spot-grown grown2 spot1 in
       let of2 = describes-grown b.type_number (type.Record known.types_of) grown2 of in
       fragment_bind_place {type = type.Ordinal c.low c.high} {e = λ v. d + 8 + 8} (λ v. steady_bind (steady_selected_now call steady_call n unit line v s) (λ before. steady_end r before))
-      (tried_moves declared G untouched Here lasts ps p texts references call steady_call n unit room expressions line tried_at c s known.types_of r b ts tagging.value is_tried three.0 (omega (arith, inside)) known.tag v2 m2 below (d + 8) (omega (arith, enough)) home2 spot2 of2) (λ v y v3 m3 grown3 routine3 spot_tag described_tag.
+      (tried_moves declared layout G untouched Here lasts ps p texts references call steady_call n unit room expressions line tried_at c s known.types_of r b ts tagging.value is_tried three.0 (omega (arith, inside)) known.tag v2 m2 below (d + 8) (omega (arith, enough)) home2 spot2 of2) (λ v y v3 m3 grown3 routine3 spot_tag described_tag.
       let home3 = unit_in-same G routine3 ∙ home2 in
       let spot3 = is_spot-grown grown3 spot2 in
       let of3 = describes-grown b.type_number (type.Record known.types_of) grown3 of2 in
       inside_bind {First = Numbered none_before (operand.Place b ∷ below)} {e = λ o. d + 9} (λ before. steady_end r before)
-      (fragment_credit {d = d + 9 + 7} {e = λ o. d + 9} (omega arith) (λ o. omega arith) (selected_now_moves declared G untouched Here lasts ps p texts references call steady_call n unit room line selected_at s c.low c.high v y four.0 (omega (arith, inside)) v3 m3 (operand.Place b ∷ below) (d + 9) (omega (arith, enough)) home3 spot_tag described_tag)) (λ before v4 m4 pushed grown4 routine4 top.
+      (fragment_credit {d = d + 9 + 7} {e = λ o. d + 9} (omega arith) (λ o. omega arith) (selected_now_moves declared layout G untouched Here lasts ps p texts references call steady_call n unit room line selected_at s c.low c.high v y four.0 (omega (arith, inside)) v3 m3 (operand.Place b ∷ below) (d + 9) (omega (arith, enough)) home3 spot_tag described_tag)) (λ before v4 m4 pushed grown4 routine4 top.
       let home4 = unit_in-same G routine4 ∙ home3 in
       let spot4 = is_spot-grown grown4 spot3 in
       let of4 = describes-grown b.type_number (type.Record known.types_of) grown4 of3 in
-      subst (λ st. Fragment declared G Here n (point v4 m4 (p.instructions.before + change_at) st) (bind (changes_variant call n unit line c r s before) (λ a. sets_tag call n unit line c r s)) (p.instructions.before + (taken_at + length ls)) (λ a. Inside untouched v4 m4 (Bare below a)) (d + 9) (λ a. d)) (sym top)
+      subst (λ st. Fragment layout G Here n (point v4 m4 (p.instructions.before + change_at) st) (bind (changes_variant call n unit line c r s before) (λ a. sets_tag call n unit line c r s)) (p.instructions.before + (taken_at + length ls)) (λ a. Inside untouched v4 m4 (Bare below a)) (d + 9) (λ a. d)) (sym top)
       (fragment_bind_bare {e = λ a. d + 9} (λ a. steady_sets_tag call steady_call n unit line c r s)
-      (change_moves declared G untouched Here lasts ps p texts references call steady_call n unit room expressions line change_at c s known.types_of r b before cs tagging.value is_change five.0 (omega (arith, inside)) (selection_of whole.holds) known.variants v4 m4 below (d + 9) (omega (arith, enough)) home4 spot4 of4) (λ a v5 m5 grown5 routine5.
+      (change_moves declared layout G untouched Here lasts ps p texts references call steady_call n unit room expressions line change_at c s known.types_of r b before cs tagging.value is_change five.0 (omega (arith, inside)) (selection_of whole.holds) known.variants v4 m4 below (d + 9) (omega (arith, enough)) home4 spot4 of4) (λ a v5 m5 grown5 routine5.
       fragment_credit {d = d + 9} {e = λ a. d + 9} (omega arith) (λ a. omega arith)
-      (taken_moves declared G untouched Here lasts ps p texts references call steady_call n unit room expressions line taken_at c s known.types_of r b ls tagging.value is_taken five.1 inside known.tag v5 m5 below (d + 9) (omega (arith, enough)) (unit_in-same G routine5 ∙ home4) (is_spot-grown grown5 spot4) (describes-grown b.type_number (type.Record known.types_of) grown5 of4))))))))
+      (taken_moves declared layout G untouched Here lasts ps p texts references call steady_call n unit room expressions line taken_at c s known.types_of r b ls tagging.value is_taken five.1 inside known.tag v5 m5 below (d + 9) (omega (arith, enough)) (unit_in-same G routine5 ∙ home4) (is_spot-grown grown5 spot4) (describes-grown b.type_number (type.Record known.types_of) grown5 of4))))))))
     where
       whole : IsTypedPlace declared (IsTagged declared h c.low c.high s) q
       whole = typed_place declared scene.types_valid scene.own_types_valid (IsTagged declared h c.low c.high s) q tagging.record_is

@@ -1,15 +1,16 @@
 -- The routines that elaborate the types of a unit keep their promises, where with a step less all routines keep theirs.
-use Rattle.std.proofs.Common.{◌≡◌, ℕ, zero, suc, pos, ◌+◌, ◌≤◌, ◌<◌, Bool, true, false, if◌then◌else◌, List, [], ◌∷◌, ◌++◌, length, length-append, Some, None, slice_get, bytes_eq, refl, sym, ap, ◌∙◌, subst, arith}
+use Rattle.std.proofs.Common.{◌≡◌, ℕ, suc, pos, ◌+◌, ◌≤◌, ◌<◌, List, [], ◌∷◌, ◌++◌, length, length-append, Some, None, slice_get, refl, sym, ap, ◌∙◌, subst, arith}
 use Rattle.std.proofs.lemmas.Option.{slice_get_within}
 use Rattle.ep_gen_code.proofs.public.Placed.{instr_at}
 use Rattle.ep_gen_code.specs.Instructions.{bare}
 use Rattle.ep_gen_type.proofs.public.Elaborating.{elaborates}
 use Rattle.ep_gen_type.specs.TypeCode.{type_code}
-use Rattle.ep_gen_unit.specs.UnitCode.{IsProgramCode, plain_at}
-use Rattle.ep_gen_unit.proofs.Declared.{name_same, own_types, same_name}
+use Rattle.ep_gen_unit.specs.UnitCode.{IsUnitCode, plain_at}
 use Rattle.ep_gen_unit.proofs.Parts.{code_stands-parts}
-use Rattle.ep_gen_unit.proofs.Referred.{arrays_referred, own_count, swap_referred, types_referred}
+use Rattle.ep_gen_unit.proofs.Referred.{arrays_referred, swap_referred, types_referred}
 use Rattle.ep_gen_unit.proofs.Units.{moved_own, of_object, routine_there}
+use Rattle.ep_simulation.specs.Joined.{IsAmong}
+use Rattle.ep_simulation.specs.Layouts.{Layout}
 use Rattle.ep_simulation.proofs.public.following.Fragments.{fragment_credit, fragment_cut, fragment_from, fragment_post}
 use Rattle.ep_simulation.proofs.public.following.Routines.{begun_memory, type_keeps}
 use Rattle.ep_simulation.proofs.public.matching.MoreMemory.{among_same}
@@ -39,6 +40,7 @@ use Rattle.ep_meaning.specs.Steps as meaning
 use Rattle.ep_typed.specs.Trees.{Named}
 use Rattle.ep_values.specs.TypeValues.{TypeValue}
 use Rattle.ep_meaning.specs.Valid.{IsTyped, named, own}
+use Rattle.ep_typed.specs.Routines.{first_private}
 use Rattle.ep_typed.specs.declared.unit.Unit.{Unit as TypedUnit}
 use Rattle.ep_typed.specs.declared.unit.UnitType.{UnitType}
 use Rattle.ep_meaning.proofs.public.Lists.{get_within}
@@ -48,7 +50,7 @@ pub behind_list : {A : Type 0} (xs ys : List A) (k : ℕ) → slice_get (xs ++ y
 behind_list [] ys k = ap (slice_get ys) {x = 0 + k} {y = k} (omega arith)
 behind_list (x ∷ xs) ys k = ap (slice_get (x ∷ (xs ++ ys))) {x = suc (length xs) + k} {y = suc (length xs + k)} (omega arith) ∙ behind_list xs ys k
 
-module _ (u : TypedUnit) (o : Object) (is : IsProgramCode u o) (G : Image) (ps : List Placement) (p : Placement) (stands : Stands G ps p o) where
+module _ (u : TypedUnit) (o : Object) (is : IsUnitCode u o) (G : Image) (ps : List Placement) (p : Placement) (stands : Stands G ps p o) where
   -- a call that names a routine of the unit is placed so
   pub call_placed : (number : ℕ) (i : Instr) → placed_call ps (Some (record { unit = u.name; number = number })) i ≡ record i { a = pos (moved p.routines number) }
   call_placed number i =
@@ -57,7 +59,7 @@ module _ (u : TypedUnit) (o : Object) (is : IsProgramCode u o) (G : Image) (ps :
 
   -- the number of the routine that elaborates a type
   abbrev number_of : ℕ → ℕ
-  number_of index = type_routine (length u.routines) index
+  number_of index = type_routine (first_private u) index
 
   -- where the routine that elaborates a type stands in the image
   record Placed (index : ℕ) (t : UnitType) : Type 0 where
@@ -93,7 +95,7 @@ module _ (u : TypedUnit) (o : Object) (is : IsProgramCode u o) (G : Image) (ps :
         room_for = omega (arith, object.instructions, ap length s.is, length-append s.before ((code ++ last) ++ s.after), length-append (code ++ last) s.after, length-append code last, s.from);
       }
 
-  module _ (m : ℕ) (kept : CallsAreKept (own u) G ps (handler_of (u ∷ []) m) m) (index : ℕ) (t : UnitType) (v : TypeValue) (there : slice_get u.types index ≡ Some t) (typed : IsTyped u.types (definition_of t) v) where
+  module _ (us : List TypedUnit) (among : IsAmong us u) (layout : Layout) (m : ℕ) (kept : CallsAreKept (own u) layout G ps (handler_of us m) m) (index : ℕ) (t : UnitType) (v : TypeValue) (there : slice_get u.types index ≡ Some t) (typed : IsTyped u.types (definition_of t) v) where
     x : Placed index t
     x = placed_at index t there
 
@@ -104,16 +106,16 @@ module _ (u : TypedUnit) (o : Object) (is : IsProgramCode u o) (G : Image) (ps :
     code = type_code line_of (definition_of t)
 
     abbrev call : Handler
-    call = handler_of (u ∷ []) m
+    call = handler_of us m
 
     steady_call : IsSteadyHandler call
-    steady_call = steady_handler_of (u ∷ []) m
+    steady_call = steady_handler_of us m
 
     abbrev image_routine : ImageRoutine
     image_routine = placed_routine p x.entry
 
-    among : moved p.routines (number_of index) ≡ p.routines.before + number_of index
-    among =
+    place_among : moved p.routines (number_of index) ≡ p.routines.before + number_of index
+    place_among =
         let object = of_object u o is G ps p stands in
         moved_own p.routines (number_of index) (omega (arith, object.routines, slice_get_within o.routines (number_of index) x.entry x.in_object))
 
@@ -121,7 +123,7 @@ module _ (u : TypedUnit) (o : Object) (is : IsProgramCode u o) (G : Image) (ps :
     exists = routine_there u o is G ps p stands (number_of index) x.entry x.in_object
 
     numbered : moved p.routines (number_of index) < length G.routines
-    numbered = omega (arith, among, slice_get_within G.routines (p.routines.before + number_of index) image_routine (stands.routines (number_of index) x.entry x.in_object))
+    numbered = omega (arith, place_among, slice_get_within G.routines (p.routines.before + number_of index) image_routine (stands.routines (number_of index) x.entry x.in_object))
 
     takes_none : 0 ≡ image_routine.arguments
     takes_none = sym (ap (λ (c : CodeRoutine). c.arguments) x.plain)
@@ -130,7 +132,7 @@ module _ (u : TypedUnit) (o : Object) (is : IsProgramCode u o) (G : Image) (ps :
     entry = moved_own p.instructions x.entry.entry (omega (arith, x.room_for))
 
     abbrev untouched : Slots
-    untouched = kept_slots (own u) G
+    untouched = kept_slots layout G
 
     abbrev body : Computation TypeValue
     body = elaborate call m u.name line_of (definition_of t)
@@ -141,68 +143,49 @@ module _ (u : TypedUnit) (o : Object) (is : IsProgramCode u o) (G : Image) (ps :
 
     module _ (place : ℕ) (injection : Injection) (memory : MachineMemory) (below : List Operand) where
       abbrev begun : MachineMemory
-      begun = begun_memory (own u) G (moved p.routines (number_of index)) image_routine exists numbered [] takes_none 0 refl (frame.Unit image_routine.unit) place memory
+      begun = begun_memory layout G (moved p.routines (number_of index)) image_routine exists numbered [] takes_none 0 refl (frame.Unit image_routine.unit) place memory
 
       home : unit_in G begun.frames ≡ u.name
-      home = rw (among, stands.routines (number_of index) x.entry x.in_object, stands.unit) is.name
+      home = rw (place_among, stands.routines (number_of index) x.entry x.in_object, stands.unit) is.name
 
       abbrev Here : Facts
       Here = InActivation (own u) untouched injection begun
 
       -- the machine follows the elaboration, in any activation of the routine
-      follows : Fragment (own u) G Here m (point injection begun image_routine.entry below) body end (λ a. TypeOnTop v below a) 63 (λ a. 1 + type_credit)
+      follows : Fragment layout G Here m (point injection begun image_routine.entry below) body end (λ a. TypeOnTop v below a) 63 (λ a. 1 + type_credit)
       follows =
           fragment_from entry (fragment_post (λ a longer after pushed i. i.operands_are) (fragment_credit {d = 63} {e = λ a. 63 + 4} (omega arith) (λ a. omega arith)
-          (elaborates (own u) G untouched Here in_activation-lasts ps p o.references call steady_call m m u.name line_of u.types (own_types u) among_same kept
-          (types_referred (own u) u o is (own_count u)) (swap_referred (own u) u o is (own_count u)) (arrays_referred (own u) u o is (own_count u)) x.entry.entry (definition_of t) v typed x.code_stands injection begun below 63 (omega arith) home)))
+          (elaborates (own u) layout G untouched Here in_activation-lasts ps p o.references call steady_call m m u.name line_of u.types (refl, refl) among_same kept
+          (types_referred (own u) u o is refl) (swap_referred (own u) u o is refl) (arrays_referred (own u) u o is refl) x.entry.entry (definition_of t) v typed x.code_stands injection begun below 63 (omega arith) home)))
 
     -- what a call of it does
-    found : type_in (u ∷ []) u.name index ≡ Some t
-    found = ap (λ b. if b then slice_get u.types index else None) (name_same u.name u.name refl) ∙ there
+    found : type_in us u.name index ≡ Some t
+    found = among.types index ∙ there
 
     -- the machine follows a call of it
     pub type_follows_call : (place line : ℕ) → CallsAt G place (moved p.routines (number_of index)) 0 line → (injection : Injection) (began : meaning.State) (memory : MachineMemory) (below : List Operand)
-        → Fragment (own u) G (Since untouched injection began memory) (suc m) (point injection memory place below) (type_does call m u.name line (type_in (u ∷ []) u.name index)) (place + 1) (λ a. Inside untouched injection memory (TypeOnTop v below a)) 0 (λ a. type_credit)
+        → Fragment layout G (Since untouched injection began memory) (suc m) (point injection memory place below) (type_does call m u.name line (type_in us u.name index)) (place + 1) (λ a. Inside untouched injection memory (TypeOnTop v below a)) 0 (λ a. type_credit)
     type_follows_call place line calls injection began memory below =
-        subst (λ y. Fragment (own u) G (Since untouched injection began memory) (suc m) (point injection memory place below) (type_does call m u.name line y) (place + 1) (λ a. Inside untouched injection memory (TypeOnTop v below a)) 0 (λ a. type_credit)) (sym found)
-        (type_keeps (own u) G (moved p.routines (number_of index)) image_routine exists numbered [] takes_none 0 refl end (bare line_of op.RETURN) (instr_at G (omega arith) x.end_stands.0) refl refl refl
+        subst (λ y. Fragment layout G (Since untouched injection began memory) (suc m) (point injection memory place below) (type_does call m u.name line y) (place + 1) (λ a. Inside untouched injection memory (TypeOnTop v below a)) 0 (λ a. type_credit)) (sym found)
+        (type_keeps layout G (moved p.routines (number_of index)) image_routine exists numbered [] takes_none 0 refl end (bare line_of op.RETURN) (instr_at G (omega arith) x.end_stands.0) refl refl refl
         (own u) (omega arith) (λ k. refl) m place line calls injection began memory below [] u.name v body (steady_elaborate call steady_call m u.name line_of (definition_of t)) untouched
         (follows place injection memory below))
 
-  -- a type that a unit alone declares is one of its own
-  record OwnType (unit : List ℕ) (index : ℕ) (v : TypeValue) : Type 0 where
-    its_name : u.name ≡ unit
-    its : IsTyped u.types (Named index []) v
-
-  own_type : (unit : List ℕ) (index : ℕ) (v : TypeValue) → IsTyped ((own u).types unit) (Named index []) v → OwnType unit index v
-  own_type unit index v h = go (bytes_eq u.name unit) refl h
-    where
-      go : (b : Bool) → bytes_eq u.name unit ≡ b → IsTyped (if b then u.types else []) (Named index []) v → OwnType unit index v
-      go true e q = record { its_name = same_name u.name unit e; its = q }
-      go false e (named k t there typed) = cc
-
   -- a call of the routine is placed so
-  type_placed : (index : ℕ) (i : Instr) → placed_call ps (Some (record { unit = u.name; number = type_routine (length ((own u).routines u.name)) index })) i ≡ record i { a = pos (moved p.routines (number_of index)) }
-  type_placed index i = subst (λ k. placed_call ps (Some (record { unit = u.name; number = type_routine k index })) i ≡ record i { a = pos (moved p.routines (number_of index)) }) (sym (own_count u)) (call_placed (number_of index) i)
+  type_placed : (index : ℕ) (i : Instr) → placed_call ps (Some (record { unit = u.name; number = type_routine (first_private u) index })) i ≡ record i { a = pos (moved p.routines (number_of index)) }
+  type_placed index i = call_placed (number_of index) i
 
   -- with no step there is nothing to keep
-  pub types_none : (unit : List ℕ) (index : ℕ) (v : TypeValue) → IsTyped ((own u).types unit) (Named index []) v → TypeKeeps (own u) G ps (handler_of (u ∷ []) 0) 0 unit index v
-  types_none unit index v typed =
-      let one = own_type unit index v typed in
-      subst (λ n. TypeKeeps (own u) G ps (handler_of (u ∷ []) 0) 0 n index v) one.its_name
-      (record { routine = moved p.routines (number_of index); placed = type_placed index; promise = λ place line calls injection begun memory below home. fragment_cut })
+  pub types_none : (us : List TypedUnit) (layout : Layout) (index : ℕ) (v : TypeValue) → TypeKeeps layout G ps (handler_of us 0) 0 (first_private u) u.name index v
+  types_none us layout index v =
+      record { routine = moved p.routines (number_of index); placed = type_placed index; promise = λ place line calls injection begun memory below home. fragment_cut }
 
   -- and with one more step than all routines keep theirs
-  pub types_keep : (m : ℕ) → CallsAreKept (own u) G ps (handler_of (u ∷ []) m) m
-      → (unit : List ℕ) (index : ℕ) (v : TypeValue) → IsTyped ((own u).types unit) (Named index []) v → TypeKeeps (own u) G ps (handler_of (u ∷ []) (suc m)) (suc m) unit index v
-  types_keep m kept unit index v typed =
-      let one = own_type unit index v typed in
-      subst (λ n. TypeKeeps (own u) G ps (handler_of (u ∷ []) (suc m)) (suc m) n index v) one.its_name (by_definition one.its)
-    where
-      by_definition : IsTyped u.types (Named index []) v → TypeKeeps (own u) G ps (handler_of (u ∷ []) (suc m)) (suc m) u.name index v
-      by_definition (named k t there inner) =
-          record {
-            routine = moved p.routines (number_of index);
-            placed = type_placed index;
-            promise = λ place line calls injection begun memory below home. type_follows_call m kept index t v there inner place line calls injection begun memory below;
-          }
+  pub types_keep : (us : List TypedUnit) → IsAmong us u → (layout : Layout) (m : ℕ) → CallsAreKept (own u) layout G ps (handler_of us m) m
+      → (index : ℕ) (v : TypeValue) → IsTyped u.types (Named index []) v → TypeKeeps layout G ps (handler_of us (suc m)) (suc m) (first_private u) u.name index v
+  types_keep us among layout m kept index v (named k t there inner) =
+      record {
+        routine = moved p.routines (number_of index);
+        placed = type_placed index;
+        promise = λ place line calls injection begun memory below home. type_follows_call us among layout m kept index t v there inner place line calls injection begun memory below;
+      }

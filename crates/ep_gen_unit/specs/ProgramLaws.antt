@@ -1,7 +1,7 @@
 -- What holds of the code of every program: a run of its image tells what the program means, and its ticks and the
 -- steps of the meaning bound one another.
 use Rattle.std.specs.Prelude.{◌≡◌, ℕ, ◌+◌, false, [], ◌∷◌}
-use Rattle.ep_gen_unit.specs.UnitCode.{IsProgramCode}
+use Rattle.ep_gen_unit.specs.UnitCode.{IsUnitCode}
 use Rattle.ep_object.specs.Laws.{EndsAt}
 use Rattle.ep_object.specs.Placing.{alone}
 use Rattle.ep_object.specs.Runs.{begin, run_from}
@@ -17,7 +17,7 @@ use Rattle.ep_typed.specs.declared.unit.Unit.{Unit as TypedUnit}
 -- However many ticks a run of a program's image has spent, it tells the meaning of the program.
 abbrev pub ProgramsTell : Type 0
 ProgramsTell =
-    (u : TypedUnit) (o : Object) → IsProgramCode u o → IsValid u → (ticks : ℕ)
+    (u : TypedUnit) (o : Object) → IsUnitCode u o → IsValid u → (ticks : ℕ)
     → Tells (meaning (u ∷ [])) ticks (run_from (alone o) ticks (begin (alone o)))
 
 -- Where a run of a program's image has ended after exactly so many ticks, it tells how they and the steps bound one
@@ -25,7 +25,7 @@ ProgramsTell =
 -- room.
 abbrev pub ProgramsTellAtEnd : Type 0
 ProgramsTellAtEnd =
-    (u : TypedUnit) (o : Object) → IsProgramCode u o → IsValid u → (ticks : ℕ) (end : End) (trace : Trace)
+    (u : TypedUnit) (o : Object) → IsUnitCode u o → IsValid u → (ticks : ℕ) (end : End) (trace : Trace)
     → EndsAt (alone o) (begin (alone o)) 0 ticks end trace
     → TellsAtEnd (meaning (u ∷ [])) ticks end trace
 
@@ -33,7 +33,7 @@ ProgramsTellAtEnd =
 -- many steps and keeps room, each of the two numbers is at most 64 for each of the other and 64 more.
 abbrev pub ProgramsSpend : Type 0
 ProgramsSpend =
-    (u : TypedUnit) (o : Object) → IsProgramCode u o → IsValid u → (ticks : ℕ) (end : End) (trace : Trace)
+    (u : TypedUnit) (o : Object) → IsUnitCode u o → IsValid u → (ticks : ℕ) (end : End) (trace : Trace)
     → EndsAt (alone o) (begin (alone o)) 0 ticks end trace
     → (steps left : ℕ) (its_end : meant.End) (s : meant.State)
     → meaning (u ∷ []) (left + steps) ≡ meant.Ends left its_end s → s.resources.lost ≡ false → AreClose steps ticks

@@ -162,17 +162,26 @@ AppendsTests old new ranges =
     Grows old new
     (tests_code old.line (length old.instructions + 6 * length ranges + 1) (length old.instructions) ranges)
 
--- The code of the start and of the stop of a program is appended. The start makes the variables and runs the block;
--- the
--- stop does nothing, and this is its entry.
+-- the code of a block is appended, and a `Return` behind it
+pub record AppendsBlock (old new : Code) (block : Stmt) : Type 0 where
+  pub code : List Instr
+  pub is_code : IsStmtCode new.texts new.references (length old.instructions) block code
+  pub follows : Follows old new (code ++ return_code ∷ [])
+
+-- The code of the start and of the stop of a unit is appended. The start makes the variables and runs its statement;
+-- the stop runs its own, and this is its entry.
 pub record AppendsStart (old new : Code) (u : TypedUnit) (stop_entry : ℕ) : Type 0 where
-  -- the code of the block
+  -- the code of the start's statement
   pub code : List Instr
   pub is_code : IsStmtCode new.texts new.references
       (length old.instructions ▸ make_all_code 0 (made_by_unit u)) (stmt_of u.start) code
-  pub follows : Follows old new (make_all_code 0 (made_by_unit u) ++ (code ++ return_code ∷ return_code ∷ []))
+  -- and of the stop's
+  pub stop_code : List Instr
+  pub is_stop_code : IsStmtCode new.texts new.references
+      (length old.instructions ▸ make_all_code 0 (made_by_unit u) ▸ code + 1) (stmt_of u.stop) stop_code
+  pub follows : Follows old new
+      (make_all_code 0 (made_by_unit u) ++ (code ++ return_code ∷ (stop_code ++ return_code ∷ [])))
   pub stops : stop_entry ≡ length old.instructions ▸ make_all_code 0 (made_by_unit u) ▸ code + 1
-  pub small : IsTable new.instructions
 
 -- the code of a routine of a unit with these types is appended: what makes its variables, its block, and its end
 pub record AppendsRoutine (old new : Code) (types : List UnitType) (r : UnitRoutine) (x : CodeRoutine) : Type 0 where

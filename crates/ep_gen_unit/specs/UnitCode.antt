@@ -1,6 +1,6 @@
--- Which object is the code of a program: its start makes the variables and runs the block, its stop does nothing, and
--- behind
--- them stands the code of its routines, of the two that structured values call, and of those that elaborate its types.
+-- Which object is the code of a unit: its start makes the variables and runs its statement, its stop runs its own, and
+-- behind them stands the code of its routines, of those that structured values call, and of those that elaborate its
+-- types.
 use Rattle.std.specs.Prelude.{◌≡◌, ℕ, pos, ◌+◌, false, List, [], ◌∷◌, ◌++◌, Some, length, slice_get}
 use Rattle.ep_gen_code.specs.Growth.{in_row}
 use Rattle.ep_gen_code.specs.Instructions.{◌▸◌, bare, instr}
@@ -19,7 +19,7 @@ use Rattle.ep_simulation.specs.Promises.{start_routine, stop_routine, swap_routi
 use Rattle.ep_outside.specs.Known.{IsPrefix}
 use Rattle.ep_typed.specs.Denoters.{definition_of}
 use Rattle.ep_meaning.specs.Meaning.{line_where}
-use Rattle.ep_typed.specs.Routines.{made_by_unit, made_variables, unit_variables, variables_of}
+use Rattle.ep_typed.specs.Routines.{first_private, made_by_unit, made_variables, unit_variables, variables_of}
 use Rattle.ep_typed.specs.Viewed.{stmt_of}
 use Rattle.ep_typed.specs.declared.unit.Unit.{Unit as TypedUnit}
 use Rattle.ep_typed.specs.declared.unit.UnitRoutine.{UnitRoutine}
@@ -118,14 +118,23 @@ pub record IsShuffleCode (instructions : List Instr) (operands : ℕ) (its : Lis
   pub plain : x ≡ routine_at x.entry operands 1
   pub stands : StandsIn instructions x.entry its
 
--- the object of a program
-pub record IsProgramCode (u : TypedUnit) (o : Object) : Type 0 where
-  -- the code of the block
+-- where the code of the stop of a unit begins, whose start has this code behind the making of the variables, with a
+-- `Return`
+abbrev pub stop_entry : TypedUnit → List Instr → ℕ
+stop_entry u code = length (make_all_code 0 (made_by_unit u)) ▸ code + 1
+
+-- the object has the code of the unit
+pub record IsUnitCode (u : TypedUnit) (o : Object) : Type 0 where
+  -- the code of the start's statement
   pub code : List Instr
   pub is_code : IsStmtCode o.texts o.references (length (make_all_code 0 (made_by_unit u))) (stmt_of u.start) code
+  -- the code of the stop's
+  pub stop_code : List Instr
+  pub is_stop_code : IsStmtCode o.texts o.references (stop_entry u code) (stmt_of u.stop) stop_code
   -- the code of the other routines
   pub others : List Instr
-  pub instructions : o.instructions ≡ make_all_code 0 (made_by_unit u) ++ (code ++ return_code ∷ return_code ∷ others)
+  pub instructions : o.instructions
+      ≡ make_all_code 0 (made_by_unit u) ++ (code ++ return_code ∷ (stop_code ++ return_code ∷ others))
   pub entries : List CodeRoutine
   pub blocks : AreRoutinesCode o.texts o.references o.instructions u.types u.routines entries
   pub swapping : CodeRoutine
@@ -139,16 +148,18 @@ pub record IsProgramCode (u : TypedUnit) (o : Object) : Type 0 where
   pub elaborating : List CodeRoutine
   pub types : AreTypesCode o.instructions u.types elaborating
   -- the first references, to the routines behind the stop
-  pub named : IsPrefix (in_row u.name (swap_routine (length u.routines)) (type_reference (length u.types)))
+  pub named : IsPrefix (in_row u.name (swap_routine (first_private u)) (type_reference (length u.types)))
       o.references
-  pub routines : o.routines ≡ entries ++ plain_at 0
-      ∷ plain_at (length (make_all_code 0 (made_by_unit u)) ▸ code + 1) ∷ swapping ∷ filling ∷ ranging
-      ∷ spreading ∷ elaborating
-  pub start : o.start ≡ start_routine (length u.routines)
-  pub stop : o.stop ≡ stop_routine (length u.routines)
+  pub routines : o.routines
+      ≡ entries ++ plain_at 0 ∷ plain_at (stop_entry u code) ∷ swapping ∷ filling ∷ ranging ∷ spreading ∷ elaborating
+  pub start : o.start ≡ start_routine (first_private u)
+  pub stop : o.stop ≡ stop_routine (first_private u)
   pub unit_slots : o.unit_slots ≡ length (unit_variables u)
   pub name : o.name ≡ u.name
+  pub constant_types : o.constant_types ≡ []
+
+-- the object is one of a program, which has no interface, and imports nothing
+pub record HasProgramParts (o : Object) : Type 0 where
   pub is_program : o.«module» ≡ false
   pub interface : o.interface ≡ []
   pub imports : o.imports ≡ []
-  pub constant_types : o.constant_types ≡ []

@@ -2,7 +2,7 @@
 
 ghost use Rattle.ep_gen_unit.specs.Laws.{StmtCodeStays, StmtCodeIsShort};
 ghost use Rattle.ep_gen_unit.specs.ProgramLaws.{ProgramsTell, ProgramsTellAtEnd, ProgramsSpend};
-ghost use Rattle.ep_gen_unit.specs.UnitLaws.{StartsAreSimulated, StartsAreSimulatedUnder, RoutinesAreKept, StopsAreSimulated};
+ghost use Rattle.ep_gen_unit.specs.UnitLaws.{ObjectsImplement, StartsAreSimulated, StartsAreSimulatedUnder, RoutinesAreKept, StopsAreSimulated, StopsAreSimulatedUnder};
 
 /// Does nothing: its contract states what holds of the code of every statement. It stays code when the tables grow,
 /// and has at most 32 instructions for each typed node.
@@ -12,13 +12,15 @@ pub fn laws_of_statements()
 {}
 
 /// Does nothing: its contract states that wherever the object of a unit stands in an image, its start routine simulates
-/// the meaning of the unit's start, and its stop routine a stop that does nothing, and that its procedures and functions
-/// keep their promises for what calls of them mean.
+/// the meaning of the unit's start, and its stop routine that of its stop, and that its procedures and functions keep their
+/// promises for what calls of them mean. So the object implements its unit, whatever other units run with it.
 pub fn laws_of_units()
     ensures starts { StartsAreSimulated }
     ensures starts_under { StartsAreSimulatedUnder }
     ensures routines { RoutinesAreKept }
     ensures stops { StopsAreSimulated }
+    ensures stops_under { StopsAreSimulatedUnder }
+    ensures implements { ObjectsImplement }
 {}
 
 /// Does nothing: its contract states that a run of the image of a program tells what the program means. A run that has

@@ -3,13 +3,14 @@
 ghost use Rattle.std.specs.Prelude.{◌≡◌, ◌+◌, ◌<◌, ◌^◌, OnOk, IfOk, length};
 ghost use Rattle.ep_gen_code.specs.Growth.{Grows};
 ghost use Rattle.ep_gen_unit.specs.StmtCode.{function_end, result_code, make_code, make_all_code, value_code, place_taken, take_code, take_all_code};
-ghost use Rattle.ep_gen_unit.specs.StmtGrowth.{AppendsArrays, AppendsEnd, AppendsFill, AppendsShuffle, AppendsStart, AppendsRoutine, AppendsRoutines, AppendsSwap, AppendsType, AppendsTypes, Follows, IsCompact, MakesBlock, MakesOwn, MakesResult, assembled};
-ghost use Rattle.ep_typed.specs.Auxiliaries.{block_auxiliaries, with_variables};
+ghost use Rattle.ep_gen_unit.specs.StmtGrowth.{AppendsArrays, AppendsBlock, AppendsEnd, AppendsFill, AppendsShuffle, AppendsStart, AppendsRoutine, AppendsRoutines, AppendsSwap, AppendsType, AppendsTypes, Follows, IsCompact, MakesBlock, MakesOwn, MakesResult, assembled};
+ghost use Rattle.ep_typed.specs.Auxiliaries.{with_variables};
 ghost use Rattle.ep_typed.specs.Denoters.{host_of};
+ghost use Rattle.ep_typed.specs.Routines.{made_by_unit, unit_block, unit_variables};
 ghost use Rattle.ep_gen_type.specs.Ordinals.{Knows};
 ghost use Rattle.ep_meaning.specs.Meaning.{line_where};
 ghost use Rattle.ep_typed.specs.Viewed.{denoter_of, stmt_of};
-ghost use Rattle.ep_gen_unit.specs.UnitCode.{IsProgramCode, routine_at};
+ghost use Rattle.ep_gen_unit.specs.UnitCode.{HasProgramParts, IsUnitCode, routine_at};
 ghost use Rattle.ep_gen_code.specs.declared.code.TheConstants as code_line;
 ghost use Rattle.ep_gen_code.specs.declared.references.TheConstants as routine;
 ghost use Rattle.ep_simulation.specs.Promises.{copying_code, first_code, next_code, ranging_code, row_code, spreading_code};
@@ -22,7 +23,7 @@ use ep_gen_type::{OrdinalTypes, elaborate};
 use ep_object::{CodeRoutine, CodeRoutines, Object, op};
 use ep_typed::{
     Denoter, Formal, FormalMode, TypedStmt, Unit, UnitRoutine, UnitType, UnitVariable,
-    block_auxiliaries, first_for, first_for_in, with_count,
+    block_auxiliaries, unit_auxiliaries, unit_with_count, with_count,
 };
 use ep_values::{Binary, run_error};
 use std::alloc::{AllocError, Global};
@@ -34,16 +35,16 @@ const TURN: u64 = 3;
 const FILL_END: u64 = 19;
 
 /// The object of a program. Its first routines are those of the program, by their numbers; the one after them makes
-/// the variables and runs the block, the next one does nothing, then there is one that leaves two operands in the other order and
-/// those that give values to components of arrays, and the last ones elaborate the types, by their numbers. Where memory is
-/// wanting, or the code or a table would reach 2 ^ 32 - 1 entries, the program is refused.
+/// the variables and runs the block, the next one runs the statement of the stop, which a program leaves empty, then there is one
+/// that leaves two operands in the other order and those that give values to components of arrays, and the last ones elaborate the
+/// types, by their numbers. Where memory is wanting, or the code or a table would reach 2 ^ 32 - 1 entries, the program is refused.
 pub fn program_code(alloc: Global, u: &Unit) -> Result<Object, NoMemory>
-    ensures program { IfOk result (λ o. IsProgramCode u.now o) }
+    ensures code { IfOk result (λ o. IsUnitCode u.now o) }
+    ensures program { IfOk result (λ o. HasProgramParts o) }
     ensures compact { IfOk result (λ o. IsCompact o) }
 {
     let name = u.name.copy(alloc)?;
-    let made = field_sum(u.variables.items().len(), auxiliary_count(&u.start))?;
-    let unit_slots = with_slots(made, &u.start)?;
+    let slots = unit_slots(alloc, u)?;
     let mut code = Code::new(alloc, u)?;
     let stop_entry = start_code(alloc, u, &mut code)?;
     let mut routines = routines_code(alloc, u.types.items(), u.routines.items(), &mut code)?;
@@ -56,20 +57,27 @@ pub fn program_code(alloc: Global, u: &Unit) -> Result<Object, NoMemory>
     types_code(u.types.items(), &mut routines, &mut code)?;
     // A place of the code has to fit a field of an instruction.
     next_place(&code)?;
-    assemble(alloc, name, code, routines, start, unit_slots)
+    assemble(alloc, name, code, routines, start, slots)
 }
 
 /// Appends the code of the start and of the stop, and answers the entry of the stop.
 fn start_code(alloc: Global, u: &Unit, code: &mut Code) -> Result<u32, NoMemory>
     ensures { IfOk result (λ k. AppendsStart code.old code.new u.now k) }
 {
-    make_block(alloc, 0, u.variables.items(), &u.start, code)?;
-    statement_code(alloc, &u.start, code)?;
-    code.line = NO_LINE;
-    emit(code, op::RETURN, 0, 0)?;
+    make_unit(alloc, u, code)?;
+    block_code(alloc, &u.start, code)?;
     let stop_entry = next_place(code)?;
-    emit(code, op::RETURN, 0, 0)?;
+    block_code(alloc, &u.stop, code)?;
     Ok(stop_entry)
+}
+
+/// Appends the code of a block, and a `Return` behind it.
+fn block_code(alloc: Global, block: &TypedStmt, code: &mut Code) -> Result<(), NoMemory>
+    ensures { OnOk result (AppendsBlock code.old code.new (stmt_of block.now)) }
+{
+    statement_code(alloc, block, code)?;
+    code.line = NO_LINE;
+    emit(code, op::RETURN, 0, 0)
 }
 
 /// Appends the code of the routine that leaves two operands in the other order, and answers its entry.
@@ -322,18 +330,31 @@ fn with_slots(made: u32, block: &TypedStmt) -> Result<u32, NoMemory>
     field_sum(made as usize, with_count(block))
 }
 
-/// How many auxiliary variables of `for` a block has.
-fn auxiliary_count(block: &TypedStmt) -> usize
-    ensures { result ≡ length (block_auxiliaries (stmt_of block.now)) }
+/// How many slots the frame of a unit has: one for each of its variables, with the auxiliary ones of its start and its stop.
+fn unit_slots(alloc: Global, u: &Unit) -> Result<u32, NoMemory>
+    ensures { IfOk result (λ slots. slots ≡ length (unit_variables u.now)) }
 {
-    let bounds = match first_for(block) {
-        None => 0,
-        Some(_) => 2,
-    };
-    match first_for_in(block) {
-        None => bounds,
-        Some(_) => bounds + 1,
-    }
+    let auxiliaries = unit_auxiliaries(alloc, u)?;
+    let made = field_sum(u.variables.items().len(), auxiliaries.items().len())?;
+    unit_with_slots(made, u)
+}
+
+/// The slots of so many variables that are made, and of those of the `with` statements of a unit's start and its stop.
+fn unit_with_slots(made: u32, u: &Unit) -> Result<u32, NoMemory>
+    ensures { IfOk result (λ slots. slots ≡ made + length (with_variables (unit_block u.now))) }
+{
+    field_sum(made as usize, unit_with_count(u))
+}
+
+/// Appends the code that makes the variables of a unit: those that it declares, and the auxiliary ones of its start and its
+/// stop.
+fn make_unit(alloc: Global, u: &Unit, code: &mut Code) -> Result<(), NoMemory>
+    ensures { OnOk result (Follows code.old code.new (make_all_code 0 (made_by_unit u.now))) }
+{
+    let auxiliaries = unit_auxiliaries(alloc, u)?;
+    let variables = u.variables.items();
+    make_all(0, variables, code)?;
+    make_all(variables.len(), auxiliaries.items(), code)
 }
 
 /// Appends the code that makes the variable of a function's result, and answers the number of the first variable behind.

@@ -1,7 +1,7 @@
 -- The meaning of typed trees, by recursion on them, in counted steps.
 use Rattle.std.specs.Str.{bytes_eq}
 use Rattle.std.specs.Prelude.{ℕ, ℤ, pos, negsuc, zero, suc, ◌+◌, int_le, Bool, true, false, not, List, [], ◌∷◌, length}
-use Rattle.std.specs.Prelude.{slice_get, Option, Some, None, if◌then◌else◌}
+use Rattle.std.specs.Prelude.{drop, reverse, slice_get, Option, Some, None, if◌then◌else◌}
 use Rattle.ep_meaning.specs.Calls.{Argument, Value, Handler, activation_words, in_call}
 use Rattle.ep_meaning.specs.Calls as argument_is
 use Rattle.ep_meaning.specs.Controls.{in_order, next_value, has_more, others}
@@ -17,7 +17,7 @@ use Rattle.ep_typed.specs.Trees.{While, Repeat, Control, For, MemberControl, For
 use Rattle.ep_typed.specs.Trees.{next, Case, Arms, no_arm, next_arm, Other, no_other, otherwise_do, Entire, OfUnit}
 use Rattle.ep_typed.specs.Trees.{OfRoutine, entire, SetConstant, Structured, Element, AtIndex, AtField, SameField}
 use Rattle.ep_typed.specs.Trees.{AtRanges, AtIndexes, Elements, no_element, next_element}
-use Rattle.ep_typed.specs.Routines.{made_variables, made_by_unit}
+use Rattle.ep_typed.specs.Routines.{made_variables, made_by_unit, routine_numbered}
 use Rattle.ep_typed.specs.Viewed.{denoter_of, stmt_of}
 use Rattle.ep_meaning.specs.Steps.{Call, Normal, Halted, Error, Outcome, Computation, give, cut, stop, ◌>>=◌, spend}
 use Rattle.ep_meaning.specs.Steps.{change, fetch, fetch_or, with_events, assigned, type_at, whole, Component}
@@ -582,16 +582,30 @@ abbrev pub start_of : Handler → ℕ → TypedUnit → Computation (Unit {0})
 start_of call g u =
     spend 1 (make_all call g u.name 0 (made_by_unit u) >>= λ _. exec call g u.name (stmt_of u.start))
 
--- the starts of units in order
-abbrev pub starts_of : Handler → ℕ → List TypedUnit → Computation (Unit {0})
-starts_of call g [] = stop Normal
-starts_of call g (u ∷ us) = start_of call g u >>= λ _. starts_of call g us
+-- The stop of a unit spends the step of a call, and runs its statement, in the frame of the unit's start.
+abbrev pub stop_of : Handler → ℕ → TypedUnit → Computation (Unit {0})
+stop_of call g u = spend 1 (exec call g u.name (stmt_of u.stop))
+
+-- the starts of units in order, and what is done behind them
+abbrev pub starts_of : Handler → ℕ → List TypedUnit → Computation (Unit {0}) → Computation (Unit {0})
+starts_of call g [] behind = behind
+starts_of call g (u ∷ us) behind = start_of call g u >>= λ _. starts_of call g us behind
+
+-- the stops of units in order, and then the run ends
+abbrev pub stops_of : Handler → ℕ → List TypedUnit → Computation (Unit {0})
+stops_of call g [] = stop Normal
+stops_of call g (u ∷ us) = stop_of call g u >>= λ _. stops_of call g us
+
+-- the units that are stopped, in the order of their stops: all but the last one, which is the program, in reverse
+-- (ISO 10206, 6.12)
+abbrev pub stopped_units : List TypedUnit → List TypedUnit
+stopped_units units = drop 1 (reverse units)
 
 -- the routine of this number of the unit of this name
 abbrev pub routine_in : List TypedUnit → List ℕ → ℕ → Option UnitRoutine
 routine_in [] unit number = None
 routine_in (u ∷ us) unit number =
-    if bytes_eq u.name unit then slice_get u.routines number else routine_in us unit number
+    if bytes_eq u.name unit then routine_numbered u number else routine_in us unit number
 
 -- the type at this place of its list of types
 abbrev pub type_in : List TypedUnit → List ℕ → ℕ → Option UnitType
@@ -702,7 +716,10 @@ handler_of units (suc depth) =
       named_type = λ from line index. type_does (handler_of units depth) depth from line (type_in units from index);
     }
 
--- The meaning of joined units within so many steps. Loops turn and calls nest at most that often, which is enough,
--- since each turn and each call spends a step.
+-- The meaning of joined units within so many steps: they are started in order, and then all but the last one are stopped
+-- in reverse. Loops turn and calls nest at most that often, which is enough, since each turn and each call spends a
+-- step.
 abbrev pub meaning : List TypedUnit → ℕ → Outcome (Unit {0})
-meaning units steps = starts_of (handler_of units steps) steps units steps first_state
+meaning units steps =
+    starts_of (handler_of units steps) steps units (stops_of (handler_of units steps) steps (stopped_units units)) steps
+    first_state

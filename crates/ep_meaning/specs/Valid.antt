@@ -24,7 +24,7 @@ use Rattle.ep_typed.specs.Trees.{Procedure, Halt, Write, none, next, Case, Arms,
 use Rattle.ep_typed.specs.Trees.{otherwise_do, Entire, OfUnit, OfRoutine, entire, SetConstant, Element, AtIndex}
 use Rattle.ep_typed.specs.Trees.{AtField, SameField, AtRanges, AtIndexes, Elements, no_element, next_element}
 use Rattle.ep_typed.specs.Routines.{heading_of, variables_of, unit_variables}
-use Rattle.ep_typed.specs.Routines.{first_with, made_by_unit}
+use Rattle.ep_typed.specs.Routines.{first_private, first_with, made_by_unit, routine_numbered}
 use Rattle.ep_typed.specs.Viewed.{constant_expr, denoter_of, stmt_of}
 use Rattle.ep_values.specs.declared.operations.Unary.{Unary}
 use Rattle.ep_values.specs.declared.operations.Unary.TheVariants as unary
@@ -134,6 +134,8 @@ pub record Declarations : Type 0 where
   pub types : List ℕ → List UnitType
   pub constants : List ℕ → List ConstantEntry
   pub routines : List ℕ → List RoutineEntry
+  -- the number, among the routines of the unit's object, of the first one that no text writes
+  pub first_private : List ℕ → ℕ
   -- the routines around the routine of this number of the unit, the innermost first
   pub around : List ℕ → ℕ → List Level
   -- The routine in whose block they may be named and the ones around it, the innermost first, and their unit and its
@@ -704,7 +706,9 @@ own u =
       types = own_list u.name u.types;
       constants = own_list u.name u.constants;
       routines = own_list u.name (map heading_of u.routines);
-      around = λ unit number. if bytes_eq u.name unit then around_in u.routines (slice_get u.routines number) else [];
+      first_private = λ unit. first_private u;
+      around =
+          λ unit number. if bytes_eq u.name unit then around_in u.routines (routine_numbered u number) else [];
       levels = [];
       routine_unit = u.name;
       routine_types = u.types;
@@ -748,7 +752,7 @@ pub record IsRoutine (u : TypedUnit) (number : ℕ) (r : UnitRoutine) : Type 0 w
   pub around : IsAround u.routines number r.around
   pub block : IsStmt (in_block u number r) (stmt_of r.block)
 
--- a unit that names no other one, and so far has no interface and nothing to do when it is stopped
+-- a unit that names no other one, and so far has no interface
 pub record IsValid (u : TypedUnit) : Type 0 where
   pub interface : u.interface ≡ None
   pub types : All (IsType u.types) u.types
@@ -756,4 +760,4 @@ pub record IsValid (u : TypedUnit) : Type 0 where
   pub variables : All (IsVariable u.types) u.variables
   pub routines : (number : ℕ) (r : UnitRoutine) → slice_get u.routines number ≡ Some r → IsRoutine u number r
   pub start : IsStmt (own u) (stmt_of u.start)
-  pub stop : stmt_of u.stop ≡ Empty
+  pub stop : IsStmt (own u) (stmt_of u.stop)

@@ -8,9 +8,10 @@ use Rattle.ep_meaning.specs.Steps.{Component, Outcome, Gives, Ends, Cut, Computa
 use Rattle.ep_values.specs.Values.{Value as ValueOf}
 use Rattle.ep_meaning.specs.Steps as meaning
 use Rattle.ep_meaning.specs.Valid as kind
-use Rattle.ep_meaning.specs.Valid.{Declarations, Kind}
+use Rattle.ep_meaning.specs.Valid.{Kind}
 use Rattle.ep_typed.specs.Hosts.{Host, is_of_host}
 use Rattle.ep_values.specs.TypeValues.{TypeValue, bare_of, size_of}
+use Rattle.ep_simulation.specs.Layouts.{Layout}
 use Rattle.ep_simulation.specs.Matching.{MachineMemory, at, Describes, Injection, Matches, Slots, own_slot, Grown}
 use Rattle.ep_simulation.specs.Matching.{IsBare, IsLike, IsSpot, HasAt}
 use Rattle.ep_object.specs.Operands.{Operand, Word, Place, Text, Value, Set}
@@ -132,13 +133,13 @@ abbrev pub After : Type 1
 After = Injection → MachineMemory → List Operand → Type 0
 
 -- the machine stands at a place of the code and matches, the facts of the activation hold, and this holds
-pub record Lands (declared : Declarations) (G : Image) (Here : Facts) (place : ℕ) (Post : After)
+pub record Lands (layout : Layout) (G : Image) (Here : Facts) (place : ℕ) (Post : After)
     (s : meaning.State) (k : State) : Type 0 where
   pub injection : Injection
   pub memory : MachineMemory
   pub operands : List Operand
   pub is : k ≡ at place operands memory s.trace
-  pub matches : Matches declared G injection s memory
+  pub matches : Matches layout G injection s memory
   pub here : Here injection s memory
   pub post : Post injection memory operands
 
@@ -206,12 +207,12 @@ Since untouched injection s memory longer t after = HasGrown untouched injection
 -- From a point at which the facts of the activation hold, the machine follows the computation, without leaving the
 -- routine, to
 -- a place of the code at which they hold again, and this does.
-pub record Fragment {A : Type 0} (declared : Declarations) (G : Image) (Here : Facts) (n : ℕ) (from : Point)
+pub record Fragment {A : Type 0} (layout : Layout) (G : Image) (Here : Facts) (n : ℕ) (from : Point)
     (c : Computation A) (to : ℕ) (Post : A → After) (d : ℕ) (e : A → ℕ) : Type 0 where
-  pub by : (s : meaning.State) → Matches declared G from.injection s from.memory
+  pub by : (s : meaning.State) → Matches layout G from.injection s from.memory
       → Here from.injection s from.memory
       → Follows (λ k. IsNotLeft from.memory.frames k.frames) G n (state_at from s.trace) s c
-      (λ a. Lands declared G Here to (Post a)) d e
+      (λ a. Lands layout G Here to (Post a)) d e
 
 -- ---- what holds after the code of a form
 

@@ -1,6 +1,8 @@
 pub mod Activations
 pub mod Follows
 pub mod Implements
+pub mod Joined
+pub mod Layouts
 pub mod Matching
 pub mod Promises
 pub mod Scene

@@ -22,6 +22,7 @@ use Rattle.ep_typed.specs.declared.unit.UnitVariable.{UnitVariable}
 use Rattle.ep_object.specs.Frames.{slots_over}
 use Rattle.ep_object.specs.Operands.{Operand}
 use Rattle.ep_object.specs.Sets.{IsSet, set_size, words_of_set}
+use Rattle.ep_simulation.specs.Layouts.{Layout}
 use Rattle.ep_simulation.specs.Starts.{words_kept}
 use Rattle.ep_object.specs.State.{Frames, Segments, TypeTable, State, bare_number, text_entry, first_types, undefined}
 use Rattle.ep_object.specs.Types.{ordinal_entry, array_entry, record_entry, set_entry}
@@ -294,8 +295,8 @@ abbrev pub HasTypeUnder : List UnitType → UnitVariable → TypeValue → Type 
 HasTypeUnder types v t = (u : TypeValue) × IsInstance types (denoter_of v.denoter) u × (bare_of u ≡ t)
 
 -- the type value is that of a variable of the unit
-abbrev pub HasType : Declarations → List ℕ → UnitVariable → TypeValue → Type 0
-HasType declared unit v t = HasTypeUnder (declared.types unit) v t
+abbrev pub HasType : Layout → List ℕ → UnitVariable → TypeValue → Type 0
+HasType layout unit v t = HasTypeUnder (layout.types unit) v t
 
 -- the type value is that of a variable of the routine in whose block names are declared so
 abbrev pub HasOwnType : Declarations → UnitVariable → TypeValue → Type 0
@@ -358,18 +359,18 @@ pub record MatchesTypes (elaborated : List TypeValue) (types : TypeTable) : Type
       → m ≡ n
   pub known : (t : TypeValue) → IsTrue (list_any (same_type t) elaborated) → (n : ℕ) × Describes types n t
 
--- The frame of a unit has the places of the variables that are declared, with types that describe those of the
--- declarations, but for initial states; its other slots match nothing.
-pub record MatchesFrame (declared : Declarations) (injection : Injection) (variables : List ℕ → ℕ → Option Component)
+-- The frame of a unit has the places of its variables, with types that describe those of their declarations, but for
+-- initial states; its other slots match nothing.
+pub record MatchesFrame (layout : Layout) (injection : Injection) (variables : List ℕ → ℕ → Option Component)
     (units : List (List (Option Place))) (types : TypeTable) (unit : ℕ) (u : ImageUnit) : Type 0 where
   pub slots : List (Option Place)
   pub is : slice_get units unit ≡ Some slots
   pub count : length slots ≡ u.slots
-  pub matches : (k : ℕ) (v : UnitVariable) (slot : Option Place) → declared.variables u.name k ≡ Some v
+  pub matches : (k : ℕ) (v : UnitVariable) (slot : Option Place) → layout.variables u.name k ≡ Some v
       → slice_get slots k ≡ Some slot → MatchesSlot injection types (variables u.name k) slot
   pub described : (k : ℕ) (v : UnitVariable) (place : Place) (t : TypeValue)
-      → declared.variables u.name k ≡ Some v → slice_get slots k ≡ Some (Some place)
-      → HasType declared u.name v t → IsLike types place.type_number t
+      → layout.variables u.name k ≡ Some v → slice_get slots k ≡ Some (Some place)
+      → HasType layout u.name v t → IsLike types place.type_number t
 
 -- the variable has a type of which this holds, without its initial states
 pub record IsOfType (allocations : List Allocation) (variable : Component) (Holds : TypeValue → Type 0) : Type 0 where
@@ -380,13 +381,13 @@ pub record IsOfType (allocations : List Allocation) (variable : Component) (Hold
   pub holds : Holds type_value
 
 -- the slots of units: the frame of each unit matches, and a variable has the type of its declaration
-pub record MatchesUnits (declared : Declarations) (G : Image) (injection : Injection)
+pub record MatchesUnits (layout : Layout) (G : Image) (injection : Injection)
     (allocations : List Allocation) (variables : List ℕ → ℕ → Option Component) (units : List (List (Option Place)))
     (types : TypeTable) : Type 0 where
   pub frames : (unit : ℕ) (u : ImageUnit) → slice_get G.units unit ≡ Some u
-      → MatchesFrame declared injection variables units types unit u
+      → MatchesFrame layout injection variables units types unit u
   pub typed : (unit : List ℕ) (k : ℕ) (c : Component) (v : UnitVariable) → variables unit k ≡ Some c
-      → declared.variables unit k ≡ Some v → IsOfType allocations c (HasType declared unit v)
+      → layout.variables unit k ≡ Some v → IsOfType allocations c (HasType layout unit v)
 
 -- the outside: `output` is the second allocation and the second segment, is a text file, and lives
 pub record MatchesOutside (injection : Injection) (allocations : List Allocation) : Type 0 where
@@ -404,13 +405,13 @@ pub record MatchesCounts (injection : Injection) (resources : Resources) (segmen
   pub hidden : hidden_words injection segments ≤ resources.reserved
   pub number : length types ≤ 2 * length resources.types + 5
 
--- the state of the meaning matches the machine's memory by the injection, where these variables are declared
-pub record Matches (declared : Declarations) (G : Image) (injection : Injection) (s : meaning.State)
+-- the state of the meaning matches the machine's memory by the injection, where the units are laid out so
+pub record Matches (layout : Layout) (G : Image) (injection : Injection) (s : meaning.State)
     (memory : MachineMemory) : Type 0 where
   pub injected : MatchesInjection injection s.allocations memory.segments
   pub store : MatchesStore injection s.allocations memory.segments memory.types
   pub types : MatchesTypes s.resources.types memory.types
-  pub units : MatchesUnits declared G injection s.allocations s.variables memory.frames.units memory.types
+  pub units : MatchesUnits layout G injection s.allocations s.variables memory.frames.units memory.types
   pub outside : MatchesOutside injection s.allocations
   pub counts : MatchesCounts injection s.resources memory.segments memory.types memory.live
   -- no more calls are under way than the meaning has under way
@@ -436,21 +437,21 @@ pub record AreAmong (some others : Slots) : Type 0 where
   pub of_units : (unit k : ℕ) → IsTrue (some.of_units unit k) → IsTrue (others.of_units unit k)
   pub own : (k : ℕ) → IsTrue (some.own k) → IsTrue (others.own k)
 
-abbrev pub is_undeclared : Option UnitVariable → Bool
-is_undeclared None = true
-is_undeclared (Some v) = false
+abbrev pub no_variable : Option UnitVariable → Bool
+no_variable None = true
+no_variable (Some v) = false
 
-abbrev pub is_hidden_in : Declarations → Option ImageUnit → ℕ → Bool
-is_hidden_in declared None k = false
-is_hidden_in declared (Some u) k = is_undeclared (declared.variables u.name k)
+abbrev pub is_hidden_in : Layout → Option ImageUnit → ℕ → Bool
+is_hidden_in layout None k = false
+is_hidden_in layout (Some u) k = no_variable (layout.variables u.name k)
 
--- a slot of a unit's frame that no variable has which is declared
-abbrev pub is_hidden_slot : Declarations → Image → ℕ → ℕ → Bool
-is_hidden_slot declared G unit k = is_hidden_in declared (slice_get G.units unit) k
+-- a slot of a unit's frame that none of its variables has
+abbrev pub is_hidden_slot : Layout → Image → ℕ → ℕ → Bool
+is_hidden_slot layout G unit k = is_hidden_in layout (slice_get G.units unit) k
 
 -- the slots that a call leaves to its caller as they were: those of units' frames that are hidden, and all of its own
-abbrev pub kept_slots : Declarations → Image → Slots
-kept_slots declared G = record { of_units = is_hidden_slot declared G; own = λ k. true }
+abbrev pub kept_slots : Layout → Image → Slots
+kept_slots layout G = record { of_units = is_hidden_slot layout G; own = λ k. true }
 
 -- The injection is a longer one, hidden segments are what they were, those that are new have ended, these slots are
 -- untouched, and no segment changes its type.

@@ -12,6 +12,7 @@ use Rattle.ep_values.specs.TypeValues.{TypeValue}
 use Rattle.ep_simulation.specs.Follows.{end_of, IsStructure, Operands, TypeOnTop, point, state_at, Fragment, Since}
 use Rattle.ep_simulation.specs.Follows.{Lands, Inside, GivesUp}
 use Rattle.ep_simulation.specs.Activations.{IsCallable}
+use Rattle.ep_simulation.specs.Layouts.{Layout}
 use Rattle.ep_simulation.specs.Matching.{MachineMemory, Injection, Matches, IsLike, IsSpot, kept_slots}
 use Rattle.ep_object.specs.Operands.{Operand, Place, Set, Text, Word}
 use Rattle.ep_object.specs.Sets.{IsSet}
@@ -123,16 +124,16 @@ pub record CallsAt (G : Image) (place routine levels line : ℕ) : Type 0 where
 -- instruction,
 -- where the results are on the operands below. The allocations that the routine made have ended then on both sides, if
 -- they do at all, and what the caller knows of its own activation holds as before. No credit is there before.
-pub record Promises (declared : Declarations) (G : Image) (routine n : ℕ) (types : List UnitType) (around : List Level)
+pub record Promises (layout : Layout) (G : Image) (routine n : ℕ) (types : List UnitType) (around : List Level)
     (formals : List Passing) (results : List Kind) (called : Called) : Type 0 where
   pub by : (place levels line : ℕ) → CallsAt G place routine levels line
       → (injection : Injection) (begun : meaning.State) (memory : MachineMemory)
       → IsCallable types levels around injection begun.calls memory
       → (below operands : List Operand) (arguments : List Argument)
       → AreArguments injection memory formals arguments below operands
-      → Fragment declared G (Since (kept_slots declared G) injection begun memory) n
+      → Fragment layout G (Since (kept_slots layout G) injection begun memory) n
       (point injection memory place operands) (called (unit_in G memory.frames) line levels arguments) (place + 1)
-      (λ rs. Inside (kept_slots declared G) injection memory (ResultsOnTop results below rs)) 0 credit_of
+      (λ rs. Inside (kept_slots layout G) injection memory (ResultsOnTop results below rs)) 0 credit_of
 
 -- The kinds of what a routine of a unit with these types gives: a procedure gives nothing, and a function one value of
 -- the kind of its result (ISO 10206, 6.7.2).
@@ -144,75 +145,68 @@ AreResults types (Some r) (k ∷ []) = IsOfKind k types (denoter_of r.denoter)
 AreResults types (Some r) (k ∷ l ∷ ks) = ⊥
 
 -- A routine of a unit has a number in the image, by which a call that names it is placed, and keeps its promise for
--- what
--- these calls do.
-pub record RoutineKeeps (declared : Declarations) (G : Image) (ps : List Placement) (call : Handler) (n : ℕ)
-    (unit : List ℕ) (number : ℕ) (r : RoutineEntry) : Type 0 where
+-- what these calls do. Its heading names in these types, and these routines are around it.
+pub record RoutineKeeps (layout : Layout) (G : Image) (ps : List Placement) (call : Handler) (n : ℕ)
+    (types : List UnitType) (around : List Level) (unit : List ℕ) (number : ℕ) (r : RoutineEntry) : Type 0 where
   pub routine : ℕ
   pub formals : List Passing
-  pub passed : ArePassed (declared.types unit) r.formals formals
+  pub passed : ArePassed types r.formals formals
   pub results : List Kind
-  pub given : AreResults (declared.types unit) r.result results
+  pub given : AreResults types r.result results
   pub placed : (i : Instr)
       → placed_call ps (Some (record { unit = unit; number = number })) i ≡ record i { a = pos routine }
-  pub promise : Promises declared G routine n (declared.types unit) (declared.around unit number) formals results
+  pub promise : Promises layout G routine n types around formals results
       (λ from line levels arguments. call.routine from line (record { unit = unit; number = number; levels = levels })
       arguments)
 
--- the numbers, among the routines of an object whose unit has so many of its own, of the start and the stop, which
--- stand behind those
+-- the numbers, among the routines of an object, of those that no text writes, the first of which has this number: of
+-- the start and the stop
 abbrev pub start_routine : ℕ → ℕ
-start_routine routines = routines
+start_routine first = first
 
 abbrev pub stop_routine : ℕ → ℕ
-stop_routine routines = routines + 1
+stop_routine first = first + 1
 
 -- of the one that leaves two operands in the other order, which stands behind the stop
 abbrev pub swap_routine : ℕ → ℕ
-swap_routine routines = routines + 2
+swap_routine first = first + 2
 
 -- of the one that gives the value of a component of an array to others, which stands behind it
 abbrev pub fill_routine : ℕ → ℕ
-fill_routine routines = routines + 3
+fill_routine first = first + 3
 
 -- of the one that leaves the indexes of a range, and what tests them
 abbrev pub range_routine : ℕ → ℕ
-range_routine routines = routines + 4
+range_routine first = first + 4
 
 -- of the one that leaves what the components with the indexes of a range are given by
 abbrev pub spread_routine : ℕ → ℕ
-spread_routine routines = routines + 5
+spread_routine first = first + 5
 
 -- and of the one that elaborates the type of this number, which stand behind that
 abbrev pub type_routine : ℕ → ℕ → ℕ
-type_routine routines index = routines + 6 + index
+type_routine first index = first + 6 + index
 
 -- the credit behind the elaboration of a type
 abbrev pub type_credit : ℕ
 type_credit = 8
 
--- The routine that elaborates a type of a unit has a number in the image, by which a call that names it is placed.
--- From each
--- `Call` of it in a routine of the unit the machine follows the elaboration to the next instruction, where the number
--- of a type
--- that describes the type value is on the operands below, and what the caller knows of its own activation holds as
--- before. No
--- credit is there before.
-pub record TypeKeeps (declared : Declarations) (G : Image) (ps : List Placement) (call : Handler) (n : ℕ)
+-- The routine that elaborates a type of a unit whose routines that no text writes are numbered from this on has a
+-- number in the image, by which a call that names it is placed. From each `Call` of it in a routine of the unit the
+-- machine follows the elaboration to the next instruction, where the number of a type that describes the type value is
+-- on the operands below, and what the caller knows of its own activation holds as before. No credit is there before.
+pub record TypeKeeps (layout : Layout) (G : Image) (ps : List Placement) (call : Handler) (n first : ℕ)
     (unit : List ℕ) (index : ℕ) (t : TypeValue) : Type 0 where
   pub routine : ℕ
   pub placed : (i : Instr)
-      → placed_call ps (Some
-      (record { unit = unit; number = type_routine (length (declared.routines unit)) index })) i ≡ record i {
-        a =
-            pos routine;
-      }
+      → placed_call ps (Some (record { unit = unit; number = type_routine first index })) i
+      ≡ record i { a = pos routine }
   pub promise : (place line : ℕ) → CallsAt G place routine 0 line
       → (injection : Injection) (begun : meaning.State) (memory : MachineMemory) (below : List Operand)
       → unit_in G memory.frames ≡ unit
-      → Fragment declared G (Since (kept_slots declared G) injection begun memory) n
+      → Fragment layout G (Since (kept_slots layout G) injection begun memory) n
       (point injection memory place below) (call.named_type unit line index) (place + 1)
-      (λ a. Inside (kept_slots declared G) injection memory (TypeOnTop t below a)) 0 (λ a. type_credit)
+      (λ a. Inside (kept_slots layout G) injection memory (TypeOnTop t below a)) 0 (λ a. type_credit)
 
 -- these instructions stand in the image from this place on
 abbrev pub StandFrom : Image → ℕ → List Instr → Type 0
@@ -248,9 +242,9 @@ pub record IsSwap (G : Image) (routine : ℕ) : Type 0 where
   pub slots : ℕ
   pub shuffles : IsShuffle G routine 2 slots (λ entry. swapping_code)
 
--- A unit with so many routines has it.
+-- A unit whose routines that no text writes are numbered from this on has it.
 abbrev pub SwapStands : Image → List Placement → List ℕ → ℕ → Type 0
-SwapStands G ps unit routines = ShuffleStands ps unit (swap_routine routines) (IsSwap G)
+SwapStands G ps unit first = ShuffleStands ps unit (swap_routine first) (IsSwap G)
 
 -- In the routine that gives the value of a component of an array to others, with the index on top of one that gets it,
 -- which stays
@@ -298,9 +292,9 @@ pub record IsFill (G : Image) (routine : ℕ) : Type 0 where
   pub swaps : IsSwap G swap
   pub shuffles : IsShuffle G routine 4 1 (λ entry. filling_code entry swap)
 
--- A unit with so many routines has it.
+-- A unit whose routines that no text writes are numbered from this on has it.
 abbrev pub FillStands : Image → List Placement → List ℕ → ℕ → Type 0
-FillStands G ps unit routines = ShuffleStands ps unit (fill_routine routines) (IsFill G)
+FillStands G ps unit first = ShuffleStands ps unit (fill_routine first) (IsFill G)
 
 -- The code of the routine that takes the place of an array and the first and the last index of a range. It leaves the
 -- indexes, and the
@@ -316,9 +310,9 @@ ranging_code line =
 abbrev pub IsRange : Image → ℕ → Type 0
 IsRange G routine = IsShuffle G routine 3 1 (λ entry. ranging_code)
 
--- A unit with so many routines has it.
+-- A unit whose routines that no text writes are numbered from this on has it.
 abbrev pub RangeStands : Image → List Placement → List ℕ → ℕ → Type 0
-RangeStands G ps unit routines = ShuffleStands ps unit (range_routine routines) (IsRange G)
+RangeStands G ps unit first = ShuffleStands ps unit (range_routine first) (IsRange G)
 
 -- In the routine that takes the first and the last index of a range, the place of an array, and a value twice: it
 -- leaves the place and
@@ -348,69 +342,74 @@ spreading_code line = row_code line ++ first_code line
 abbrev pub IsSpread : Image → ℕ → Type 0
 IsSpread G routine = IsShuffle G routine 5 1 (λ entry. spreading_code)
 
--- A unit with so many routines has it.
+-- A unit whose routines that no text writes are numbered from this on has it.
 abbrev pub SpreadStands : Image → List Placement → List ℕ → ℕ → Type 0
-SpreadStands G ps unit routines = ShuffleStands ps unit (spread_routine routines) (IsSpread G)
+SpreadStands G ps unit first = ShuffleStands ps unit (spread_routine first) (IsSpread G)
 
--- A unit with so many routines has all of those that give values to components of arrays.
-pub record ArrayRoutinesStand (G : Image) (ps : List Placement) (unit : List ℕ) (routines : ℕ) : Type 0 where
-  pub fill : FillStands G ps unit routines
-  pub range : RangeStands G ps unit routines
-  pub spread : SpreadStands G ps unit routines
+-- Such a unit has all of those that give values to components of arrays.
+pub record ArrayRoutinesStand (G : Image) (ps : List Placement) (unit : List ℕ) (first : ℕ) : Type 0 where
+  pub fill : FillStands G ps unit first
+  pub range : RangeStands G ps unit first
+  pub spread : SpreadStands G ps unit first
 
--- Every routine that is declared does so, and so does that of every type that has a type value. Each unit with types
--- has the
--- routine that leaves two operands in the other order, and those that give values to components of arrays.
-pub record CallsAreKept (declared : Declarations) (G : Image) (ps : List Placement) (call : Handler) (n : ℕ) : Type 0
-  where
-    pub routines : (unit : List ℕ) (number : ℕ) (r : RoutineEntry)
-        → slice_get (declared.routines unit) number ≡ Some r → RoutineKeeps declared G ps call n unit number r
-    pub types : (unit : List ℕ) (index : ℕ) (t : TypeValue)
-        → IsTyped (declared.types unit) (Named index []) t → TypeKeeps declared G ps call n unit index t
-    pub swaps : (unit : List ℕ) → 0 < length (declared.types unit)
-        → SwapStands G ps unit (length (declared.routines unit))
-    pub of_arrays : (unit : List ℕ) → 0 < length (declared.types unit)
-        → ArrayRoutinesStand G ps unit (length (declared.routines unit))
+-- Where names are declared so, every routine of the unit does so, and every one of another unit that may be named. So
+-- does that of every type of the unit that has a type value. Where it has types, the unit has the routine that leaves
+-- two operands in the other order, and those that give values to components of arrays.
+pub record CallsAreKept (declared : Declarations) (layout : Layout) (G : Image) (ps : List Placement)
+    (call : Handler) (n : ℕ) : Type 0 where
+  pub routines : (number : ℕ) (r : RoutineEntry)
+      → slice_get (declared.routines declared.routine_unit) number ≡ Some r
+      → RoutineKeeps layout G ps call n (declared.types declared.routine_unit)
+      (declared.around declared.routine_unit number) declared.routine_unit number r
+  pub others : (unit : List ℕ) → (unit ≡ declared.routine_unit → ⊥) → (number : ℕ) (r : RoutineEntry)
+      → slice_get (declared.routines unit) number ≡ Some r
+      → RoutineKeeps layout G ps call n (declared.types unit) (declared.around unit number) unit number r
+  pub types : (index : ℕ) (t : TypeValue) → IsTyped declared.routine_types (Named index []) t
+      → TypeKeeps layout G ps call n (declared.first_private declared.routine_unit) declared.routine_unit index t
+  pub swaps : 0 < length declared.routine_types
+      → SwapStands G ps declared.routine_unit (declared.first_private declared.routine_unit)
+  pub of_arrays : 0 < length declared.routine_types
+      → ArrayRoutinesStand G ps declared.routine_unit (declared.first_private declared.routine_unit)
 
 -- ---- what this says of runs from a call
 
 -- A call has given its results after so many steps: the machine comes to the instruction after it and matches, its
 -- ticks
 -- keep pace with the steps, and until then the calling routine is not left.
-pub record ComesBackAfter (declared : Declarations) (G : Image) (injection : Injection) (begun : meaning.State)
+pub record ComesBackAfter (layout : Layout) (G : Image) (injection : Injection) (begun : meaning.State)
     (memory : MachineMemory) (Then : Operands) (to : ℕ) (k : State) (s : meaning.State) (steps : ℕ) : Type 0 where
   pub ticks : ℕ
   pub last : State
   pub runs : run G ticks 0 k ≡ Running 0 last
-  pub lands : Lands declared G (Since (kept_slots declared G) injection begun memory) to
-      (Inside (kept_slots declared G) injection memory Then) s last
+  pub lands : Lands layout G (Since (kept_slots layout G) injection begun memory) to
+      (Inside (kept_slots layout G) injection memory Then) s last
   pub pace : KeepPace steps ticks
   pub until : (t : ℕ) → t ≤ ticks → StaysIn G k t s.trace
 
 -- what a run from a call does where what the call does comes to this with so many steps
-abbrev pub CallComesTo : Declarations → Image → Injection → meaning.State → MachineMemory → (List Result → Operands)
+abbrev pub CallComesTo : Layout → Image → Injection → meaning.State → MachineMemory → (List Result → Operands)
     → ℕ → State → ℕ → Outcome (List Result) → Type 0
-CallComesTo declared G injection begun memory Then to k steps (Gives left a s) = (spent : ℕ)
-    → left + spent ≡ steps → ComesBackAfter declared G injection begun memory (Then a) to k s spent
-CallComesTo declared G injection begun memory Then to k steps (Ends left end s) = (spent : ℕ)
+CallComesTo layout G injection begun memory Then to k steps (Gives left a s) = (spent : ℕ)
+    → left + spent ≡ steps → ComesBackAfter layout G injection begun memory (Then a) to k s spent
+CallComesTo layout G injection begun memory Then to k steps (Ends left end s) = (spent : ℕ)
     → left + spent ≡ steps → EndsAfter G k (end_of end) s.trace spent
-CallComesTo declared G injection begun memory Then to k steps (Cut s) = StaysAfter G k s.trace steps
+CallComesTo layout G injection begun memory Then to k steps (Cut s) = StaysAfter G k s.trace steps
 
 -- Where a routine keeps its promise, every run from a call of it answers what the call does with each number of steps
 -- up
 -- to n, or ends for want of room within 64 ticks for each of them.
 abbrev pub CallsAnswer : Type 0
 CallsAnswer =
-    (declared : Declarations) (G : Image) (routine n : ℕ) (types : List UnitType) (around : List Level)
+    (layout : Layout) (G : Image) (routine n : ℕ) (types : List UnitType) (around : List Level)
     → (formals : List Passing) (results : List Kind) (called : Called)
-    → Promises declared G routine n types around formals results called
+    → Promises layout G routine n types around formals results called
     → (place levels line : ℕ) → CallsAt G place routine levels line
     → (injection : Injection) (memory : MachineMemory) (below operands : List Operand)
     → (arguments : List Argument) → AreArguments injection memory formals arguments below operands
-    → (s : meaning.State) → Matches declared G injection s memory
+    → (s : meaning.State) → Matches layout G injection s memory
     → IsCallable types levels around injection s.calls memory
     → (steps : ℕ) → steps ≤ n
-    → CallComesTo declared G injection s memory (ResultsOnTop results below) (place + 1)
+    → CallComesTo layout G injection s memory (ResultsOnTop results below) (place + 1)
     (state_at (point injection memory place operands) s.trace) steps
     (called (unit_in G memory.frames) line levels arguments steps s)
     ⊎ GivesUp G (state_at (point injection memory place operands) s.trace) steps 0

@@ -4,9 +4,13 @@ use Rattle.ep_object.specs.Placing.{Placement, placed_unit}
 use Rattle.ep_object.specs.declared.code.Image.{Image}
 use Rattle.ep_object.specs.declared.code.ImageUnit.{ImageUnit}
 use Rattle.ep_object.specs.declared.code.Instr.{Instr}
+use Rattle.ep_simulation.specs.Layouts.{Layout}
 use Rattle.ep_meaning.specs.Valid.{Declarations, variables_up, IsDenoter}
+use Rattle.ep_typed.specs.Denoters.{IsInstance}
 use Rattle.ep_typed.specs.Viewed.{denoter_of}
+use Rattle.ep_typed.specs.declared.unit.UnitType.{UnitType}
 use Rattle.ep_typed.specs.declared.unit.UnitVariable.{UnitVariable}
+use Rattle.ep_values.specs.TypeValues.{TypeValue}
 
 -- A text of an object stands in the image.
 pub record TextStands (G : Image) (p : Placement) (k : ℕ) (bytes : List ℕ) : Type 0 where
@@ -35,14 +39,32 @@ HaveValidOwnTypes declared =
     (up k : ℕ) (v : UnitVariable) → slice_get (variables_up declared up) k ≡ Some v
     → IsDenoter declared.routine_types (denoter_of v.denoter)
 
--- The texts of an object and all variables that are declared stand in the image, the types of the variables are valid,
--- and
--- the routine in whose block names are declared so has the types of its unit.
-pub record Scene (declared : Declarations) (G : Image) (ps : List Placement) (p : Placement) (texts : List (List ℕ)) :
+-- A variable that may be named, with a denoter that names in these types, is one of the unit by this number, and is of
+-- the same type there: its denoter has the same type values as the other one has under the types of the unit.
+pub record IsLaidOut (layout : Layout) (types : List UnitType) (unit : List ℕ) (number : ℕ) (v : UnitVariable) :
     Type 0 where
+  pub variable : UnitVariable
+  pub there : layout.variables unit number ≡ Some variable
+  pub into : (t : TypeValue) → IsInstance types (denoter_of v.denoter) t
+      → IsInstance (layout.types unit) (denoter_of variable.denoter) t
+  pub back : (t : TypeValue) → IsInstance (layout.types unit) (denoter_of variable.denoter) t
+      → IsInstance types (denoter_of v.denoter) t
+
+-- every variable that is declared is
+abbrev pub AreLaidOut : Declarations → Layout → Type 0
+AreLaidOut declared layout =
+    (unit : List ℕ) (number : ℕ) (v : UnitVariable) → declared.variables unit number ≡ Some v
+    → IsLaidOut layout (declared.types unit) unit number v
+
+-- The texts of an object and all variables that are declared stand in the image, the types of the variables are valid,
+-- the routine in whose block names are declared so has the types of its unit, and the units are laid out so that they
+-- have what is declared.
+pub record Scene (declared : Declarations) (layout : Layout) (G : Image) (ps : List Placement) (p : Placement)
+    (texts : List (List ℕ)) : Type 0 where
   pub texts_stand : (k : ℕ) (bytes : List ℕ) → slice_get texts k ≡ Some bytes → TextStands G p k bytes
   pub variables_stand : (unit : List ℕ) (k : ℕ) (v : UnitVariable) → declared.variables unit k ≡ Some v
       → VariableStands G ps unit k
   pub types_valid : HaveValidTypes declared
   pub own_types_valid : HaveValidOwnTypes declared
   pub own_types_are : declared.types declared.routine_unit ≡ declared.routine_types
+  pub laid_out : AreLaidOut declared layout

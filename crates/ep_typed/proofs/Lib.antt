@@ -1,2 +1,3 @@
+mod Units
 mod Walks
 pub mod public

@@ -1,7 +1,9 @@
 -- The variables of routines, by number: the formal parameters, the result of a function, those that it declares, and
--- the auxiliary ones of `for` and of `with`; and those of units.
-use Rattle.std.specs.Prelude.{ℕ, ◌+◌, false, List, [], ◌∷◌, ◌++◌, length, map, Option, Some, None}
+-- the auxiliary ones of `for` and of `with`; those of units; and the numbers of routines.
+use Rattle.std.specs.Prelude.{ℕ, ◌+◌, false, List, [], ◌∷◌, ◌++◌, length, map, slice_get, Option, Some}
+use Rattle.std.specs.Prelude.{None}
 use Rattle.ep_typed.specs.Auxiliaries.{block_auxiliaries, with_variables}
+use Rattle.ep_typed.specs.Trees.{Stmt, Compound, next, none}
 use Rattle.ep_typed.specs.Viewed.{stmt_of}
 use Rattle.ep_typed.specs.declared.interface.Formal.{Formal}
 use Rattle.ep_typed.specs.declared.interface.RoutineEntry.{RoutineEntry}
@@ -43,13 +45,17 @@ result_variable name line (Some r) =
 abbrev pub made_variables : UnitRoutine → List UnitVariable
 made_variables r = result_variable r.name r.line r.result ++ (r.variables ++ block_auxiliaries (stmt_of r.block))
 
--- the variables that a unit makes: those that it declares, and the auxiliary ones of `for` in its start
-abbrev pub made_by_unit : TypedUnit → List UnitVariable
-made_by_unit u = u.variables ++ block_auxiliaries (stmt_of u.start)
+-- the start and the stop of a unit as one statement: they run in one frame, and share its auxiliary variables
+abbrev pub unit_block : TypedUnit → Stmt
+unit_block u = Compound (next (stmt_of u.start) (next (stmt_of u.stop) none))
 
--- the variables of a unit: those that it makes, and those of `with` in its start
+-- the variables that a unit makes: those that it declares, and the auxiliary ones of `for` in its start and its stop
+abbrev pub made_by_unit : TypedUnit → List UnitVariable
+made_by_unit u = u.variables ++ block_auxiliaries (unit_block u)
+
+-- the variables of a unit: those that it makes, and those of `with` in its start and its stop
 abbrev pub unit_variables : TypedUnit → List UnitVariable
-unit_variables u = made_by_unit u ++ with_variables (stmt_of u.start)
+unit_variables u = made_by_unit u ++ with_variables (unit_block u)
 
 -- the first number of those of `with` in a routine
 abbrev pub first_with : UnitRoutine → ℕ
@@ -58,3 +64,18 @@ first_with r = length r.formals + length (made_variables r)
 -- the variables of a routine: its formal parameters, those that it makes, and those of `with` in its block
 abbrev pub variables_of : UnitRoutine → List UnitVariable
 variables_of r = map (formal_variable r.line) r.formals ++ (made_variables r ++ with_variables (stmt_of r.block))
+
+-- ---- the numbers of routines among all those of their unit's object (own)
+
+-- The routine at this place of a unit's list has this number. Schemata of the unit's heading will have numbers before
+-- it.
+abbrev pub routine_number : TypedUnit → ℕ → ℕ
+routine_number u k = k
+
+-- the routine of this number
+abbrev pub routine_numbered : TypedUnit → ℕ → Option UnitRoutine
+routine_numbered u number = slice_get u.routines number
+
+-- the first number behind those, from which on the routines are numbered that no text writes, as the start and the stop
+abbrev pub first_private : TypedUnit → ℕ
+first_private u = routine_number u (length u.routines)

@@ -1,8 +1,9 @@
 //! The auxiliary variables of `for` and `with` statements, as specs/Auxiliaries.antt says.
 
-ghost use Rattle.std.specs.Prelude.{◌≡◌, IfOk, codes, length, map, min};
+ghost use Rattle.std.specs.Prelude.{◌≡◌, ◌++◌, IfOk, codes, length, map, min};
 ghost use Rattle.ep_typed.specs.Auxiliaries as spec;
 ghost use Rattle.ep_typed.specs.Parts as parts;
+ghost use Rattle.ep_typed.specs.Routines.{unit_block};
 ghost use Rattle.ep_typed.specs.Trees as tree;
 ghost use Rattle.ep_typed.specs.Trees.{stmts};
 ghost use Rattle.ep_typed.specs.Viewed.{arm_of, stmt_of};
@@ -11,7 +12,7 @@ ghost use Rattle.ep_typed.specs.declared.tree.TypedStmt.{out-TypedStmt};
 use crate::denoter::{Bound, Denoter, RequiredType};
 use crate::parts::parts_of;
 use crate::tree::{CaseArm, TypedStmt};
-use crate::unit::{UnitVariable, UnitVariables};
+use crate::unit::{Unit, UnitVariable, UnitVariables};
 use ep_base::{Boxed, Line, List, Name, NameRefusal, NoMemory};
 use std::alloc::{AllocError, Global};
 
@@ -23,8 +24,30 @@ const LAST_MEMBER: i64 = 255;
 pub fn block_auxiliaries(alloc: Global, block: &TypedStmt) -> Result<UnitVariables, NoMemory>
     ensures { IfOk result (λ all. all ≡ spec.block_auxiliaries (stmt_of block.now)) }
 {
-    let mut all = auxiliary_variables(alloc, first_for(block))?;
-    if let Some(line) = first_for_in(block) {
+    auxiliaries_on(alloc, first_for(block), first_for_in(block))
+}
+
+/// The auxiliary variables of a unit that are made: those of its start and of its stop, which share them.
+#[tactic(auto, using(crate::proofs::Units::unit_first_for, crate::proofs::Units::unit_first_for_in))]
+pub fn unit_auxiliaries(alloc: Global, unit: &Unit) -> Result<UnitVariables, NoMemory>
+    ensures { IfOk result (λ all. all ≡ spec.block_auxiliaries (unit_block unit.now)) }
+{
+    let bounds = first_for(&unit.start).or(first_for(&unit.stop));
+    let members = first_for_in(&unit.start).or(first_for_in(&unit.stop));
+    auxiliaries_on(alloc, bounds, members)
+}
+
+/// The auxiliary variables of a block whose first `for` with bounds or assignment to a tag and first `for` over members, where
+/// it has one, are on these lines.
+fn auxiliaries_on(
+    alloc: Global,
+    bounds: Option<Line>,
+    members: Option<Line>,
+) -> Result<UnitVariables, NoMemory>
+    ensures { IfOk result (λ all. all ≡ spec.auxiliary_variables bounds ++ spec.member_variables members) }
+{
+    let mut all = auxiliary_variables(alloc, bounds)?;
+    if let Some(line) = members {
         let variable = member_variable(alloc, line)?;
         all.push(variable)?;
     }
@@ -211,6 +234,14 @@ pub fn with_count(s: &TypedStmt) -> usize
         .saturating_add(with_count_in(parts.arms))
         .saturating_add(with_count_of(parts.last))
         .saturating_add(records_count(s))
+}
+
+/// How many records the `with` statements in a unit's start and its stop open, likewise.
+#[tactic(auto, using(crate::proofs::Units::unit_withs))]
+pub fn unit_with_count(unit: &Unit) -> usize
+    ensures { result ≡ min (length (spec.with_variables (unit_block unit.now))) usize.MAX }
+{
+    with_count(&unit.start).saturating_add(with_count(&unit.stop))
 }
 
 fn records_count(s: &TypedStmt) -> usize

@@ -24,7 +24,8 @@ mod unit;
 mod value;
 
 pub use auxiliary::{
-    auxiliary_variables, block_auxiliaries, first_for, first_for_in, with_count, with_count_in,
+    auxiliary_variables, block_auxiliaries, first_for, first_for_in, unit_auxiliaries,
+    unit_with_count, with_count, with_count_in,
 };
 pub use denoter::{
     Bound, Bounds, Denoter, FieldPart, RecordField, RecordFields, RequiredType, Selector, Variant,

@@ -10,8 +10,8 @@ use Rattle.ep_meaning.specs.Valid as valid
 use Rattle.ep_meaning.specs.Valid.{Declarations, IsCallee, IsDeclaredUp, IsOfKind, IsPlace, around_in, in_routine, levels_of, own}
 use Rattle.ep_typed.specs.Routines.{heading_of}
 use Rattle.ep_typed.specs.Auxiliaries.{block_auxiliaries, with_variables}
-use Rattle.ep_typed.specs.Routines.{made_by_unit, unit_variables}
-use Rattle.ep_typed.specs.Viewed.{denoter_of, stmt_of}
+use Rattle.ep_typed.specs.Routines.{made_by_unit, unit_block, unit_variables}
+use Rattle.ep_typed.specs.Viewed.{denoter_of}
 use Rattle.ep_typed.specs.declared.interface.Formal.{Formal}
 use Rattle.ep_typed.specs.declared.interface.RoutineEntry.{RoutineEntry}
 use Rattle.ep_typed.specs.declared.unit.Unit.{Unit as TypedUnit}
@@ -45,7 +45,7 @@ use Rattle.ep_check_unit.specs.Blocks.{Block}
 use Rattle.ep_check_unit.specs.Functions.{assigned_function, assigned_functions, function_before}
 use Rattle.ep_unit_rules.specs.declared.own.Enclosing.{Enclosing}
 use Rattle.ep_unit_rules.specs.declared.own.OwnResult.{OwnResult}
-use Rattle.ep_unit_laws.proofs.Open.{IsOpen, around_length}
+use Rattle.ep_unit_laws.proofs.Open.{IsOpen, around_depth}
 use Rattle.ep_unit_laws.proofs.Denoting.{DenotesKind, kind_had, kind_type, set_of_kind}
 use Rattle.ep_unit_laws.proofs.Holds.{HasTypeHere, Head, Holds, HoldsComposition, HoldsStructuredType, HoldsDeclaration, HoldsOwn, HoldsParameter, HoldsResultOf, HoldsResults, HoldsScopes, HoldsThing, HoldsThings, HoldsVariable, ListsKind, head_of, holds_scopes, levels_at, lists_kind_small, lists_small, name_denotes, named_tree, type_values}
 use Rattle.ep_meaning.proofs.public.Lists.{get_front}
@@ -146,7 +146,7 @@ module _ (u : TypedUnit) where
   declared_own : (unit : List ℕ) (number : ℕ) (v : UnitVariable) → unit ≡ u.name → slice_get u.variables number ≡ Some v → (own u).variables unit number ≡ Some v
   declared_own unit number v e at =
       variables_own unit number e
-      ∙ get_front (made_by_unit u) (with_variables (stmt_of u.start)) number v (get_front u.variables (block_auxiliaries (stmt_of u.start)) number v at)
+      ∙ get_front (made_by_unit u) (with_variables (unit_block u)) number v (get_front u.variables (block_auxiliaries (unit_block u)) number v at)
 
   own_place : (es : List Enclosing) (i level number : ℕ) (of : TypeName) (h : Host) → i ≤ length u.types → HoldsOwn u es i level number of (kind.Ordinal h) → IsPlace (in_routine (levels_at u.routines es) (own u)) (typed_host h) (tree.Own (length es - level) number)
   own_place es i level number of h le x = (x.variable, x.at, x.denotes.1.has_host (suc (length u.types)) (omega (arith, le)))
@@ -282,7 +282,7 @@ module _ (u : TypedUnit) (es : List Enclosing) where
     declared_holds : (i : ℕ) (d : Declared) (what : Declaration) → i ≤ length u.types → d.unit ≡ u.name → HoldsDeclaration u es i d what → IsDeclaration within (type_values u) structures (length es) d what
     declared_holds i d (declaration.Constant k v deep) le e x = constant_held k v x.0
     declared_holds i d (declaration.«Type» of k nodes) le e x = lists_kind_small u i k x.lists
-    declared_holds i d (declaration.Variable of k) le e x = (variable_stored u structures all i d.number d.unit of k le e x, variable_typed u i d.number d.unit of k le e x)
+    declared_holds i d (declaration.Variable of k guarded) le e x = (variable_stored u structures all i d.number d.unit of k le e x, variable_typed u i d.number d.unit of k le e x)
     declared_holds i d (declaration.Own of k guarded) le e x = (own_stored u structures all es i d.level d.number of k le x, own_typed u es i d.level d.number of k le x)
     declared_holds i d (declaration.Procedure ps) le e x = (x.heading, callee_own u es d x.heading e x.inside x.at, x.is_procedure, parameters_typed i d.unit ps x.heading.formals le e x.formals x.parameters)
     declared_holds i d (declaration.Function ps of k) le e x = (
@@ -342,7 +342,7 @@ module _ (u : TypedUnit) where
   -- so the declarations of the unit, in the blocks that are under way, hold what the scopes declare
   pub block_agrees : (i : ℕ) (b : Block) → IsOpen b → i ≤ length u.types → Holds u i b → AgreesBy (within u b.own.enclosing) (type_values u) (structures_of (scopes_of b)) (depth_in (scopes_of b)) (scopes_of b)
   block_agrees i b under le x =
-      subst (λ n. AgreesBy (within u b.own.enclosing) (type_values u) (structures_of (scopes_of b)) n (scopes_of b)) (sym (around_length b.own.enclosing (length b.routines) b.scopes.outer under.around))
+      subst (λ n. AgreesBy (within u b.own.enclosing) (type_values u) (structures_of (scopes_of b)) n (scopes_of b)) (sym (around_depth b.own.enclosing (length b.routines) b.scopes.inner b.scopes.outer under.around))
       (scopes_hold u b.own.enclosing (structures_of (scopes_of b)) (structures_in_view u b.own.enclosing i (scopes_of b) le (holds_scopes u i b x)) i (scopes_of b) le (holds_scopes u i b x))
 
   abbrev pub holds_agrees : (i : ℕ) (b : Block) → IsOpen b → i ≤ length u.types → Holds u i b → Agrees (within u b.own.enclosing) (scopes_of b)
@@ -351,4 +351,4 @@ module _ (u : TypedUnit) where
   -- and have the results of the functions under way
   pub holds_results : (i : ℕ) (b : Block) → IsOpen b → i ≤ length u.types → Holds u i b → ResultsAreThere (within u b.own.enclosing) (type_values u) (depth_in (scopes_of b)) (assigned_functions b.own.enclosing)
   holds_results i b under le x =
-      subst (λ n. ResultsAreThere (within u b.own.enclosing) (type_values u) n (assigned_functions b.own.enclosing)) (sym (around_length b.own.enclosing (length b.routines) b.scopes.outer under.around)) (results_hold u b.own.enclosing i b.own.enclosing le x.results)
+      subst (λ n. ResultsAreThere (within u b.own.enclosing) (type_values u) n (assigned_functions b.own.enclosing)) (sym (around_depth b.own.enclosing (length b.routines) b.scopes.inner b.scopes.outer under.around)) (results_hold u b.own.enclosing i b.own.enclosing le x.results)

@@ -8,7 +8,8 @@ use Rattle.ep_typed.proofs.public.Forms.{named_is}
 use Rattle.ep_typed.specs.Auxiliaries.{auxiliary_variable, auxiliary_variables, block_auxiliaries, first_for_in_of, first_for_of, member_variable, member_variables, with_variable, with_variables, with_variables_of}
 use Rattle.ep_typed.specs.Denoters.{host_of, bare_type_of}
 use Rattle.ep_typed.specs.Hosts as host
-use Rattle.ep_typed.specs.Routines.{made_by_unit, unit_variables}
+use Rattle.ep_typed.proofs.public.Units.{start_auxiliaries, start_withs}
+use Rattle.ep_typed.specs.Routines.{made_by_unit, unit_block, unit_variables}
 use Rattle.ep_typed.specs.Trees as tree
 use Rattle.ep_typed.specs.Trees.{Denoter, Stmts, entire}
 use Rattle.ep_meaning.specs.Valid as given
@@ -156,18 +157,20 @@ module _ (u : TypedUnit) (e : Enclosing) (es : List Enclosing) (c : Block) (line
 
 -- ---- in the block of a unit
 
-pub unit_unmade : (u : TypedUnit) (b : Block) (ss : Stmts) → b.unit ≡ u.name → u.variables ≡ b.variables → stmt_of u.start ≡ tree.Compound ss → b.own.enclosing ≡ []
+pub unit_unmade : (u : TypedUnit) (b : Block) (ss : Stmts) → b.unit ≡ u.name → u.variables ≡ b.variables → stmt_of u.start ≡ tree.Compound ss → stmt_of u.stop ≡ tree.Empty → b.own.enclosing ≡ []
     → IsUnmadeFrom (own u) u.types (locals_of b) (first_auxiliary (locals_of b) + length (block_auxiliaries (tree.Compound ss)))
-unit_unmade u b ss named variables start outermost =
+unit_unmade u b ss named variables start stop outermost =
     let many : length (made_by_unit u) ≡ length b.variables + length (block_auxiliaries (tree.Compound ss)) =
-    length-append u.variables (block_auxiliaries (stmt_of u.start)) ∙ (ap (λ vs. length vs + length (block_auxiliaries (stmt_of u.start))) variables ∙ ap (λ s. length b.variables + length (block_auxiliaries s)) start) in
+    length-append u.variables (block_auxiliaries (unit_block u)) ∙ (ap (λ vs. length vs + length (block_auxiliaries (unit_block u))) variables ∙ ap (λ l. length b.variables + length l) (start_auxiliaries u stop ∙ ap block_auxiliaries start)) in
     subst (λ es. IsUnmadeFrom (own u) u.types (locals_in b es) (first_auxiliary (locals_in b es) + length (block_auxiliaries (tree.Compound ss)))) (sym outermost)
     (λ n le. (refl, named, omega (arith, le, many)))
 
-pub unit_behind : (u : TypedUnit) (b : Block) (ss : Stmts) → b.unit ≡ u.name → u.variables ≡ b.variables → stmt_of u.start ≡ tree.Compound ss → b.own.enclosing ≡ [] → AreBehind (own u) u.types (locals_of b) (auxiliaries_of ss)
-unit_behind u b ss named variables start outermost =
+pub unit_behind : (u : TypedUnit) (b : Block) (ss : Stmts) → b.unit ≡ u.name → u.variables ≡ b.variables → stmt_of u.start ≡ tree.Compound ss → stmt_of u.stop ≡ tree.Empty → b.own.enclosing ≡ [] → AreBehind (own u) u.types (locals_of b) (auxiliaries_of ss)
+unit_behind u b ss named variables start stop outermost =
     let all : unit_variables u ≡ b.variables ++ auxiliaries_of ss =
-    ap (λ s. (u.variables ++ block_auxiliaries s) ++ with_variables s) start
+    ap (λ l. (u.variables ++ l) ++ with_variables (unit_block u)) (start_auxiliaries u stop)
+    ∙ ap (λ l. (u.variables ++ block_auxiliaries (stmt_of u.start)) ++ l) (start_withs u stop)
+    ∙ ap (λ s. (u.variables ++ block_auxiliaries s) ++ with_variables s) start
     ∙ (append_assoc u.variables (block_auxiliaries (tree.Compound ss)) (with_variables_of ss) ∙ ap (λ l. l ++ auxiliaries_of ss) variables) in
     subst (λ es. AreBehind (own u) u.types (locals_in b es) (auxiliaries_of ss)) (sym outermost)
     (λ k v at. (variables_own u b.unit (length b.variables + k) named ∙ (ap (λ l. slice_get l (length b.variables + k)) all ∙ (get_behind b.variables (auxiliaries_of ss) k ∙ at)), types_own u b.unit named))

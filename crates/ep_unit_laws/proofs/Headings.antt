@@ -308,7 +308,7 @@ module _ (u : TypedUnit) where
   }
   declared_stands d (declaration.Constant k v deep) b numbered held = tt
   declared_stands d (declaration.«Type» of h nodes) b numbered held = tt
-  declared_stands d (declaration.Variable of k) b numbered held = tt
+  declared_stands d (declaration.Variable of k guarded) b numbered held = tt
   declared_stands d (declaration.Own of k guarded) b numbered held = tt
 
   -- what a name stands for in the innermost scope

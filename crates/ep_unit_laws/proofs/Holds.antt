@@ -492,7 +492,7 @@ module _ (u : TypedUnit) (es : List Enclosing) where
   abbrev pub HoldsDeclaration : ℕ → Declared → Declaration → Type 0
   HoldsDeclaration i d (declaration.Constant k v deep) = IsConstantOf (type_values u) u.types k v × ListsKind u i k
   HoldsDeclaration i d (declaration.«Type» of k nodes) = HoldsType u i d.number of k
-  HoldsDeclaration i d (declaration.Variable of k) = HoldsVariable u i d.number of k
+  HoldsDeclaration i d (declaration.Variable of k guarded) = HoldsVariable u i d.number of k
   HoldsDeclaration i d (declaration.Own of k guarded) = HoldsOwn u es i d.level d.number of k
   HoldsDeclaration i d (declaration.Procedure ps) = HoldsProcedure u es i d.level d.number ps
   HoldsDeclaration i d (declaration.Function ps of k) = HoldsFunction u es i d.level d.number ps of k
@@ -515,7 +515,7 @@ module _ (u : TypedUnit) (es : List Enclosing) where
   declaration_more : (i j : ℕ) (d : Declared) (what : Declaration) → i ≤ j → HoldsDeclaration i d what → HoldsDeclaration j d what
   declaration_more i j d (declaration.Constant k v deep) le x = (x.0, lists_kind_more u i j k le x.1)
   declaration_more i j d (declaration.«Type» of k nodes) le x = record { lists = lists_kind_more u i j k le x.lists; before = omega (arith, le, x.before); denotes = has_type_more u i j (tree.Named d.number []) of k le x.denotes }
-  declaration_more i j d (declaration.Variable of k) le x = record { lists = lists_kind_more u i j k le x.lists; variable = x.variable; at = x.at; denotes = has_type_more u i j (denoter_of x.variable.denoter) of k le x.denotes }
+  declaration_more i j d (declaration.Variable of k guarded) le x = record { lists = lists_kind_more u i j k le x.lists; variable = x.variable; at = x.at; denotes = has_type_more u i j (denoter_of x.variable.denoter) of k le x.denotes }
   declaration_more i j d (declaration.Own of k guarded) le x = own_more u es i j d.level d.number of k le x
   declaration_more i j d (declaration.Procedure ps) le x = procedure_more u es i j d.level d.number ps le x
   declaration_more i j d (declaration.Function ps of k) le x = function_more u es i j d.level d.number ps of k le x
@@ -542,7 +542,7 @@ module _ (u : TypedUnit) (es : List Enclosing) where
   declaration_listed : (i : ℕ) (d : Declared) (what : Declaration) (h : Host) → HoldsDeclaration i d what → DeclaresHost what h → Lists u i h
   declaration_listed i d (declaration.Constant k v deep) h x e = kind_listed u i k h x.1 e
   declaration_listed i d (declaration.«Type» of k nodes) h x e = kind_listed u i k h x.lists e
-  declaration_listed i d (declaration.Variable of k) h x e = kind_listed u i k h x.lists e
+  declaration_listed i d (declaration.Variable of k guarded) h x e = kind_listed u i k h x.lists e
   declaration_listed i d (declaration.Own of k guarded) h x e = kind_listed u i k h x.lists e
   declaration_listed i d (declaration.Procedure ps) h x e = absurd e
   declaration_listed i d (declaration.Function ps of k) h x e = kind_listed u i k h x.lists e
@@ -570,7 +570,7 @@ module _ (u : TypedUnit) (e : Enclosing) (es : List Enclosing) where
   declaration_deeper : (i : ℕ) (d : Declared) (what : Declaration) → HoldsDeclaration u es i d what → HoldsDeclaration u (e ∷ es) i d what
   declaration_deeper i d (declaration.Constant k v deep) x = x
   declaration_deeper i d (declaration.«Type» of k nodes) x = x
-  declaration_deeper i d (declaration.Variable of k) x = x
+  declaration_deeper i d (declaration.Variable of k guarded) x = x
   declaration_deeper i d (declaration.Own of k guarded) x = own_deeper u e es i d.level d.number of k x
   declaration_deeper i d (declaration.Procedure ps) x = procedure_deeper u e es i d.level d.number ps x
   declaration_deeper i d (declaration.Function ps of k) x = function_deeper u e es i d.level d.number ps of k x

@@ -153,7 +153,7 @@ module _ (u : TypedUnit) where
             routines = x.routines;
           };
         })
-        (named_enters u (IsStanding i d of k) i name (own_thing b (length b.variables) (declaration.Variable of k)) c (λ under. tt)
+        (named_enters u (IsStanding i d of k) i name (own_thing b (length b.variables) (declaration.Variable of k protection.Unprotected)) c (λ under. tt)
         (λ p ext x. (x.unit, record { lists = p.2; variable = v; at = prefix_last b.variables v u.variables ext.variables; denotes = p.1 })))
 
     -- a variable of the routine

@@ -4,7 +4,7 @@ use Rattle.std.proofs.lemmas.Bool.Decides.{nat_tests}
 use Rattle.std.specs.Prelude.{⊤, if◌then◌else◌}
 use Rattle.std.specs.Str.{bytes_eq}
 use Rattle.ep_scope.specs.Required.{look_up}
-use Rattle.ep_scope.specs.Scopes.{Entries, Region}
+use Rattle.ep_scope.specs.Scopes.{Entries, Region, depth_in}
 use Rattle.ep_scope.specs.declared.thing.Declaration.{Declaration}
 use Rattle.ep_scope.specs.declared.thing.Declaration.TheVariants as declaration
 use Rattle.ep_scope.specs.declared.thing.Declared.{Declared}
@@ -28,7 +28,7 @@ pub record IsNumbered (es : List Enclosing) (count level number : ℕ) : Type 0 
 abbrev pub IsNumberedAs : List Enclosing → ℕ → Declared → Declaration → Type 0
 IsNumberedAs es count d (declaration.Constant k v deep) = ⊤
 IsNumberedAs es count d (declaration.«Type» of h nodes) = ⊤
-IsNumberedAs es count d (declaration.Variable of k) = ⊤
+IsNumberedAs es count d (declaration.Variable of k guarded) = ⊤
 IsNumberedAs es count d (declaration.Own of k guarded) = ⊤
 IsNumberedAs es count d (declaration.Procedure ps) = IsNumbered es count d.level d.number
 IsNumberedAs es count d (declaration.Function ps of h) = IsNumbered es count d.level d.number
@@ -42,10 +42,11 @@ abbrev pub AreThingsOf : List Enclosing → ℕ → Entries → Type 0
 AreThingsOf es count [] = ⊤
 AreThingsOf es count (x ∷ xs) = IsThingOf es count x.1 × AreThingsOf es count xs
 
--- the scopes around, one for each routine that is under way
+-- the scopes around, one for each routine that is under way, and the last one, which is around the block of the unit
 abbrev pub AreAround : List Enclosing → ℕ → List Region → Type 0
-AreAround [] count [] = ⊤
-AreAround [] count (r ∷ rs) = ⊥
+AreAround [] count [] = ⊥
+AreAround [] count (r ∷ []) = ⊤
+AreAround [] count (r ∷ s ∷ rs) = ⊥
 AreAround (e ∷ es) count [] = ⊥
 AreAround (e ∷ es) count (r ∷ rs) = AreThingsOf es count r.entries × AreAround es count rs
 
@@ -136,7 +137,7 @@ numbered_more es few many level number le x = record { level_is = x.level_is; ab
 numbered_as_more : (es : List Enclosing) (few many : ℕ) (d : Declared) (what : Declaration) → few ≤ many → IsNumberedAs es few d what → IsNumberedAs es many d what
 numbered_as_more es few many d (declaration.Constant k v deep) le x = tt
 numbered_as_more es few many d (declaration.«Type» of h nodes) le x = tt
-numbered_as_more es few many d (declaration.Variable of k) le x = tt
+numbered_as_more es few many d (declaration.Variable of k guarded) le x = tt
 numbered_as_more es few many d (declaration.Own of k guarded) le x = tt
 numbered_as_more es few many d (declaration.Procedure ps) le x = numbered_more es few many d.level d.number le x
 numbered_as_more es few many d (declaration.Function ps of h) le x = numbered_more es few many d.level d.number le x
@@ -150,8 +151,9 @@ things_more es few many [] le x = tt
 things_more es few many (y ∷ ys) le x = (thing_more es few many y.1 le x.0, things_more es few many ys le x.1)
 
 around_more : (es : List Enclosing) (few many : ℕ) (rs : List Region) → few ≤ many → AreAround es few rs → AreAround es many rs
-around_more [] few many [] le x = tt
-around_more [] few many (r ∷ rs) le x = x
+around_more [] few many [] le x = x
+around_more [] few many (r ∷ []) le x = tt
+around_more [] few many (r ∷ s ∷ rs) le x = x
 around_more (e ∷ es) few many [] le x = x
 around_more (e ∷ es) few many (r ∷ rs) le x = (things_more es few many r.entries le x.0, around_more es few many rs le x.1)
 
@@ -186,12 +188,17 @@ look_up_numbered es count (y ∷ ys) name x = found es count (bytes_eq name y.0)
 
 -- ---- blocks in blocks
 
--- as many scopes are around as routines are under way
-pub around_length : (es : List Enclosing) (count : ℕ) (rs : List Region) → AreAround es count rs → length rs ≡ length es
-around_length [] count [] x = refl
-around_length [] count (r ∷ rs) x = absurd x
+-- one scope more is around than routines are under way
+around_length : (es : List Enclosing) (count : ℕ) (rs : List Region) → AreAround es count rs → length rs ≡ suc (length es)
+around_length [] count [] x = absurd x
+around_length [] count (r ∷ []) x = refl
+around_length [] count (r ∷ s ∷ rs) x = absurd x
 around_length (e ∷ es) count [] x = absurd x
 around_length (e ∷ es) count (r ∷ rs) x = ap suc (around_length es count rs x.1)
+
+-- so the code there is as deep as these are
+pub around_depth : (es : List Enclosing) (count : ℕ) (inner : Region) (rs : List Region) → AreAround es count rs → depth_in (inner ∷ rs) ≡ length es
+around_depth es count inner rs x = let more = around_length es count rs x in omega (arith, more)
 
 -- the next number is one of the innermost block
 pub floor_below : (es : List Enclosing) (count : ℕ) (bodies : List ℕ) → AreUnderWay es count bodies → floor es ≤ count

@@ -92,7 +92,7 @@ module _ (u : TypedUnit) where
         ((t.denotes.0, subst (λ n. DenotesKind u.types i n k t.denotes.0) (sym (named_is d.number [])) t.denotes.1, t.denotes.2), t.lists);
   }
   declared_names d (declaration.Constant k v deep) b held = tt
-  declared_names d (declaration.Variable of k) b held = tt
+  declared_names d (declaration.Variable of k guarded) b held = tt
   declared_names d (declaration.Own of k guarded) b held = tt
   declared_names d (declaration.Procedure ps) b held = tt
   declared_names d (declaration.Function ps of h) b held = tt

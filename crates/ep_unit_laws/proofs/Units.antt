@@ -138,7 +138,7 @@ module _ (statements : StatementsAreSound) (constants : ConstantsAreSound) (boun
       made.waits
       (record {
         unit = sym is.name;
-        names = record { things = tt; plain = (refl, refl); structures = All-nil (HoldsStructuredType u 0); outer = tt };
+        names = record { things = tt; plain = (refl, refl); structures = All-nil (HoldsStructuredType u 0); outer = (tt, (refl, refl), All-nil (HoldsStructuredType u 0), tt) };
         lists = record { types = All-nil (IsType u.types); constants = All-nil (IsConstant u.types); variables = All-nil (IsVariable u.types) };
         under_way = record { parameters = All-nil (HoldsParameter u 0); result = tt; owned = All-nil (IsVariable u.types); headed = tt; results = tt };
         routines = λ n r at. cc;
@@ -150,7 +150,7 @@ module _ (statements : StatementsAreSound) (constants : ConstantsAreSound) (boun
       let held = block_held p u t.form made few t.unit in
       let le : length t.form.block.types ≤ length u.types = omega (arith, ap length t.unit.types) in
       let auxiliaries : AreBehind (own u) u.types (locals_of t.form.block) (auxiliaries_of t.form.statements) =
-      unit_behind u t.form.block t.form.statements held.unit t.unit.variables t.unit.start (none_under_way p u t.form made few) in
+      unit_behind u t.form.block t.form.statements held.unit t.unit.variables t.unit.start t.unit.stop (none_under_way p u t.form made few) in
       record {
         interface = t.unit.interface;
         types = All-same (IsType u.types) u.types t.form.block.types t.unit.types held.types;
@@ -167,9 +167,9 @@ module _ (statements : StatementsAreSound) (constants : ConstantsAreSound) (boun
             (for_in_auxiliaries (own u) u.types (locals_of t.form.block) t.form.statements auxiliaries (scopes_of t.form.block) p.body (bounded_there (context_of t.form.block p.body) p.body t.form.statements made.statements))
             (with_auxiliaries (own u) u.types (locals_of t.form.block) t.form.statements auxiliaries (type_values u) (structures_of (scopes_of t.form.block)) (λ of. refl)
             (structures_in_view u t.form.block.own.enclosing (length t.form.block.types) (scopes_of t.form.block) le (holds_scopes u (length t.form.block.types) t.form.block held))
-            (unit_unmade u t.form.block t.form.statements held.unit t.unit.variables t.unit.start (none_under_way p u t.form made few)) (scopes_of t.form.block) p.body
+            (unit_unmade u t.form.block t.form.statements held.unit t.unit.variables t.unit.start t.unit.stop (none_under_way p u t.form made few)) (scopes_of t.form.block) p.body
             (bounded_there (context_of t.form.block p.body) p.body t.form.statements made.statements) (members_there (context_of t.form.block p.body) p.body t.form.statements made.statements)));
-        stop = t.unit.stop;
+        stop = subst (IsStmt (own u)) (sym t.unit.stop) tt;
       }
 
   pub units_valid : UnitsAreValid

@@ -1,6 +1,7 @@
 -- The machine follows constants: what is given is the constant, and its value is on top.
 use Rattle.std.proofs.Common.{◌≡◌, ℕ, ℤ, pos, zero, suc, ◌+◌, ◌*◌, ◌-◌, ◌≤◌, List, [], ◌∷◌, length, refl, ap, subst, arith}
 use Rattle.ep_simulation.specs.Follows.{After, Facts, Fragment, Inside, IsNotLeft, Lands, Operands, Point, point, state_at}
+use Rattle.ep_simulation.specs.Layouts.{Layout}
 use Rattle.ep_simulation.specs.Matching.{Injection, MachineMemory, Slots}
 use Rattle.ep_object.specs.Operands.{Operand, Set, Word}
 use Rattle.ep_object.specs.Placing.{Placement, CodeStands}
@@ -24,7 +25,6 @@ use Rattle.ep_meaning.specs.Steps.{Computation, give, spend}
 use Rattle.ep_meaning.specs.Steps as meaning
 use Rattle.ep_typed.specs.Trees.{Constant, SetConstant}
 use Rattle.ep_values.specs.TypeValues.{set_size}
-use Rattle.ep_meaning.specs.Valid.{Declarations}
 use Rattle.ep_gen_code.specs.Instructions.{bare, members_code, push}
 use Rattle.ep_gen_code.proofs.public.Waiting.{row_waits}
 
@@ -36,13 +36,13 @@ one_by_one steps c zero s = refl
 one_by_one steps c (suc m) s = refl
 
 -- what is followed of a computation is followed of one that does the same
-fragment_same : {A : Type 0} {declared : Declarations} {G : Image} {Here : Facts} {n : ℕ} {from : Point} {c other : Computation A} {to d : ℕ} {P : A → After} {e : A → ℕ}
-    → ((m : ℕ) (s : meaning.State) → c m s ≡ other m s) → Fragment declared G Here n from c to P d e → Fragment declared G Here n from other to P d e
-fragment_same {declared = declared} {G = G} {Here = Here} {from = from} {to = to} {d = d} {P = P} {e = e} same h =
+fragment_same : {A : Type 0} {layout : Layout} {G : Image} {Here : Facts} {n : ℕ} {from : Point} {c other : Computation A} {to d : ℕ} {P : A → After} {e : A → ℕ}
+    → ((m : ℕ) (s : meaning.State) → c m s ≡ other m s) → Fragment layout G Here n from c to P d e → Fragment layout G Here n from other to P d e
+fragment_same {layout = layout} {G = G} {Here = Here} {from = from} {to = to} {d = d} {P = P} {e = e} same h =
     record {
       by = λ s matches here.
           let z = h.by s matches here in
-          record { by = λ m l. subst (λ o. Met (λ k. IsNotLeft from.memory.frames k.frames) G (state_at from s.trace) m (λ a. Lands declared G Here to (P a)) d e o) (same m s) (z.by m l) };
+          record { by = λ m l. subst (λ o. Met (λ k. IsNotLeft from.memory.frames k.frames) G (state_at from s.trace) m (λ a. Lands layout G Here to (P a)) d e o) (same m s) (z.by m l) };
     }
 
 -- ---- constants
@@ -51,11 +51,11 @@ fragment_same {declared = declared} {G = G} {Here = Here} {from = from} {to = to
 abbrev pub GivenOnTop : List Operand → Result → Operand → Result → Operands
 GivenOnTop below r o given injection memory operands = (given ≡ r) × (operands ≡ o ∷ below)
 
-module _ {declared : Declarations} {G : Image} {untouched : Slots} {Here : Facts} (ps : List Placement) (p : Placement) (references : List Reference) (call : Handler) (g : ℕ) (unit : List ℕ) (line n : ℕ) where
+module _ {layout : Layout} {G : Image} {untouched : Slots} {Here : Facts} (ps : List Placement) (p : Placement) (references : List Reference) (call : Handler) (g : ℕ) (unit : List ℕ) (line n : ℕ) where
   -- a constant of an ordinal type, by `Push`
   pub word_follows : (z : ℤ) (at : ℕ) → CodeStands G ps p references at (push line z ∷ [])
       → (injection : Injection) (memory : MachineMemory) (below : List Operand) (d : ℕ)
-      → Fragment declared G Here n (point injection memory (p.instructions.before + at) below) (eval call g unit line (Constant z)) (p.instructions.before + (at + 1)) (λ r. Inside untouched injection memory (GivenOnTop below (result.Number z) (Word z) r)) d (λ r. d + 8 + weight_of r)
+      → Fragment layout G Here n (point injection memory (p.instructions.before + at) below) (eval call g unit line (Constant z)) (p.instructions.before + (at + 1)) (λ r. Inside untouched injection memory (GivenOnTop below (result.Number z) (Word z) r)) d (λ r. d + 8 + weight_of r)
   word_follows z at stands injection memory below d =
       fragment_less {n = suc n} (omega arith) (fragment_to (omega arith) (fragment_one {n = n} {d1 = d + 8} (λ s matches. push_pushes G (p.instructions.before + at) line below z stands.0 memory s.trace) (omega arith)
       (fragment_give (omega arith) (inside_here (refl, refl)))))
@@ -64,7 +64,7 @@ module _ {declared : Declarations} {G : Image} {untouched : Slots} {Here : Facts
   -- and what is left of these behind the last member costs credit.
   members_follow : (all ms ns : List ℕ) (steps at : ℕ) → AreOrdinals ms → with_members ms ns ≡ all → CodeStands G ps p references at (members_code line ms)
       → (injection : Injection) (memory : MachineMemory) (below : List Operand) (c e : ℕ) → e + 2 * length ms ≤ c + 63 * steps → e + steps ≤ c
-      → Fragment declared G Here (steps + n) (point injection memory (p.instructions.before + at) (Set ns ∷ below)) (spend steps (give (result.Members all))) (p.instructions.before + (at + length (members_code line ms))) (λ r. Inside untouched injection memory (GivenOnTop below (result.Members all) (Set all) r)) c (λ r. e + weight_of r)
+      → Fragment layout G Here (steps + n) (point injection memory (p.instructions.before + at) (Set ns ∷ below)) (spend steps (give (result.Members all))) (p.instructions.before + (at + length (members_code line ms))) (λ r. Inside untouched injection memory (GivenOnTop below (result.Members all) (Set all) r)) c (λ r. e + weight_of r)
   members_follow all [] ns steps at ordinals is stands injection memory below c e spent left =
       fragment_to {to = p.instructions.before + at} (omega arith)
       (fragment_moves {n = n} steps {d1 = e} (omega (arith, left)) (fragment_give (omega arith) (inside_here (refl, ap (λ l. Set l ∷ below) is))))
@@ -86,7 +86,7 @@ module _ {declared : Declarations} {G : Image} {untouched : Slots} {Here : Facts
   -- a constant that is a set
   pub set_follows : (ms : List ℕ) → IsSet ms → (at : ℕ) → CodeStands G ps p references at (bare line op.SET_NONE ∷ members_code line ms)
       → (injection : Injection) (memory : MachineMemory) (below : List Operand) (d : ℕ)
-      → Fragment declared G Here n (point injection memory (p.instructions.before + at) below) (eval call g unit line (SetConstant ms)) (p.instructions.before + (at + 1 + length (members_code line ms))) (λ r. Inside untouched injection memory (GivenOnTop below (result.Members ms) (Set ms) r)) d (λ r. d + 8 + weight_of r)
+      → Fragment layout G Here n (point injection memory (p.instructions.before + at) below) (eval call g unit line (SetConstant ms)) (p.instructions.before + (at + 1 + length (members_code line ms))) (λ r. Inside untouched injection memory (GivenOnTop below (result.Members ms) (Set ms) r)) d (λ r. d + 8 + weight_of r)
   set_follows ms is_set at stands injection memory below d =
       let second : p.instructions.before + at + 1 ≡ p.instructions.before + (at + 1) = omega arith in
       let many : length ms ≤ member_limit = few_members ms is_set in

@@ -15,6 +15,7 @@ use Rattle.ep_simulation.proofs.public.matching.Names.{callable}
 use Rattle.ep_simulation.proofs.public.rows.Rows.{jump_jumps}
 use Rattle.ep_simulation.specs.Activations.{KnowsNames}
 use Rattle.ep_simulation.specs.Follows.{Facts, Lasts, Fragment, SameRoutine, Inside, Operands, OnTop, point}
+use Rattle.ep_simulation.specs.Layouts.{Layout}
 use Rattle.ep_simulation.specs.Matching.{MachineMemory, Injection, Slots, AreAmong, Grown, kept_slots}
 use Rattle.ep_object.specs.Operands.{Operand}
 use Rattle.ep_object.specs.Placing.{Placement, CodeStands}
@@ -67,12 +68,12 @@ steady_one call g unit [] = steady_cut
 steady_one call g unit (r ∷ []) = steady_spend (suc (weight_of r)) (steady_give r)
 steady_one call g unit (r ∷ s ∷ rs) = steady_cut
 
-module _ {declared : Declarations} {G : Image} {untouched : Slots} {Here : Facts} (ps : List Placement) (p : Placement) (references : List Reference)
+module _ {layout : Layout} {G : Image} {untouched : Slots} {Here : Facts} (ps : List Placement) (p : Placement) (references : List Reference)
     (room : p.instructions.before + p.instructions.own ≤ length G.instructions) where
   -- The jump behind a call leads to the next place, and has the tick for the step that is spent when the call is done.
   pub call_ends : {A : Type 0} {Then : A → Operands} {e : A → ℕ} (n : ℕ) (a : A) (line at next : ℕ) → CodeStands G ps p references at (instr op.JUMP (pos next) 0 line ∷ []) → next < p.instructions.own
       → (injection : Injection) (memory : MachineMemory) (operands : List Operand) (d : ℕ) → e a ≤ d + 63 → Then a injection memory operands
-      → Fragment declared G Here n (point injection memory (p.instructions.before + at) operands) (spend 1 (give a)) (p.instructions.before + next) (λ b. Inside untouched injection memory (Then b)) d e
+      → Fragment layout G Here n (point injection memory (p.instructions.before + at) operands) (spend 1 (give a)) (p.instructions.before + next) (λ b. Inside untouched injection memory (Then b)) d e
   call_ends {e = e} n a line at next stands inside injection memory operands d enough top =
       fragment_less {n = suc n} (omega arith) (fragment_one {d1 = e a}
       (λ s matches. jump_jumps G (p.instructions.before + at) line operands (p.instructions.before + next) (omega (arith, room, inside)) (jump_has G ps p references line at next [] inside stands) memory s.trace) enough (fragment_give (omega arith) (inside_here top)))
@@ -80,37 +81,37 @@ module _ {declared : Declarations} {G : Image} {untouched : Slots} {Here : Facts
   -- The same behind a function, whose result has a weight.
   result_ends : {Then : Result → Operands} (n : ℕ) (r : Result) (line at next : ℕ) → CodeStands G ps p references at (instr op.JUMP (pos next) 0 line ∷ []) → next < p.instructions.own
       → (injection : Injection) (memory : MachineMemory) (operands : List Operand) (d : ℕ) → Then r injection memory operands
-      → Fragment declared G Here n (point injection memory (p.instructions.before + at) operands) (spend (suc (weight_of r)) (give r)) (p.instructions.before + next) (λ b. Inside untouched injection memory (Then b)) (d + 2 * weight_of r) (λ b. d + 8 + weight_of b)
+      → Fragment layout G Here n (point injection memory (p.instructions.before + at) operands) (spend (suc (weight_of r)) (give r)) (p.instructions.before + next) (λ b. Inside untouched injection memory (Then b)) (d + 2 * weight_of r) (λ b. d + 8 + weight_of b)
   result_ends n r line at next stands inside injection memory operands d top =
       fragment_less {n = suc n} (omega arith) (fragment_paid {d1 = d + 63 + weight_of r} {weight = 0} {w = weight_of r}
       (λ s matches. jump_jumps G (p.instructions.before + at) line operands (p.instructions.before + next) (omega (arith, room, inside)) (jump_has G ps p references line at next [] inside stands) memory s.trace) (omega arith) (omega arith) (omega arith) (fragment_give (omega arith) (inside_here top)))
 
-  module _ (knows : KnowsNames declared Here) (types_are : declared.types declared.routine_unit ≡ declared.routine_types) (lasts : Lasts untouched Here) (among : AreAmong untouched (kept_slots declared G)) (call : Handler) (steady_call : IsSteadyHandler call) (g : ℕ) (unit : List ℕ) (n : ℕ) where
+  module _ {declared : Declarations} (knows : KnowsNames declared Here) (types_are : declared.types declared.routine_unit ≡ declared.routine_types) (lasts : Lasts untouched Here) (among : AreAmong untouched (kept_slots layout G)) (call : Handler) (steady_call : IsSteadyHandler call) (g : ℕ) (unit : List ℕ) (n : ℕ) where
     -- the call, where the arguments are on the operands, and what comes after it
-    call_passes : {B : Type 0} {Then : B → Operands} {e : B → ℕ} {to : ℕ} {rest : List Result → Computation B} (line at : ℕ) (callee : Callee) (k : ℕ) (r : RoutineEntry) (keeps : RoutineKeeps declared G ps call n callee.unit callee.number r)
+    call_passes : {B : Type 0} {Then : B → Operands} {e : B → ℕ} {to : ℕ} {rest : List Result → Computation B} (line at : ℕ) (callee : Callee) (k : ℕ) (r : RoutineEntry) (keeps : RoutineKeeps layout G ps call n (declared.types callee.unit) (declared.around callee.unit callee.number) callee.unit callee.number r)
         → IsDeclaredUp declared callee callee.levels → slice_get references k ≡ Some (reference callee.unit callee.number)
         → (is : List Instr) → CodeStands G ps p references at (instr op.CALL (pos k) callee.levels line ∷ is)
         → (injection : Injection) (memory : MachineMemory) (below operands : List Operand) (xs : List Argument) → AreArguments injection memory keeps.formals xs below operands
         → (d : ℕ) → unit_in G memory.frames ≡ unit → ((rs : List Result) → Steady (rest rs))
-        → ((rs : List Result) (longer : Injection) (after : MachineMemory) (pushed : List Operand) → Grown untouched injection memory longer after → SameRoutine untouched memory.frames after.frames → ResultsOnTop keeps.results below rs longer after pushed → Fragment declared G Here n (point longer after (p.instructions.before + (at + 1)) pushed) (rest rs) to (λ b. Inside untouched longer after (Then b)) (d + credit_of rs) e)
-        → Fragment declared G Here n (point injection memory (p.instructions.before + at) operands) (bind (call.routine unit line callee xs) rest) to (λ b. Inside untouched injection memory (Then b)) d e
+        → ((rs : List Result) (longer : Injection) (after : MachineMemory) (pushed : List Operand) → Grown untouched injection memory longer after → SameRoutine untouched memory.frames after.frames → ResultsOnTop keeps.results below rs longer after pushed → Fragment layout G Here n (point longer after (p.instructions.before + (at + 1)) pushed) (rest rs) to (λ b. Inside untouched longer after (Then b)) (d + credit_of rs) e)
+        → Fragment layout G Here n (point injection memory (p.instructions.before + at) operands) (bind (call.routine unit line callee xs) rest) to (λ b. Inside untouched injection memory (Then b)) d e
     call_passes line at callee k r keeps is_declared named is stands injection memory below operands xs are d home steady behind =
         let place : ℕ = p.instructions.before + at in
         let calls : CallsAt G place keeps.routine callee.levels line =
         record { instruction = instr op.CALL (pos keeps.routine) callee.levels line; stands = stands.0 ∙ ap (λ i. Some i) (rw named (keeps.placed (instr op.CALL (pos k) callee.levels line))); is_call = refl; names = refl; parent = refl; at_line = refl } in
-        let called : Fragment declared G Here n (point injection memory place operands) (call.routine unit line callee xs) (place + 1) (λ rs. Inside untouched injection memory (ResultsOnTop keeps.results below rs)) 0 credit_of =
-        subst (λ u. Fragment declared G Here n (point injection memory place operands) (call.routine u line callee xs) (place + 1) (λ rs. Inside untouched injection memory (ResultsOnTop keeps.results below rs)) 0 credit_of) home
+        let called : Fragment layout G Here n (point injection memory place operands) (call.routine unit line callee xs) (place + 1) (λ rs. Inside untouched injection memory (ResultsOnTop keeps.results below rs)) 0 credit_of =
+        subst (λ u. Fragment layout G Here n (point injection memory place operands) (call.routine u line callee xs) (place + 1) (λ rs. Inside untouched injection memory (ResultsOnTop keeps.results below rs)) 0 credit_of) home
         (call_follows keeps.promise lasts among place callee.levels line calls injection memory (λ s held. callable (knows injection s memory held) types_are callee callee.levels is_declared) below operands xs are) in
         inside_bind {e = λ rs. d + credit_of rs} steady (fragment_to {to2 = p.instructions.before + (at + 1)} (omega arith) (fragment_credit {d = 0} {e = credit_of} (omega arith) (λ rs. omega arith) called)) behind
 
     -- the actual parameters, the call, and what comes after it
-    pub passed_then : {B : Type 0} {Then : B → Operands} {e : B → ℕ} {to : ℕ} (line at : ℕ) (callee : Callee) (k : ℕ) (given : Actuals) (xs : List Instr) (r : RoutineEntry) (keeps : RoutineKeeps declared G ps call n callee.unit callee.number r)
-        → AreArgumentsFollowed declared G untouched Here p call g unit n keeps.formals given line at xs → IsDeclaredUp declared callee callee.levels → slice_get references k ≡ Some (reference callee.unit callee.number)
+    pub passed_then : {B : Type 0} {Then : B → Operands} {e : B → ℕ} {to : ℕ} (line at : ℕ) (callee : Callee) (k : ℕ) (given : Actuals) (xs : List Instr) (r : RoutineEntry) (keeps : RoutineKeeps layout G ps call n (declared.types callee.unit) (declared.around callee.unit callee.number) callee.unit callee.number r)
+        → AreArgumentsFollowed layout G untouched Here p call g unit n keeps.formals given line at xs → IsDeclaredUp declared callee callee.levels → slice_get references k ≡ Some (reference callee.unit callee.number)
         → (is : List Instr) → CodeStands G ps p references at (xs ++ instr op.CALL (pos k) callee.levels line ∷ is)
         → (injection : Injection) (memory : MachineMemory) (below : List Operand) (d : ℕ) → least_credit ≤ d → unit_in G memory.frames ≡ unit
         → (rest : List Result → Computation B) → ((rs : List Result) → Steady (rest rs))
-        → ((rs : List Result) (longer : Injection) (after : MachineMemory) (pushed : List Operand) → Grown untouched injection memory longer after → SameRoutine untouched memory.frames after.frames → ResultsOnTop keeps.results below rs longer after pushed → Fragment declared G Here n (point longer after (p.instructions.before + (at + length xs + 1)) pushed) (rest rs) to (λ b. Inside untouched longer after (Then b)) (d + credit_of rs) e)
-        → Fragment declared G Here n (point injection memory (p.instructions.before + at) below) (bind (arguments call g unit line given) (λ vs. bind (call.routine unit line callee vs) rest)) to (λ b. Inside untouched injection memory (Then b)) d e
+        → ((rs : List Result) (longer : Injection) (after : MachineMemory) (pushed : List Operand) → Grown untouched injection memory longer after → SameRoutine untouched memory.frames after.frames → ResultsOnTop keeps.results below rs longer after pushed → Fragment layout G Here n (point longer after (p.instructions.before + (at + length xs + 1)) pushed) (rest rs) to (λ b. Inside untouched longer after (Then b)) (d + credit_of rs) e)
+        → Fragment layout G Here n (point injection memory (p.instructions.before + at) below) (bind (arguments call g unit line given) (λ vs. bind (call.routine unit line callee vs) rest)) to (λ b. Inside untouched injection memory (Then b)) d e
     passed_then line at callee k given xs r keeps follows is_declared named is stands injection memory below d enough home rest steady behind =
         inside_bind {First = λ values last final operands. AreArguments last final keeps.formals values below operands} {e = λ values. d} (λ values. steady_bind (steady_call.routine unit line callee values) steady)
         (follows injection memory below d enough home)
@@ -119,10 +120,10 @@ module _ {declared : Declarations} {G : Image} {untouched : Slots} {Here : Facts
         (λ rs last final pushed grown2 routine2 top. behind rs last final pushed (grown_trans grown grown2) (same_routine-trans routine routine2) top))
 
     -- a function designator
-    pub function_follows : (kind : Kind) (line at : ℕ) (callee : Callee) (k : ℕ) (given : Actuals) (xs : List Instr) (r : RoutineEntry) (keeps : RoutineKeeps declared G ps call n callee.unit callee.number r) → IsFunction (declared.types callee.unit) kind r
-        → AreArgumentsFollowed declared G untouched Here p call g unit n keeps.formals given line at xs → IsDeclaredUp declared callee callee.levels → slice_get references k ≡ Some (reference callee.unit callee.number)
+    pub function_follows : (kind : Kind) (line at : ℕ) (callee : Callee) (k : ℕ) (given : Actuals) (xs : List Instr) (r : RoutineEntry) (keeps : RoutineKeeps layout G ps call n (declared.types callee.unit) (declared.around callee.unit callee.number) callee.unit callee.number r) → IsFunction (declared.types callee.unit) kind r
+        → AreArgumentsFollowed layout G untouched Here p call g unit n keeps.formals given line at xs → IsDeclaredUp declared callee callee.levels → slice_get references k ≡ Some (reference callee.unit callee.number)
         → CodeStands G ps p references at (xs ++ instr op.CALL (pos k) callee.levels line ∷ instr op.JUMP (pos (at + length xs + 2)) 0 line ∷ []) → at + length xs + 2 < p.instructions.own
-        → IsFollowed declared G untouched Here p call g unit n kind (Function callee given) line at (xs ++ instr op.CALL (pos k) callee.levels line ∷ instr op.JUMP (pos (at + length xs + 2)) 0 line ∷ [])
+        → IsFollowed layout G untouched Here p call g unit n kind (Function callee given) line at (xs ++ instr op.CALL (pos k) callee.levels line ∷ instr op.JUMP (pos (at + length xs + 2)) 0 line ∷ [])
     function_follows kind line at callee k given xs r keeps function follows is_declared named stands inside injection memory below d enough home =
         let jump : Instr = instr op.JUMP (pos (at + length xs + 2)) 0 line in
         let behind : CodeStands G ps p references (at + length xs) (instr op.CALL (pos k) callee.levels line ∷ jump ∷ []) = code_back G ps p references at xs (instr op.CALL (pos k) callee.levels line ∷ jump ∷ []) stands in
@@ -132,5 +133,5 @@ module _ {declared : Declarations} {G : Image} {untouched : Slots} {Here : Facts
         (λ rs longer after pushed grown routine top.
         let value : GivesValue kind below pushed rs longer after = gives_value kind below pushed rs longer after (subst (λ ks. ResultsOnTop ks below rs longer after pushed) kinds top) in
         let one : List Result = value.result ∷ [] in
-        subst (λ x. Fragment declared G Here n (point longer after (p.instructions.before + (at + length xs + 1)) pushed) (one_result call g unit x) (p.instructions.before + (at + length xs + 2)) (λ a. Inside untouched longer after (OnTop kind below a)) (d + credit_of x) (λ a. d + 8 + weight_of a)) (sym value.gives)
+        subst (λ x. Fragment layout G Here n (point longer after (p.instructions.before + (at + length xs + 1)) pushed) (one_result call g unit x) (p.instructions.before + (at + length xs + 2)) (λ a. Inside untouched longer after (OnTop kind below a)) (d + credit_of x) (λ a. d + 8 + weight_of a)) (sym value.gives)
         (fragment_credit {d = d + 2 * weight_of value.result} (omega arith) (λ a. omega arith) (result_ends n value.result line (at + length xs + 1) (at + length xs + 2) behind.1 inside longer after pushed d value.top))))

@@ -10,6 +10,7 @@ use Rattle.ep_gen_expr.proofs.public.Answering.{IsFollowed}
 use Rattle.ep_gen_expr.proofs.public.StructuredValues.{IsElementFollowed}
 use Rattle.ep_gen_expr.specs.ExprCode.{first_code, range_code, ranges_code}
 use Rattle.ep_simulation.specs.Follows.{Bare, Facts, Follows, Fragment, HasGrown, Inside, IsNotLeft, Lands, Lasts, OnTop, PlaceOnTop, point}
+use Rattle.ep_simulation.specs.Layouts.{Layout}
 use Rattle.ep_simulation.specs.Matching.{Injection, IsLike, IsSpot, Matches, MachineMemory, Slots, at as standing, every_slot}
 use Rattle.ep_object.specs.Operands.{Operand, Word}
 use Rattle.ep_object.specs.Operands as operand
@@ -60,25 +61,25 @@ pub holds_grown : {untouched : Slots} {Here : Facts} {injection longer : Injecti
 holds_grown {injection = injection} {longer = longer} {s = s} {t = t} {memory = memory} {after = after} lasts since here =
     lasts.by injection longer s t memory after (record { grown = grown_fewer among_every since.grown; routine = same_routine-fewer among_every since.routine; own = since.own; calls = since.calls }) here
 
-module _ (declared : Declarations) (G : Image) (untouched : Slots) (Here : Facts) (lasts : Lasts untouched Here) (ps : List Placement) (p : Placement) (references : List Reference) (call : Handler) (steady_call : IsSteadyHandler call) (g : ℕ) (unit : List ℕ) (line n : ℕ)
-    (fill : FillStands G ps unit (length (declared.routines unit))) (fill_referred : IsFillReferred declared unit references)
+module _ (declared : Declarations) (layout : Layout) (G : Image) (untouched : Slots) (Here : Facts) (lasts : Lasts untouched Here) (ps : List Placement) (p : Placement) (references : List Reference) (call : Handler) (steady_call : IsSteadyHandler call) (g : ℕ) (unit : List ℕ) (line n : ℕ)
+    (fill : FillStands G ps unit (declared.first_private unit)) (fill_referred : IsFillReferred declared unit references)
     (low high : ℤ) (small : IsTrue (is_integer low)) (large : IsTrue (is_integer high)) (of : TypeValue) (k : Kind) (of_kind : IsTypeOfKind k of) where
   -- The components with the indexes of ranges get the value of the one with an index that has it.
   ranges_follow : (from : ℤ) (f : ℕ) → component_at low high from ≡ Some f → (a : Component) (q : PlaceOf) (rest : List Operand) (r : Result) → suits (Some of) r ≡ true → given_by (Some of) (value_of r) ≡ Some r
       → (at : ℕ) (ranges : List CaseRange) → All (IsRangeWithin low high) ranges → CodeStands G ps p references at (ranges_code line from ranges)
       → (injection : Injection) (memory : MachineMemory) (o : Operand) → IsValueOf injection memory k r o → IsSpot injection memory.types a q → IsLike memory.types q.type_number (type.Array low high of)
-      → (s : meaning.State) → Matches declared G injection s memory → Here injection s memory → has_ended a.allocation s ≡ false → value_at (component a f) s ≡ value_of r → (d : ℕ) → 5 ≤ d
-      → Follows (λ l. IsNotLeft memory.frames l.frames) G n (standing (p.instructions.before + at) (operand.Place q ∷ rest) memory s.trace) s (fills_all a r ranges) (λ u. Lands declared G Here (p.instructions.before + (at + length (ranges_code line from ranges))) (Inside untouched injection memory (Bare (operand.Place q ∷ rest) u))) d (λ u. d)
+      → (s : meaning.State) → Matches layout G injection s memory → Here injection s memory → has_ended a.allocation s ≡ false → value_at (component a f) s ≡ value_of r → (d : ℕ) → 5 ≤ d
+      → Follows (λ l. IsNotLeft memory.frames l.frames) G n (standing (p.instructions.before + at) (operand.Place q ∷ rest) memory s.trace) s (fills_all a r ranges) (λ u. Lands layout G Here (p.instructions.before + (at + length (ranges_code line from ranges))) (Inside untouched injection memory (Bare (operand.Place q ∷ rest) u))) d (λ u. d)
   ranges_follow from f at_from a q rest r suited gives at [] valid stands injection memory o value spot described s matches here living has d enough =
       follows_give tt (omega arith) (record { injection = injection; memory = memory; operands = operand.Place q ∷ rest; is = ap (λ m. standing m (operand.Place q ∷ rest) memory s.trace) {x = p.instructions.before + at} {y = p.instructions.before + (at + 0)} (omega arith); matches = matches; here = here; post = inside_here refl })
   ranges_follow from f at_from a q rest r suited gives at (x ∷ more) valid stands injection memory o value spot described s matches here living has d enough =
-      follows_bind {P = λ u. FilledAt declared G a f (value_of r) injection s memory (to_call + 1) (operand.Place q ∷ rest)} {e = λ u. 20 + (d - 5)} (λ u. steady_fills_all a r more)
+      follows_bind {P = λ u. FilledAt layout G a f (value_of r) injection s memory (to_call + 1) (operand.Place q ∷ rest)} {e = λ u. 20 + (d - 5)} (λ u. steady_fills_all a r more)
       (follows_credit {d = 1 + (1 + (1 + (1 + (1 + (d - 5)))))} {e = λ u. 20 + (d - 5)} (omega (arith, enough)) (λ u. omega (arith, enough))
       (follows_waits (not_left-here memory.frames) (outcome_at G (bare line op.DUP) to_double (operand.Place q ∷ rest) memory s.trace front.0)
       (follows_waits (not_left-here memory.frames) (push_pushes G (to_double + 1) line (operand.Place q ∷ operand.Place q ∷ rest) from first_push memory s.trace)
       (follows_waits (not_left-here memory.frames) (push_pushes G (to_double + 1 + 1) line (Word from ∷ operand.Place q ∷ operand.Place q ∷ rest) x.low second_push memory s.trace)
       (follows_waits (not_left-here memory.frames) (push_pushes G (to_double + 1 + 1 + 1) line (Word x.low ∷ Word from ∷ operand.Place q ∷ operand.Place q ∷ rest) x.high third_push memory s.trace)
-      (fills_follow declared G fill.routine fill.is to_call line calls low high of k of_kind a q from x.low x.high f at_from r suited gives injection memory o value spot described (operand.Place q ∷ rest) s matches living has n (d - 5) inside.0 inside.1 inside.2 inside.3 inside.4 first_fits last_fits))))))
+      (fills_follow layout G fill.routine fill.is to_call line calls low high of k of_kind a q from x.low x.high f at_from r suited gives injection memory o value spot described (operand.Place q ∷ rest) s matches living has n (d - 5) inside.0 inside.1 inside.2 inside.3 inside.4 first_fits last_fits))))))
       (λ u t l filled_at.
       let filled = filled_at.filled in
       let since = filled.since in
@@ -142,7 +143,7 @@ module _ (declared : Declarations) (G : Image) (untouched : Slots) (Here : Facts
 
   -- what `Store` leads to
   pub record Stored (injection : Injection) (memory : MachineMemory) (a : Component) (f : ℕ) (r : Result) (below : List Operand) (place : ℕ) (t : meaning.State) (l : State) : Type 0 where
-    pub lands : Lands declared G Here place (Inside untouched injection memory (Bare below tt)) t l
+    pub lands : Lands layout G Here place (Inside untouched injection memory (Bare below tt)) t l
     pub living : has_ended a.allocation t ≡ false
     pub has : value_at (component a f) t ≡ value_of r
     pub suited : suits (Some of) r ≡ true
@@ -150,20 +151,20 @@ module _ (declared : Declarations) (G : Image) (untouched : Slots) (Here : Facts
   -- it is given the value, which suits it then
   pub first_given : (a : Component) (f : ℕ) (q : PlaceOf) (below : List Operand) (r : Result) (o : Operand) (place : ℕ) → slice_get G.instructions place ≡ Some (bare line op.STORE)
       → (injection : Injection) (memory : MachineMemory) → IsValueOf injection memory k r o → unit_in G memory.frames ≡ unit → IsSpot injection memory.types (component a f) q → IsLike memory.types q.type_number of
-      → (s : meaning.State) → Matches declared G injection s memory → Here injection s memory → (d : ℕ)
+      → (s : meaning.State) → Matches layout G injection s memory → Here injection s memory → (d : ℕ)
       → Follows (λ l. IsNotLeft memory.frames l.frames) G n (standing place (o ∷ operand.Place q ∷ below) memory s.trace) s (given call g unit line (component a f) r) (λ u. Stored injection memory a f r below (place + 1)) (d + 1 + weight_of r) (λ u. d)
   first_given a f q below r o place has injection memory value home spot described s matches here d =
       follows_tested (has_ended a.allocation)
-      (λ ended. let x = subst (λ u. FailsWith G (standing place (o ∷ operand.Place q ∷ below) memory s.trace) (weight_of r) run_error.DISPOSED u line s) home (value_ended declared G place line below k of r o (component a f) q (may_take k of of_kind) has injection memory value spot described s matches ended) in follows_stop (not_left-here memory.frames) x.fails (omega arith))
+      (λ ended. let x = subst (λ u. FailsWith G (standing place (o ∷ operand.Place q ∷ below) memory s.trace) (weight_of r) run_error.DISPOSED u line s) home (value_ended layout G place line below k of r o (component a f) q (may_take k of of_kind) has injection memory value spot described s matches ended) in follows_stop (not_left-here memory.frames) x.fails (omega arith))
       (λ living. follows_tested (λ t. suits (type_at (component a f) t) r)
       (λ fits.
-      let z = value_does declared G place line below k of r o (component a f) q (may_take k of of_kind) has injection memory value spot described s matches living lasts here fits in
+      let z = value_does layout G place line below k of r o (component a f) q (may_take k of of_kind) has injection memory value spot described s matches living lasts here fits in
       follows_less {n = suc n} (omega arith) (follows_paid {v = weight_of r} {w = weight_of r} {d1 = d} (not_left-here memory.frames) refl z.does (omega arith) (omega arith) (omega arith)
       (follows_changed (assigned (component a f) (value_of r)) (omega arith) (stored s living fits matches (landed z)))))
-      (λ fits. let x = subst (λ u. FailsWith G (standing place (o ∷ operand.Place q ∷ below) memory s.trace) (weight_of r) (misfit r) u line s) home (value_fails declared G place line below k of r o (component a f) q (may_take k of of_kind) has injection memory value spot described s matches living fits) in follows_stop (not_left-here memory.frames) x.fails (omega arith)))
+      (λ fits. let x = subst (λ u. FailsWith G (standing place (o ∷ operand.Place q ∷ below) memory s.trace) (weight_of r) (misfit r) u line s) home (value_fails layout G place line below k of r o (component a f) q (may_take k of of_kind) has injection memory value spot described s matches living fits) in follows_stop (not_left-here memory.frames) x.fails (omega arith)))
     where
-      stored : (s : meaning.State) → has_ended a.allocation s ≡ false → suits (type_at (component a f) s) r ≡ true → Matches declared G injection s memory → {l : State}
-          → Lands declared G Here (place + 1) (Inside untouched injection memory (Bare below tt)) (assigned (component a f) (value_of r) s) l
+      stored : (s : meaning.State) → has_ended a.allocation s ≡ false → suits (type_at (component a f) s) r ≡ true → Matches layout G injection s memory → {l : State}
+          → Lands layout G Here (place + 1) (Inside untouched injection memory (Bare below tt)) (assigned (component a f) (value_of r) s) l
           → Stored injection memory a f r below (place + 1) (assigned (component a f) (value_of r) s) l
       stored s living fits matches lands =
           let x = place_stands matches spot living in
@@ -171,10 +172,10 @@ module _ (declared : Declarations) (G : Image) (untouched : Slots) (Here : Facts
             lands = lands;
             living = ended_keeps (component a f) (value_of r) s a.allocation ∙ living;
             has = value_got (component a f) (value_of r) s x.allocation x.is;
-            suited = sym (ap (λ t. suits t r) (variable_type declared G place line below of (component a f) q injection memory spot described s matches living)) ∙ (suits_bare (type_at (component a f) s) r ∙ fits);
+            suited = sym (ap (λ t. suits t r) (variable_type layout G place line below of (component a f) q injection memory spot described s matches living)) ∙ (suits_bare (type_at (component a f) s) r ∙ fits);
           }
 
-  module _ (x : CaseRange) (more : List CaseRange) (valid : All (IsRangeWithin low high) (x ∷ more)) (y : Expr) (at : ℕ) (xs : List Instr) (follows : IsFollowed declared G untouched Here p call g unit n k y line (at + length (first_code line (x ∷ more))) xs)
+  module _ (x : CaseRange) (more : List CaseRange) (valid : All (IsRangeWithin low high) (x ∷ more)) (y : Expr) (at : ℕ) (xs : List Instr) (follows : IsFollowed layout G untouched Here p call g unit n k y line (at + length (first_code line (x ∷ more))) xs)
       (stands : CodeStands G ps p references at (first_code line (x ∷ more) ++ (xs ++ bare line op.STORE ∷ ranges_code line x.low (x ∷ more)))) where
     abbrev ranges : List CaseRange
     ranges = x ∷ more
@@ -213,7 +214,7 @@ module _ (declared : Declarations) (G : Image) (untouched : Slots) (Here : Facts
     -- From `Store` on.
     stored_follows : (injection : Injection) (memory : MachineMemory) (rest : List Operand) (a : Component) (q r : PlaceOf) (v : Result) (o : Operand) → IsValueOf injection memory k v o → unit_in G memory.frames ≡ unit
         → IsSpot injection memory.types a q → IsLike memory.types q.type_number (type.Array low high of) → IsSpot injection memory.types (component a f) r → IsLike memory.types r.type_number of → (d : ℕ) → 5 ≤ d
-        → Fragment declared G Here n (point injection memory (p.instructions.before + to_store) (o ∷ operand.Place r ∷ operand.Place q ∷ rest)) (bind (given call g unit line (component a f) v) (λ _. fills_all a v ranges)) end (λ u. Inside untouched injection memory (Bare (operand.Place q ∷ rest) u)) (d + 1 + weight_of v) (λ u. d)
+        → Fragment layout G Here n (point injection memory (p.instructions.before + to_store) (o ∷ operand.Place r ∷ operand.Place q ∷ rest)) (bind (given call g unit line (component a f) v) (λ _. fills_all a v ranges)) end (λ u. Inside untouched injection memory (Bare (operand.Place q ∷ rest) u)) (d + 1 + weight_of v) (λ u. d)
     stored_follows injection memory rest a q r v o value home spot described spot_r described_r d enough =
         record {
           by = λ s matches here.
@@ -223,7 +224,7 @@ module _ (declared : Declarations) (G : Image) (untouched : Slots) (Here : Facts
               let lands = stored.lands in
               let post = lands.post in
               follows_from lands.is
-              (subst (λ st. Follows (λ m. IsNotLeft memory.frames m.frames) G n (standing (p.instructions.before + to_store + 1) st lands.memory t.trace) t (fills_all a v ranges) (λ w. Lands declared G Here end (Inside untouched injection memory (Bare (operand.Place q ∷ rest) w))) d (λ w. d)) (sym post.operands_are)
+              (subst (λ st. Follows (λ m. IsNotLeft memory.frames m.frames) G n (standing (p.instructions.before + to_store + 1) st lands.memory t.trace) t (fills_all a v ranges) (λ w. Lands layout G Here end (Inside untouched injection memory (Bare (operand.Place q ∷ rest) w))) d (λ w. d)) (sym post.operands_are)
               (follows_wider (λ m stays. not_left-later (still_routine post.routine) stays)
               (follows_post (λ w t2 l2 final. record { injection = final.injection; memory = final.memory; operands = final.operands; is = final.is; matches = final.matches; here = final.here; post = inside_later post.grown post.routine final.post })
               (follows_from (ap (λ m. standing m (operand.Place q ∷ rest) lands.memory t.trace) {x = p.instructions.before + to_store + 1} {y = p.instructions.before + (to_store + 1)} (omega arith))
@@ -232,32 +233,32 @@ module _ (declared : Declarations) (G : Image) (untouched : Slots) (Here : Facts
 
     -- The component with the first index.
     first_located_follows : (injection : Injection) (memory : MachineMemory) (rest : List Operand) (a : Component) (q : PlaceOf) (d d1 : ℕ) → 1 + d1 ≤ d → unit_in G memory.frames ≡ unit → IsSpot injection memory.types a q → IsLike memory.types q.type_number (type.Array low high of)
-        → Fragment declared G Here n (point injection memory (place + 1 + 1) (Word x.low ∷ operand.Place q ∷ operand.Place q ∷ rest)) (located call g unit line a x.low) (place + 1 + 1 + 1) (λ c. Inside untouched injection memory (IsFirst a f (operand.Place q ∷ rest) c)) d (λ c. d1)
+        → Fragment layout G Here n (point injection memory (place + 1 + 1) (Word x.low ∷ operand.Place q ∷ operand.Place q ∷ rest)) (located call g unit line a x.low) (place + 1 + 1 + 1) (λ c. Inside untouched injection memory (IsFirst a f (operand.Place q ∷ rest) c)) d (λ c. d1)
     first_located_follows injection memory rest a q d d1 enough home spot described =
         fragment_using {e = λ c. d1} a.allocation
-        (λ s matches ended. subst (λ u. FailsWith G (standing (place + 1 + 1) (Word x.low ∷ operand.Place q ∷ operand.Place q ∷ rest) memory s.trace) 0 run_error.DISPOSED u line s) home (index_fails declared G (place + 1 + 1) line (operand.Place q ∷ rest) low high of x.low a q indexes injection memory spot described s matches ended)) (omega (arith, enough))
+        (λ s matches ended. subst (λ u. FailsWith G (standing (place + 1 + 1) (Word x.low ∷ operand.Place q ∷ operand.Place q ∷ rest) memory s.trace) 0 run_error.DISPOSED u line s) home (index_fails layout G (place + 1 + 1) line (operand.Place q ∷ rest) low high of x.low a q indexes injection memory spot described s matches ended)) (omega (arith, enough))
         (λ s matches known living.
         follows_fetched {d1 = d1} (point injection memory (place + 1 + 1) (Word x.low ∷ operand.Place q ∷ operand.Place q ∷ rest)) (λ t. component_number (type_at a t) x.low) (λ i. component a i) s
-        (Finds f (number_is declared G (place + 1 + 1) line (operand.Place q ∷ rest) low high of x.low a q indexes injection memory spot described s matches living ∙ at_first) (record {
+        (Finds f (number_is layout G (place + 1 + 1) line (operand.Place q ∷ rest) low high of x.low a q indexes injection memory spot described s matches living ∙ at_first) (record {
           injection = injection;
           memory = memory;
-          operands = operand.Place (component_place declared G (place + 1 + 1) line (operand.Place q ∷ rest) low high of x.low a q indexes injection memory spot described f) ∷ operand.Place q ∷ rest;
-          does = index_leads declared G (place + 1 + 1) line (operand.Place q ∷ rest) low high of x.low a q indexes injection memory spot described s matches living f at_first;
+          operands = operand.Place (component_place layout G (place + 1 + 1) line (operand.Place q ∷ rest) low high of x.low a q indexes injection memory spot described f) ∷ operand.Place q ∷ rest;
+          does = index_leads layout G (place + 1 + 1) line (operand.Place q ∷ rest) low high of x.low a q indexes injection memory spot described s matches living f at_first;
           matches = matches;
           here = known;
           post = inside_here (
             record {
-              place = component_place declared G (place + 1 + 1) line (operand.Place q ∷ rest) low high of x.low a q indexes injection memory spot described f;
+              place = component_place layout G (place + 1 + 1) line (operand.Place q ∷ rest) low high of x.low a q indexes injection memory spot described f;
               is = refl;
-              spot = component_spot declared G (place + 1 + 1) line (operand.Place q ∷ rest) low high of x.low a q indexes injection memory spot described f (is_within_count (count_of low high) (gap low x.low) f at_first);
-              described = (let e = array declared G (place + 1 + 1) line (operand.Place q ∷ rest) low high of x.low a q indexes injection memory spot described in e.like);
+              spot = component_spot layout G (place + 1 + 1) line (operand.Place q ∷ rest) low high of x.low a q indexes injection memory spot described f (is_within_count (count_of low high) (gap low x.low) f at_first);
+              described = (let e = array layout G (place + 1 + 1) line (operand.Place q ∷ rest) low high of x.low a q indexes injection memory spot described in e.like);
             },
             refl,
           );
         })) (omega (arith, enough)))
 
     -- All of it.
-    pub at_ranges_follow : IsElementFollowed declared G untouched Here lasts ps p references call steady_call g unit line n (type.Array low high of) (AtRanges ranges y) at (first_code line ranges ++ (xs ++ bare line op.STORE ∷ fills))
+    pub at_ranges_follow : IsElementFollowed layout G untouched Here lasts ps p references call steady_call g unit line n (type.Array low high of) (AtRanges ranges y) at (first_code line ranges ++ (xs ++ bare line op.STORE ∷ fills))
     at_ranges_follow injection memory rest a q d enough home spot described =
         fragment_to {to = end} (omega (arith, length-append (first_code line ranges) (xs ++ bare line op.STORE ∷ fills), length-append xs (bare line op.STORE ∷ fills)))
         (fragment_waits {d1 = d - 1} (λ s matches. outcome_at G (bare line op.DUP) place (operand.Place q ∷ rest) memory s.trace stands.0) (omega (arith, enough))
@@ -267,13 +268,13 @@ module _ (declared : Declarations) (G : Image) (untouched : Slots) (Here : Facts
         (λ c v1 m1 pushed1 grown1 routine1 top.
         let its : PlaceOnTop of (operand.Place q ∷ rest) (component a f) v1 m1 pushed1 = subst (λ b. PlaceOnTop of (operand.Place q ∷ rest) b v1 m1 pushed1) top.1 top.0 in
         let home1 : unit_in G m1.frames ≡ unit = unit_in-same G routine1 ∙ home in
-        subst (λ b. Fragment declared G Here n (point v1 m1 (place + 1 + 1 + 1) pushed1) (bind (eval call g unit line y) (λ v. bind (given call g unit line b v) (λ _. fills_all a v ranges))) end (λ u. Inside untouched v1 m1 (Bare (operand.Place q ∷ rest) u)) (d - 3) (λ u. d)) (sym top.1)
-        (subst (λ st. Fragment declared G Here n (point v1 m1 (place + 1 + 1 + 1) st) (bind (eval call g unit line y) (λ v. bind (given call g unit line (component a f) v) (λ _. fills_all a v ranges))) end (λ u. Inside untouched v1 m1 (Bare (operand.Place q ∷ rest) u)) (d - 3) (λ u. d)) (sym its.is)
+        subst (λ b. Fragment layout G Here n (point v1 m1 (place + 1 + 1 + 1) pushed1) (bind (eval call g unit line y) (λ v. bind (given call g unit line b v) (λ _. fills_all a v ranges))) end (λ u. Inside untouched v1 m1 (Bare (operand.Place q ∷ rest) u)) (d - 3) (λ u. d)) (sym top.1)
+        (subst (λ st. Fragment layout G Here n (point v1 m1 (place + 1 + 1 + 1) st) (bind (eval call g unit line y) (λ v. bind (given call g unit line (component a f) v) (λ _. fills_all a v ranges))) end (λ u. Inside untouched v1 m1 (Bare (operand.Place q ∷ rest) u)) (d - 3) (λ u. d)) (sym its.is)
         (fragment_from {place = p.instructions.before + (at + 3)} (omega arith)
         (inside_bind {First = OnTop k (operand.Place its.place ∷ operand.Place q ∷ rest)} {e = λ v. d - 3 + 8 + weight_of v} (λ v. steady_bind (steady_given call steady_call g unit line (component a f) v) (λ _. steady_fills_all a v ranges))
         (follows v1 m1 (operand.Place its.place ∷ operand.Place q ∷ rest) (d - 3) (omega (arith, enough)) home1)
         (λ v v2 m2 pushed2 grown2 routine2 on_top.
         let z = value_on_top k (operand.Place its.place ∷ operand.Place q ∷ rest) v v2 m2 pushed2 on_top in
-        subst (λ st. Fragment declared G Here n (point v2 m2 (p.instructions.before + to_store) st) (bind (given call g unit line (component a f) v) (λ _. fills_all a v ranges)) end (λ u. Inside untouched v2 m2 (Bare (operand.Place q ∷ rest) u)) (d - 3 + 8 + weight_of v) (λ u. d)) (sym z.2)
+        subst (λ st. Fragment layout G Here n (point v2 m2 (p.instructions.before + to_store) st) (bind (given call g unit line (component a f) v) (λ _. fills_all a v ranges)) end (λ u. Inside untouched v2 m2 (Bare (operand.Place q ∷ rest) u)) (d - 3 + 8 + weight_of v) (λ u. d)) (sym z.2)
         (fragment_credit {d = d + 1 + weight_of v} {e = λ u. d} (omega (arith, enough)) (λ u. omega (arith, enough))
         (stored_follows v2 m2 rest a q its.place v z.0 z.1 (unit_in-same G routine2 ∙ home1) (is_spot-grown grown2 (is_spot-grown grown1 spot)) (describes-grown q.type_number (type.Array low high of) grown2 (describes-grown q.type_number (type.Array low high of) grown1 described)) (is_spot-grown grown2 its.spot) (describes-grown its.place.type_number of grown2 its.described) d (omega (arith, enough))))))))))))

@@ -2,6 +2,7 @@
 use Rattle.std.proofs.Common.{◌≡◌, ℕ, ℤ, pos, suc, ◌+◌, ◌*◌, ◌-◌, ◌≤◌, ◌<◌, Bool, true, false, List, [], ◌∷◌, length, refl, sym, ap, ◌∙◌, subst, arith}
 use Rattle.std.specs.Prelude.{if◌then◌else◌}
 use Rattle.ep_simulation.specs.Follows.{point, Facts, After, Fragment}
+use Rattle.ep_simulation.specs.Layouts.{Layout}
 use Rattle.ep_simulation.specs.Matching.{MachineMemory, Injection, at as standing}
 use Rattle.ep_object.specs.Operands.{Operand, Word}
 use Rattle.ep_object.specs.Placing.{Placement, CodeStands}
@@ -18,7 +19,6 @@ use Rattle.ep_meaning.specs.Meaning.{selecting, tried}
 use Rattle.ep_typed.specs.CaseRanges.{is_in}
 use Rattle.ep_values.specs.Operations.{is_true, ordinal_of}
 use Rattle.ep_meaning.specs.Steps.{Computation, is_number, spend}
-use Rattle.ep_meaning.specs.Valid.{Declarations}
 use Rattle.ep_typed.specs.declared.tree.CaseRange.{CaseRange}
 use Rattle.ep_gen_code.specs.Instructions.{instr}
 use Rattle.ep_gen_expr.specs.ExprCode.{labels_code, labels_count, test_code, tests_code}
@@ -32,12 +32,12 @@ pub true_ordinal : (b : Bool) → is_true (ordinal_of b) ≡ b
 true_ordinal true = refl
 true_ordinal false = refl
 
-module _ {A : Type 0} {declared : Declarations} {G : Image} {Here : Facts} (ps : List Placement) (p : Placement) (references : List Reference) (call : Handler) (g : ℕ) (unit : List ℕ) (room : p.instructions.before + p.instructions.own ≤ length G.instructions) where
+module _ {A : Type 0} {layout : Layout} {G : Image} {Here : Facts} (ps : List Placement) (p : Placement) (references : List Reference) (call : Handler) (g : ℕ) (unit : List ℕ) (room : p.instructions.before + p.instructions.own ≤ length G.instructions) where
   -- The test of a range spends a step, and leads to the first place where the range has the value.
   test_follows : (n line body at : ℕ) (r : CaseRange) (z : ℤ) → CodeStands G ps p references at (test_code line body at r) → body < p.instructions.own → at + 6 < p.instructions.own → (injection : Injection) (memory : MachineMemory) (below : List Operand) {to d : ℕ} {x y : Computation A} {P : A → After} {e : A → ℕ} → 8 ≤ d
-      → Fragment declared G Here n (point injection memory (p.instructions.before + body) (Word z ∷ below)) x to P (d + 9) e
-      → Fragment declared G Here n (point injection memory (p.instructions.before + (at + 6)) (Word z ∷ below)) y to P (d + 9) e
-      → Fragment declared G Here (suc n) (point injection memory (p.instructions.before + at) (Word z ∷ below)) (spend 1 (if is_in r z then x else y)) to P d e
+      → Fragment layout G Here n (point injection memory (p.instructions.before + body) (Word z ∷ below)) x to P (d + 9) e
+      → Fragment layout G Here n (point injection memory (p.instructions.before + (at + 6)) (Word z ∷ below)) y to P (d + 9) e
+      → Fragment layout G Here (suc n) (point injection memory (p.instructions.before + at) (Word z ∷ below)) (spend 1 (if is_in r z then x else y)) to P d e
   test_follows n line body at r z stands inside inside_next injection memory below {d = d} enough fits fails =
       let place : ℕ = p.instructions.before + at in
       row_waits {d1 = d - 1} (dup_pushes G place line below z stands.0) (omega (arith, enough))
@@ -53,9 +53,9 @@ module _ {A : Type 0} {declared : Declarations} {G : Image} {Here : Facts} (ps :
 
   -- ranges, one after another
   pub tests_follow : (n line body at : ℕ) (r : CaseRange) (rs : List CaseRange) (z : ℤ) → CodeStands G ps p references at (tests_code line body at (r ∷ rs)) → body < p.instructions.own → at + 6 * length (r ∷ rs) < p.instructions.own → (injection : Injection) (memory : MachineMemory) (below : List Operand) {to d : ℕ} {x y : Computation A} {P : A → After} {e : A → ℕ} → 8 ≤ d
-      → Fragment declared G Here n (point injection memory (p.instructions.before + body) (Word z ∷ below)) x to P (d + 9) e
-      → Fragment declared G Here n (point injection memory (p.instructions.before + (at + 6 * length (r ∷ rs))) (Word z ∷ below)) y to P (d + 9) e
-      → Fragment declared G Here n (point injection memory (p.instructions.before + at) (Word z ∷ below)) (tried call g unit z (r ∷ rs) x y) to P d e
+      → Fragment layout G Here n (point injection memory (p.instructions.before + body) (Word z ∷ below)) x to P (d + 9) e
+      → Fragment layout G Here n (point injection memory (p.instructions.before + (at + 6 * length (r ∷ rs))) (Word z ∷ below)) y to P (d + 9) e
+      → Fragment layout G Here n (point injection memory (p.instructions.before + at) (Word z ∷ below)) (tried call g unit z (r ∷ rs) x y) to P d e
   tests_follow n line body at r [] z stands inside inside_end injection memory below enough fits fails =
       fragment_less {n = suc n} (omega arith) (test_follows n line body at r z (code_front G ps p references at (test_code line body at r) [] stands) inside (omega (arith, inside_end)) injection memory below enough fits (fragment_from (omega arith) fails))
   tests_follow n line body at r (r2 ∷ rs) z stands inside inside_end injection memory below {d = d} enough fits fails =
@@ -65,9 +65,9 @@ module _ {A : Type 0} {declared : Declarations} {G : Image} {Here : Facts} (ps :
   -- The tests of labels: they lead to the first place with the number of the variant that is asked for, and to the second one
   -- with that of another variant, and on behind them where no label has the value.
   pub labels_follow : (n line good bad number k at : ℕ) (labels : List (List CaseRange)) (z : ℤ) → CodeStands G ps p references at (labels_code line good bad number k at labels) → good < p.instructions.own → bad < p.instructions.own → at + 6 * labels_count labels < p.instructions.own → (injection : Injection) (memory : MachineMemory) (below : List Operand) {to d : ℕ} {chosen : ℕ → Computation A} {fails : Computation A} {P : A → After} {e : A → ℕ} → 8 ≤ d
-      → ((j : ℕ) → Fragment declared G Here n (point injection memory (p.instructions.before + (if is_number j number then good else bad)) (Word z ∷ below)) (chosen j) to P (d + 9) e)
-      → Fragment declared G Here n (point injection memory (p.instructions.before + (at + 6 * labels_count labels)) (Word z ∷ below)) fails to P d e
-      → Fragment declared G Here n (point injection memory (p.instructions.before + at) (Word z ∷ below)) (selecting call g unit z labels k chosen fails) to P d e
+      → ((j : ℕ) → Fragment layout G Here n (point injection memory (p.instructions.before + (if is_number j number then good else bad)) (Word z ∷ below)) (chosen j) to P (d + 9) e)
+      → Fragment layout G Here n (point injection memory (p.instructions.before + (at + 6 * labels_count labels)) (Word z ∷ below)) fails to P d e
+      → Fragment layout G Here n (point injection memory (p.instructions.before + at) (Word z ∷ below)) (selecting call g unit z labels k chosen fails) to P d e
   labels_follow n line good bad number k at [] z stands inside_good inside_bad inside_end injection memory below enough finds misses = fragment_from (omega arith) misses
   labels_follow n line good bad number k at ([] ∷ more) z stands inside_good inside_bad inside_end injection memory below enough finds misses =
       let here : at + 6 * 0 ≡ at = omega arith in

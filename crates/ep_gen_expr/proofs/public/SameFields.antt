@@ -9,6 +9,7 @@ use Rattle.ep_gen_expr.specs.ExprCode.{reach_code, same_code, steps_code}
 use Rattle.ep_gen_expr.proofs.Components.{loaded_follows, reached_follows}
 use Rattle.ep_gen_expr.proofs.public.StructuredValues.{IsElementFollowed, store_given}
 use Rattle.ep_simulation.specs.Follows.{After, Bare, Facts, Fragment, Inside, Lasts, OnTop, PlaceOnTop, point}
+use Rattle.ep_simulation.specs.Layouts.{Layout}
 use Rattle.ep_simulation.specs.Matching.{Injection, IsLike, IsSpot, MachineMemory, Slots}
 use Rattle.ep_object.specs.Operands.{Operand}
 use Rattle.ep_object.specs.Operands as operand
@@ -40,12 +41,12 @@ use Rattle.ep_values.specs.TypeValues.{ComponentTypes, TypeValue}
 use Rattle.ep_values.specs.TypeValues as type
 use Rattle.ep_meaning.specs.Valid.{Declarations, IsTypeOfKind, Kind, LeadToKind}
 
-module _ (declared : Declarations) (G : Image) (untouched : Slots) (Here : Facts) (lasts : Lasts untouched Here) (ps : List Placement) (p : Placement) (references : List Reference) (call : Handler) (steady_call : IsSteadyHandler call) (g : ℕ) (unit : List ℕ) (line n : ℕ)
-    (swap : SwapStands G ps unit (length (declared.routines unit))) (swap_referred : IsSwapReferred declared unit references) where
+module _ (declared : Declarations) (layout : Layout) (G : Image) (untouched : Slots) (Here : Facts) (lasts : Lasts untouched Here) (ps : List Placement) (p : Placement) (references : List Reference) (call : Handler) (steady_call : IsSteadyHandler call) (g : ℕ) (unit : List ℕ) (line n : ℕ)
+    (swap : SwapStands G ps unit (declared.first_private unit)) (swap_referred : IsSwapReferred declared unit references) where
   -- Two operands change places, for which the depth counts.
   pub swapped_follows : {A : Type 0} {c : Computation A} {to : ℕ} {P : A → After} {e : A → ℕ} (place : ℕ) → CallsAt G place swap.routine 0 line → (injection : Injection) (memory : MachineMemory) (x y : Operand) (below : List Operand) (d : ℕ) → Steady c
-      → Fragment declared G Here n (point injection memory (place + 1) (x ∷ y ∷ below)) c to P d e
-      → Fragment declared G Here n (point injection memory place (y ∷ x ∷ below)) (bind (change with_depth) (λ _. c)) to P (swap_ticks x y + d) e
+      → Fragment layout G Here n (point injection memory (place + 1) (x ∷ y ∷ below)) c to P d e
+      → Fragment layout G Here n (point injection memory place (y ∷ x ∷ below)) (bind (change with_depth) (λ _. c)) to P (swap_ticks x y + d) e
   swapped_follows place calls injection memory x y below d steady then =
       record {
         by = λ s matches here.
@@ -57,15 +58,15 @@ module _ (declared : Declarations) (G : Image) (untouched : Slots) (Here : Facts
   copied_follows : (at : ℕ) (k : Kind) (source goal : TypeValue) → IsTypeOfKind k source → IsTypeOfKind k goal → CodeStands G ps p references at (bare line op.LOAD ∷ bare line op.STORE ∷ [])
       → (injection : Injection) (memory : MachineMemory) (below : List Operand) (a b : Component) (q r : PlaceOf) (d : ℕ) → least_credit ≤ d + 8 → 1 ≤ d → unit_in G memory.frames ≡ unit
       → IsSpot injection memory.types a q → IsLike memory.types q.type_number source → IsSpot injection memory.types b r → IsLike memory.types r.type_number goal
-      → Fragment declared G Here n (point injection memory (p.instructions.before + at) (operand.Place q ∷ operand.Place r ∷ below)) (bind (read call g unit line a) (given call g unit line b)) (p.instructions.before + (at + 1 + 1)) (λ u. Inside untouched injection memory (Bare below u)) d (λ u. d + 8)
+      → Fragment layout G Here n (point injection memory (p.instructions.before + at) (operand.Place q ∷ operand.Place r ∷ below)) (bind (read call g unit line a) (given call g unit line b)) (p.instructions.before + (at + 1 + 1)) (λ u. Inside untouched injection memory (Bare below u)) d (λ u. d + 8)
   copied_follows at k source goal of_source of_goal stands injection memory below a b q r d enough some home spot_a described_a spot_b described_b =
       inside_bind {First = OnTop k (operand.Place r ∷ below)} {e = λ x. d + 8 + weight_of x} (λ x. steady_given call steady_call g unit line b x)
       (loaded_follows call g unit line n (p.instructions.before + at) k source of_source stands.0 injection memory (operand.Place r ∷ below) a q d some home spot_a described_a)
       (λ x longer after pushed grown routine top.
       let v = value_on_top k (operand.Place r ∷ below) x longer after pushed top in
-      subst (λ st. Fragment declared G Here n (point longer after (p.instructions.before + at + 1) st) (given call g unit line b x) (p.instructions.before + (at + 1 + 1)) (λ u. Inside untouched longer after (Bare below u)) (d + 8 + weight_of x) (λ u. d + 8)) (sym v.2)
+      subst (λ st. Fragment layout G Here n (point longer after (p.instructions.before + at + 1) st) (given call g unit line b x) (p.instructions.before + (at + 1 + 1)) (λ u. Inside untouched longer after (Bare below u)) (d + 8 + weight_of x) (λ u. d + 8)) (sym v.2)
       (fragment_from {place = p.instructions.before + (at + 1)} (omega arith) (fragment_to (omega arith)
-      (store_given declared G untouched Here lasts ps p references call steady_call g unit line n k goal x v.0 b r (may_take k goal of_goal) (at + 1) stands.1 longer after v.1 below (d + 8) enough (unit_in-same G routine ∙ home) (is_spot-grown grown spot_b) (describes-grown r.type_number goal grown described_b)))))
+      (store_given layout G untouched Here lasts ps p references call steady_call g unit line n k goal x v.0 b r (may_take k goal of_goal) (at + 1) stands.1 longer after v.1 below (d + 8) enough (unit_in-same G routine ∙ home) (is_spot-grown grown spot_b) (describes-grown r.type_number goal grown described_b)))))
 
   module _ (ts : ComponentTypes) (from to : List ℕ) (k : Kind) (source : LeadToKind ts from k) (goal : LeadToKind ts to k) (at : ℕ) (stands : CodeStands G ps p references at (same_code line from to)) where
     abbrev last : List Instr
@@ -94,7 +95,7 @@ module _ (declared : Declarations) (G : Image) (untouched : Slots) (Here : Facts
     -- with the place of the component that is given on top of that of the record
     from_goal : (injection : Injection) (memory : MachineMemory) (rest : List Operand) (a b : Component) (q r : PlaceOf) (d : ℕ) → least_credit ≤ d → unit_in G memory.frames ≡ unit
         → IsSpot injection memory.types a q → IsLike memory.types q.type_number (type.Record ts) → IsSpot injection memory.types b r → IsLike memory.types r.type_number goal.0
-        → Fragment declared G Here n (point injection memory (p.instructions.before + middle) (operand.Place r ∷ operand.Place q ∷ rest)) (bind (change with_depth) (λ _. bind (reached call g unit line a from) (λ c. bind (read call g unit line c) (given call g unit line b)))) end (λ u. Inside untouched injection memory (Bare rest u)) d (λ u. d + 4)
+        → Fragment layout G Here n (point injection memory (p.instructions.before + middle) (operand.Place r ∷ operand.Place q ∷ rest)) (bind (change with_depth) (λ _. bind (reached call g unit line a from) (λ c. bind (read call g unit line c) (given call g unit line b)))) end (λ u. Inside untouched injection memory (Bare rest u)) d (λ u. d + 4)
     from_goal injection memory rest a b q r d enough home spot described spot_b described_b =
         fragment_credit {d = swap_ticks (operand.Place q) (operand.Place r) + (d - 4)} {e = λ u. d - 4 + 8} (omega (arith, enough)) (λ u. omega (arith, enough))
         (swapped_follows (p.instructions.before + middle) calls injection memory (operand.Place q) (operand.Place r) rest (d - 4)
@@ -103,11 +104,11 @@ module _ (declared : Declarations) (G : Image) (untouched : Slots) (Here : Facts
         (inside_bind {First = PlaceOnTop source.0 (operand.Place r ∷ rest)} {e = λ c. d - 4} (λ c. steady_bind (steady_read call steady_call g unit line c) (λ x. steady_given call steady_call g unit line b x))
         (reached_follows ps p references call steady_call g unit line n ts from source.0 source.1 (middle + 1) (code_front G ps p references (middle + 1) (steps_code line from) last tail.1) injection memory (operand.Place r ∷ rest) a q (d - 4) (omega (arith, enough)) home spot described)
         (λ c longer after pushed grown routine top.
-        subst (λ st. Fragment declared G Here n (point longer after (p.instructions.before + load) st) (bind (read call g unit line c) (given call g unit line b)) end (λ u. Inside untouched longer after (Bare rest u)) (d - 4) (λ u. d - 4 + 8)) (sym top.is)
+        subst (λ st. Fragment layout G Here n (point longer after (p.instructions.before + load) st) (bind (read call g unit line c) (given call g unit line b)) end (λ u. Inside untouched longer after (Bare rest u)) (d - 4) (λ u. d - 4 + 8)) (sym top.is)
         (copied_follows load k source.0 goal.0 source.2 goal.2 (code_back G ps p references (middle + 1) (steps_code line from) last tail.1) longer after rest c b top.place r (d - 4) (omega (arith, enough)) (omega (arith, enough)) (unit_in-same G routine ∙ home) top.spot top.described (is_spot-grown grown spot_b) (describes-grown r.type_number goal.0 grown described_b))))))
 
     -- All of it.
-    pub same_field_follows : IsElementFollowed declared G untouched Here lasts ps p references call steady_call g unit line n (type.Record ts) (SameField from to) at (same_code line from to)
+    pub same_field_follows : IsElementFollowed layout G untouched Here lasts ps p references call steady_call g unit line n (type.Record ts) (SameField from to) at (same_code line from to)
     same_field_follows injection memory rest a q d enough home spot described =
         fragment_to {to = end} (omega (arith, length-append (reach_code line to) behind, length-append (steps_code line from) last))
         (fragment_waits {d1 = d - 1} (λ s matches. outcome_at G (bare line op.DUP) (p.instructions.before + at) (operand.Place q ∷ rest) memory s.trace stands.0) (omega (arith, enough))
@@ -117,6 +118,6 @@ module _ (declared : Declarations) (G : Image) (untouched : Slots) (Here : Facts
         (inside_bind {First = PlaceOnTop goal.0 (operand.Place q ∷ operand.Place q ∷ rest)} {e = λ c. d - 2} (λ c. steady_bind (steady_change grows_depth) (λ _. steady_bind (steady_reached call steady_call g unit line a from) (λ x. steady_bind (steady_read call steady_call g unit line x) (λ r. steady_given call steady_call g unit line c r))))
         (reached_follows ps p references call steady_call g unit line n ts to goal.0 goal.1 (at + 1 + 1) (code_front G ps p references (at + 1 + 1) (steps_code line to) behind stands.1.1) injection memory (operand.Place q ∷ operand.Place q ∷ rest) a q (d - 2) (omega (arith, enough)) home spot described)
         (λ c longer after pushed grown routine top.
-        subst (λ st. Fragment declared G Here n (point longer after (p.instructions.before + middle) st) (bind (change with_depth) (λ _. bind (reached call g unit line a from) (λ x. bind (read call g unit line x) (given call g unit line c)))) end (λ u. Inside untouched longer after (Bare (operand.Place q ∷ rest) u)) (d - 2) (λ u. d)) (sym top.is)
+        subst (λ st. Fragment layout G Here n (point longer after (p.instructions.before + middle) st) (bind (change with_depth) (λ _. bind (reached call g unit line a from) (λ x. bind (read call g unit line x) (given call g unit line c)))) end (λ u. Inside untouched longer after (Bare (operand.Place q ∷ rest) u)) (d - 2) (λ u. d)) (sym top.is)
         (fragment_credit {d = d - 2} {e = λ u. d - 2 + 4} (omega arith) (λ u. omega (arith, enough))
         (from_goal longer after (operand.Place q ∷ rest) a c q top.place (d - 2) (omega (arith, enough)) (unit_in-same G routine ∙ home) (is_spot-grown grown spot) (describes-grown q.type_number (type.Record ts) grown described) top.spot top.described))))))))

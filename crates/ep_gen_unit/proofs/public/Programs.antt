@@ -2,9 +2,12 @@
 use Rattle.std.proofs.Common.{◌≡◌, ℕ, ◌+◌, ◌<◌, false, [], ◌∷◌, ◌++◌, length, length-append, Some, refl, sym, ap, ◌∙◌, subst, arith}
 use Rattle.std.proofs.lemmas.Bool.{lt-ltb}
 use Rattle.ep_gen_unit.specs.StmtCode.{make_all_code, return_code}
-use Rattle.ep_gen_unit.specs.UnitCode.{IsProgramCode, plain_at}
+use Rattle.ep_gen_unit.specs.UnitCode.{IsUnitCode, plain_at}
 use Rattle.ep_gen_unit.proofs.Routines.{routines_kept}
 use Rattle.ep_gen_unit.proofs.Units.{start_is, unit_simulates, routine_there as routine_of_object}
+use Rattle.ep_simulation.specs.Layouts.{layout_of}
+use Rattle.ep_simulation.specs.Scene.{AreLaidOut}
+use Rattle.ep_simulation.proofs.public.Joined.{among_alone}
 use Rattle.ep_simulation.proofs.public.Alone.{placements_alone, stands-alone, distinct-alone}
 use Rattle.ep_simulation.proofs.public.matching.Beginning.{first_memory, first_injection, first_matches}
 use Rattle.ep_simulation.proofs.public.following.Bind.{follows_bind, follows_stop}
@@ -26,10 +29,11 @@ use Rattle.ep_typed.specs.Routines.{made_by_unit}
 use Rattle.ep_values.specs.Events.{Trace}
 use Rattle.ep_meaning.specs.Meaning.{handler_of, starts_of, meaning as meaning_of}
 use Rattle.ep_meaning.specs.Steps as meaning
+use Rattle.ep_meaning.specs.Steps.{stop}
 use Rattle.ep_meaning.specs.Valid.{IsValid, own}
 use Rattle.ep_typed.specs.declared.unit.Unit.{Unit as TypedUnit}
 
-module _ (u : TypedUnit) (o : Object) (is : IsProgramCode u o) where
+module _ (u : TypedUnit) (o : Object) (is : IsUnitCode u o) where
   -- the frames when the start of the program begins
   abbrev pub start_frames : Frames
   start_frames = record (first_frames (alone o)) { turn = 0; routine = moved (first_placement o).routines o.start; unit = 0 }
@@ -39,7 +43,7 @@ module _ (u : TypedUnit) (o : Object) (is : IsProgramCode u o) where
   start_state = standing 0 [] (first_memory start_frames) []
 
   not_empty : 0 < length o.instructions
-  not_empty = omega (arith, ap length is.instructions, length-append (make_all_code 0 (made_by_unit u)) (is.code ++ return_code ∷ return_code ∷ is.others), length-append is.code (return_code ∷ return_code ∷ is.others))
+  not_empty = omega (arith, ap length is.instructions, length-append (make_all_code 0 (made_by_unit u)) (is.code ++ return_code ∷ (is.stop_code ++ return_code ∷ is.others)), length-append is.code (return_code ∷ (is.stop_code ++ return_code ∷ is.others)))
 
   -- its start routine is there
   start_there : routine_there (alone o) (moved (first_placement o).routines o.start) ≡ Some (placed_routine (first_placement o) (plain_at 0))
@@ -50,7 +54,7 @@ module _ (u : TypedUnit) (o : Object) (is : IsProgramCode u o) where
   begins = rw (start_there, lt-ltb 0 (length o.instructions) not_empty) refl
 
   -- the machine enters the start routine
-  enters : Enters (own u) (alone o) 0 (moved (first_placement o).routines o.start) first_injection (first_memory start_frames) [] meaning.first_state start_state
+  enters : Enters (layout_of (u ∷ [])) (alone o) 0 (moved (first_placement o).routines o.start) first_injection (first_memory start_frames) [] meaning.first_state start_state
   enters =
       record {
         image_routine = placed_routine (first_placement o) (plain_at 0);
@@ -59,24 +63,28 @@ module _ (u : TypedUnit) (o : Object) (is : IsProgramCode u o) where
         runs = refl;
         in_unit = refl;
         without_calls = refl;
-        matches = first_matches (own u) (alone o) start_frames refl refl;
+        matches = first_matches (layout_of (u ∷ [])) (alone o) start_frames refl refl;
       }
 
   -- after the start of the only unit the run ends
-  ends : (s : meaning.State) (k : State) → Leaves (own u) (alone o) first_injection meaning.first_state (first_memory start_frames) (Bare [] tt) s k → outcome (alone o) k ≡ record { weight = 0; to = Stopped Normal s.trace }
+  ends : (s : meaning.State) (k : State) → Leaves (layout_of (u ∷ [])) (alone o) first_injection meaning.first_state (first_memory start_frames) (Bare [] tt) s k → outcome (alone o) k ≡ record { weight = 0; to = Stopped Normal s.trace }
   ends s k leaves =
       let lands = leaves.lands in
       let inside = lands.post in
-      let routine : SameRoutine (kept_slots (own u) (alone o)) start_frames lands.memory.frames = inside.routine in
+      let routine : SameRoutine (kept_slots (layout_of (u ∷ [])) (alone o)) start_frames lands.memory.frames = inside.routine in
       let turn : k.frames.turn ≡ 0 = ap (λ (l : State). l.frames.turn) lands.is ∙ routine.turn in
       leaves_enters leaves ∙ (ap (λ n. record { weight = 0; to = enter (alone o) (n + 1) k }) turn ∙ ap (λ (l : State). record { weight = 0; to = Stopped Normal l.trace }) lands.is)
 
+  -- the only unit is laid out as it declares
+  laid : AreLaidOut (own u) (layout_of (u ∷ []))
+  laid unit number v is_declared = record { variable = v; there = is_declared; into = λ t i. i; back = λ t i. i }
+
   module _ (valid : IsValid u) where
     -- the machine follows the meaning of the program
-    pub program_follows : (n : ℕ) → Follows (λ k. IsNotLeft start_frames k.frames) (alone o) n start_state meaning.first_state (starts_of (handler_of (u ∷ []) n) n (u ∷ [])) Never spare_ticks (λ a. 41)
+    pub program_follows : (n : ℕ) → Follows (λ k. IsNotLeft start_frames k.frames) (alone o) n start_state meaning.first_state (starts_of (handler_of (u ∷ []) n) n (u ∷ []) (stop meaning.Normal)) Never spare_ticks (λ a. 41)
     program_follows n =
         follows_bind {e = λ a. 41} (λ a. steady_stop meaning.Normal)
-        (simulation_follows (unit_simulates u o is (alone o) (placements_alone o) (first_placement o) (stands-alone o) valid (distinct-alone o) (handler_of (u ∷ []) n) (steady_handler_of (u ∷ []) n) n (routines_kept u o is valid (alone o) (placements_alone o) (first_placement o) (stands-alone o) (distinct-alone o) n)) first_injection (first_memory start_frames) [] meaning.first_state start_state enters)
+        (simulation_follows (unit_simulates u o is (alone o) (placements_alone o) (first_placement o) (stands-alone o) valid (distinct-alone o) (layout_of (u ∷ [])) laid (handler_of (u ∷ []) n) (steady_handler_of (u ∷ []) n) n (routines_kept u o is valid (alone o) (placements_alone o) (first_placement o) (stands-alone o) (distinct-alone o) (u ∷ []) (among_alone u) (layout_of (u ∷ [])) laid n)) first_injection (first_memory start_frames) [] meaning.first_state start_state enters)
         (λ a s k leaves. let lands = leaves.lands in let inside = lands.post in follows_stop {v = 0} (subst (λ (l : State). IsNotLeft start_frames l.frames) (sym lands.is) (not_left-same inside.routine)) (ends s k leaves) (omega arith))
 
     -- What a run of the program's image tells of the meaning of the program.

@@ -7,7 +7,7 @@ use Rattle.ep_typed.specs.Auxiliaries.{block_auxiliaries, auxiliary_variable, au
 use Rattle.ep_typed.specs.Denoters.{base_of, definition_of, host_of, required_type, type_of, bare_type_of}
 use Rattle.ep_typed.specs.Hosts as host
 use Rattle.ep_typed.specs.Hosts.{Host}
-use Rattle.ep_typed.specs.Routines.{first_with, formal_variable, made_by_unit, made_variables, unit_variables, variables_of}
+use Rattle.ep_typed.specs.Routines.{first_with, formal_variable, made_by_unit, made_variables, unit_block, unit_variables, variables_of}
 use Rattle.ep_typed.specs.Trees.{Fixed, Denoter, Required, Named, Subrange, Set, Place, Entire, OfUnit, OfRoutine, entire, Stmt, Stmts, Empty, Compound, Assign, AssignTag, If, While, Repeat, For, ForIn, With, Procedure, Halt, Write, none, next, Case, Arms, no_arm, next_arm, Other, no_other, otherwise_do}
 use Rattle.ep_values.specs.TypeValues.{TypeValue, Record, bare_of}
 use Rattle.ep_values.specs.TypeValues as type
@@ -91,9 +91,9 @@ withs_of_routine r k =
     let at : first_with r + k ≡ length formals + (length made + k) = omega (arith, length-map r.formals (formal_variable r.line)) in
     ap (slice_get (variables_of r)) at ∙ (get_behind formals (made ++ with_variables (stmt_of r.block)) (length made + k) ∙ get_behind made (with_variables (stmt_of r.block)) k)
 
--- and so are those of the start of a unit
-pub withs_of_unit : (u : TypedUnit) (k : ℕ) → slice_get (unit_variables u) (length (made_by_unit u) + k) ≡ slice_get (with_variables (stmt_of u.start)) k
-withs_of_unit u k = get_behind (made_by_unit u) (with_variables (stmt_of u.start)) k
+-- and so are those of the start and the stop of a unit
+pub withs_of_unit : (u : TypedUnit) (k : ℕ) → slice_get (unit_variables u) (length (made_by_unit u) + k) ≡ slice_get (with_variables (unit_block u)) k
+withs_of_unit u k = get_behind (made_by_unit u) (with_variables (unit_block u)) k
 
 module _ (declared : Declarations) (types : List UnitType) (own_types : declared.routine_types ≡ types) (unit_types : declared.types declared.routine_unit ≡ types) (valid : All (IsType types) types) where
   -- the variables have valid denoters

@@ -3,7 +3,7 @@ use Rattle.std.proofs.Common.{◌≡◌, ℕ, ℤ, pos, negsuc, zero, suc, ◌+�
 use Rattle.std.specs.Prelude.{if◌then◌else◌, int_le}
 use Rattle.ep_meaning.specs.Controls.{in_order, next_value, has_more, others}
 use Rattle.ep_typed.specs.Denoters.{definition_of, required_type, subrange_type, enumeration_type, array_type, set_type}
-use Rattle.ep_meaning.specs.Meaning.{clears, clears_all, tag_tested, selected_by, selected_now, is_another, changes_variant, sets_tag, assigns_tag, looks, argument, arguments, extended, collected, first_located, given_at, given_each, given_from, indexes, ranging, located, reached, given, taken, gives, gives_all, members_found, one_result, weights_of, results_given, initialized, takes_by, takes_all, elaborate, elaborate_each, answered, indexed, selected, selecting, selects, chosen, active, part, chosen_part, active_part, place, eval, write_piece, write_wide, write_item, write_items, assign, turns, turns_until, assigns, undefines, turns_to, counts, takes_least, member_turn, names, exec, exec_all, elaborated, elaborated_where, make, make_all, make_own, make_all_own, start_of, starts_of, routine_in, type_in, line_where, activation, runs_routine, routine_does, type_does, handler_of, read, assign_living, tried, exec_arms, exec_other, begins, begins_where}
+use Rattle.ep_meaning.specs.Meaning.{clears, clears_all, tag_tested, selected_by, selected_now, is_another, changes_variant, sets_tag, assigns_tag, looks, argument, arguments, extended, collected, first_located, given_at, given_each, given_from, indexes, ranging, located, reached, given, taken, gives, gives_all, members_found, one_result, weights_of, results_given, initialized, takes_by, takes_all, elaborate, elaborate_each, answered, indexed, selected, selecting, selects, chosen, active, part, chosen_part, active_part, place, eval, write_piece, write_wide, write_item, write_items, assign, turns, turns_until, assigns, undefines, turns_to, counts, takes_least, member_turn, names, exec, exec_all, elaborated, elaborated_where, make, make_all, make_own, make_all_own, start_of, starts_of, stop_of, stopped_units, stops_of, routine_in, type_in, line_where, activation, runs_routine, routine_does, type_does, handler_of, read, assign_living, tried, exec_arms, exec_other, begins, begins_where}
 use Rattle.ep_meaning.specs.Nameless.{begins_nameless, fills, fills_all, newest_nameless, range_count}
 use Rattle.ep_values.specs.Operations.{Answer, Number, Fault, is_same, is_true, decides}
 use Rattle.ep_typed.specs.CaseRanges.{is_in}
@@ -555,10 +555,19 @@ module _ (call other : Handler) (lasts : IsLastingHandler call other) (g j : ℕ
 lasting_start_of : (call other : Handler) → IsLastingHandler call other → (g j : ℕ) (u : TypedUnit) → Lasting (start_of call g u) (start_of other (g + j) u)
 lasting_start_of call other lasts g j u = lasting_spend 1 (lasting_bind (lasting_make_all call other lasts g j u.name 0 (made_by_unit u)) (λ _. lasting_exec call other lasts g j u.name (stmt_of u.start)))
 
--- the starts of units
-lasting_starts_of : (call other : Handler) → IsLastingHandler call other → (g j : ℕ) (us : List TypedUnit) → Lasting (starts_of call g us) (starts_of other (g + j) us)
-lasting_starts_of call other lasts g j [] = lasting_stop Normal
-lasting_starts_of call other lasts g j (u ∷ us) = lasting_bind (lasting_start_of call other lasts g j u) (λ _. lasting_starts_of call other lasts g j us)
+-- its stop
+lasting_stop_of : (call other : Handler) → IsLastingHandler call other → (g j : ℕ) (u : TypedUnit) → Lasting (stop_of call g u) (stop_of other (g + j) u)
+lasting_stop_of call other lasts g j u = lasting_spend 1 (lasting_exec call other lasts g j u.name (stmt_of u.stop))
+
+-- the stops of units
+lasting_stops_of : (call other : Handler) → IsLastingHandler call other → (g j : ℕ) (us : List TypedUnit) → Lasting (stops_of call g us) (stops_of other (g + j) us)
+lasting_stops_of call other lasts g j [] = lasting_stop Normal
+lasting_stops_of call other lasts g j (u ∷ us) = lasting_bind (lasting_stop_of call other lasts g j u) (λ _. lasting_stops_of call other lasts g j us)
+
+-- the starts of units, and what is behind them
+lasting_starts_of : (call other : Handler) → IsLastingHandler call other → (g j : ℕ) (us : List TypedUnit) {c d : Computation (Unit {0})} → Lasting c d → Lasting (starts_of call g us c) (starts_of other (g + j) us d)
+lasting_starts_of call other lasts g j [] h = h
+lasting_starts_of call other lasts g j (u ∷ us) h = lasting_bind (lasting_start_of call other lasts g j u) (λ _. lasting_starts_of call other lasts g j us h)
 
 -- while a call is under way
 pub lasting_in_call : {A : Type 0} (words levels : ℕ) (x : Call) {c d : Computation A} → Lasting c d → Lasting (in_call words levels x c) (in_call words levels x d)
@@ -656,5 +665,7 @@ lasting_handler_of units (suc depth) more =
 -- The meaning of units with more steps.
 pub meanings_last : MeaningsLast
 meanings_last units steps more =
-    let x = lasting_starts_of (handler_of units steps) (handler_of units (steps + more)) (lasting_handler_of units steps more) steps more units in
+    let calls = lasting_handler_of units steps more in
+    let stops = lasting_stops_of (handler_of units steps) (handler_of units (steps + more)) calls steps more (stopped_units units) in
+    let x = lasting_starts_of (handler_of units steps) (handler_of units (steps + more)) calls steps more units stops in
     x.by steps more first_state

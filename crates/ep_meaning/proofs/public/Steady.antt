@@ -6,7 +6,7 @@ use Rattle.ep_outside.specs.Known.{IsPrefix}
 use Rattle.ep_meaning.specs.Controls.{in_order, next_value, has_more, others}
 use Rattle.ep_typed.specs.Denoters.{definition_of, required_type, subrange_type, enumeration_type, array_type, set_type}
 use Rattle.ep_values.specs.Events.{Trace}
-use Rattle.ep_meaning.specs.Meaning.{clears, clears_all, tag_tested, selected_by, selected_now, is_another, changes_variant, sets_tag, assigns_tag, looks, argument, arguments, extended, collected, first_located, given_at, given_each, given_from, indexes, ranging, located, reached, given_living, given, taken, gives, gives_all, members_found, one_result, weights_of, result_at, results_given, initialized, takes_by, takes_all, elaborate, elaborate_each, answered, indexed, selected, selecting, selects, chosen, active, part, tag_read, chosen_part, active_part, place, eval, write_piece, write_wide, write_item, write_items, assign, turns, turns_until, assigns, undefines, turns_to, counts, takes_least, member_turn, names, exec, exec_all, elaborated, elaborated_where, make, make_all, make_own, make_all_own, start_of, starts_of, routine_in, type_in, line_where, activation, runs_routine, routine_does, type_does, handler_of, read, assign_living, tried, exec_arms, exec_other, begins, begins_where}
+use Rattle.ep_meaning.specs.Meaning.{clears, clears_all, tag_tested, selected_by, selected_now, is_another, changes_variant, sets_tag, assigns_tag, looks, argument, arguments, extended, collected, first_located, given_at, given_each, given_from, indexes, ranging, located, reached, given_living, given, taken, gives, gives_all, members_found, one_result, weights_of, result_at, results_given, initialized, takes_by, takes_all, elaborate, elaborate_each, answered, indexed, selected, selecting, selects, chosen, active, part, tag_read, chosen_part, active_part, place, eval, write_piece, write_wide, write_item, write_items, assign, turns, turns_until, assigns, undefines, turns_to, counts, takes_least, member_turn, names, exec, exec_all, elaborated, elaborated_where, make, make_all, make_own, make_all_own, start_of, starts_of, stop_of, stops_of, routine_in, type_in, line_where, activation, runs_routine, routine_does, type_does, handler_of, read, assign_living, tried, exec_arms, exec_other, begins, begins_where}
 use Rattle.ep_meaning.specs.Nameless.{all_assigned, assigned_from, begins_nameless, fills, fills_all, made_nameless, newest_nameless, range_assigned, range_count, takes_nameless, with_depth}
 use Rattle.ep_values.specs.Operations.{Answer, Number, Fault, is_same, is_true, decides}
 use Rattle.ep_typed.specs.CaseRanges.{is_in}
@@ -605,10 +605,19 @@ module _ (call : Handler) (steady : IsSteadyHandler call) (g : ℕ) (unit : List
 pub steady_start_of : (call : Handler) → IsSteadyHandler call → (g : ℕ) (u : TypedUnit) → Steady (start_of call g u)
 steady_start_of call steady g u = steady_spend 1 (steady_bind (steady_make_all call steady g u.name 0 (made_by_unit u)) (λ _. steady_exec call steady g u.name (stmt_of u.start)))
 
--- the starts of units
-pub steady_starts_of : (call : Handler) → IsSteadyHandler call → (g : ℕ) (us : List TypedUnit) → Steady (starts_of call g us)
-steady_starts_of call steady g [] = steady_stop Normal
-steady_starts_of call steady g (u ∷ us) = steady_bind (steady_start_of call steady g u) (λ _. steady_starts_of call steady g us)
+-- its stop
+pub steady_stop_of : (call : Handler) → IsSteadyHandler call → (g : ℕ) (u : TypedUnit) → Steady (stop_of call g u)
+steady_stop_of call steady g u = steady_spend 1 (steady_exec call steady g u.name (stmt_of u.stop))
+
+-- the starts of units, and what is behind them
+pub steady_starts_of : (call : Handler) → IsSteadyHandler call → (g : ℕ) (us : List TypedUnit) {behind : Computation (Unit {0})} → Steady behind → Steady (starts_of call g us behind)
+steady_starts_of call steady g [] h = h
+steady_starts_of call steady g (u ∷ us) h = steady_bind (steady_start_of call steady g u) (λ _. steady_starts_of call steady g us h)
+
+-- and their stops
+pub steady_stops_of : (call : Handler) → IsSteadyHandler call → (g : ℕ) (us : List TypedUnit) → Steady (stops_of call g us)
+steady_stops_of call steady g [] = steady_stop Normal
+steady_stops_of call steady g (u ∷ us) = steady_bind (steady_stop_of call steady g u) (λ _. steady_stops_of call steady g us)
 
 -- ---- calls
 

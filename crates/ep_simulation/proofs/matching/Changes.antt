@@ -1,6 +1,7 @@
 -- The machine goes on matching where a value is assigned or events are added.
 use Rattle.std.proofs.Common.{◌≡◌, ℕ, ℤ, zero, suc, false, ◌<◌, ◌≤◌, ◌⊎◌, inl, inr, List, length, Option, Some, None, slice_get, slice_set, refl, sym, ap, ◌∙◌, subst, arith, option_map}
 use Rattle.std.proofs.lemmas.Option.{same_Some, slice_get_within}
+use Rattle.ep_simulation.specs.Layouts.{Layout}
 use Rattle.ep_simulation.specs.Matching.{IsOfType, MachineMemory, Injection, IsIn, MatchesSlot, MatchesInjection, MatchesFrame, MatchesUnits, MatchesCounts, hidden_words, HasAt, Represents, IsRepresented, Matches, Slots, every_slot, Grown}
 use Rattle.ep_object.specs.declared.code.Image.{Image}
 use Rattle.ep_object.specs.declared.code.ImageUnit.{ImageUnit}
@@ -17,7 +18,6 @@ use Rattle.ep_meaning.specs.Steps.{Component, Call, Allocation, type_along, allo
 use Rattle.ep_values.specs.Values.{Value, value_with}
 use Rattle.ep_meaning.specs.Steps as meaning
 use Rattle.ep_values.specs.TypeValues.{TypeValue, bare_of}
-use Rattle.ep_meaning.specs.Valid.{Declarations}
 
 -- two numbers are the same or not
 pub same_or_not : (m n : ℕ) → (m ≡ n) ⊎ (m ≡ n → ⊥)
@@ -38,11 +38,11 @@ slot-grown (Some n) None g h = h
 slot-grown (Some n) (Some p) g h = is_spot-grown g h
 
 -- a frame that stays what it is goes on matching
-pub matches_frame-grown : {untouched : Slots} {declared : Declarations} {injection longer : Injection} {before later : List ℕ → ℕ → Option Component} {memory after : MachineMemory} (unit : ℕ) (u : ImageUnit)
+pub matches_frame-grown : {untouched : Slots} {layout : Layout} {injection longer : Injection} {before later : List ℕ → ℕ → Option Component} {memory after : MachineMemory} (unit : ℕ) (u : ImageUnit)
     → Grown untouched injection memory longer after → after.frames ≡ memory.frames
     → ((k : ℕ) → later u.name k ≡ before u.name k)
-    → MatchesFrame declared injection before memory.frames.units memory.types unit u
-    → MatchesFrame declared longer later after.frames.units after.types unit u
+    → MatchesFrame layout injection before memory.frames.units memory.types unit u
+    → MatchesFrame layout longer later after.frames.units after.types unit u
 matches_frame-grown {longer = longer} {before = before} {after = after} unit u g same variables h =
     record {
       slots = h.slots;
@@ -59,12 +59,12 @@ pub of_type-same : {allocations others : List Allocation} {Holds : TypeValue →
 of_type-same c same h = record { type_value = h.type_value; is = ap (λ o. option_map bare_of (type_along o c.path)) same ∙ h.is; holds = h.holds }
 
 -- the units go on matching where memory grows, frames and variables stay, and no allocation changes its type
-pub matches_units-grown : {untouched : Slots} {declared : Declarations} {G : Image} {injection longer : Injection} {allocations others : List Allocation} {variables : List ℕ → ℕ → Option Component} {memory after : MachineMemory}
+pub matches_units-grown : {untouched : Slots} {layout : Layout} {G : Image} {injection longer : Injection} {allocations others : List Allocation} {variables : List ℕ → ℕ → Option Component} {memory after : MachineMemory}
     → Grown untouched injection memory longer after → after.frames ≡ memory.frames
     → ((n : ℕ) → type_in (allocation_at others n) ≡ type_in (allocation_at allocations n))
-    → MatchesUnits declared G injection allocations variables memory.frames.units memory.types
-    → MatchesUnits declared G longer others variables after.frames.units after.types
-matches_units-grown {declared = declared} {variables = variables} g same types h =
+    → MatchesUnits layout G injection allocations variables memory.frames.units memory.types
+    → MatchesUnits layout G longer others variables after.frames.units after.types
+matches_units-grown {layout = layout} {variables = variables} g same types h =
     record {
       frames = λ unit u e. matches_frame-grown {before = variables} unit u g same (λ k. refl) (h.frames unit u e);
       typed = λ unit k c v p q. of_type-same c (types c.allocation) (h.typed unit k c v p q);
@@ -73,8 +73,8 @@ matches_units-grown {declared = declared} {variables = variables} g same types h
 -- ---- events
 
 -- events are no part of what is matched
-pub matches_events : {declared : Declarations} {G : Image} {injection : Injection} {s : meaning.State} {memory : MachineMemory} (events : Trace)
-    → Matches declared G injection s memory → Matches declared G injection (with_events events s) memory
+pub matches_events : {layout : Layout} {G : Image} {injection : Injection} {s : meaning.State} {memory : MachineMemory} (events : Trace)
+    → Matches layout G injection s memory → Matches layout G injection (with_events events s) memory
 matches_events events h =
     record { injected = h.injected; store = h.store; types = h.types; units = h.units; outside = h.outside; counts = h.counts; depth = h.depth }
 
@@ -110,7 +110,7 @@ pub is_in-same : (injection : Injection) (n x y : ℕ) → IsIn injection n x �
 is_in-same injection zero x y p q = absurd p
 is_in-same injection (suc n) x y p q = same_Some x y (sym p ∙ q)
 
-module _ {declared : Declarations} {G : Image} {injection : Injection} {s : meaning.State} {memory : MachineMemory} (h : Matches declared G injection s memory) (n segment : ℕ) (a : Allocation) (is_in : IsIn injection n segment) (is : allocation_at s.allocations n ≡ Some a) (living : a.ended ≡ false) (r : Represents injection memory.segments memory.types segment a) (words : List ℤ) where
+module _ {layout : Layout} {G : Image} {injection : Injection} {s : meaning.State} {memory : MachineMemory} (h : Matches layout G injection s memory) (n segment : ℕ) (a : Allocation) (is_in : IsIn injection n segment) (is : allocation_at s.allocations n ≡ Some a) (living : a.ended ≡ false) (r : Represents injection memory.segments memory.types segment a) (words : List ℤ) where
   -- no other segment changes, and this one keeps its type
   pub grown_storing : {untouched : Slots}
       → Grown untouched injection memory injection (storing memory segment r.type_number words)
@@ -156,7 +156,7 @@ module _ {declared : Declarations} {G : Image} {injection : Injection} {s : mean
   -- a value is assigned to a component of it, and as many words as before hold what it has then: it is represented, and all else as before
   pub matches_assigned : (path : List ℕ) (value : Value) → length words ≡ length r.words
       → HasAt injection a.type_value (value_with a.value path value) (slice_get words) 0
-      → Matches declared G injection (assigned (record { allocation = n; path = path }) value s) (storing memory segment r.type_number words)
+      → Matches layout G injection (assigned (record { allocation = n; path = path }) value s) (storing memory segment r.type_number words)
   matches_assigned path value as_many holds =
       record {
         injected = injected;
@@ -225,17 +225,17 @@ module _ {declared : Declarations} {G : Image} {injection : Injection} {s : mean
 -- ---- calls
 
 -- a call that is under way is no part of what is matched, and so many words are set aside for it
-pub matches_entered : {declared : Declarations} {G : Image} {injection : Injection} {s : meaning.State} {memory : MachineMemory} (words levels : ℕ) (x : Call)
-    → Matches declared G injection s memory → Matches declared G injection (entered words levels x s) memory
+pub matches_entered : {layout : Layout} {G : Image} {injection : Injection} {s : meaning.State} {memory : MachineMemory} (words levels : ℕ) (x : Call)
+    → Matches layout G injection s memory → Matches layout G injection (entered words levels x s) memory
 matches_entered words levels x h =
     let counts = h.counts in
     record { injected = h.injected; store = h.store; types = h.types; units = h.units; outside = h.outside; counts = record { words = counts.words; hidden = omega (arith, counts.hidden); number = counts.number }; depth = omega (arith, h.depth) }
 
 -- What was set aside for a call is given back where memory has grown since it began.
-pub matches_left : {untouched : Slots} {declared : Declarations} {G : Image} {injection longer : Injection} {before t : meaning.State} {memory after : MachineMemory}
-    → Grown untouched injection memory longer after → Matches declared G injection before memory
+pub matches_left : {untouched : Slots} {layout : Layout} {G : Image} {injection longer : Injection} {before t : meaning.State} {memory after : MachineMemory}
+    → Grown untouched injection memory longer after → Matches layout G injection before memory
     → length after.frames.calls ≤ length before.calls
-    → Matches declared G longer t after → Matches declared G longer (back_in before t) after
+    → Matches layout G longer t after → Matches layout G longer (back_in before t) after
 matches_left g old fewer h =
     let counts = h.counts in
     let first = old.counts in

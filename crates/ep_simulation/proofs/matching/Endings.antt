@@ -4,6 +4,7 @@ use Rattle.ep_values.specs.TypeValues.{bare_of}
 use Rattle.std.proofs.lemmas.Option.{same_Some, slice_get_within}
 use Rattle.ep_simulation.specs.Activations.{AreMade}
 use Rattle.ep_object.specs.Calls.{ended, words_in, words_of}
+use Rattle.ep_simulation.specs.Layouts.{Layout}
 use Rattle.ep_simulation.specs.Matching.{MachineMemory, Injection, IsIn, MatchesInjection, MatchesCounts, hidden_words, IsRepresentedWhere, IsRepresented, Matches, Slots, every_slot, Grown}
 use Rattle.ep_object.specs.State.{Segments}
 use Rattle.ep_object.specs.declared.code.Image.{Image}
@@ -16,7 +17,6 @@ use Rattle.ep_simulation.proofs.matching.HiddenWords.{hidden_words-ended}
 use Rattle.ep_simulation.proofs.public.matching.Standing.{allocated, represented-same}
 use Rattle.ep_meaning.specs.Steps.{Allocation, allocation_at, with_ended, living_words, type_in, type_at, ended_in, has_ended, with_all_ended}
 use Rattle.ep_meaning.specs.Steps as meaning
-use Rattle.ep_meaning.specs.Valid.{Declarations}
 
 -- ---- the allocation that ends, and the others
 
@@ -44,7 +44,7 @@ record Old (segments : Segments) (segment words : ℕ) : Type 0 where
   stands : slice_get segments segment ≡ Some content
   same : words_in (slice_get segments segment) ≡ words
 
-module _ {declared : Declarations} {G : Image} {injection : Injection} {s : meaning.State} {memory : MachineMemory} (h : Matches declared G injection s memory) (n segment : ℕ) (is_in : IsIn injection n segment) where
+module _ {layout : Layout} {G : Image} {injection : Injection} {s : meaning.State} {memory : MachineMemory} (h : Matches layout G injection s memory) (n segment : ℕ) (is_in : IsIn injection n segment) where
   -- the memory without the segment
   abbrev pub ended_memory : MachineMemory
   ended_memory = record memory { segments = slice_set memory.segments segment None; live = memory.live - words_in (slice_get memory.segments segment) }
@@ -103,7 +103,7 @@ module _ {declared : Declarations} {G : Image} {injection : Injection} {s : mean
       before k y q (inr other) = sym (slice_get-set-other memory.segments segment k None other) ∙ q
 
   -- the allocation has ended, and all else is as before
-  pub matches_ending : 2 < n → Matches declared G injection ended_state ended_memory
+  pub matches_ending : 2 < n → Matches layout G injection ended_state ended_memory
   matches_ending own =
       record {
         injected = injected;
@@ -157,13 +157,13 @@ abbrev pub without : List ℕ → MachineMemory → MachineMemory
 without segments memory = record memory { segments = ended segments memory.segments; live = memory.live - words_of segments memory.segments }
 
 -- They end on both sides. Memory has grown by it, and the machine matches.
-pub record EndsBoth (declared : Declarations) (G : Image) (injection : Injection) (ns segments : List ℕ) (s : meaning.State)
+pub record EndsBoth (layout : Layout) (G : Image) (injection : Injection) (ns segments : List ℕ) (s : meaning.State)
     (memory : MachineMemory) : Type 0 where
   pub grown : (untouched : Slots) → Grown untouched injection memory injection (without segments memory)
-  pub matches : Matches declared G injection (with_all_ended ns s) (without segments memory)
+  pub matches : Matches layout G injection (with_all_ended ns s) (without segments memory)
 
-pub ends_both : {declared : Declarations} {G : Image} {injection : Injection} (ns segments : List ℕ) (s : meaning.State) (memory : MachineMemory)
-    → AreMade injection ns segments → Matches declared G injection s memory → EndsBoth declared G injection ns segments s memory
+pub ends_both : {layout : Layout} {G : Image} {injection : Injection} (ns segments : List ℕ) (s : meaning.State) (memory : MachineMemory)
+    → AreMade injection ns segments → Matches layout G injection s memory → EndsBoth layout G injection ns segments s memory
 ends_both {injection = injection} [] [] s memory made h =
     let c = h.counts in
     record {

@@ -6,6 +6,7 @@ use Rattle.std.proofs.lemmas.Bool.Decides.{nat_tests}
 use Rattle.std.proofs.lemmas.Option.{slice_get_within, same_Some}
 use Rattle.std.proofs.lemmas.Slice.Eq.{bytes_eq-Decides}
 use native.Mathlib.Decide.{ℕ_discrete}
+use Rattle.ep_simulation.specs.Layouts.{Layout}
 use Rattle.ep_simulation.specs.Matching.{MachineMemory, Mapped, Injection, IsIn, IsOf, IsSpot, IsOfType, Describes, IsHidden, IsLike, Slots, every_slot, slot_in, MatchesSlot, MatchesInjection, MatchesFrame, MatchesCounts, hidden_words, IsRepresented, HasType, Matches, Grown}
 use Rattle.ep_simulation.specs.Starts.{AreStarts, start_words}
 use Rattle.ep_object.specs.Placing.{HasDistinctNames}
@@ -25,7 +26,7 @@ use Rattle.ep_simulation.proofs.public.matching.Standing.{slice_get-some, mapped
 use Rattle.ep_values.specs.Values.{start_of}
 use Rattle.ep_meaning.specs.Steps.{Component, whole, type_along, Allocation, allocation_at, type_in, ended_in, bound, counted, made}
 use Rattle.ep_meaning.specs.Steps as meaning
-use Rattle.ep_meaning.specs.Valid.{Declarations, IsTypeValue}
+use Rattle.ep_meaning.specs.Valid.{IsTypeValue}
 use Rattle.ep_values.specs.TypeValues as type
 use Rattle.ep_values.specs.TypeValues.{TypeValue, bare_of, size_of}
 use Rattle.ep_typed.specs.declared.unit.UnitVariable.{UnitVariable}
@@ -192,7 +193,7 @@ pub grown_same_frames : (t : TypeValue) (injection : Injection) (memory : Machin
     → Grown every_slot injection memory (with_segment t injection memory) (with_variable t number memory.frames memory)
 grown_same_frames t injection memory number = grown_making t injection memory number memory.frames (λ unit k kept. refl)
 
-module _ {declared : Declarations} {G : Image} {injection : Injection} {s : meaning.State} {memory : MachineMemory} (h : Matches declared G injection s memory) (t : TypeValue) (number : ℕ) (described : Describes memory.types number t) (valid : IsTypeValue t) (starts : AreStarts t) where
+module _ {layout : Layout} {G : Image} {injection : Injection} {s : meaning.State} {memory : MachineMemory} (h : Matches layout G injection s memory) (t : TypeValue) (number : ℕ) (described : Describes memory.types number t) (valid : IsTypeValue t) (starts : AreStarts t) where
   -- the allocation of the new variable
   abbrev pub new_allocation : Allocation
   new_allocation = record { type_value = t; value = start_of t; ended = false }
@@ -291,7 +292,7 @@ module _ {declared : Declarations} {G : Image} {injection : Injection} {s : mean
 
   module _ (x : ImageUnit) (k : ℕ) (is_unit : slice_get G.units memory.frames.unit ≡ Some x) where
     -- the frame in which the variable is made, where memory has grown
-    pub frame_here : MatchesFrame declared (with_segment t injection memory) s.variables memory.frames.units memory.types memory.frames.unit x
+    pub frame_here : MatchesFrame layout (with_segment t injection memory) s.variables memory.frames.units memory.types memory.frames.unit x
     frame_here = let units = h.units in matches_frame-grown {before = s.variables} {after = with_variable t number memory.frames memory} memory.frames.unit x (grown_same_frames t injection memory number) refl (λ j. refl) (units.frames memory.frames.unit x is_unit)
 
     abbrev pub new_slots : List (Option Place)
@@ -303,9 +304,9 @@ module _ {declared : Declarations} {G : Image} {injection : Injection} {s : mean
     abbrev pub later_state : meaning.State
     later_state = made x.name k t (counted t s)
 
-    module _ (within : k < x.slots) (declared_so : (v : UnitVariable) → declared.variables x.name k ≡ Some v → HasType declared x.name v (bare_of t)) where
+    module _ (within : k < x.slots) (declared_so : (v : UnitVariable) → layout.variables x.name k ≡ Some v → HasType layout x.name v (bare_of t)) where
       -- the slot has the place of the new variable, and the others have theirs
-      slot_making : (j : ℕ) (v : UnitVariable) (slot : Option Place) → declared.variables x.name j ≡ Some v
+      slot_making : (j : ℕ) (v : UnitVariable) (slot : Option Place) → layout.variables x.name j ≡ Some v
           → slice_get new_slots j ≡ Some slot
           → MatchesSlot (with_segment t injection memory) later.types (later_state.variables x.name j) slot
       slot_making number_at v slot is_declared q = elim (ℕ_discrete k number_at) [ yes e ↦ same number_at slot q e | no e ↦ other number_at slot is_declared q e ]
@@ -322,7 +323,7 @@ module _ {declared : Declarations} {G : Image} {injection : Injection} {s : mean
               (subst (λ o. MatchesSlot (with_segment t injection memory) later.types (later_state.variables x.name k) o) slot_is
               (subst (λ o. MatchesSlot (with_segment t injection memory) later.types o (Some (new_place memory number))) (sym bound_here) new_spot))
 
-          other : (j : ℕ) (slot : Option Place) → declared.variables x.name j ≡ Some v
+          other : (j : ℕ) (slot : Option Place) → layout.variables x.name j ≡ Some v
               → slice_get new_slots j ≡ Some slot → (k ≡ j → ⊥)
               → MatchesSlot (with_segment t injection memory) later.types (later_state.variables x.name j) slot
           other j slot is_declared q e =
@@ -331,8 +332,8 @@ module _ {declared : Declarations} {G : Image} {injection : Injection} {s : mean
 
       -- the type of the new place describes the declaration's, and those of the others theirs
       described_making : (j : ℕ) (v : UnitVariable) (place : Place) (u : TypeValue)
-          → declared.variables x.name j ≡ Some v → slice_get new_slots j ≡ Some (Some place)
-          → HasType declared x.name v u → IsLike memory.types place.type_number u
+          → layout.variables x.name j ≡ Some v → slice_get new_slots j ≡ Some (Some place)
+          → HasType layout x.name v u → IsLike memory.types place.type_number u
       described_making j v place u is_declared q has_type = elim (ℕ_discrete k j) [ yes e ↦ same e | no e ↦ frame_here.described j v place u is_declared (sym (slice_get-set-other frame_here.slots k j (Some (new_place memory number)) e) ∙ q) has_type ]
         where
           same : k ≡ j → IsLike memory.types place.type_number u
@@ -342,11 +343,11 @@ module _ {declared : Declarations} {G : Image} {injection : Injection} {s : mean
               let here : slice_get new_slots k ≡ Some (Some place) = subst (λ i. slice_get new_slots i ≡ Some (Some place)) (sym e) q in
               let place_is : Some (new_place memory number) ≡ Some place = same_Some (Some (new_place memory number)) (Some place) (sym now ∙ here) in
               let number_is : number ≡ place.type_number = ap (λ (p : Place). p.type_number) (same_Some (new_place memory number) place place_is) in
-              let its_type : bare_of t ≡ u = one_type_of v (declared_so v (subst (λ i. declared.variables x.name i ≡ Some v) (sym e) is_declared)) has_type in
+              let its_type : bare_of t ≡ u = one_type_of v (declared_so v (subst (λ i. layout.variables x.name i ≡ Some v) (sym e) is_declared)) has_type in
               subst (λ n. IsLike memory.types n u) number_is (subst (λ w. IsLike memory.types number w) its_type (t, refl, described))
 
       -- the frame has the place of the new variable, and those of the others
-      frame_making : MatchesFrame declared (with_segment t injection memory) later_state.variables later.frames.units later.types memory.frames.unit x
+      frame_making : MatchesFrame layout (with_segment t injection memory) later_state.variables later.frames.units later.types memory.frames.unit x
       frame_making =
           record {
             slots = new_slots;
@@ -359,20 +360,20 @@ module _ {declared : Declarations} {G : Image} {injection : Injection} {s : mean
       module _ (distinct : HasDistinctNames G) where
         -- the frames of other units stay what they are
         frames_making : (unit : ℕ) (u : ImageUnit) → slice_get G.units unit ≡ Some u
-            → MatchesFrame declared (with_segment t injection memory) later_state.variables later.frames.units later.types unit u
+            → MatchesFrame layout (with_segment t injection memory) later_state.variables later.frames.units later.types unit u
         frames_making unit u there = elim (ℕ_discrete memory.frames.unit unit) [ yes e ↦ same e | no e ↦ other e ]
           where
             same : memory.frames.unit ≡ unit
-                → MatchesFrame declared (with_segment t injection memory) later_state.variables later.frames.units later.types unit u
+                → MatchesFrame layout (with_segment t injection memory) later_state.variables later.frames.units later.types unit u
             same e =
                 let is_x : x ≡ u = same_Some x u (sym is_unit ∙ subst (λ i. slice_get G.units i ≡ Some u) (sym e) there) in
-                subst (λ i. MatchesFrame declared (with_segment t injection memory) later_state.variables later.frames.units later.types i u) e (subst (λ v. MatchesFrame declared (with_segment t injection memory) later_state.variables later.frames.units later.types memory.frames.unit v) is_x frame_making)
+                subst (λ i. MatchesFrame layout (with_segment t injection memory) later_state.variables later.frames.units later.types i u) e (subst (λ v. MatchesFrame layout (with_segment t injection memory) later_state.variables later.frames.units later.types memory.frames.unit v) is_x frame_making)
 
             other : (memory.frames.unit ≡ unit → ⊥)
-                → MatchesFrame declared (with_segment t injection memory) later_state.variables later.frames.units later.types unit u
+                → MatchesFrame layout (with_segment t injection memory) later_state.variables later.frames.units later.types unit u
             other e =
                 let units = h.units in
-                let f : MatchesFrame declared (with_segment t injection memory) later_state.variables memory.frames.units later.types unit u =
+                let f : MatchesFrame layout (with_segment t injection memory) later_state.variables memory.frames.units later.types unit u =
                 matches_frame-grown {before = s.variables} {after = with_variable t number memory.frames memory} unit u (grown_same_frames t injection memory number) refl (λ j. bound-other x.name k (whole (suc (length s.allocations))) s.variables u.name j (λ p q. e (distinct memory.frames.unit unit x u is_unit there p))) (units.frames unit u there) in
                 record {
                   slots = f.slots;
@@ -384,23 +385,23 @@ module _ {declared : Declarations} {G : Image} {injection : Injection} {s : mean
 
         -- the new variable has the type of its declaration, and the others keep theirs
         typed_making : (unit : List ℕ) (j : ℕ) (c : Component) (v : UnitVariable) → later_state.variables unit j ≡ Some c
-            → declared.variables unit j ≡ Some v → IsOfType later_state.allocations c (HasType declared unit v)
+            → layout.variables unit j ≡ Some v → IsOfType later_state.allocations c (HasType layout unit v)
         typed_making unit j c v is is_declared = elim (same_name x.name unit) [ inl p ↦ elim (ℕ_discrete k j) [ yes q ↦ same p q | no q ↦ other (λ a b. q b) ] | inr p ↦ other (λ a b. p a) ]
           where
-            same : x.name ≡ unit → k ≡ j → IsOfType later_state.allocations c (HasType declared unit v)
+            same : x.name ≡ unit → k ≡ j → IsOfType later_state.allocations c (HasType layout unit v)
             same p q =
                 let here : later_state.variables x.name k ≡ Some c = subst (λ u. later_state.variables u k ≡ Some c) (sym p) (subst (λ i. later_state.variables unit i ≡ Some c) (sym q) is) in
                 let c_is : whole (suc (length s.allocations)) ≡ c = same_Some (whole (suc (length s.allocations))) c (sym (bound-same x.name k (whole (suc (length s.allocations))) s.variables) ∙ here) in
-                let has_type : HasType declared unit v (bare_of t) = subst (λ u. HasType declared u v (bare_of t)) p (declared_so v (subst (λ u. declared.variables u k ≡ Some v) (sym p) (subst (λ i. declared.variables unit i ≡ Some v) (sym q) is_declared))) in
-                subst (λ i. IsOfType later_state.allocations i (HasType declared unit v)) c_is (record { type_value = bare_of t; is = ap (λ o. option_map bare_of (type_in o)) (slice_get-pushed s.allocations new_allocation); holds = has_type })
+                let has_type : HasType layout unit v (bare_of t) = subst (λ u. HasType layout u v (bare_of t)) p (declared_so v (subst (λ u. layout.variables u k ≡ Some v) (sym p) (subst (λ i. layout.variables unit i ≡ Some v) (sym q) is_declared))) in
+                subst (λ i. IsOfType later_state.allocations i (HasType layout unit v)) c_is (record { type_value = bare_of t; is = ap (λ o. option_map bare_of (type_in o)) (slice_get-pushed s.allocations new_allocation); holds = has_type })
 
-            other : (x.name ≡ unit → k ≡ j → ⊥) → IsOfType later_state.allocations c (HasType declared unit v)
+            other : (x.name ≡ unit → k ≡ j → ⊥) → IsOfType later_state.allocations c (HasType layout unit v)
             other different =
                 let before : s.variables unit j ≡ Some c = sym (bound-other x.name k (whole (suc (length s.allocations))) s.variables unit j different) ∙ is in
                 let units = h.units in of_type-more s.allocations new_allocation c (units.typed unit j c v before is_declared)
 
         -- the machine goes on matching
-        pub matches_making : Matches declared G (with_segment t injection memory) later_state later
+        pub matches_making : Matches layout G (with_segment t injection memory) later_state later
         matches_making =
             record {
               injected = injected_making;

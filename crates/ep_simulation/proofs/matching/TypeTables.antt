@@ -8,6 +8,7 @@ use Rattle.std.proofs.lemmas.Option.{slice_get-get_or}
 use Rattle.std.proofs.lemmas.List.Quantifiers.{position-Some}
 use Rattle.std.proofs.lemmas.Slice.Eq.{bytes_eq-Decides}
 use Rattle.std.proofs.lemmas.Bool.Decides.{nat_tests}
+use Rattle.ep_simulation.specs.Layouts.{Layout}
 use Rattle.ep_simulation.specs.Matching.{MachineMemory, Injection, Describes, HasSize, MatchesSlot, MatchesTypes, IsRepresentedWhere, MatchesStore, MatchesUnits, MatchesCounts, Matches, Slots, Grown, AreBare, AreEntries, IsBare, IsKindOf}
 use Rattle.ep_object.specs.Runs.{after}
 use Rattle.ep_object.specs.State.{Segments, TypeTable, integer_entry, char_entry, boolean_entry, text_entry, pointer_entry, first_types, bare_number, plain}
@@ -25,7 +26,6 @@ use Rattle.ep_meaning.specs.Steps.{Resources, held, words_of_type, met, watched,
 use Rattle.ep_values.specs.TypeValues.{same_type}
 use Rattle.ep_meaning.specs.Steps as meaning
 use Rattle.ep_meaning.specs.Steps.{Component, Allocation}
-use Rattle.ep_meaning.specs.Valid.{Declarations}
 use Rattle.ep_outside.specs.Known.{IsPrefix}
 use Rattle.ep_object.specs.declared.code.Image.{Image}
 use Rattle.ep_object.specs.declared.state.Place.{Place}
@@ -422,9 +422,9 @@ slot-types injection {types = types} {longer = longer} prefix (Some c) (Some p) 
     record { is_in = h.is_in; root = h.root; is_of = h.is_of; type_value = h.type_value; leads = h.leads; described = like-longer types longer p.type_number h.type_value prefix h.described }
 
 -- and the units
-pub matches_units-types : {declared : Declarations} {G : Image} {injection : Injection} {allocations : List Allocation} {variables : List ℕ → ℕ → Option Component} {units : List (List (Option Place))} {types longer : TypeTable}
-    → IsPrefix types longer → MatchesUnits declared G injection allocations variables units types
-    → MatchesUnits declared G injection allocations variables units longer
+pub matches_units-types : {layout : Layout} {G : Image} {injection : Injection} {allocations : List Allocation} {variables : List ℕ → ℕ → Option Component} {units : List (List (Option Place))} {types longer : TypeTable}
+    → IsPrefix types longer → MatchesUnits layout G injection allocations variables units types
+    → MatchesUnits layout G injection allocations variables units longer
 matches_units-types {injection = injection} {variables = variables} {types = types} {longer = longer} prefix m =
     record {
       frames = λ unit u there.
@@ -440,11 +440,11 @@ matches_units-types {injection = injection} {variables = variables} {types = typ
     }
 
 -- Matching with another table of types, where no number changes its type.
-pub matches-types : {declared : Declarations} {G : Image} {injection : Injection} {s : meaning.State} {memory : MachineMemory} (resources : Resources) (types : TypeTable) (live : ℕ)
+pub matches-types : {layout : Layout} {G : Image} {injection : Injection} {s : meaning.State} {memory : MachineMemory} (resources : Resources) (types : TypeTable) (live : ℕ)
     → IsPrefix memory.types types → MatchesTypes resources.types types
     → MatchesCounts injection resources memory.segments types live
-    → Matches declared G injection s memory
-    → Matches declared G injection (record s { resources = resources }) (record memory { types = types; live = live })
+    → Matches layout G injection s memory
+    → Matches layout G injection (record s { resources = resources }) (record memory { types = types; live = live })
 matches-types resources types live longer known counts m =
     record { injected = m.injected; store = matches_store-types longer m.store; types = known; units = matches_units-types longer m.units; outside = m.outside; counts = counts; depth = m.depth }
 

@@ -1,8 +1,8 @@
 pub mod Bind
 pub mod Choices
-pub mod Declaring
 pub mod Filling
 pub mod Fragments
+pub mod Kept
 pub mod Losing
 pub mod Promising
 pub mod Ranging

@@ -3,6 +3,7 @@ pub mod Awaiting
 pub mod BareValues
 pub mod Beginning
 pub mod Indexes
+pub mod LaidOut
 pub mod MoreMemory
 pub mod Names
 pub mod OwnVariables

@@ -3,6 +3,6 @@ use Rattle.ep_simulation.proofs.laws.laws_of_simulations.Goals as goal
 
 pub returns : goal.returns
 returns c = record {
-  procedures = λ declared G unit routine n c simulates injection memory below s k enters steps le. simulation_answers simulates injection memory below s k enters steps le;
-  functions = λ declared G unit routine n kind c simulates injection memory below s k enters steps le. simulation_answers simulates injection memory below s k enters steps le;
+  procedures = λ layout G unit routine n c simulates injection memory below s k enters steps le. simulation_answers simulates injection memory below s k enters steps le;
+  functions = λ layout G unit routine n kind c simulates injection memory below s k enters steps le. simulation_answers simulates injection memory below s k enters steps le;
 }

@@ -6,6 +6,7 @@ use Rattle.std.specs.Prelude.{⊤, ◌+ℤ◌, if◌then◌else◌, int_lt}
 use Rattle.ep_object.specs.Calls.{call_limit, top_of}
 use Rattle.ep_simulation.specs.Follows.{Bare, Facts, Follows, HasGrown, Inside, IsNotLeft, IsSameCall, IsStillCall, Lasts, SameRoutine}
 use Rattle.ep_object.specs.Frames.{slots_over}
+use Rattle.ep_simulation.specs.Layouts.{Layout}
 use Rattle.ep_simulation.specs.Matching.{AreAmong, Grown, Injection, IsLike, IsSpot, Matches, MachineMemory, Slots, at, every_slot, slot_of_frame}
 use Rattle.ep_object.specs.Operands.{Operand, Word}
 use Rattle.ep_object.specs.Operands as operand
@@ -47,7 +48,7 @@ use Rattle.ep_values.specs.Values.{Value}
 use Rattle.ep_meaning.specs.Steps as meaning
 use Rattle.ep_values.specs.TypeValues.{TypeValue, bare_of}
 use Rattle.ep_values.specs.TypeValues as type
-use Rattle.ep_meaning.specs.Valid.{Declarations, IsTypeOfKind, Kind}
+use Rattle.ep_meaning.specs.Valid.{IsTypeOfKind, Kind}
 use Rattle.ep_meaning.specs.Valid as kind
 use Rattle.ep_values.specs.declared.run_error.TheConstants as run_error
 use Rattle.ep_typed.specs.declared.tree.CaseRange.{CaseRange}
@@ -123,27 +124,27 @@ not_left-over before now f c turn routine unit frames h = go h.own h.is (let run
         }
 
 -- Components of a variable have got the value that one of them has, and the machine matches in a memory that has grown.
-pub record Filled (declared : Declarations) (G : Image) (v : Component) (f : ℕ) (value : Value) (injection : Injection) (s : meaning.State) (memory : MachineMemory)
+pub record Filled (layout : Layout) (G : Image) (v : Component) (f : ℕ) (value : Value) (injection : Injection) (s : meaning.State) (memory : MachineMemory)
     (t : meaning.State) (longer : Injection) (after : MachineMemory) : Type 0 where
-  pub matches : Matches declared G longer t after
+  pub matches : Matches layout G longer t after
   pub since : HasGrown every_slot injection s memory longer t after
   pub living : has_ended v.allocation t ≡ false
   pub has : value_at (component v f) t ≡ value
 
 -- so it does at a place of the code
-pub record FilledAt (declared : Declarations) (G : Image) (v : Component) (f : ℕ) (value : Value) (injection : Injection) (s : meaning.State) (memory : MachineMemory)
+pub record FilledAt (layout : Layout) (G : Image) (v : Component) (f : ℕ) (value : Value) (injection : Injection) (s : meaning.State) (memory : MachineMemory)
     (place : ℕ) (below : List Operand) (t : meaning.State) (l : State) : Type 0 where
   pub longer : Injection
   pub after : MachineMemory
   pub is : l ≡ at place below after t.trace
-  pub filled : Filled declared G v f value injection s memory t longer after
+  pub filled : Filled layout G v f value injection s memory t longer after
 
-module _ (declared : Declarations) (G : Image) (routine : ℕ) (fill : IsFill G routine) (place line : ℕ) (calls : CallsAt G place routine 0 line)
+module _ (layout : Layout) (G : Image) (routine : ℕ) (fill : IsFill G routine) (place line : ℕ) (calls : CallsAt G place routine 0 line)
     (low high : ℤ) (of : TypeValue) (k : Kind) (of_kind : IsTypeOfKind k of) (v : Component) (p : PlaceOf) (from first last : ℤ) (f : ℕ) (at_from : component_at low high from ≡ Some f)
     (r : Result) (suited : suits (Some of) r ≡ true) (gives : given_by (Some of) (value_of r) ≡ Some r)
     (injection : Injection) (memory : MachineMemory) (other : Operand) (value : IsValueOf injection memory k r other)
     (spot : IsSpot injection memory.types v p) (described : IsLike memory.types p.type_number (type.Array low high of)) (below : List Operand)
-    (s : meaning.State) (matches : Matches declared G injection s memory) where
+    (s : meaning.State) (matches : Matches layout G injection s memory) where
   -- it with its code
   abbrev shuffle : IsShuffle G routine 4 1 (λ entry. filling_code entry fill.swap)
   shuffle = fill.shuffles
@@ -188,7 +189,7 @@ module _ (declared : Declarations) (G : Image) (routine : ℕ) (fill : IsFill G 
     slot : slice_get frame.slots 0 ≡ Some (Some p)
     back : frame.back ≡ place + 1
     made : frame.made ≡ []
-    is : Matches declared G longer (under sh) now
+    is : Matches layout G longer (under sh) now
     calls_are : sh.calls ≡ s.calls
     living : has_ended v.allocation sh ≡ false
     same : sh.trace ≡ s.trace
@@ -227,7 +228,7 @@ module _ (declared : Declarations) (G : Image) (routine : ℕ) (fill : IsFill G 
 
   -- memory and the state go on so
   kept : (sh : meaning.State) (longer : Injection) (now : MachineMemory) (t : Turning sh longer now) (i : ℕ) (longest : Injection) (later : MachineMemory)
-      → Grown every_slot longer now longest later → SameRoutine every_slot now.frames later.frames → Matches declared G longest (assigned (component v i) (value_of r) (under sh)) later
+      → Grown every_slot longer now longest later → SameRoutine every_slot now.frames later.frames → Matches layout G longest (assigned (component v i) (value_of r) (under sh)) later
       → Turning (assigned (component v i) (value_of r) sh) longest later
   kept sh longer now t i longest later more still now_is = go later.frames.calls refl (subst (λ cs. IsSameCall cs later.frames.calls) t.frames still.calls)
     where
@@ -259,44 +260,44 @@ module _ (declared : Declarations) (G : Image) (routine : ℕ) (fill : IsFill G 
   module _ (sh : meaning.State) (longer : Injection) (now : MachineMemory) (t : Turning sh longer now) (z : ℤ) (i : ℕ) (at_index : component_at low high z ≡ Some i) where
     -- the place of the component that gets the value
     abbrev target : PlaceOf
-    target = component_place declared G (to_swap + 1) shuffle.line (Word z ∷ below) low high of z v p body.1.1.1.0 longer now (now_spot sh longer now t) (now_described sh longer now t) i
+    target = component_place layout G (to_swap + 1) shuffle.line (Word z ∷ below) low high of z v p body.1.1.1.0 longer now (now_spot sh longer now t) (now_described sh longer now t) i
 
     -- and that of the one that has it
     abbrev source : PlaceOf
-    source = component_place declared G (to_swap + 1 + 1 + 1 + 1) shuffle.line (operand.Place target ∷ Word z ∷ below) low high of from v p body.1.1.1.1.1.1.0 longer now (now_spot sh longer now t) (now_described sh longer now t) f
+    source = component_place layout G (to_swap + 1 + 1 + 1 + 1) shuffle.line (operand.Place target ∷ Word z ∷ below) low high of from v p body.1.1.1.1.1.1.0 longer now (now_spot sh longer now t) (now_described sh longer now t) f
 
     target_spot : IsSpot longer now.types (component v i) target
-    target_spot = component_spot declared G (to_swap + 1) shuffle.line (Word z ∷ below) low high of z v p body.1.1.1.0 longer now (now_spot sh longer now t) (now_described sh longer now t) i (is_within_count (count_of low high) (gap low z) i at_index)
+    target_spot = component_spot layout G (to_swap + 1) shuffle.line (Word z ∷ below) low high of z v p body.1.1.1.0 longer now (now_spot sh longer now t) (now_described sh longer now t) i (is_within_count (count_of low high) (gap low z) i at_index)
 
     source_spot : IsSpot longer now.types (component v f) source
-    source_spot = component_spot declared G (to_swap + 1 + 1 + 1 + 1) shuffle.line (operand.Place target ∷ Word z ∷ below) low high of from v p body.1.1.1.1.1.1.0 longer now (now_spot sh longer now t) (now_described sh longer now t) f (is_within_count (count_of low high) (gap low from) f at_from)
+    source_spot = component_spot layout G (to_swap + 1 + 1 + 1 + 1) shuffle.line (operand.Place target ∷ Word z ∷ below) low high of from v p body.1.1.1.1.1.1.0 longer now (now_spot sh longer now t) (now_described sh longer now t) f (is_within_count (count_of low high) (gap low from) f at_from)
 
     target_like : IsLike now.types target.type_number of
-    target_like = let a = array declared G (to_swap + 1) shuffle.line (Word z ∷ below) low high of z v p body.1.1.1.0 longer now (now_spot sh longer now t) (now_described sh longer now t) in a.like
+    target_like = let a = array layout G (to_swap + 1) shuffle.line (Word z ∷ below) low high of z v p body.1.1.1.0 longer now (now_spot sh longer now t) (now_described sh longer now t) in a.like
 
     source_like : IsLike now.types source.type_number of
-    source_like = let a = array declared G (to_swap + 1 + 1 + 1 + 1) shuffle.line (operand.Place target ∷ Word z ∷ below) low high of from v p body.1.1.1.1.1.1.0 longer now (now_spot sh longer now t) (now_described sh longer now t) in a.like
+    source_like = let a = array layout G (to_swap + 1 + 1 + 1 + 1) shuffle.line (operand.Place target ∷ Word z ∷ below) low high of from v p body.1.1.1.1.1.1.0 longer now (now_spot sh longer now t) (now_described sh longer now t) in a.like
 
     target_found : outcome G (at (to_swap + 1) (Word z ∷ operand.Place p ∷ Word z ∷ below) now sh.trace) ≡ in_one (Running 0 (at (to_swap + 1 + 1) (operand.Place target ∷ Word z ∷ below) now sh.trace))
-    target_found = index_leads declared G (to_swap + 1) shuffle.line (Word z ∷ below) low high of z v p body.1.1.1.0 longer now (now_spot sh longer now t) (now_described sh longer now t) (under sh) t.is t.living i at_index
+    target_found = index_leads layout G (to_swap + 1) shuffle.line (Word z ∷ below) low high of z v p body.1.1.1.0 longer now (now_spot sh longer now t) (now_described sh longer now t) (under sh) t.is t.living i at_index
 
     source_found : outcome G (at (to_swap + 1 + 1 + 1 + 1) (Word from ∷ operand.Place p ∷ operand.Place target ∷ Word z ∷ below) now sh.trace) ≡ in_one (Running 0 (at to_load (operand.Place source ∷ operand.Place target ∷ Word z ∷ below) now sh.trace))
-    source_found = index_leads declared G (to_swap + 1 + 1 + 1 + 1) shuffle.line (operand.Place target ∷ Word z ∷ below) low high of from v p body.1.1.1.1.1.1.0 longer now (now_spot sh longer now t) (now_described sh longer now t) (under sh) t.is t.living f at_from
+    source_found = index_leads layout G (to_swap + 1 + 1 + 1 + 1) shuffle.line (operand.Place target ∷ Word z ∷ below) low high of from v p body.1.1.1.1.1.1.0 longer now (now_spot sh longer now t) (now_described sh longer now t) (under sh) t.is t.living f at_from
 
     -- it gives the result
     result_is : result_of (component v f) (under sh) ≡ Some r
     result_is =
-        result_by of (component v f) (under sh) (variable_type declared G to_load shuffle.line below of (component v f) source longer now source_spot source_like (under sh) t.is t.living)
+        result_by of (component v f) (under sh) (variable_type layout G to_load shuffle.line below of (component v f) source longer now source_spot source_like (under sh) t.is t.living)
         ∙ (ap (given_by (Some of)) t.has ∙ gives)
 
     loaded : (o : Operand) × IsValueOf longer now k r o × (outcome G (at to_load (operand.Place source ∷ operand.Place target ∷ Word z ∷ below) now sh.trace) ≡ record { weight = weight_of r; to = Running 0 (at (to_load + 1) (o ∷ operand.Place target ∷ Word z ∷ below) now sh.trace) })
-    loaded = value_loads declared G to_load shuffle.line (operand.Place target ∷ Word z ∷ below) k of (component v f) source of_kind body.1.1.1.1.1.1.1.0 longer now source_spot source_like (under sh) t.is t.living r injection memory other value result_is
+    loaded = value_loads layout G to_load shuffle.line (operand.Place target ∷ Word z ∷ below) k of (component v f) source of_kind body.1.1.1.1.1.1.1.0 longer now source_spot source_like (under sh) t.is t.living r injection memory other value result_is
 
     -- which suits the other one
     suits_it : suits (type_at (component v i) (under sh)) r ≡ true
     suits_it =
         sym (suits_bare (type_at (component v i) (under sh)) r)
-        ∙ (ap (λ o. suits o r) (variable_type declared G to_load shuffle.line below of (component v i) target longer now target_spot target_like (under sh) t.is t.living) ∙ suited)
+        ∙ (ap (λ o. suits o r) (variable_type layout G to_load shuffle.line below of (component v i) target longer now target_spot target_like (under sh) t.is t.living) ∙ suited)
 
   abbrev Within : State → Type 0
   Within l = IsNotLeft memory.frames l.frames
@@ -331,9 +332,9 @@ module _ (declared : Declarations) (G : Image) (routine : ℕ) (fill : IsFill G 
       its_value : (o : Operand) × IsValueOf longer now k r o × (outcome G (at to_load (operand.Place (source sh longer now t z i at_index) ∷ operand.Place place_of ∷ Word z ∷ below) now sh.trace) ≡ record { weight = weight_of r; to = Running 0 (at (to_load + 1) (o ∷ operand.Place place_of ∷ Word z ∷ below) now sh.trace) })
       its_value = loaded sh longer now t z i at_index
 
-      stored : Does declared G nothing (at (to_load + 1) (its_value.0 ∷ operand.Place place_of ∷ Word z ∷ below) now sh.trace) (weight_of r) behind (Inside every_slot longer now (Bare (Word z ∷ below) tt)) (assigned (component v i) (value_of r) (under sh))
+      stored : Does layout G nothing (at (to_load + 1) (its_value.0 ∷ operand.Place place_of ∷ Word z ∷ below) now sh.trace) (weight_of r) behind (Inside every_slot longer now (Bare (Word z ∷ below) tt)) (assigned (component v i) (value_of r) (under sh))
       stored =
-          value_does declared G (to_load + 1) shuffle.line (Word z ∷ below) k of r its_value.0 (component v i) place_of (may_take k of of_kind) body.1.1.1.1.1.1.1.1.0 longer now its_value.1
+          value_does layout G (to_load + 1) shuffle.line (Word z ∷ below) k of r its_value.0 (component v i) place_of (may_take k of of_kind) body.1.1.1.1.1.1.1.1.0 longer now its_value.1
           (target_spot sh longer now t z i at_index) (target_like sh longer now t z i at_index) (under sh) t.is t.living nothing_lasts tt (suits_it sh longer now t z i at_index)
 
       post : Inside every_slot longer now (Bare (Word z ∷ below) tt) stored.injection stored.memory stored.operands
@@ -491,7 +492,7 @@ module _ (declared : Declarations) (G : Image) (routine : ℕ) (fill : IsFill G 
         }
 
     -- what it leaves
-    filled : (t : meaning.State) (longer : Injection) (now : MachineMemory) → Turning t longer now → Filled declared G v f (value_of r) injection s memory t longer (left_memory [] memory.frames.calls now)
+    filled : (t : meaning.State) (longer : Injection) (now : MachineMemory) → Turning t longer now → Filled layout G v f (value_of r) injection s memory t longer (left_memory [] memory.frames.calls now)
     filled t longer now x =
         let h = x.is in
         let g = x.grown in
@@ -515,7 +516,7 @@ module _ (declared : Declarations) (G : Image) (routine : ℕ) (fill : IsFill G 
     change_it = range_assigned v range (value_of r)
 
     abbrev Post : Unit {0} → meaning.State → State → Type 0
-    Post u = FilledAt declared G v f (value_of r) injection s memory (place + 1) below
+    Post u = FilledAt layout G v f (value_of r) injection s memory (place + 1) below
 
     -- The components with the indexes of a range get the value.
     pub fills_follow : (n d b left : ℕ) → gap low first ≡ Some b → gap first last ≡ Some left → b + left < count_of low high → IsTrue (is_integer first) → IsTrue (is_integer last)
@@ -528,7 +529,7 @@ module _ (declared : Declarations) (G : Image) (routine : ℕ) (fill : IsFill G 
         number_is : component_number (type_at v now_known) first ≡ Some b
         number_is =
             sym (bare_number (type_at v s) first)
-            ∙ (ap (λ o. component_number o first) (variable_type declared G place line below (type.Array low high of) v p injection memory spot described s matches living)
+            ∙ (ap (λ o. component_number o first) (variable_type layout G place line below (type.Array low high of) v p injection memory spot described s matches living)
             ∙ component_far low high first b far (omega (arith, inside)))
 
         changes_so : change_it now_known ≡ all_assigned v b (suc left) (value_of r) now_known
@@ -538,7 +539,7 @@ module _ (declared : Declarations) (G : Image) (routine : ℕ) (fill : IsFill G 
             → Follows Within G n (at (place + 1) below (left_memory [] memory.frames.calls now) (all_assigned v b (suc left) (value_of r) now_known).trace) now_known (change change_it) Post (20 + d) (λ u. 20 + d)
         ends_so longer now x =
             follows_changed change_it (omega arith)
-            (subst (λ t. FilledAt declared G v f (value_of r) injection s memory (place + 1) below t (at (place + 1) below (left_memory [] memory.frames.calls now) (all_assigned v b (suc left) (value_of r) now_known).trace)) (sym changes_so)
+            (subst (λ t. FilledAt layout G v f (value_of r) injection s memory (place + 1) below t (at (place + 1) below (left_memory [] memory.frames.calls now) (all_assigned v b (suc left) (value_of r) now_known).trace)) (sym changes_so)
             (record { longer = longer; after = left_memory [] memory.frames.calls now; is = refl; filled = filled (all_assigned v b (suc left) (value_of r) now_known) longer now x }))
 
         from_head : Follows Within G n (at head (Word first ∷ below) (within indexes_left (Some p ∷ [])) s.trace) now_known (spend (range_count range * suc (weight_of r)) (change change_it)) Post (30 + d) (λ u. 20 + d)

@@ -3,6 +3,7 @@ use Rattle.std.proofs.Common.{◌≡◌, ℕ, suc, ◌+◌, ◌≤◌, ◌<◌, 
 use Rattle.ep_simulation.specs.Activations.{IsCallable}
 use Rattle.ep_simulation.specs.Follows.{end_of, Facts, HasGrown, Since, Lasts, Fragment, After, Lands, Reaches, EndsToo, RunsOn, GivesUp, IsNotLeft, SameRoutine, Inside, Operands, TypeOnTop, point, state_at}
 use Rattle.ep_object.specs.Laws.{IsRunning}
+use Rattle.ep_simulation.specs.Layouts.{Layout}
 use Rattle.ep_simulation.specs.Matching.{MachineMemory, Injection, Slots, AreAmong, Grown, kept_slots}
 use Rattle.ep_object.specs.Operands.{Operand}
 use Rattle.ep_simulation.specs.Promises.{Passing, AreArguments, ResultsOnTop, Called, CallsAt, Promises, ComesBackAfter, CallComesTo, CallsAnswer, credit_of}
@@ -22,17 +23,17 @@ use Rattle.ep_values.specs.Printing.{Result}
 use Rattle.ep_meaning.specs.Steps.{Call, Outcome, Gives, Ends, Cut, Computation, state_of}
 use Rattle.ep_meaning.specs.Steps as meaning
 use Rattle.ep_values.specs.TypeValues.{TypeValue}
-use Rattle.ep_meaning.specs.Valid.{Declarations, Kind, Level}
+use Rattle.ep_meaning.specs.Valid.{Kind, Level}
 use Rattle.ep_typed.specs.declared.unit.UnitType.{UnitType}
 
 -- ---- what the caller follows
 
 -- What is followed with the fact that memory has grown since is followed with any facts that last.
-pub fragment_since : {A : Type 0} {declared : Declarations} {G : Image} {untouched : Slots} {Here : Facts} {n : ℕ} {injection : Injection} {memory : MachineMemory} {place to d : ℕ} {operands : List Operand} {c : Computation A} {P : A → After} {e : A → ℕ}
+pub fragment_since : {A : Type 0} {layout : Layout} {G : Image} {untouched : Slots} {Here : Facts} {n : ℕ} {injection : Injection} {memory : MachineMemory} {place to d : ℕ} {operands : List Operand} {c : Computation A} {P : A → After} {e : A → ℕ}
     → Lasts untouched Here
-    → ((s : meaning.State) → Here injection s memory → Fragment declared G (Since untouched injection s memory) n (point injection memory place operands) c to P d e)
-    → Fragment declared G Here n (point injection memory place operands) c to P d e
-fragment_since {declared = declared} {G = G} {Here = Here} {injection = injection} {memory = memory} {to = to} {P = P} lasts since =
+    → ((s : meaning.State) → Here injection s memory → Fragment layout G (Since untouched injection s memory) n (point injection memory place operands) c to P d e)
+    → Fragment layout G Here n (point injection memory place operands) c to P d e
+fragment_since {layout = layout} {G = G} {Here = Here} {injection = injection} {memory = memory} {to = to} {P = P} lasts since =
     record {
       by = λ s matches held.
           let fragment = since s held in
@@ -72,34 +73,34 @@ lasts_own {untouched = untouched} own lasts = record { by = λ injection longer 
         }
 
 -- A caller that knows what lasts and names hidden slots alone follows the call, and knows it again behind it.
-pub call_follows : {declared : Declarations} {G : Image} {untouched : Slots} {Here : Facts} {routine n : ℕ} {types : List UnitType} {around : List Level} {formals : List Passing} {results : List Kind} {called : Called}
-    → Promises declared G routine n types around formals results called
+pub call_follows : {layout : Layout} {G : Image} {untouched : Slots} {Here : Facts} {routine n : ℕ} {types : List UnitType} {around : List Level} {formals : List Passing} {results : List Kind} {called : Called}
+    → Promises layout G routine n types around formals results called
     → Lasts untouched Here
-    → AreAmong untouched (kept_slots declared G)
+    → AreAmong untouched (kept_slots layout G)
     → (place levels line : ℕ) → CallsAt G place routine levels line
     → (injection : Injection) (memory : MachineMemory)
     → ((s : meaning.State) → Here injection s memory → IsCallable types levels around injection s.calls memory)
     → (below operands : List Operand) (arguments : List Argument)
     → AreArguments injection memory formals arguments below operands
-    → Fragment declared G Here n (point injection memory place operands) (called (unit_in G memory.frames) line levels arguments) (place + 1) (λ rs. Inside untouched injection memory (ResultsOnTop results below rs)) 0 credit_of
+    → Fragment layout G Here n (point injection memory place operands) (called (unit_in G memory.frames) line levels arguments) (place + 1) (λ rs. Inside untouched injection memory (ResultsOnTop results below rs)) 0 credit_of
 call_follows promise lasts among place levels line calls injection memory callable below operands arguments are =
     fragment_post (λ rs longer after pushed i. record { grown = grown_fewer among i.grown; routine = same_routine-fewer among i.routine; operands_are = i.operands_are })
     (fragment_since (lasts_more among lasts) (λ s held. promise.by place levels line calls injection s memory (callable s held) below operands arguments are))
 
 -- The same of the elaboration of a type.
-pub type_follows : {declared : Declarations} {G : Image} {untouched : Slots} {Here : Facts} {n d : ℕ} {c : Computation TypeValue} {t : TypeValue} {e : TypeValue → ℕ}
+pub type_follows : {layout : Layout} {G : Image} {untouched : Slots} {Here : Facts} {n d : ℕ} {c : Computation TypeValue} {t : TypeValue} {e : TypeValue → ℕ}
     → Lasts untouched Here
-    → AreAmong untouched (kept_slots declared G)
+    → AreAmong untouched (kept_slots layout G)
     → (place : ℕ) (injection : Injection) (memory : MachineMemory) (below : List Operand)
-    → ((s : meaning.State) → Fragment declared G (Since (kept_slots declared G) injection s memory) n (point injection memory place below) c (place + 1) (λ a. Inside (kept_slots declared G) injection memory (TypeOnTop t below a)) d e)
-    → Fragment declared G Here n (point injection memory place below) c (place + 1) (λ a. Inside untouched injection memory (TypeOnTop t below a)) d e
+    → ((s : meaning.State) → Fragment layout G (Since (kept_slots layout G) injection s memory) n (point injection memory place below) c (place + 1) (λ a. Inside (kept_slots layout G) injection memory (TypeOnTop t below a)) d e)
+    → Fragment layout G Here n (point injection memory place below) c (place + 1) (λ a. Inside untouched injection memory (TypeOnTop t below a)) d e
 type_follows lasts among place injection memory below follows =
     fragment_post (λ a longer after pushed i. record { grown = grown_fewer among i.grown; routine = same_routine-fewer among i.routine; operands_are = i.operands_are })
     (fragment_since (lasts_more among lasts) (λ s held. follows s))
 
 -- ---- what runs from a call do
 
-module _ (declared : Declarations) (G : Image) (injection : Injection) (s : meaning.State) (memory : MachineMemory) (place to : ℕ) (operands : List Operand) (Then : List Result → Operands) where
+module _ (layout : Layout) (G : Image) (injection : Injection) (s : meaning.State) (memory : MachineMemory) (place to : ℕ) (operands : List Operand) (Then : List Result → Operands) where
   abbrev from_call : State
   from_call = state_at (point injection memory place operands) s.trace
 
@@ -107,12 +108,12 @@ module _ (declared : Declarations) (G : Image) (injection : Injection) (s : mean
   InCaller l = IsNotLeft memory.frames l.frames
 
   abbrev Back : List Result → meaning.State → State → Type 0
-  Back a = Lands declared G (Since (kept_slots declared G) injection s memory) to (Inside (kept_slots declared G) injection memory (Then a))
+  Back a = Lands layout G (Since (kept_slots layout G) injection s memory) to (Inside (kept_slots layout G) injection memory (Then a))
 
   -- where the call gives its results the caller goes on
   comes_back : (m left : ℕ) (a : List Result) (t : meaning.State)
       → Reaches InCaller G from_call m left 0 (credit_of a) (Back a t) → (spent : ℕ) → left + spent ≡ m
-      → ComesBackAfter declared G injection s memory (Then a) to from_call t spent
+      → ComesBackAfter layout G injection s memory (Then a) to from_call t spent
   comes_back m left a t x spent is =
       let lands = x.post in
       let pays = x.pays in
@@ -157,7 +158,7 @@ module _ (declared : Declarations) (G : Image) (injection : Injection) (s : mean
       }
 
   comes_to : (m : ℕ) (o : Outcome (List Result)) → Met InCaller G from_call m Back 0 credit_of o
-      → CallComesTo declared G injection s memory Then to from_call m o ⊎ GivesUp G from_call m 0 (state_of o)
+      → CallComesTo layout G injection s memory Then to from_call m o ⊎ GivesUp G from_call m 0 (state_of o)
   comes_to m (Gives left a t) (inl x) = inl (comes_back m left a t x)
   comes_to m (Ends left end t) (inl x) = inl (ends_in_call m left end t x)
   comes_to m (Cut t) (inl x) = inl (cut_in_call m t x)
@@ -165,7 +166,7 @@ module _ (declared : Declarations) (G : Image) (injection : Injection) (s : mean
 
 -- Runs from a call answer what the call does.
 pub calls_answer : CallsAnswer
-calls_answer declared G routine n types around formals results called promise place levels line calls injection memory below operands arguments are s matches callable steps le =
+calls_answer layout G routine n types around formals results called promise place levels line calls injection memory below operands arguments are s matches callable steps le =
     let fragment = promise.by place levels line calls injection s memory callable below operands arguments are in
     let follows = fragment.by s matches (since_here injection s memory) in
-    comes_to declared G injection s memory place (place + 1) operands (ResultsOnTop results below) steps (called (unit_in G memory.frames) line levels arguments steps s) (follows.by steps le)
+    comes_to layout G injection s memory place (place + 1) operands (ResultsOnTop results below) steps (called (unit_in G memory.frames) line levels arguments steps s) (follows.by steps le)

@@ -9,6 +9,7 @@ use Rattle.ep_object.specs.Calls.{parent_by, top_of, call_limit, new_frame, call
 use Rattle.ep_object.specs.Frames.{level_slots}
 use Rattle.ep_object.specs.Effects.{Jumps, Fails}
 use Rattle.ep_simulation.specs.Follows.{Since, HasGrown, Follows, Fragment, Lands, Inside, IsStillCall, StillRuns, SameRoutine, IsNotLeft, Operands, TypeOnTop, point}
+use Rattle.ep_simulation.specs.Layouts.{Layout}
 use Rattle.ep_simulation.specs.Matching.{MachineMemory, Injection, Matches, Slots, every_slot, Grown, at, own_slot, Describes}
 use Rattle.ep_object.specs.Operands.{Operand}
 use Rattle.ep_simulation.specs.Promises.{CallsAt, ResultsOnTop, credit_of, type_credit}
@@ -108,7 +109,7 @@ lost_calls depth r deep = let full : nat_le depth 9000 ≡ false = grind (arith,
     go true e = refl
     go false e = rw e refl
 
-module _ (declared : Declarations) (G : Image) (routine : ℕ) (r : ImageRoutine) (there : routine_of G routine ≡ Some r) (numbered : routine < length G.routines) (top : List Operand) (taken : length top ≡ r.arguments) (weight : ℕ) (weighs : weights top ≡ weight) where
+module _ (layout : Layout) (G : Image) (routine : ℕ) (r : ImageRoutine) (there : routine_of G routine ≡ Some r) (numbered : routine < length G.routines) (top : List Operand) (taken : length top ≡ r.arguments) (weight : ℕ) (weighs : weights top ≡ weight) where
   -- the frame of a call that was made at a place, with this parent and these arguments
   abbrev pub its_frame : FrameNumber → ℕ → Frame
   its_frame parent place = new_frame routine r parent (place + 1) top
@@ -141,14 +142,14 @@ module _ (declared : Declarations) (G : Image) (routine : ℕ) (r : ImageRoutine
 
   -- the call is under way on both sides
   matches_begun : {injection : Injection} {s : meaning.State} {memory : MachineMemory} (parent : FrameNumber) (place words levels : ℕ) (x : Call)
-      → Matches declared G injection s memory → Matches declared G injection (entered words levels x s) (begun_memory parent place memory)
+      → Matches layout G injection s memory → Matches layout G injection (entered words levels x s) (begun_memory parent place memory)
   matches_begun parent place words levels x h =
       let m = matches_entered words levels x h in
       record { injected = m.injected; store = m.store; types = m.types; units = m.units; outside = m.outside; counts = m.counts; depth = omega (arith, h.depth) }
 
   -- the machine enters the routine, or ends where as many calls are under way as may be
   enters : (words place levels line : ℕ) (parent : FrameNumber) (below : List Operand) (memory : MachineMemory) (injection : Injection) (s : meaning.State) (x : Call)
-      → CallsAt G place routine levels line → parent_by memory.frames r levels ≡ Some parent → Matches declared G injection s memory
+      → CallsAt G place routine levels line → parent_by memory.frames r levels ≡ Some parent → Matches layout G injection s memory
       → (outcome G (at place (top ++ below) memory s.trace) ≡ record { weight = weight; to = Running 0 (at r.entry below (begun_memory parent place memory) s.trace) })
       ⊎ EndsForWant G (at place (top ++ below) memory s.trace) weight (entered words levels x s)
   enters words place levels line parent below memory injection s x calls is h = by_test (ltb (length memory.frames.calls) call_limit) refl
@@ -221,11 +222,11 @@ module _ (declared : Declarations) (G : Image) (routine : ℕ) (r : ImageRoutine
       grown : Grown untouched injection memory longer later
       same : SameRoutine untouched memory.frames later.frames
       own : (k : ℕ) → own_slot later.frames k ≡ own_slot memory.frames k
-      matches : Matches declared G longer (left_from s t) later
+      matches : Matches layout G longer (left_from s t) later
 
     -- what was made in the call ends on both sides, and the caller goes on
     goes_back : {untouched : Slots} {injection longer : Injection} {s t : meaning.State} {memory after : MachineMemory} (within : Declarations) (parent : FrameNumber) (place : ℕ) (operands : List Operand)
-        → Matches declared G injection s memory → Matches declared G longer t after
+        → Matches layout G injection s memory → Matches layout G longer t after
         → InActivation within untouched injection (begun_memory parent place memory) longer t after
         → GoesBack untouched injection s t memory place operands longer after
     goes_back {untouched = untouched} {injection = injection} {longer = longer} {s = s} {t = t} {memory = memory} {after = after} within parent place operands old h known =
@@ -237,7 +238,7 @@ module _ (declared : Declarations) (G : Image) (routine : ℕ) (r : ImageRoutine
         let m = ends.matches in
         let gone = grown_trans known.grown (ends.grown untouched) in
         let grown : Grown untouched injection memory longer later = record { larger = gone.larger; types = gone.types; segments = gone.segments; hidden = gone.hidden; others = gone.others; allocated = gone.allocated; slots = gone.slots; typed = gone.typed; ended = gone.ended } in
-        let under : Matches declared G longer (with_all_ended (known.call).made t) later = record { injected = m.injected; store = m.store; types = m.types; units = m.units; outside = m.outside; counts = m.counts; depth = omega (arith, h.depth, ap length known.frames, ap length still.3) } in
+        let under : Matches layout G longer (with_all_ended (known.call).made t) later = record { injected = m.injected; store = m.store; types = m.types; units = m.units; outside = m.outside; counts = m.counts; depth = omega (arith, h.depth, ap length known.frames, ap length still.3) } in
         let made : made_in t.calls ≡ (known.call).made = ap (λ cs. made_in cs) known.calls in
         record {
           later = later;
@@ -248,7 +249,7 @@ module _ (declared : Declarations) (G : Image) (routine : ℕ) (r : ImageRoutine
           grown = grown;
           same = record { turn = runs.turn; routine = runs.routine; unit = runs.unit; calls = same_call-refl memory.frames.calls; slots = λ k kept. refl };
           own = λ k. refl;
-          matches = subst (λ ns. Matches declared G longer (back_in s (with_all_ended ns t)) later) (sym made) (matches_left grown old old.depth under);
+          matches = subst (λ ns. Matches layout G longer (back_in s (with_all_ended ns t)) later) (sym made) (matches_left grown old old.depth under);
         }
 
     -- Where the machine follows the routine up to its `Return`, where this holds of the operands, in any activation of it and
@@ -260,8 +261,8 @@ module _ (declared : Declarations) (G : Image) (routine : ℕ) (r : ImageRoutine
         → parent_by memory.frames r levels ≡ Some parent → IsCallable within.routine_types levels around injection began.calls memory
         → (name from : List ℕ) (body : Computation A) → Steady body → (untouched : Slots) (Then : A → Operands) (credit : A → ℕ)
         → ((a : A) (longer : Injection) (after later : MachineMemory) (operands : List Operand) → later.types ≡ after.types → Then a longer after operands → Then a longer later operands)
-        → Fragment declared G (InActivation within untouched injection (begun_memory parent place memory)) n (point injection (begun_memory parent place memory) r.entry below) body ret Then 63 (λ a. 1 + credit a)
-        → Fragment declared G (Since untouched injection began memory) (suc n) (point injection memory place (top ++ below)) (in_call words levels (activation name from line) (spend (suc weight) body)) (place + 1) (λ a. Inside untouched injection memory (Then a)) 0 credit
+        → Fragment layout G (InActivation within untouched injection (begun_memory parent place memory)) n (point injection (begun_memory parent place memory) r.entry below) body ret Then 63 (λ a. 1 + credit a)
+        → Fragment layout G (Since untouched injection began memory) (suc n) (point injection memory place (top ++ below)) (in_call words levels (activation name from line) (spend (suc weight) body)) (place + 1) (λ a. Inside untouched injection memory (Then a)) 0 credit
     routine_gives {A = A} words within enough around levels_are n place levels line calls parent injection began memory below parent_is callable name from body steady untouched Then credit anywhere inner =
         record {
           by = λ s matches since.
@@ -276,10 +277,10 @@ module _ (declared : Declarations) (G : Image) (routine : ℕ) (r : ImageRoutine
         x = activation name from line
 
         P : A → meaning.State → State → Type 0
-        P a = Lands declared G (InActivation within untouched injection (begun_memory parent place memory)) ret (Then a)
+        P a = Lands layout G (InActivation within untouched injection (begun_memory parent place memory)) ret (Then a)
 
         Q : A → meaning.State → State → Type 0
-        Q a = Lands declared G (Since untouched injection began memory) (place + 1) (Inside untouched injection memory (Then a))
+        Q a = Lands layout G (Since untouched injection began memory) (place + 1) (Inside untouched injection memory (Then a))
 
         In : State → Type 0
         In k = IsNotLeft memory.frames k.frames
@@ -287,14 +288,14 @@ module _ (declared : Declarations) (G : Image) (routine : ℕ) (r : ImageRoutine
         entry : meaning.State → State
         entry s = at r.entry below (begun_memory parent place memory) s.trace
 
-        go : (s : meaning.State) → Matches declared G injection s memory
+        go : (s : meaning.State) → Matches layout G injection s memory
             → (outcome G (at place (top ++ below) memory s.trace) ≡ record { weight = weight; to = Running 0 (entry s) }) ⊎ EndsForWant G (at place (top ++ below) memory s.trace) weight (entered words levels x s)
             → Follows In G n (entry s) (entered words levels x s) body P 63 (λ a. 1 + credit a)
             → ((e : State) × (outcome G (at place (top ++ below) memory s.trace) ≡ record { weight = weight; to = Running 0 e }) × Follows In G n e (entered words levels x s) body P 63 (λ a. 1 + credit a)) ⊎ EndsForWant G (at place (top ++ below) memory s.trace) weight (entered words levels x s)
         go s matches (inl o) f = inl (entry s, o, f)
         go s matches (inr y) f = inr y
 
-        back : (s : meaning.State) → Matches declared G injection s memory → HasGrown untouched injection began memory injection s memory
+        back : (s : meaning.State) → Matches layout G injection s memory → HasGrown untouched injection began memory injection s memory
             → (a : A) (s1 : meaning.State) (k1 : State) → P a s1 k1
             → In k1 × ((next : State) × (outcome G k1 ≡ record { weight = 0; to = Running 0 next }) × Q a (left_from s s1) next)
         back s matches since a s1 k1 lands =
@@ -323,8 +324,8 @@ module _ (declared : Declarations) (G : Image) (routine : ℕ) (r : ImageRoutine
         → (parent : FrameNumber) (injection : Injection) (began : meaning.State) (memory : MachineMemory) (below : List Operand)
         → parent_by memory.frames r levels ≡ Some parent → IsCallable within.routine_types levels around injection began.calls memory
         → (name from : List ℕ) (results : List Kind) (body : Computation (List Result)) → Steady body → (untouched : Slots)
-        → Fragment declared G (InActivation within untouched injection (begun_memory parent place memory)) n (point injection (begun_memory parent place memory) r.entry below) body ret (λ rs. ResultsOnTop results below rs) 63 (λ rs. 1 + credit_of rs)
-        → Fragment declared G (Since untouched injection began memory) (suc n) (point injection memory place (top ++ below)) (in_call activation_words levels (activation name from line) (spend (suc weight) body)) (place + 1) (λ rs. Inside untouched injection memory (ResultsOnTop results below rs)) 0 credit_of
+        → Fragment layout G (InActivation within untouched injection (begun_memory parent place memory)) n (point injection (begun_memory parent place memory) r.entry below) body ret (λ rs. ResultsOnTop results below rs) 63 (λ rs. 1 + credit_of rs)
+        → Fragment layout G (Since untouched injection began memory) (suc n) (point injection memory place (top ++ below)) (in_call activation_words levels (activation name from line) (spend (suc weight) body)) (place + 1) (λ rs. Inside untouched injection memory (ResultsOnTop results below rs)) 0 credit_of
     routine_keeps within enough around levels_are n place levels line calls parent injection began memory below parent_is callable name from results body steady untouched inner =
         routine_gives activation_words within enough around levels_are n place levels line calls parent injection began memory below parent_is callable name from body steady untouched (λ rs. ResultsOnTop results below rs) credit_of
         (λ rs longer after later operands same h. results_anywhere longer after later same operands results below rs h) inner
@@ -335,8 +336,8 @@ module _ (declared : Declarations) (G : Image) (routine : ℕ) (r : ImageRoutine
         → (n : ℕ) (place line : ℕ) → CallsAt G place routine 0 line
         → (injection : Injection) (began : meaning.State) (memory : MachineMemory) (below : List Operand)
         → (name from : List ℕ) (t : TypeValue) (body : Computation TypeValue) → Steady body → (untouched : Slots)
-        → Fragment declared G (InActivation within untouched injection (begun_memory (number.Unit r.unit) place memory)) n (point injection (begun_memory (number.Unit r.unit) place memory) r.entry below) body ret (λ a. TypeOnTop t below a) 63 (λ a. 1 + type_credit)
-        → Fragment declared G (Since untouched injection began memory) (suc n) (point injection memory place (top ++ below)) (in_call 0 0 (activation name from line) (spend (suc weight) body)) (place + 1) (λ a. Inside untouched injection memory (TypeOnTop t below a)) 0 (λ a. type_credit)
+        → Fragment layout G (InActivation within untouched injection (begun_memory (number.Unit r.unit) place memory)) n (point injection (begun_memory (number.Unit r.unit) place memory) r.entry below) body ret (λ a. TypeOnTop t below a) 63 (λ a. 1 + type_credit)
+        → Fragment layout G (Since untouched injection began memory) (suc n) (point injection memory place (top ++ below)) (in_call 0 0 (activation name from line) (spend (suc weight) body)) (place + 1) (λ a. Inside untouched injection memory (TypeOnTop t below a)) 0 (λ a. type_credit)
     type_keeps within enough levels_are n place line calls injection began memory below name from t body steady untouched inner =
         routine_gives 0 within enough [] levels_are n place 0 line calls (number.Unit r.unit) injection began memory below refl refl name from body steady untouched (λ a. TypeOnTop t below a) (λ a. type_credit)
         (λ a longer after later operands same h. record { type_is = h.type_is; number = h.number; is = h.is; described = subst (λ table. Describes table h.number a) (sym same) h.described; starts = h.starts }) inner

@@ -4,10 +4,10 @@ use Rattle.ep_outside.specs.Known.{IsPrefix}
 use Rattle.ep_values.specs.Events.{Trace}
 use Rattle.ep_meaning.specs.Steps.{Outcome, Gives, Ends, Cut, Computation, spend, state_of}
 use Rattle.ep_meaning.specs.Steps as meaning
-use Rattle.ep_meaning.specs.Valid.{Declarations}
 use Rattle.ep_object.specs.Effects.{Work}
 use Rattle.ep_simulation.specs.Follows.{end_of, Reaches, EndsToo, RunsOn, Follows, Operands, IsNotLeft, Bare}
 use Rattle.ep_object.specs.Laws.{IsRunning}
+use Rattle.ep_simulation.specs.Layouts.{Layout}
 use Rattle.ep_simulation.specs.Matching.{at, MachineMemory, Injection}
 use Rattle.ep_object.specs.Operands.{Operand}
 use Rattle.ep_object.specs.Routines.{routine_of}
@@ -40,7 +40,7 @@ module _ (G : Image) (k : State) where
             begins = prefix_then (events_between G k t u (Running v s) (Running wait last) le h runs) begins;
           }
 
-module _ {A : Type 0} {declared : Declarations} {G : Image} {unit routine n : ℕ} {c : Computation A} {Results : List Operand → A → Operands} (sim : Simulates declared G unit routine n c Results) (injection : Injection) (memory : MachineMemory) (below : List Operand) (s : meaning.State) (k : State) (enters : Enters declared G unit routine injection memory below s k) where
+module _ {A : Type 0} {layout : Layout} {G : Image} {unit routine n : ℕ} {c : Computation A} {Results : List Operand → A → Operands} (sim : Simulates layout G unit routine n c Results) (injection : Injection) (memory : MachineMemory) (below : List Operand) (s : meaning.State) (k : State) (enters : Enters layout G unit routine injection memory below s k) where
   -- in the routine that is entered
   abbrev In : State → Type 0
   In l = IsNotLeft memory.frames l.frames
@@ -55,7 +55,7 @@ module _ {A : Type 0} {declared : Declarations} {G : Image} {unit routine n : �
   from_entry l same = subst (λ f. IsNotLeft f l.frames) (sym in_frames) same
 
   -- where it is left it is still the routine
-  is_left : (a : A) (t : meaning.State) (l : State) → Leaves declared G injection s memory (Results below a) t l
+  is_left : (a : A) (t : meaning.State) (l : State) → Leaves layout G injection s memory (Results below a) t l
       → In l
   is_left a t l post = let lands = post.lands in subst (λ (l : State). IsNotLeft memory.frames l.frames) (sym lands.is) (not_left-same lands.post.routine)
 
@@ -64,9 +64,9 @@ module _ {A : Type 0} {declared : Declarations} {G : Image} {unit routine n : �
 
   -- where the body gives a value the routine is left
   leaves : (m left : ℕ) (a : A) (t : meaning.State)
-      → Reaches In G k m left routine_credit routine_credit (Leaves declared G injection s memory (Results below a) t)
+      → Reaches In G k m left routine_credit routine_credit (Leaves layout G injection s memory (Results below a) t)
       → (spent : ℕ) → left + spent ≡ suc m
-      → LeavesAfter declared G injection s memory (Results below a) k t spent
+      → LeavesAfter layout G injection s memory (Results below a) k t spent
   leaves m left a t x spent is =
       let post = x.post in
       let lands = post.lands in
@@ -119,36 +119,36 @@ module _ {A : Type 0} {declared : Declarations} {G : Image} {unit routine n : �
 
   -- a run from the entry answers the computation with each number of steps
   answers : (steps : ℕ) → steps ≤ n
-      → AnswersInRoom declared G injection s memory (Results below) k steps (spend 1 sim.body steps s)
+      → AnswersInRoom layout G injection s memory (Results below) k steps (spend 1 sim.body steps s)
   answers zero le = inl begins
   answers (suc m) le =
       let follows = sim.follows m (omega arith) injection memory below s k enters in go (sim.body m s) (follows.by m (omega arith))
     where
       go : (o : Outcome A)
-          → Met In G k m (λ a. Leaves declared G injection s memory (Results below a)) routine_credit (λ a. routine_credit) o
-          → AnswersInRoom declared G injection s memory (Results below) k (suc m) o
+          → Met In G k m (λ a. Leaves layout G injection s memory (Results below a)) routine_credit (λ a. routine_credit) o
+          → AnswersInRoom layout G injection s memory (Results below) k (suc m) o
       go (Gives left a t) (inl x) = inl (leaves m left a t x)
       go (Ends left end t) (inl x) = inl (ends m left end t x)
       go (Cut t) (inl x) = inl (stays m t x)
       go o (inr x) = inr (gives_up_weaken (omega arith) x)
 
   pub simulation_answers : (steps : ℕ) → steps ≤ n
-      → AnswersInRoom declared G injection s memory (Results below) k steps (c steps s)
-  simulation_answers steps le = subst (λ (d : Computation A). AnswersInRoom declared G injection s memory (Results below) k steps (d steps s)) (sym sim.called) (answers steps le)
+      → AnswersInRoom layout G injection s memory (Results below) k steps (c steps s)
+  simulation_answers steps le = subst (λ (d : Computation A). AnswersInRoom layout G injection s memory (Results below) k steps (d steps s)) (sym sim.called) (answers steps le)
 
   -- the machine follows the computation, with the step of its call
   body_follows : (m : ℕ) → m ≤ n
-      → Met In G k m (λ a. Leaves declared G injection s memory (Results below a)) (1 + routine_credit) (λ a. routine_credit) (spend 1 sim.body m s)
+      → Met In G k m (λ a. Leaves layout G injection s memory (Results below a)) (1 + routine_credit) (λ a. routine_credit) (spend 1 sim.body m s)
   body_follows zero le = inl (record { ticks = 0; wait = 0; to = k; runs = refl; within = stays_here In G k at_home; same = in_trace; slow = omega arith; fast = omega arith })
   body_follows (suc m) le =
       let whole = follows_moves 1 at_home in_trace (sim.follows m (omega arith) injection memory below s k enters) in whole.by (suc m) (omega arith)
 
-  pub simulation_follows : Follows In G n k s c (λ a. Leaves declared G injection s memory (Results below a)) (1 + routine_credit) (λ a. routine_credit)
-  simulation_follows = record { by = λ m le. subst (λ (d : Computation A). Met In G k m (λ a. Leaves declared G injection s memory (Results below a)) (1 + routine_credit) (λ a. routine_credit) (d m s)) (sym sim.called) (body_follows m le) }
+  pub simulation_follows : Follows In G n k s c (λ a. Leaves layout G injection s memory (Results below a)) (1 + routine_credit) (λ a. routine_credit)
+  simulation_follows = record { by = λ m le. subst (λ (d : Computation A). Met In G k m (λ a. Leaves layout G injection s memory (Results below a)) (1 + routine_credit) (λ a. routine_credit) (d m s)) (sym sim.called) (body_follows m le) }
 
   -- the body, and the instruction that leaves the routine for a next one
   passes : {Wider : State → Type 0} {Post : A → meaning.State → State → Type 0} → ((l : State) → In l → Wider l)
-      → ((a : A) (t : meaning.State) (l : State) → Leaves declared G injection s memory (Results below a) t l → (next : State) × (outcome G l ≡ record { weight = 0; to = Running 0 next }) × Post a t next)
+      → ((a : A) (t : meaning.State) (l : State) → Leaves layout G injection s memory (Results below a) t l → (next : State) × (outcome G l ≡ record { weight = 0; to = Running 0 next }) × Post a t next)
       → (m : ℕ) → m ≤ n
       → Met Wider G k m Post (1 + routine_credit) (λ a. 64 + routine_credit) (spend 1 sim.body m s)
   passes {Wider = Wider} wider then zero le = inl (record { ticks = 0; wait = 0; to = k; runs = refl; within = stays_here Wider G k (wider k at_home); same = in_trace; slow = omega arith; fast = omega arith })
@@ -156,7 +156,7 @@ module _ {A : Type 0} {declared : Declarations} {G : Image} {unit routine n : �
       let follows = sim.follows m (omega arith) injection memory below s k enters in go (sim.body m s) (follows.by m (omega arith))
     where
       go : (o : Outcome A)
-          → Met In G k m (λ a. Leaves declared G injection s memory (Results below a)) routine_credit (λ a. routine_credit) o
+          → Met In G k m (λ a. Leaves layout G injection s memory (Results below a)) routine_credit (λ a. routine_credit) o
           → Met Wider G k (suc m) Post (1 + routine_credit) (λ a. 64 + routine_credit) o
       go (Gives left a t) (inl x) =
           let next = then a t x.to x.post in
@@ -176,13 +176,13 @@ module _ {A : Type 0} {declared : Declarations} {G : Image} {unit routine n : �
   -- the machine follows the computation up to where the routine is left for a next one, and gains credit
   pub simulation_passes : {Wider : State → Type 0} {Post : A → meaning.State → State → Type 0}
       → ((l : State) → In l → Wider l)
-      → ((a : A) (t : meaning.State) (l : State) → Leaves declared G injection s memory (Results below a) t l → (next : State) × (outcome G l ≡ record { weight = 0; to = Running 0 next }) × Post a t next)
+      → ((a : A) (t : meaning.State) (l : State) → Leaves layout G injection s memory (Results below a) t l → (next : State) × (outcome G l ≡ record { weight = 0; to = Running 0 next }) × Post a t next)
       → Follows Wider G n k s c Post (1 + routine_credit) (λ a. 64 + routine_credit)
   simulation_passes {Wider = Wider} {Post = Post} wider then = record { by = λ m le. subst (λ (d : Computation A). Met Wider G k m Post (1 + routine_credit) (λ a. 64 + routine_credit) (d m s)) (sym sim.called) (passes wider then m le) }
 
 -- what the instruction that leaves a routine leads to
-pub leaves_enters : {declared : Declarations} {G : Image} {injection : Injection} {begun : meaning.State} {memory : MachineMemory} {Then : Operands} {s : meaning.State} {k : State}
-    → Leaves declared G injection begun memory Then s k
+pub leaves_enters : {layout : Layout} {G : Image} {injection : Injection} {begun : meaning.State} {memory : MachineMemory} {Then : Operands} {s : meaning.State} {k : State}
+    → Leaves layout G injection begun memory Then s k
     → outcome G k ≡ record { weight = 0; to = enter G (k.frames.turn + 1) k }
 leaves_enters {G = G} {k = k} leaves =
     let lands = leaves.lands in
@@ -195,11 +195,11 @@ next_frames turn x frames = record frames { turn = turn; routine = x.routine; un
 
 -- The instruction that leaves a start or a stop, which began without calls, leads to the entry of the next one, and the
 -- machine matches there: nothing of the match reads which of them runs.
-pub enters_next : {declared : Declarations} {G : Image} {injection : Injection} {begun : meaning.State} {memory : MachineMemory} {below : List Operand} {s : meaning.State} {k : State}
+pub enters_next : {layout : Layout} {G : Image} {injection : Injection} {begun : meaning.State} {memory : MachineMemory} {below : List Operand} {s : meaning.State} {k : State}
     → memory.frames.calls ≡ []
-    → (leaves : Leaves declared G injection begun memory (Bare below tt) s k) (x : Activation) (r : ImageRoutine)
+    → (leaves : Leaves layout G injection begun memory (Bare below tt) s k) (x : Activation) (r : ImageRoutine)
     → activation G (k.frames.turn + 1) ≡ Some x → routine_of G x.routine ≡ Some r
-    → (longer : Injection) × ((after : MachineMemory) × ((next : State) × (outcome G k ≡ record { weight = 0; to = Running 0 next }) × Enters declared G x.unit x.routine longer after below s next))
+    → (longer : Injection) × ((after : MachineMemory) × ((next : State) × (outcome G k ≡ record { weight = 0; to = Running 0 next }) × Enters layout G x.unit x.routine longer after below s next))
 enters_next {G = G} {memory = memory} {below = below} {s = s} {k = k} alone leaves x r is_next there =
     let lands = leaves.lands in
     let inside = lands.post in

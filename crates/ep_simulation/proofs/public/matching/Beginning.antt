@@ -3,6 +3,7 @@ use Rattle.std.proofs.Common.{◌≡◌, ℕ, zero, suc, ◌≤◌, List, [], �
 use Rattle.std.specs.Prelude.{pos, int_le, if◌then◌else◌}
 use Rattle.ep_values.specs.Operations.{last_char}
 use Rattle.ep_object.specs.declared.state.Kind.TheVariants as kind
+use Rattle.ep_simulation.specs.Layouts.{Layout}
 use Rattle.ep_simulation.specs.Matching.{MachineMemory, Injection, IsIn, IsOf, HasSize, MatchesSlot, Represents, IsRepresented, Matches, Describes}
 use Rattle.ep_object.specs.State.{Frames, TypeTable, empty_slots, first_segments, first_types, integer_entry, char_entry, boolean_entry, text_entry, pointer_entry, first_live, undefined}
 use Rattle.ep_object.specs.declared.code.Image.{Image}
@@ -13,7 +14,6 @@ use Rattle.ep_object.specs.declared.state.TypeEntry.{TypeEntry}
 use Rattle.ep_object.proofs.public.Grows.{is_prefix}
 use Rattle.ep_meaning.specs.Steps.{Component, Allocation, Resources}
 use Rattle.ep_meaning.specs.Steps as meaning
-use Rattle.ep_meaning.specs.Valid.{Declarations}
 use Rattle.ep_values.specs.TypeValues.{TypeValue, bare_of}
 use Rattle.ep_values.specs.TypeValues as type
 
@@ -130,10 +130,10 @@ nothing : (c : Component) → ◌≡◌ {A = Option Component} None (Some c) →
 nothing c h = cc
 
 -- no variable is made, no type is met, and nothing is written
-pub first_matches : (declared : Declarations) (G : Image) (frames : Frames)
+pub first_matches : (layout : Layout) (G : Image) (frames : Frames)
     → frames.units ≡ map empty_slots G.units → frames.calls ≡ []
-    → Matches declared G first_injection meaning.first_state (first_memory frames)
-first_matches declared G frames empty alone =
+    → Matches layout G first_injection meaning.first_state (first_memory frames)
+first_matches layout G frames empty alone =
     record {
       injected = record { made = refl; apart = first_apart; within = first_within; typed = first_typed };
       store = record { represented = first_represented };

@@ -8,6 +8,7 @@ use native.Mathlib.Decide.{ℕ_discrete}
 use Rattle.ep_outside.specs.Known.{IsPrefix}
 use Rattle.ep_simulation.specs.Activations.{OwnSlot, MatchesOwn, MatchesAround, AreMade, InActivation}
 use Rattle.ep_simulation.specs.Follows.{IsSameCall, IsStillCall, StillRuns, HasGrown, Lasts}
+use Rattle.ep_simulation.specs.Layouts.{Layout}
 use Rattle.ep_simulation.specs.Matching.{MachineMemory, Injection, IsIn, Describes, Slots, own_slot, MatchesSlot, HasOwnType, Matches, Grown, IsLike}
 use Rattle.ep_object.specs.State.{Frame, Frames}
 use Rattle.ep_object.specs.declared.code.Image.{Image}
@@ -120,7 +121,7 @@ abbrev pub with_own_place : ℕ → ℕ → Frame → List Frame → MachineMemo
 with_own_place number k frame below memory =
     record memory.frames { calls = record frame { slots = slice_set frame.slots k (Some (new_place memory number)); made = frame.made ++ length memory.segments ∷ [] } ∷ below }
 
-module _ {declared : Declarations} {G : Image} {injection : Injection} {s : meaning.State} {memory : MachineMemory} (h : Matches declared G injection s memory) (t : TypeValue) (number : ℕ) (described : Describes memory.types number t) (valid : IsTypeValue t) (starts : AreStarts t) (k : ℕ) (frame : Frame) (below : List Frame) (frames : memory.frames.calls ≡ frame ∷ below) (call : Call) (others : List Call) (calls : s.calls ≡ call ∷ others) where
+module _ {layout : Layout} {G : Image} {injection : Injection} {s : meaning.State} {memory : MachineMemory} (h : Matches layout G injection s memory) (t : TypeValue) (number : ℕ) (described : Describes memory.types number t) (valid : IsTypeValue t) (starts : AreStarts t) (k : ℕ) (frame : Frame) (below : List Frame) (frames : memory.frames.calls ≡ frame ∷ below) (call : Call) (others : List Call) (calls : s.calls ≡ call ∷ others) where
   abbrev pub own_later : MachineMemory
   own_later = with_variable t number (with_own_place number k frame below memory) memory
 
@@ -135,7 +136,7 @@ module _ {declared : Declarations} {G : Image} {injection : Injection} {s : mean
   grown_making_own = grown_making t injection memory number (with_own_place number k frame below memory) (λ unit j kept. refl)
 
   -- the machine goes on matching
-  pub matches_making_own : Matches declared G longer own_state own_later
+  pub matches_making_own : Matches layout G longer own_state own_later
   matches_making_own =
       let units = h.units in
       let outside = h.outside in
@@ -162,67 +163,68 @@ module _ {declared : Declarations} {G : Image} {injection : Injection} {s : mean
       let w : 1 < length injection = mapped_within (λ m. m.segment) injection 1 2 outside.output in
       omega (arith, w, injected.made)
 
-  -- the slot has its place, and the others have theirs
-  pub own_making : MatchesOwn declared injection s memory → k < length frame.slots
-      → ((v : UnitVariable) → slice_get (variables_up declared 0) k ≡ Some v → HasOwnType declared v (bare_of t))
-      → MatchesOwn declared longer own_state own_later
-  own_making own within declared_so j v is = elim (ℕ_discrete k j) [ yes e ↦ same e | no e ↦ other e (own j v is) ]
-    where
-      place : Place
-      place = new_place memory number
+  module _ {declared : Declarations} where
+    -- the slot has its place, and the others have theirs
+    pub own_making : MatchesOwn declared injection s memory → k < length frame.slots
+        → ((v : UnitVariable) → slice_get (variables_up declared 0) k ≡ Some v → HasOwnType declared v (bare_of t))
+        → MatchesOwn declared longer own_state own_later
+    own_making own within declared_so j v is = elim (ℕ_discrete k j) [ yes e ↦ same e | no e ↦ other e (own j v is) ]
+      where
+        place : Place
+        place = new_place memory number
 
-      n : Component
-      n = whole (suc (length s.allocations))
+        n : Component
+        n = whole (suc (length s.allocations))
 
-      bound_to : (i : ℕ) (o : Option Component) → bound_own k n call.variables i ≡ o → own_variable 0 i own_state ≡ o
-      bound_to i o e = ap (λ cs. own_in (with_own k (suc (length s.allocations)) cs) 0 i) calls ∙ e
+        bound_to : (i : ℕ) (o : Option Component) → bound_own k n call.variables i ≡ o → own_variable 0 i own_state ≡ o
+        bound_to i o e = ap (λ cs. own_in (with_own k (suc (length s.allocations)) cs) 0 i) calls ∙ e
 
-      same : k ≡ j → OwnSlot declared longer own_state own_later j v
-      same e =
-          let old = slice_get-some frame.slots k within in
-          subst (λ i. OwnSlot declared longer own_state own_later i v) e
-          (record {
-            slot = Some place;
-            is = slice_get-set-same frame.slots k (Some place) old.0 old.1;
-            matches = subst (λ o. MatchesSlot longer own_later.types o (Some place)) (sym (bound_to k (Some n) (bound_own-same k n call.variables))) (new_spot h t number described valid starts);
-            described = λ p u p_is has_type.
-                let its : bare_of t ≡ u = one_type_of v (declared_so v (subst (λ i. slice_get (variables_up declared 0) i ≡ Some v) (sym e) is)) has_type in
-                let number_is : number ≡ p.type_number = ap (λ (q : Place). q.type_number) (same_Some place p p_is) in
-                subst (λ i. IsLike memory.types i u) number_is (subst (λ w. IsLike memory.types number w) its (t, refl, described));
-          })
+        same : k ≡ j → OwnSlot declared longer own_state own_later j v
+        same e =
+            let old = slice_get-some frame.slots k within in
+            subst (λ i. OwnSlot declared longer own_state own_later i v) e
+            (record {
+              slot = Some place;
+              is = slice_get-set-same frame.slots k (Some place) old.0 old.1;
+              matches = subst (λ o. MatchesSlot longer own_later.types o (Some place)) (sym (bound_to k (Some n) (bound_own-same k n call.variables))) (new_spot h t number described valid starts);
+              described = λ p u p_is has_type.
+                  let its : bare_of t ≡ u = one_type_of v (declared_so v (subst (λ i. slice_get (variables_up declared 0) i ≡ Some v) (sym e) is)) has_type in
+                  let number_is : number ≡ p.type_number = ap (λ (q : Place). q.type_number) (same_Some place p p_is) in
+                  subst (λ i. IsLike memory.types i u) number_is (subst (λ w. IsLike memory.types number w) its (t, refl, described));
+            })
 
-      other : (k ≡ j → ⊥) → OwnSlot declared injection s memory j v → OwnSlot declared longer own_state own_later j v
-      other e before =
-          let in_frame : slice_get frame.slots j ≡ Some before.slot = sym (ap (λ cs. own_slot (record memory.frames { calls = cs }) j) frames) ∙ before.is in
-          let variable : own_variable 0 j s ≡ own_variable 0 j own_state = ap (λ cs. own_in cs 0 j) calls ∙ sym (bound_to j (call.variables j) (bound_own-other k n call.variables j e)) in
-          record {
-            slot = before.slot;
-            is = slice_get-set-other frame.slots k j (Some place) e ∙ in_frame;
-            matches = subst (λ o. MatchesSlot longer own_later.types o before.slot) variable (slot-grown (own_variable 0 j s) before.slot (grown_same_frames t injection memory number) before.matches);
-            described = before.described;
-          }
+        other : (k ≡ j → ⊥) → OwnSlot declared injection s memory j v → OwnSlot declared longer own_state own_later j v
+        other e before =
+            let in_frame : slice_get frame.slots j ≡ Some before.slot = sym (ap (λ cs. own_slot (record memory.frames { calls = cs }) j) frames) ∙ before.is in
+            let variable : own_variable 0 j s ≡ own_variable 0 j own_state = ap (λ cs. own_in cs 0 j) calls ∙ sym (bound_to j (call.variables j) (bound_own-other k n call.variables j e)) in
+            record {
+              slot = before.slot;
+              is = slice_get-set-other frame.slots k j (Some place) e ∙ in_frame;
+              matches = subst (λ o. MatchesSlot longer own_later.types o before.slot) variable (slot-grown (own_variable 0 j s) before.slot (grown_same_frames t injection memory number) before.matches);
+              described = before.described;
+            }
 
-  -- what the routine knows holds again
-  pub in_activation_making : {untouched : Slots} {first : Injection} {start : MachineMemory} → MatchesOwn declared longer own_state own_later → MatchesAround declared injection s memory
-      → Grown untouched first start injection memory → StillRuns start.frames memory.frames → AreMade injection call.made frame.made
-      → InActivation declared untouched first start longer own_state own_later
-  in_activation_making {untouched = untouched} own around grown runs made =
-      let injected = h.injected in
-      let spot = new_spot h t number described valid starts in
-      record {
-        grown = grown_trans grown grown_making_own;
-        runs = still_runs-trans runs runs_on;
-        frame = record frame { slots = slice_set frame.slots k (Some (new_place memory number)); made = frame.made ++ length memory.segments ∷ [] };
-        below = below;
-        frames = refl;
-        call = record call { variables = bound_own k (whole (suc (length s.allocations))) call.variables; made = call.made ++ suc (length s.allocations) ∷ [] };
-        others = others;
-        calls = ap (λ cs. with_own k (suc (length s.allocations)) cs) calls;
-        own = own;
-        around = λ up level is. level-same {untouched = untouched} frame (record frame { slots = slice_set frame.slots k (Some (new_place memory number)); made = frame.made ++ length memory.segments ∷ [] }) below up frames refl refl
-            (ap (λ cs. slice_get (named_in (with_own k (suc (length s.allocations)) cs)) (suc up)) calls ∙ sym (ap (λ cs. slice_get (named_in cs) (suc up)) calls)) grown_making_own (around up level is);
-        made = are_made-more longer (suc (length s.allocations)) (length memory.segments) spot.is_in new_number call.made frame.made (are_made-longer injection longer (record { rest = next_item t memory ∷ []; is = refl }) call.made frame.made made);
-      }
-    where
-      runs_on : StillRuns memory.frames own_later.frames
-      runs_on = record { turn = refl; routine = refl; unit = refl; calls = subst (λ cs. IsStillCall cs own_later.frames.calls) (sym frames) (refl, refl, refl, refl) }
+    -- what the routine knows holds again
+    pub in_activation_making : {untouched : Slots} {first : Injection} {start : MachineMemory} → MatchesOwn declared longer own_state own_later → MatchesAround declared injection s memory
+        → Grown untouched first start injection memory → StillRuns start.frames memory.frames → AreMade injection call.made frame.made
+        → InActivation declared untouched first start longer own_state own_later
+    in_activation_making {untouched = untouched} own around grown runs made =
+        let injected = h.injected in
+        let spot = new_spot h t number described valid starts in
+        record {
+          grown = grown_trans grown grown_making_own;
+          runs = still_runs-trans runs runs_on;
+          frame = record frame { slots = slice_set frame.slots k (Some (new_place memory number)); made = frame.made ++ length memory.segments ∷ [] };
+          below = below;
+          frames = refl;
+          call = record call { variables = bound_own k (whole (suc (length s.allocations))) call.variables; made = call.made ++ suc (length s.allocations) ∷ [] };
+          others = others;
+          calls = ap (λ cs. with_own k (suc (length s.allocations)) cs) calls;
+          own = own;
+          around = λ up level is. level-same {untouched = untouched} frame (record frame { slots = slice_set frame.slots k (Some (new_place memory number)); made = frame.made ++ length memory.segments ∷ [] }) below up frames refl refl
+              (ap (λ cs. slice_get (named_in (with_own k (suc (length s.allocations)) cs)) (suc up)) calls ∙ sym (ap (λ cs. slice_get (named_in cs) (suc up)) calls)) grown_making_own (around up level is);
+          made = are_made-more longer (suc (length s.allocations)) (length memory.segments) spot.is_in new_number call.made frame.made (are_made-longer injection longer (record { rest = next_item t memory ∷ []; is = refl }) call.made frame.made made);
+        }
+      where
+        runs_on : StillRuns memory.frames own_later.frames
+        runs_on = record { turn = refl; routine = refl; unit = refl; calls = subst (λ cs. IsStillCall cs own_later.frames.calls) (sym frames) (refl, refl, refl, refl) }

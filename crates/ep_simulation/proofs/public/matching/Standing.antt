@@ -3,6 +3,7 @@ use Rattle.std.proofs.Common.{◌≡◌, ℕ, ℤ, pos, negsuc, zero, suc, ◌<�
 use Rattle.std.proofs.lemmas.Bool.Decides.{nat_tests}
 use Rattle.std.proofs.lemmas.Option.{slice_get_within, same_Some}
 use Rattle.std.specs.Prelude.{int_le, int_lt, neg_ℤ}
+use Rattle.ep_simulation.specs.Layouts.{Layout}
 use Rattle.ep_simulation.specs.Matching.{MachineMemory, Injection, part_along, all_of, HasTypeUnder, IsIn, IsLike, IsSpot, OrdinalAt, HasAt, Represents, IsRepresentedWhere, IsRepresented, Matches}
 use Rattle.ep_object.specs.State.{Segments, TypeTable, undefined}
 use Rattle.ep_object.specs.declared.code.Image.{Image}
@@ -19,7 +20,7 @@ use Rattle.ep_meaning.specs.Steps.{Component, Allocation, allocation_at, type_in
 use Rattle.ep_values.specs.TypeValues.{is_within}
 use Rattle.ep_values.specs.Values.{value_along}
 use Rattle.ep_meaning.specs.Steps as meaning
-use Rattle.ep_meaning.specs.Valid.{Declarations, IsTypeOf}
+use Rattle.ep_meaning.specs.Valid.{IsTypeOf}
 use Rattle.ep_typed.specs.Hosts.{Host, is_of_host, least, greatest}
 use Rattle.ep_typed.specs.Trees.{Denoter}
 use Rattle.ep_typed.specs.declared.unit.UnitType.{UnitType}
@@ -100,8 +101,8 @@ allocated injection s (suc n) segment made h =
     slice_get-some s.allocations n (omega arith)
 
 -- at the place of a variable of an allocation that lives stands that variable
-pub place_stands : {declared : Declarations} {G : Image} {injection : Injection} {s : meaning.State} {memory : MachineMemory} {v : Component} {place : Place}
-    → Matches declared G injection s memory → IsSpot injection memory.types v place
+pub place_stands : {layout : Layout} {G : Image} {injection : Injection} {s : meaning.State} {memory : MachineMemory} {v : Component} {place : Place}
+    → Matches layout G injection s memory → IsSpot injection memory.types v place
     → meaning.has_ended v.allocation s ≡ false → Stands injection s memory v place
 place_stands {injection = injection} {s = s} {memory = memory} {v = v} {place = place} matches spot living =
     let injected = matches.injected in
@@ -123,8 +124,8 @@ place_stands {injection = injection} {s = s} {memory = memory} {v = v} {place = 
     }
 
 -- the segment at the place of a variable whose allocation has ended has ended
-pub place_ended : {declared : Declarations} {G : Image} {injection : Injection} {s : meaning.State} {memory : MachineMemory} {v : Component} {place : Place}
-    → Matches declared G injection s memory → IsSpot injection memory.types v place
+pub place_ended : {layout : Layout} {G : Image} {injection : Injection} {s : meaning.State} {memory : MachineMemory} {v : Component} {place : Place}
+    → Matches layout G injection s memory → IsSpot injection memory.types v place
     → meaning.has_ended v.allocation s ≡ true → slice_get memory.segments place.segment ≡ Some None
 place_ended {injection = injection} {s = s} {memory = memory} {v = v} {place = place} matches spot ended =
     let injected = matches.injected in
@@ -150,8 +151,8 @@ pub record StandsOrdinal (injection : Injection) (s : meaning.State) (memory : M
   pub leads : part_along (Some (all_of (bare_of allocation.type_value))) v.path ≡ Some (record { offset = place.offset; type_value = type.Ordinal low high })
   pub word : OrdinalAt low high (value_along allocation.value v.path) (slice_get represents.words place.offset)
 
-pub ordinal_stands : {declared : Declarations} {G : Image} {injection : Injection} {s : meaning.State} {memory : MachineMemory} {v : Component} {place : Place} (low high : ℤ)
-    → Matches declared G injection s memory → IsSpot injection memory.types v place
+pub ordinal_stands : {layout : Layout} {G : Image} {injection : Injection} {s : meaning.State} {memory : MachineMemory} {v : Component} {place : Place} (low high : ℤ)
+    → Matches layout G injection s memory → IsSpot injection memory.types v place
     → IsLike memory.types place.type_number (type.Ordinal low high)
     → meaning.has_ended v.allocation s ≡ false → StandsOrdinal injection s memory v place low high
 ordinal_stands {injection = injection} {s = s} {memory = memory} {v = v} {place = place} low high matches spot described living =

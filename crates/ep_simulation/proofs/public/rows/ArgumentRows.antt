@@ -7,6 +7,7 @@ use native.Mathlib.Decide.{ℕ_discrete}
 use Rattle.ep_simulation.specs.Activations.{OwnSlot, AreMade, InActivation}
 use Rattle.ep_object.specs.Calls.{argument_at}
 use Rattle.ep_simulation.specs.Follows.{Facts, After, point, Follows, Fragment, Lasts, IsSameCall, IsStillCall, StillRuns, IsNotLeft, Lands}
+use Rattle.ep_simulation.specs.Layouts.{Layout}
 use Rattle.ep_simulation.specs.Matching.{MachineMemory, at, Injection, IsIn, IsRepresentedWhere, IsLike, IsSpot, Slots, own_slot, slot_of_frame, MatchesSlot, HasOwnType, Matches, Grown}
 use Rattle.ep_simulation.proofs.public.matching.BareValues.{suits_bare}
 use Rattle.ep_simulation.proofs.matching.NewSegments.{new_segment}
@@ -77,13 +78,13 @@ pub taken-later : {untouched : Slots} {injection longer : Injection} {before mem
     → Taken untouched longer memory left below last after operands → Taken untouched injection before left below last after operands
 taken-later grown runs last after operands h = record { grown = grown_trans grown h.grown; runs = still_runs-trans runs h.runs; left_are = h.left_are; operands_are = h.operands_are }
 
-module _ (declared : Declarations) (G : Image) (untouched : Slots) (first : Injection) (start : MachineMemory) (place line k : ℕ) (below : List Operand) (injection : Injection) (memory : MachineMemory) (frame : Frame) (others : List Frame) (frames : memory.frames.calls ≡ frame ∷ others) where
+module _ (declared : Declarations) (layout : Layout) (G : Image) (untouched : Slots) (first : Injection) (start : MachineMemory) (place line k : ℕ) (below : List Operand) (injection : Injection) (memory : MachineMemory) (frame : Frame) (others : List Frame) (frames : memory.frames.calls ≡ frame ∷ others) where
   -- the routine still runs
   runs_innermost : (other : Frame) → other.routine ≡ frame.routine → other.parent ≡ frame.parent → other.back ≡ frame.back → StillRuns memory.frames (with_innermost other others memory).frames
   runs_innermost other routine parent back = record { turn = refl; routine = refl; unit = refl; calls = subst (λ cs. IsStillCall cs (other ∷ others)) (sym frames) (routine, parent, back, refl) }
 
   -- the same state of the meaning is matched
-  matches_innermost : (other : Frame) (s : meaning.State) → Matches declared G injection s memory → Matches declared G injection s (with_innermost other others memory)
+  matches_innermost : (other : Frame) (s : meaning.State) → Matches layout G injection s memory → Matches layout G injection s (with_innermost other others memory)
   matches_innermost other s h =
       record { injected = h.injected; store = h.store; types = h.types; units = h.units; outside = h.outside; counts = h.counts; depth = omega (arith, h.depth, ap length frames) }
 
@@ -185,8 +186,8 @@ module _ (declared : Declarations) (G : Image) (untouched : Slots) (first : Inje
 -- ---- what is taken
 
 -- an allocation whose segment lives has not ended
-lives_where : {declared : Declarations} {G : Image} {injection : Injection} {s : meaning.State} {memory : MachineMemory} (n segment : ℕ) (x : Segment)
-    → Matches declared G injection s memory → IsIn injection n segment → slice_get memory.segments segment ≡ Some (Some x) → has_ended n s ≡ false
+lives_where : {layout : Layout} {G : Image} {injection : Injection} {s : meaning.State} {memory : MachineMemory} (n segment : ℕ) (x : Segment)
+    → Matches layout G injection s memory → IsIn injection n segment → slice_get memory.segments segment ≡ Some (Some x) → has_ended n s ≡ false
 lives_where {injection = injection} {s = s} {memory = memory} n segment x h is_in stands =
     let injected = h.injected in
     let store = h.store in
@@ -204,7 +205,7 @@ same_arguments [] (d ∷ after) h = absurd h
 same_arguments (c ∷ before) [] h = absurd h
 same_arguments (c ∷ before) (d ∷ after) h = h.4
 
-module _ (declared : Declarations) (G : Image) (untouched : Slots) (first : Injection) (start : MachineMemory) (lasts : Lasts untouched (InActivation declared untouched first start)) (place line k : ℕ) (unit : List ℕ) (below : List Operand) (injection : Injection) (memory : MachineMemory) (frame : Frame) (others : List Frame) (frames : memory.frames.calls ≡ frame ∷ others) (home : unit_in G memory.frames ≡ unit) (within : k < length frame.arguments) where
+module _ (declared : Declarations) (layout : Layout) (G : Image) (untouched : Slots) (first : Injection) (start : MachineMemory) (lasts : Lasts untouched (InActivation declared untouched first start)) (place line k : ℕ) (unit : List ℕ) (below : List Operand) (injection : Injection) (memory : MachineMemory) (frame : Frame) (others : List Frame) (frames : memory.frames.calls ≡ frame ∷ others) (home : unit_in G memory.frames ≡ unit) (within : k < length frame.arguments) where
   abbrev Here : Facts
   Here = InActivation declared untouched first start
 
@@ -216,7 +217,7 @@ module _ (declared : Declarations) (G : Image) (untouched : Slots) (first : Inje
   left = without_argument k frame.arguments
 
   lighter_runs : StillRuns memory.frames lighter.frames
-  lighter_runs = runs_innermost declared G untouched first start place line k below injection memory frame others frames (taken_from k frame) refl refl refl
+  lighter_runs = runs_innermost declared layout G untouched first start place line k below injection memory frame others frames (taken_from k frame) refl refl refl
 
   lighter_home : unit_in G lighter.frames ≡ unit
   lighter_home = unit_in-still G lighter_runs ∙ home
@@ -224,13 +225,13 @@ module _ (declared : Declarations) (G : Image) (untouched : Slots) (first : Inje
   -- `Arg` leaves the argument on top
   arg_moves : {A : Type 0} {c : Computation A} {to n d d1 : ℕ} {P : A → After} {e : A → ℕ} (st : List Operand) (o : Operand) (w : ℕ) → slice_get G.instructions place ≡ Some (instr op.ARG (pos k) 0 line)
       → argument_at frame.arguments k ≡ Some o → weight o ≡ w → suc w + d1 ≤ d
-      → Fragment declared G Here n (point injection lighter (place + 1) (o ∷ st)) c to P d1 e
-      → Fragment declared G Here n (point injection memory place st) c to P d e
+      → Fragment layout G Here n (point injection lighter (place + 1) (o ∷ st)) c to P d1 e
+      → Fragment layout G Here n (point injection memory place st) c to P d e
   arg_moves st o w has there weighs le next =
       fragment_goes (λ s matches here. (
-        arg_outcome declared G untouched first start place line k below injection memory frame others frames st o w s.trace has there within weighs,
-        matches_innermost declared G untouched first start place line k below injection memory frame others frames (taken_from k frame) s matches,
-        knows_taken declared G untouched first start place line k below injection memory frame others frames s here,
+        arg_outcome declared layout G untouched first start place line k below injection memory frame others frames st o w s.trace has there within weighs,
+        matches_innermost declared layout G untouched first start place line k below injection memory frame others frames (taken_from k frame) s matches,
+        knows_taken declared layout G untouched first start place line k below injection memory frame others frames s here,
       )) lighter_runs le next
 
   -- a variable of the caller, by `Bind`
@@ -238,7 +239,7 @@ module _ (declared : Declarations) (G : Image) (untouched : Slots) (first : Inje
       → slice_get G.instructions place ≡ Some (instr op.ARG (pos k) 0 line) → slice_get G.instructions (place + 1) ≡ Some (instr op.BIND (pos k) 0 line)
       → argument_at frame.arguments k ≡ Some (operand.Place p) → IsSpot injection memory.types m p → IsLike memory.types p.type_number t
       → slice_get (variables_up declared 0) k ≡ Some v → ((w : UnitVariable) → slice_get (variables_up declared 0) k ≡ Some w → HasOwnType declared w t) → 2 ≤ d
-      → Fragment declared G Here (suc n) (point injection memory place below) (spend 1 (change (with_own_bound k m))) (place + 1 + 1) (λ a. Taken untouched injection memory left below) d (λ a. d)
+      → Fragment layout G Here (suc n) (point injection memory place below) (spend 1 (change (with_own_bound k m))) (place + 1 + 1) (λ a. Taken untouched injection memory left below) d (λ a. d)
   variable_taken n m d p t v has_arg has_bind there spot described is_declared declared_so enough =
       arg_moves {d1 = d - 1} below (operand.Place p) 0 has_arg there refl (omega (arith, enough)) (record { by = λ s matches here. bound s matches here })
     where
@@ -246,15 +247,15 @@ module _ (declared : Declarations) (G : Image) (untouched : Slots) (first : Inje
       final = with_innermost (with_slot k p (taken_from k frame)) others lighter
 
       final_runs : StillRuns lighter.frames final.frames
-      final_runs = runs_innermost declared G untouched first start (place + 1) line k below injection lighter (taken_from k frame) others refl (with_slot k p (taken_from k frame)) refl refl refl
+      final_runs = runs_innermost declared layout G untouched first start (place + 1) line k below injection lighter (taken_from k frame) others refl (with_slot k p (taken_from k frame)) refl refl refl
 
-      bound : (s : meaning.State) → Matches declared G injection s lighter → Here injection s lighter
-          → Follows (λ j. IsNotLeft lighter.frames j.frames) G (suc n) (at (place + 1) (operand.Place p ∷ below) lighter s.trace) s (spend 1 (change (with_own_bound k m))) (λ a. Lands declared G Here (place + 1 + 1) (Taken untouched injection memory left below)) (d - 1) (λ a. d)
+      bound : (s : meaning.State) → Matches layout G injection s lighter → Here injection s lighter
+          → Follows (λ j. IsNotLeft lighter.frames j.frames) G (suc n) (at (place + 1) (operand.Place p ∷ below) lighter s.trace) s (spend 1 (change (with_own_bound k m))) (λ a. Lands layout G Here (place + 1 + 1) (Taken untouched injection memory left below)) (d - 1) (λ a. d)
       bound s matches here =
           let own = here.own k v is_declared in
           let inside : k < length frame.slots = slice_get_within frame.slots k own.slot own.is in
           follows_paid {n = n} {v = 0} {w = 0} {d1 = d} (not_left-here lighter.frames) refl
-          (bind_outcome declared G untouched first start (place + 1) line k below injection lighter (taken_from k frame) others refl p s.trace has_bind inside)
+          (bind_outcome declared layout G untouched first start (place + 1) line k below injection lighter (taken_from k frame) others refl p s.trace has_bind inside)
           (omega (arith, enough)) (omega (arith, enough)) (omega (arith, enough))
           (follows_changed (with_own_bound k m) (omega arith) (record {
             injection = injection;
@@ -262,7 +263,7 @@ module _ (declared : Declarations) (G : Image) (untouched : Slots) (first : Inje
             operands = below;
             is = refl;
             matches = (let h = matches in record { injected = h.injected; store = h.store; types = h.types; units = h.units; outside = h.outside; counts = h.counts; depth = subst (λ cs. suc (length others) ≤ length (own_bound_in k m cs)) (sym here.calls) (omega (arith, h.depth, ap length here.calls)) });
-            here = knows_bound declared G untouched first start (place + 1) line k below injection lighter (taken_from k frame) others refl s m p t here inside spot described declared_so;
+            here = knows_bound declared layout G untouched first start (place + 1) line k below injection lighter (taken_from k frame) others refl s m p t here inside spot described declared_so;
             post = record { grown = grown_trans (grown_innermost injection memory (taken_from k frame) others) (grown_innermost injection lighter (with_slot k p (taken_from k frame)) others); runs = still_runs-trans lighter_runs final_runs; left_are = refl; operands_are = refl };
           }))
 
@@ -272,7 +273,7 @@ module _ (declared : Declarations) (G : Image) (untouched : Slots) (first : Inje
       → slice_get G.instructions place ≡ Some (instr op.ARG (pos k) 0 line) → slice_get G.instructions (place + 1) ≡ Some (instr op.STORE (pos 0) 0 line)
       → argument_at frame.arguments k ≡ Some o → IsValueOf injection memory kind r o → own_slot memory.frames k ≡ Some (Some p)
       → IsSpot injection memory.types (whole (length injection)) p → slice_get memory.segments p.segment ≡ Some (Some (new_segment number t)) → IsLike memory.types p.type_number (bare_of t) → 3 + 2 * weight_of r ≤ d
-      → Fragment declared G Here n (point injection memory (place - 1) below) (initialized unit line t r) (place + 1 + 1) (λ a. Taken untouched injection memory left below) d (λ a. d - (3 + 2 * weight_of r))
+      → Fragment layout G Here n (point injection memory (place - 1) below) (initialized unit line t r) (place + 1 + 1) (λ a. Taken untouched injection memory left below) d (λ a. d - (3 + 2 * weight_of r))
   value_taken n d kind t r o number p of_kind has_slot later has_arg has_store there value slot spot stands described enough =
       fragment_waits {d1 = d - 1} (λ s matches. slot_pushes G (place - 1) line k 0 below frame.slots memory s.trace has_slot (own_slots memory frame others frames) p (sym (ap (λ cs. slot_of_frame (slots_over cs None) k) frames) ∙ slot)) (omega (arith, enough))
       (fragment_from {place = place} (omega (arith, later)) (arg_moves {d1 = d - (2 + weight_of r)} (operand.Place p ∷ below) o (weight_of r) has_arg there (value_weight injection memory kind r o value) (omega (arith, enough)) (stored (suits (Some t) r) refl)))
@@ -283,24 +284,24 @@ module _ (declared : Declarations) (G : Image) (untouched : Slots) (first : Inje
       given_value : IsValueOf injection lighter kind r o
       given_value = value_anywhere injection memory lighter refl kind r o value
 
-      newest_of : (s : meaning.State) → Matches declared G injection s lighter → IsSpot injection lighter.types (whole (length s.allocations)) p
+      newest_of : (s : meaning.State) → Matches layout G injection s lighter → IsSpot injection lighter.types (whole (length s.allocations)) p
       newest_of s h = let injected = h.injected in subst (λ m. IsSpot injection memory.types (whole m) p) injected.made spot
 
-      living : (s : meaning.State) → Matches declared G injection s lighter → has_ended (length s.allocations) s ≡ false
+      living : (s : meaning.State) → Matches layout G injection s lighter → has_ended (length s.allocations) s ≡ false
       living s h = let q = newest_of s h in lives_where (length s.allocations) p.segment (new_segment number t) h q.is_in stands
 
-      its_type : (s : meaning.State) → Matches declared G injection s lighter → option_map bare_of (type_at (whole (length s.allocations)) s) ≡ Some (bare_of t)
-      its_type s h = variable_type declared G (place + 1) line below (bare_of t) (whole (length s.allocations)) p injection lighter (newest_of s h) described s h (living s h)
+      its_type : (s : meaning.State) → Matches layout G injection s lighter → option_map bare_of (type_at (whole (length s.allocations)) s) ≡ Some (bare_of t)
+      its_type s h = variable_type layout G (place + 1) line below (bare_of t) (whole (length s.allocations)) p injection lighter (newest_of s h) described s h (living s h)
 
       -- which values it may have
-      suits_it : (s : meaning.State) → Matches declared G injection s lighter → suits (type_at (whole (length s.allocations)) s) r ≡ suits (Some t) r
+      suits_it : (s : meaning.State) → Matches layout G injection s lighter → suits (type_at (whole (length s.allocations)) s) r ≡ suits (Some t) r
       suits_it s h =
           sym (suits_bare (type_at (whole (length s.allocations)) s) r) ∙ (ap (λ u. suits u r) (its_type s h) ∙ suits_bare (Some t) r)
 
-      given : (s : meaning.State) → Matches declared G injection s lighter → Here injection s lighter → suits (Some t) r ≡ true
-          → Follows (λ j. IsNotLeft lighter.frames j.frames) G n (at (place + 1) at_store lighter s.trace) s (change (newest_assigned (value_of r))) (λ a. Lands declared G Here (place + 1 + 1) (Taken untouched injection memory left below)) (d - (2 + weight_of r)) (λ a. d - (3 + 2 * weight_of r))
+      given : (s : meaning.State) → Matches layout G injection s lighter → Here injection s lighter → suits (Some t) r ≡ true
+          → Follows (λ j. IsNotLeft lighter.frames j.frames) G n (at (place + 1) at_store lighter s.trace) s (change (newest_assigned (value_of r))) (λ a. Lands layout G Here (place + 1 + 1) (Taken untouched injection memory left below)) (d - (2 + weight_of r)) (λ a. d - (3 + 2 * weight_of r))
       given s h here e =
-          let does = value_does declared G (place + 1) line below kind (bare_of t) r o (whole (length s.allocations)) p (may_take kind (bare_of t) of_kind) has_store injection lighter given_value (newest_of s h) described s h (living s h) lasts here (suits_it s h ∙ e) in
+          let does = value_does layout G (place + 1) line below kind (bare_of t) r o (whole (length s.allocations)) p (may_take kind (bare_of t) of_kind) has_store injection lighter given_value (newest_of s h) described s h (living s h) lasts here (suits_it s h ∙ e) in
           let inside = does.post in
           let routine = inside.routine in
           follows_credit {d = suc (weight_of r) + (d - (3 + 2 * weight_of r))} {e = λ a. d - (3 + 2 * weight_of r)} (omega (arith, enough)) (λ a. omega (arith, enough)) (follows_waits (not_left-here lighter.frames) does.does
@@ -314,17 +315,17 @@ module _ (declared : Declarations) (G : Image) (untouched : Slots) (first : Inje
             post = record { grown = grown_trans (grown_innermost injection memory (taken_from k frame) others) inside.grown; runs = still_runs-trans lighter_runs (still_routine routine); left_are = same_arguments lighter.frames.calls does.memory.frames.calls routine.calls; operands_are = inside.operands_are };
           })))
 
-      refused : (s : meaning.State) → Matches declared G injection s lighter → suits (Some t) r ≡ false
-          → Follows (λ j. IsNotLeft lighter.frames j.frames) G n (at (place + 1) at_store lighter s.trace) s (stop {A = Unit {0}} (meaning.Error (misfit r) unit line)) (λ a. Lands declared G Here (place + 1 + 1) (Taken untouched injection memory left below)) (d - (2 + weight_of r)) (λ a. d - (3 + 2 * weight_of r))
+      refused : (s : meaning.State) → Matches layout G injection s lighter → suits (Some t) r ≡ false
+          → Follows (λ j. IsNotLeft lighter.frames j.frames) G n (at (place + 1) at_store lighter s.trace) s (stop {A = Unit {0}} (meaning.Error (misfit r) unit line)) (λ a. Lands layout G Here (place + 1 + 1) (Taken untouched injection memory left below)) (d - (2 + weight_of r)) (λ a. d - (3 + 2 * weight_of r))
       refused s h e =
-          let fails = value_fails declared G (place + 1) line below kind (bare_of t) r o (whole (length s.allocations)) p (may_take kind (bare_of t) of_kind) has_store injection lighter given_value (newest_of s h) described s h (living s h) (suits_it s h ∙ e) in
+          let fails = value_fails layout G (place + 1) line below kind (bare_of t) r o (whole (length s.allocations)) p (may_take kind (bare_of t) of_kind) has_store injection lighter given_value (newest_of s h) described s h (living s h) (suits_it s h ∙ e) in
           follows_stop (not_left-here lighter.frames) (subst (λ u. outcome G (at (place + 1) at_store lighter s.trace) ≡ record { weight = weight_of r; to = Stopped (Error (misfit r) u line) s.trace }) lighter_home fails.fails) (omega (arith, enough))
 
       stored : (b : Bool) → suits (Some t) r ≡ b
-          → Fragment declared G Here n (point injection lighter (place + 1) at_store) (initialized unit line t r) (place + 1 + 1) (λ a. Taken untouched injection memory left below) (d - (2 + weight_of r)) (λ a. d - (3 + 2 * weight_of r))
-      stored b e = subst (λ y. Fragment declared G Here n (point injection lighter (place + 1) at_store) (if y then change (newest_assigned (value_of r)) else stop (meaning.Error (misfit r) unit line)) (place + 1 + 1) (λ a. Taken untouched injection memory left below) (d - (2 + weight_of r)) (λ a. d - (3 + 2 * weight_of r))) (sym e) (by_case b e)
+          → Fragment layout G Here n (point injection lighter (place + 1) at_store) (initialized unit line t r) (place + 1 + 1) (λ a. Taken untouched injection memory left below) (d - (2 + weight_of r)) (λ a. d - (3 + 2 * weight_of r))
+      stored b e = subst (λ y. Fragment layout G Here n (point injection lighter (place + 1) at_store) (if y then change (newest_assigned (value_of r)) else stop (meaning.Error (misfit r) unit line)) (place + 1 + 1) (λ a. Taken untouched injection memory left below) (d - (2 + weight_of r)) (λ a. d - (3 + 2 * weight_of r))) (sym e) (by_case b e)
         where
           by_case : (b : Bool) → suits (Some t) r ≡ b
-              → Fragment declared G Here n (point injection lighter (place + 1) at_store) (if b then change (newest_assigned (value_of r)) else stop (meaning.Error (misfit r) unit line)) (place + 1 + 1) (λ a. Taken untouched injection memory left below) (d - (2 + weight_of r)) (λ a. d - (3 + 2 * weight_of r))
+              → Fragment layout G Here n (point injection lighter (place + 1) at_store) (if b then change (newest_assigned (value_of r)) else stop (meaning.Error (misfit r) unit line)) (place + 1 + 1) (λ a. Taken untouched injection memory left below) (d - (2 + weight_of r)) (λ a. d - (3 + 2 * weight_of r))
           by_case true e = record { by = λ s matches here. given s matches here e }
           by_case false e = record { by = λ s matches here. refused s matches e }

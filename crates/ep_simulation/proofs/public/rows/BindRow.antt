@@ -8,6 +8,7 @@ use native.Mathlib.Decide.{ℕ_discrete}
 use Rattle.ep_simulation.specs.Activations.{InActivation}
 use Rattle.ep_simulation.specs.Follows.{Facts, Lasts, Bare, Inside, IsSameCall, SameRoutine}
 use Rattle.ep_object.specs.Frames.{slots_over}
+use Rattle.ep_simulation.specs.Layouts.{Layout}
 use Rattle.ep_simulation.specs.Matching.{MachineMemory, at, Injection, IsSpot, IsOfType, Slots, own_slot, slot_of_frame, slot_in, MatchesSlot, MatchesFrame, HasType, HasOwnType, Matches, Grown, IsLike}
 use Rattle.ep_object.specs.Operands.{Operand}
 use Rattle.ep_object.specs.Operands as operand
@@ -38,22 +39,22 @@ use Rattle.ep_typed.specs.declared.unit.UnitVariable.{UnitVariable}
 -- ---- in the activation of a routine
 
 -- `Bind` in a slot of the innermost call, which is not among those that are untouched
-pub own_binds : {untouched kept : Slots} {first : Injection} {start : MachineMemory} (declared : Declarations) (G : Image) (place line k : ℕ) (below : List Operand) (v : UnitVariable) (t : TypeValue)
+pub own_binds : {untouched kept : Slots} {first : Injection} {start : MachineMemory} (declared : Declarations) (layout : Layout) (G : Image) (place line k : ℕ) (below : List Operand) (v : UnitVariable) (t : TypeValue)
     → slice_get G.instructions place ≡ Some (instr op.BIND (pos k) 0 line)
     → slice_get (variables_up declared 0) k ≡ Some v
     → ((w : UnitVariable) → slice_get (variables_up declared 0) k ≡ Some w → HasOwnType declared w t)
     → (IsTrue (untouched.own k) → ⊥)
-    → (injection : Injection) (memory : MachineMemory) (s : meaning.State) → Matches declared G injection s memory → InActivation declared kept first start injection s memory
+    → (injection : Injection) (memory : MachineMemory) (s : meaning.State) → Matches layout G injection s memory → InActivation declared kept first start injection s memory
     → (c : Component) (p : Place) → IsSpot injection memory.types c p → IsLike memory.types p.type_number t
-    → Does declared G (InActivation declared kept first start) (at place (operand.Place p ∷ below) memory s.trace) 0 (place + 1) (Inside untouched injection memory (Bare below tt)) (with_own_bound k c s)
-own_binds {untouched = untouched} {kept = kept} {first = first} {start = start} declared G place line k below v t has is_declared declared_so free injection memory s matches known c p spot described =
+    → Does layout G (InActivation declared kept first start) (at place (operand.Place p ∷ below) memory s.trace) 0 (place + 1) (Inside untouched injection memory (Bare below tt)) (with_own_bound k c s)
+own_binds {untouched = untouched} {kept = kept} {first = first} {start = start} declared layout G place line k below v t has is_declared declared_so free injection memory s matches known c p spot described =
     record {
       injection = injection;
       memory = later;
       operands = below;
-      does = bind_outcome declared G kept first start place line k below injection memory frame others known.frames p s.trace has within;
+      does = bind_outcome declared layout G kept first start place line k below injection memory frame others known.frames p s.trace has within;
       matches = let h = matches in record { injected = h.injected; store = h.store; types = h.types; units = h.units; outside = h.outside; counts = h.counts; depth = subst (λ cs. suc (length others) ≤ length (own_bound_in k c cs)) (sym known.calls) (omega (arith, h.depth, ap length known.calls, ap length known.frames)) };
-      here = knows_bound declared G kept first start place line k below injection memory frame others known.frames s c p t known within spot described declared_so;
+      here = knows_bound declared layout G kept first start place line k below injection memory frame others known.frames s c p t known within spot described declared_so;
       post = record { grown = grown_innermost injection memory (with_slot k p frame) others; routine = still; operands_are = refl };
     }
   where
@@ -83,9 +84,9 @@ own_binds {untouched = untouched} {kept = kept} {first = first} {start = start} 
 
 -- ---- in the frame of a unit
 
-module _ {declared : Declarations} {G : Image} {injection : Injection} {s : meaning.State} {memory : MachineMemory} (h : Matches declared G injection s memory) (c : Component) (p : Place) (spot : IsSpot injection memory.types c p) (t : TypeValue) (described : IsLike memory.types p.type_number t) (x : ImageUnit) (k : ℕ) (is_unit : slice_get G.units memory.frames.unit ≡ Some x) (within : k < x.slots) (declared_so : (v : UnitVariable) → declared.variables x.name k ≡ Some v → HasType declared x.name v t) where
+module _ {layout : Layout} {G : Image} {injection : Injection} {s : meaning.State} {memory : MachineMemory} (h : Matches layout G injection s memory) (c : Component) (p : Place) (spot : IsSpot injection memory.types c p) (t : TypeValue) (described : IsLike memory.types p.type_number t) (x : ImageUnit) (k : ℕ) (is_unit : slice_get G.units memory.frames.unit ≡ Some x) (within : k < x.slots) (declared_so : (v : UnitVariable) → layout.variables x.name k ≡ Some v → HasType layout x.name v t) where
   -- the frame of the unit
-  frame : MatchesFrame declared injection s.variables memory.frames.units memory.types memory.frames.unit x
+  frame : MatchesFrame layout injection s.variables memory.frames.units memory.types memory.frames.unit x
   frame = let units = h.units in units.frames memory.frames.unit x is_unit
 
   abbrev new_slots : List (Option Place)
@@ -101,7 +102,7 @@ module _ {declared : Declarations} {G : Image} {injection : Injection} {s : mean
   there_now = let old = slice_get-some frame.slots k (omega (arith, within, frame.count)) in slice_get-set-same frame.slots k (Some p) old.0 old.1
 
   -- the slot has the place, and the others have theirs
-  slot_binding : (j : ℕ) (v : UnitVariable) (slot : Option Place) → declared.variables x.name j ≡ Some v → slice_get new_slots j ≡ Some slot
+  slot_binding : (j : ℕ) (v : UnitVariable) (slot : Option Place) → layout.variables x.name j ≡ Some v → slice_get new_slots j ≡ Some slot
       → MatchesSlot injection memory.types (later_state.variables x.name j) slot
   slot_binding j v slot is_declared q = elim (ℕ_discrete k j) [ yes e ↦ same e | no e ↦ other e ]
     where
@@ -118,17 +119,17 @@ module _ {declared : Declarations} {G : Image} {injection : Injection} {s : mean
           subst (λ o. MatchesSlot injection memory.types o slot) (sym (bound-other x.name k c s.variables x.name j (λ a. e))) (frame.matches j v slot is_declared before)
 
   -- the type of the place describes the declaration's, and those of the others theirs
-  described_binding : (j : ℕ) (v : UnitVariable) (q : Place) (u : TypeValue) → declared.variables x.name j ≡ Some v → slice_get new_slots j ≡ Some (Some q)
-      → HasType declared x.name v u → IsLike memory.types q.type_number u
+  described_binding : (j : ℕ) (v : UnitVariable) (q : Place) (u : TypeValue) → layout.variables x.name j ≡ Some v → slice_get new_slots j ≡ Some (Some q)
+      → HasType layout x.name v u → IsLike memory.types q.type_number u
   described_binding j v q u is_declared is has_type = elim (ℕ_discrete k j) [ yes e ↦ same e | no e ↦ frame.described j v q u is_declared (sym (slice_get-set-other frame.slots k j (Some p) e) ∙ is) has_type ]
     where
       same : k ≡ j → IsLike memory.types q.type_number u
       same e =
           let place_is : Some p ≡ Some q = same_Some (Some p) (Some q) (sym there_now ∙ subst (λ i. slice_get new_slots i ≡ Some (Some q)) (sym e) is) in
-          let its_type : t ≡ u = one_type_of v (declared_so v (subst (λ i. declared.variables x.name i ≡ Some v) (sym e) is_declared)) has_type in
+          let its_type : t ≡ u = one_type_of v (declared_so v (subst (λ i. layout.variables x.name i ≡ Some v) (sym e) is_declared)) has_type in
           subst (λ (y : Place). IsLike memory.types y.type_number u) (same_Some p q place_is) (subst (λ w. IsLike memory.types p.type_number w) its_type described)
 
-  frame_binding : MatchesFrame declared injection later_state.variables later.frames.units memory.types memory.frames.unit x
+  frame_binding : MatchesFrame layout injection later_state.variables later.frames.units memory.types memory.frames.unit x
   frame_binding =
       record {
         slots = new_slots;
@@ -147,18 +148,18 @@ module _ {declared : Declarations} {G : Image} {injection : Injection} {s : mean
 
   module _ (distinct : HasDistinctNames G) where
     -- the frames of other units stay what they are
-    frames_binding : (unit : ℕ) (u : ImageUnit) → slice_get G.units unit ≡ Some u → MatchesFrame declared injection later_state.variables later.frames.units memory.types unit u
+    frames_binding : (unit : ℕ) (u : ImageUnit) → slice_get G.units unit ≡ Some u → MatchesFrame layout injection later_state.variables later.frames.units memory.types unit u
     frames_binding unit u there = elim (ℕ_discrete memory.frames.unit unit) [ yes e ↦ same e | no e ↦ other e ]
       where
-        same : memory.frames.unit ≡ unit → MatchesFrame declared injection later_state.variables later.frames.units memory.types unit u
+        same : memory.frames.unit ≡ unit → MatchesFrame layout injection later_state.variables later.frames.units memory.types unit u
         same e =
             let is_x : x ≡ u = same_Some x u (sym is_unit ∙ subst (λ i. slice_get G.units i ≡ Some u) (sym e) there) in
-            subst (λ i. MatchesFrame declared injection later_state.variables later.frames.units memory.types i u) e (subst (λ y. MatchesFrame declared injection later_state.variables later.frames.units memory.types memory.frames.unit y) is_x frame_binding)
+            subst (λ i. MatchesFrame layout injection later_state.variables later.frames.units memory.types i u) e (subst (λ y. MatchesFrame layout injection later_state.variables later.frames.units memory.types memory.frames.unit y) is_x frame_binding)
 
-        other : (memory.frames.unit ≡ unit → ⊥) → MatchesFrame declared injection later_state.variables later.frames.units memory.types unit u
+        other : (memory.frames.unit ≡ unit → ⊥) → MatchesFrame layout injection later_state.variables later.frames.units memory.types unit u
         other e =
             let units = h.units in
-            let f : MatchesFrame declared injection s.variables memory.frames.units memory.types unit u = units.frames unit u there in
+            let f : MatchesFrame layout injection s.variables memory.frames.units memory.types unit u = units.frames unit u there in
             record {
               slots = f.slots;
               is = slice_get-set-other memory.frames.units memory.frames.unit unit new_slots e ∙ f.is;
@@ -168,24 +169,24 @@ module _ {declared : Declarations} {G : Image} {injection : Injection} {s : mean
             }
 
     -- the variable that is bound has the type of its declaration, and the others keep theirs
-    typed_binding : (unit : List ℕ) (j : ℕ) (b : Component) (v : UnitVariable) → later_state.variables unit j ≡ Some b → declared.variables unit j ≡ Some v
-        → IsOfType s.allocations b (HasType declared unit v)
+    typed_binding : (unit : List ℕ) (j : ℕ) (b : Component) (v : UnitVariable) → later_state.variables unit j ≡ Some b → layout.variables unit j ≡ Some v
+        → IsOfType s.allocations b (HasType layout unit v)
     typed_binding unit j b v is is_declared = elim (same_name x.name unit) [ inl a ↦ elim (ℕ_discrete k j) [ yes q ↦ same a q | no q ↦ other (λ y z. q z) ] | inr a ↦ other (λ y z. a y) ]
       where
-        same : x.name ≡ unit → k ≡ j → IsOfType s.allocations b (HasType declared unit v)
+        same : x.name ≡ unit → k ≡ j → IsOfType s.allocations b (HasType layout unit v)
         same a q =
             let here : later_state.variables x.name k ≡ Some b = subst (λ u. later_state.variables u k ≡ Some b) (sym a) (subst (λ i. later_state.variables unit i ≡ Some b) (sym q) is) in
             let b_is : c ≡ b = same_Some c b (sym (bound-same x.name k c s.variables) ∙ here) in
-            let has_type : HasType declared unit v t = subst (λ u. HasType declared u v t) a (declared_so v (subst (λ u. declared.variables u k ≡ Some v) (sym a) (subst (λ i. declared.variables unit i ≡ Some v) (sym q) is_declared))) in
-            subst (λ i. IsOfType s.allocations i (HasType declared unit v)) b_is (record { type_value = t; is = its_type; holds = has_type })
+            let has_type : HasType layout unit v t = subst (λ u. HasType layout u v t) a (declared_so v (subst (λ u. layout.variables u k ≡ Some v) (sym a) (subst (λ i. layout.variables unit i ≡ Some v) (sym q) is_declared))) in
+            subst (λ i. IsOfType s.allocations i (HasType layout unit v)) b_is (record { type_value = t; is = its_type; holds = has_type })
 
-        other : (x.name ≡ unit → k ≡ j → ⊥) → IsOfType s.allocations b (HasType declared unit v)
+        other : (x.name ≡ unit → k ≡ j → ⊥) → IsOfType s.allocations b (HasType layout unit v)
         other different =
             let units = h.units in
             units.typed unit j b v (sym (bound-other x.name k c s.variables unit j different) ∙ is) is_declared
 
     -- the machine goes on matching
-    matches_binding : Matches declared G injection later_state later
+    matches_binding : Matches layout G injection later_state later
     matches_binding =
         record {
           injected = h.injected;
@@ -206,16 +207,16 @@ bind_in_unit G place line k below slots memory trace p has alone is within =
     outcome_at G (instr op.BIND (pos k) 0 line) place (operand.Place p ∷ below) memory trace has ∙ rw (alone, is, lt-ltb k (length slots) within) refl
 
 -- `Bind` in a slot of the unit's frame, which is not among those that are untouched
-pub unit_binds : {untouched : Slots} {Here : Facts} (declared : Declarations) (G : Image) (place line k : ℕ) (below : List Operand) (t : TypeValue) (x : ImageUnit)
+pub unit_binds : {untouched : Slots} {Here : Facts} (layout : Layout) (G : Image) (place line k : ℕ) (below : List Operand) (t : TypeValue) (x : ImageUnit)
     → slice_get G.instructions place ≡ Some (instr op.BIND (pos k) 0 line)
     → HasDistinctNames G
-    → ((v : UnitVariable) → declared.variables x.name k ≡ Some v → HasType declared x.name v t)
+    → ((v : UnitVariable) → layout.variables x.name k ≡ Some v → HasType layout x.name v t)
     → (injection : Injection) (memory : MachineMemory) (s : meaning.State)
     → RunsInUnit G memory.frames x → k < x.slots → (IsTrue (untouched.of_units memory.frames.unit k) → ⊥) → Lasts untouched Here
-    → Matches declared G injection s memory → Here injection s memory
+    → Matches layout G injection s memory → Here injection s memory
     → (c : Component) (p : Place) → IsSpot injection memory.types c p → IsLike memory.types p.type_number t
-    → Does declared G Here (at place (operand.Place p ∷ below) memory s.trace) 0 (place + 1) (Inside untouched injection memory (Bare below tt)) (with_bound x.name k c s)
-unit_binds {untouched = untouched} declared G place line k below t x has distinct declared_so injection memory s home within free lasts matches known c p spot described =
+    → Does layout G Here (at place (operand.Place p ∷ below) memory s.trace) 0 (place + 1) (Inside untouched injection memory (Bare below tt)) (with_bound x.name k c s)
+unit_binds {untouched = untouched} layout G place line k below t x has distinct declared_so injection memory s home within free lasts matches known c p spot described =
     record {
       injection = injection;
       memory = after;
@@ -226,7 +227,7 @@ unit_binds {untouched = untouched} declared G place line k below t x has distinc
       post = record { grown = grows; routine = still; operands_are = refl };
     }
   where
-    its : MatchesFrame declared injection s.variables memory.frames.units memory.types memory.frames.unit x
+    its : MatchesFrame layout injection s.variables memory.frames.units memory.types memory.frames.unit x
     its = frame matches c p spot t described x k home.unit within declared_so
 
     after : MachineMemory

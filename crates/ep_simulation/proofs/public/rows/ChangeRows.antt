@@ -4,6 +4,7 @@ use Rattle.std.proofs.lemmas.Bool.Decides.{nat_tests}
 use Rattle.std.proofs.lemmas.List.{length-replicate}
 use Rattle.std.proofs.lemmas.Option.{same_Some}
 use Rattle.ep_simulation.specs.Follows.{Facts, Lasts, Bare, Inside}
+use Rattle.ep_simulation.specs.Layouts.{Layout}
 use Rattle.ep_simulation.specs.Matching.{MachineMemory, at, Injection, IsBare, IsLike, IsSpot, HasAt, part_along, all_of, Represents, Matches, Slots}
 use Rattle.ep_object.specs.Places.{words_replaced}
 use Rattle.ep_simulation.specs.Promises.{IsValueOf}
@@ -40,7 +41,7 @@ use Rattle.ep_values.specs.Values.{Value, Undefined, value_along, value_with}
 use Rattle.ep_values.specs.TypeValues.{is_within}
 use Rattle.ep_meaning.specs.Steps as meaning
 use Rattle.ep_meaning.specs.Valid as kind
-use Rattle.ep_meaning.specs.Valid.{Declarations, IsSetOf, IsStructured, IsTypeOf, IsTypeOfKind, IsTypeValue, Kind}
+use Rattle.ep_meaning.specs.Valid.{IsSetOf, IsStructured, IsTypeOf, IsTypeOfKind, IsTypeValue, Kind}
 use Rattle.ep_typed.specs.Hosts.{Host}
 use Rattle.std.specs.Prelude.{⊤, option_map, replicate}
 use Rattle.ep_values.specs.TypeValues.{TypeValue, bare_of, same_type, size_of}
@@ -109,13 +110,13 @@ HasManyWords (type.Record ts) = ⊤
 HasManyWords (type.Set low high) = ⊤
 HasManyWords (type.Initial of start) = ⊥
 
-module _ (declared : Declarations) (G : Image) (place line : ℕ) (below : List Operand) where
+module _ (layout : Layout) (G : Image) (place line : ℕ) (below : List Operand) where
   -- `Put` of a text to `output`
   pub put_does : {untouched : Slots} {Here : Facts} (bytes : List ℕ)
       → slice_get G.instructions place ≡ Some (instr op.PUT (pos 0) 0 line) → Lasts untouched Here
-      → (injection : Injection) (memory : MachineMemory) (s : meaning.State) → Matches declared G injection s memory
+      → (injection : Injection) (memory : MachineMemory) (s : meaning.State) → Matches layout G injection s memory
       → Here injection s memory
-      → Does declared G Here (at place (Text bytes ∷ operand.Place output_place ∷ below) memory s.trace) (length bytes) (place + 1) (Inside untouched injection memory (Bare below tt)) (with_events (piece_events bytes) s)
+      → Does layout G Here (at place (Text bytes ∷ operand.Place output_place ∷ below) memory s.trace) (length bytes) (place + 1) (Inside untouched injection memory (Bare below tt)) (with_events (piece_events bytes) s)
   put_does bytes has lasts injection memory s matches here =
       let injected = matches.injected in
       let store = matches.store in
@@ -160,13 +161,13 @@ module _ (declared : Declarations) (G : Image) (place line : ℕ) (below : List 
       → slice_get G.instructions place ≡ Some (instr op.STORE (pos 0) 0 line)
       → (injection : Injection) (memory : MachineMemory) → IsSpot injection memory.types v p
       → IsLike memory.types p.type_number (type.Ordinal low high) → (s : meaning.State)
-      → Matches declared G injection s memory → has_ended v.allocation s ≡ true
+      → Matches layout G injection s memory → has_ended v.allocation s ≡ true
       → FailsWith G (at place (Word z ∷ operand.Place p ∷ below) memory s.trace) 0 11 (unit_in G memory.frames) line s
   store_fails_ended low high z v p has injection memory spot described s matches ended =
       let e = like_ordinal memory.types p.type_number low high described in
       record { fails = outcome_at G (instr op.STORE (pos 0) 0 line) place (Word z ∷ operand.Place p ∷ below) memory s.trace has ∙ rw (e.2, place_ended matches spot ended) refl }
 
-  module _ (low high z : ℤ) (v : Component) (p : Place) (has : slice_get G.instructions place ≡ Some (instr op.STORE (pos 0) 0 line)) (injection : Injection) (memory : MachineMemory) (spot : IsSpot injection memory.types v p) (described : IsLike memory.types p.type_number (type.Ordinal low high)) (s : meaning.State) (matches : Matches declared G injection s memory) (living : has_ended v.allocation s ≡ false) where
+  module _ (low high z : ℤ) (v : Component) (p : Place) (has : slice_get G.instructions place ≡ Some (instr op.STORE (pos 0) 0 line)) (injection : Injection) (memory : MachineMemory) (spot : IsSpot injection memory.types v p) (described : IsLike memory.types p.type_number (type.Ordinal low high)) (s : meaning.State) (matches : Matches layout G injection s memory) (living : has_ended v.allocation s ≡ false) where
     here : StandsOrdinal injection s memory v p low high
     here = ordinal_stands low high matches spot described living
 
@@ -179,7 +180,7 @@ module _ (declared : Declarations) (G : Image) (place line : ℕ) (below : List 
 
     pub store_does : {untouched : Slots} {Here : Facts} → Lasts untouched Here → Here injection s memory
         → is_among (type_at v s) z ≡ true
-        → Does declared G Here (at place (Word z ∷ operand.Place p ∷ below) memory s.trace) 0 (place + 1) (Inside untouched injection memory (Bare below tt)) (assigned v (meaning.Word z) s)
+        → Does layout G Here (at place (Word z ∷ operand.Place p ∷ below) memory s.trace) 0 (place + 1) (Inside untouched injection memory (Bare below tt)) (assigned v (meaning.Word z) s)
     store_does {untouched = untouched} lasts known within =
         let a : Allocation = here.allocation in
         let r : Represents injection memory.segments memory.types p.segment a = here.represents in
@@ -207,7 +208,7 @@ module _ (declared : Declarations) (G : Image) (place line : ℕ) (below : List 
 
   -- the type of a variable that lives is the one that its place is described by, but for initial states
   pub variable_type : (t : TypeValue) (v : Component) (p : Place) (injection : Injection) (memory : MachineMemory) → IsSpot injection memory.types v p
-      → IsLike memory.types p.type_number t → (s : meaning.State) → Matches declared G injection s memory → has_ended v.allocation s ≡ false
+      → IsLike memory.types p.type_number t → (s : meaning.State) → Matches layout G injection s memory → has_ended v.allocation s ≡ false
       → option_map bare_of (type_at v s) ≡ Some t
   variable_type t v p injection memory spot described s matches living =
       let x : Stands injection s memory v p = place_stands matches spot living in
@@ -292,7 +293,7 @@ module _ (declared : Declarations) (G : Image) (place line : ℕ) (below : List 
 
   -- ---- variables of many words
 
-  module _ (t : TypeValue) (v : Component) (p : Place) (injection : Injection) (memory : MachineMemory) (spot : IsSpot injection memory.types v p) (described : IsLike memory.types p.type_number t) (s : meaning.State) (matches : Matches declared G injection s memory) (living : has_ended v.allocation s ≡ false) where
+  module _ (t : TypeValue) (v : Component) (p : Place) (injection : Injection) (memory : MachineMemory) (spot : IsSpot injection memory.types v p) (described : IsLike memory.types p.type_number t) (s : meaning.State) (matches : Matches layout G injection s memory) (living : has_ended v.allocation s ≡ false) where
     there : Stands injection s memory v p
     there = place_stands matches spot living
 
@@ -317,7 +318,7 @@ module _ (declared : Declarations) (G : Image) (place line : ℕ) (below : List 
     puts_value : {untouched : Slots} {Here : Facts} → Lasts untouched Here → Here injection s memory
         → (value : Value) (operands : List Operand) (weight : ℕ) (ws : List ℤ) → length ws ≡ size_of t → HasAt injection t value (slice_get ws) 0
         → (let r = there.represents in outcome G (at place operands memory s.trace) ≡ record { weight = weight; to = Running 0 (at (place + 1) below (storing memory p.segment r.type_number (words_replaced r.words p.offset ws)) s.trace) })
-        → Does declared G Here (at place operands memory s.trace) weight (place + 1) (Inside untouched injection memory (Bare below tt)) (assigned v value s)
+        → Does layout G Here (at place operands memory s.trace) weight (place + 1) (Inside untouched injection memory (Bare below tt)) (assigned v value s)
     puts_value {untouched = untouched} lasts known value operands weight ws sized holds puts =
         let a : Allocation = there.allocation in
         let r : Represents injection memory.segments memory.types p.segment a = there.represents in
@@ -338,7 +339,7 @@ module _ (declared : Declarations) (G : Image) (place line : ℕ) (below : List 
     structure_does : {untouched : Slots} {Here : Facts} → Lasts untouched Here → Here injection s memory → IsStructured t
         → slice_get G.instructions place ≡ Some (instr op.STORE (pos 0) 0 line)
         → (value : Value) (n : ℕ) (ws : List ℤ) → IsBare memory.types n t → length ws ≡ size_of t → HasAt injection t value (slice_get ws) 0
-        → Does declared G Here (at place (operand.Value n ws ∷ operand.Place p ∷ below) memory s.trace) (length ws) (place + 1) (Inside untouched injection memory (Bare below tt)) (assigned v value s)
+        → Does layout G Here (at place (operand.Value n ws ∷ operand.Place p ∷ below) memory s.trace) (length ws) (place + 1) (Inside untouched injection memory (Bare below tt)) (assigned v value s)
     structure_does lasts known structured has value n ws of_type sized holds =
         let r : Represents injection memory.segments memory.types p.segment there.allocation = there.represents in
         let one : (b : ℕ) → IsBare memory.types b t → n ≡ b = λ b other. one_bare_number memory.types t n b matches.types of_type other in
@@ -348,12 +349,12 @@ module _ (declared : Declarations) (G : Image) (place line : ℕ) (below : List 
     -- it becomes undefined
     many_does : {untouched : Slots} {Here : Facts} → Lasts untouched Here → Here injection s memory → HasManyWords t → IsTypeValue t
         → slice_get G.instructions place ≡ Some (instr op.UNDEFINE (pos 0) 0 line)
-        → Does declared G Here (at place (operand.Place p ∷ below) memory s.trace) (size_of t) (place + 1) (Inside untouched injection memory (Bare below tt)) (assigned v Undefined s)
+        → Does layout G Here (at place (operand.Place p ∷ below) memory s.trace) (size_of t) (place + 1) (Inside untouched injection memory (Bare below tt)) (assigned v Undefined s)
     many_does lasts known many valid has =
         let r : Represents injection memory.segments memory.types p.segment there.allocation = there.represents in
         puts_value lasts known Undefined (operand.Place p ∷ below) (size_of t) (replicate (size_of t) undefined) (length-replicate (size_of t) undefined) (undefined_hold injection t valid) (many_undefined memory s.trace p t r.type_number r.words many has described r.stands fits_there)
 
-  module _ (low high : ℤ) (ms : List ℕ) (v : Component) (p : Place) (has : slice_get G.instructions place ≡ Some (instr op.STORE (pos 0) 0 line)) (injection : Injection) (memory : MachineMemory) (spot : IsSpot injection memory.types v p) (described : IsLike memory.types p.type_number (type.Set low high)) (s : meaning.State) (matches : Matches declared G injection s memory) (living : has_ended v.allocation s ≡ false) where
+  module _ (low high : ℤ) (ms : List ℕ) (v : Component) (p : Place) (has : slice_get G.instructions place ≡ Some (instr op.STORE (pos 0) 0 line)) (injection : Injection) (memory : MachineMemory) (spot : IsSpot injection memory.types v p) (described : IsLike memory.types p.type_number (type.Set low high)) (s : meaning.State) (matches : Matches layout G injection s memory) (living : has_ended v.allocation s ≡ false) where
     set_type : option_map bare_of (type_at v s) ≡ Some (type.Set low high)
     set_type = structure_type (type.Set low high) v p injection memory spot described s matches living
 
@@ -371,7 +372,7 @@ module _ (declared : Declarations) (G : Image) (place line : ℕ) (below : List 
 
     -- a set whose members are of the base type
     set_does : {untouched : Slots} {Here : Facts} → Lasts untouched Here → Here injection s memory → IsSet ms → are_between low high ms ≡ true
-        → Does declared G Here (at place (operand.Set ms ∷ operand.Place p ∷ below) memory s.trace) 0 (place + 1) (Inside untouched injection memory (Bare below tt)) (assigned v (meaning.Members ms) s)
+        → Does layout G Here (at place (operand.Set ms ∷ operand.Place p ∷ below) memory s.trace) 0 (place + 1) (Inside untouched injection memory (Bare below tt)) (assigned v (meaning.Members ms) s)
     set_does lasts known is_set within =
         puts_value (type.Set low high) v p injection memory spot described s matches living lasts known (meaning.Members ms) (operand.Set ms ∷ operand.Place p ∷ below) 0 (words_of_set ms) (words_many ms) (words_hold low high ms is_set within) (leads_to true within)
 
@@ -387,7 +388,7 @@ module _ (declared : Declarations) (G : Image) (place line : ℕ) (below : List 
       → slice_get G.instructions place ≡ Some (instr op.STORE (pos 0) 0 line)
       → (injection : Injection) (memory : MachineMemory) → IsValueOf injection memory k r o → IsSpot injection memory.types v p
       → IsLike memory.types p.type_number t → (s : meaning.State)
-      → Matches declared G injection s memory → has_ended v.allocation s ≡ true
+      → Matches layout G injection s memory → has_ended v.allocation s ≡ true
       → FailsWith G (at place (o ∷ operand.Place p ∷ below) memory s.trace) (weight_of r) 11 (unit_in G memory.frames) line s
   value_ended (kind.Ordinal h) (type.Ordinal low high) r o v p of_kind has injection memory (z, r_is, of_host, o_is) spot described s matches ended =
       rw (o_is, r_is) (store_fails_ended low high z v p has injection memory spot described s matches ended)
@@ -416,9 +417,9 @@ module _ (declared : Declarations) (G : Image) (place line : ℕ) (below : List 
       → slice_get G.instructions place ≡ Some (instr op.STORE (pos 0) 0 line)
       → (injection : Injection) (memory : MachineMemory) → IsValueOf injection memory k r o → IsSpot injection memory.types v p
       → IsLike memory.types p.type_number t → (s : meaning.State)
-      → Matches declared G injection s memory → has_ended v.allocation s ≡ false
+      → Matches layout G injection s memory → has_ended v.allocation s ≡ false
       → Lasts untouched Here → Here injection s memory → suits (type_at v s) r ≡ true
-      → Does declared G Here (at place (o ∷ operand.Place p ∷ below) memory s.trace) (weight_of r) (place + 1) (Inside untouched injection memory (Bare below tt)) (assigned v (value_of r) s)
+      → Does layout G Here (at place (o ∷ operand.Place p ∷ below) memory s.trace) (weight_of r) (place + 1) (Inside untouched injection memory (Bare below tt)) (assigned v (value_of r) s)
   value_does (kind.Ordinal h) (type.Ordinal low high) r o v p of_kind has injection memory (z, r_is, of_host, o_is) spot described s matches living lasts known fits =
       let within : is_among (type_at v s) z ≡ true = ap (suits (type_at v s)) (sym r_is) ∙ fits in
       rw (o_is, r_is) (store_does low high z v p has injection memory spot described s matches living lasts known within)
@@ -439,7 +440,7 @@ module _ (declared : Declarations) (G : Image) (place line : ℕ) (below : List 
   value_does {untouched = untouched} {Here = Here} (kind.Structured u) t r o v p (same, structured) has injection memory is spot described s matches living lasts known fits =
       let own : IsLike memory.types p.type_number u = subst (IsLike memory.types p.type_number) (sym same) described in
       rw (is.is, is.is_structure)
-      (subst (λ w. Does declared G Here (at place (operand.Value is.type_number is.words ∷ operand.Place p ∷ below) memory s.trace) w (place + 1) (Inside untouched injection memory (Bare below tt)) (assigned v is.value s)) is.sized
+      (subst (λ w. Does layout G Here (at place (operand.Value is.type_number is.words ∷ operand.Place p ∷ below) memory s.trace) w (place + 1) (Inside untouched injection memory (Bare below tt)) (assigned v is.value s)) is.sized
       (structure_does u v p injection memory spot own s matches living lasts known structured has is.value is.type_number is.words is.described is.sized is.holds))
 
   -- one that it may not have
@@ -447,7 +448,7 @@ module _ (declared : Declarations) (G : Image) (place line : ℕ) (below : List 
       → slice_get G.instructions place ≡ Some (instr op.STORE (pos 0) 0 line)
       → (injection : Injection) (memory : MachineMemory) → IsValueOf injection memory k r o → IsSpot injection memory.types v p
       → IsLike memory.types p.type_number t → (s : meaning.State)
-      → Matches declared G injection s memory → has_ended v.allocation s ≡ false → suits (type_at v s) r ≡ false
+      → Matches layout G injection s memory → has_ended v.allocation s ≡ false → suits (type_at v s) r ≡ false
       → FailsWith G (at place (o ∷ operand.Place p ∷ below) memory s.trace) (weight_of r) (misfit r) (unit_in G memory.frames) line s
   value_fails (kind.Ordinal h) (type.Ordinal low high) r o v p of_kind has injection memory (z, r_is, of_host, o_is) spot described s matches living fits =
       let outside : is_among (type_at v s) z ≡ false = ap (suits (type_at v s)) (sym r_is) ∙ fits in
@@ -489,7 +490,7 @@ module _ (declared : Declarations) (G : Image) (place line : ℕ) (below : List 
       → slice_get G.instructions place ≡ Some (instr op.UNDEFINE (pos 0) 0 line)
       → (injection : Injection) (memory : MachineMemory) → IsSpot injection memory.types v p
       → IsLike memory.types p.type_number (type.Ordinal low high) → (s : meaning.State)
-      → Matches declared G injection s memory → has_ended v.allocation s ≡ true
+      → Matches layout G injection s memory → has_ended v.allocation s ≡ true
       → FailsWith G (at place (operand.Place p ∷ below) memory s.trace) 1 11 (unit_in G memory.frames) line s
   undefine_fails_ended low high v p has injection memory spot described s matches ended =
       let e = like_ordinal memory.types p.type_number low high described in
@@ -500,9 +501,9 @@ module _ (declared : Declarations) (G : Image) (place line : ℕ) (below : List 
       → slice_get G.instructions place ≡ Some (instr op.UNDEFINE (pos 0) 0 line)
       → (injection : Injection) (memory : MachineMemory) → IsSpot injection memory.types v p
       → IsLike memory.types p.type_number (type.Ordinal low high) → (s : meaning.State)
-      → Matches declared G injection s memory → has_ended v.allocation s ≡ false
+      → Matches layout G injection s memory → has_ended v.allocation s ≡ false
       → Lasts untouched Here → Here injection s memory
-      → Does declared G Here (at place (operand.Place p ∷ below) memory s.trace) 1 (place + 1) (Inside untouched injection memory (Bare below tt)) (assigned v Undefined s)
+      → Does layout G Here (at place (operand.Place p ∷ below) memory s.trace) 1 (place + 1) (Inside untouched injection memory (Bare below tt)) (assigned v Undefined s)
   undefine_does low high v p has injection memory spot described s matches living lasts known =
       let x : StandsOrdinal injection s memory v p low high = ordinal_stands low high matches spot described living in
       let a : Allocation = x.allocation in
@@ -525,9 +526,9 @@ module _ (declared : Declarations) (G : Image) (place line : ℕ) (below : List 
       → slice_get G.instructions place ≡ Some (instr op.UNDEFINE (pos 0) 0 line)
       → (injection : Injection) (memory : MachineMemory) → IsSpot injection memory.types v p
       → IsLike memory.types p.type_number t → (s : meaning.State)
-      → Matches declared G injection s memory → has_ended v.allocation s ≡ false
+      → Matches layout G injection s memory → has_ended v.allocation s ≡ false
       → Lasts untouched Here → Here injection s memory
-      → Does declared G Here (at place (operand.Place p ∷ below) memory s.trace) (size_of t) (place + 1) (Inside untouched injection memory (Bare below tt)) (assigned v Undefined s)
+      → Does layout G Here (at place (operand.Place p ∷ below) memory s.trace) (size_of t) (place + 1) (Inside untouched injection memory (Bare below tt)) (assigned v Undefined s)
   undefine_does_any (type.Ordinal low high) v p valid has injection memory spot described s matches living lasts known = undefine_does low high v p has injection memory spot described s matches living lasts known
   undefine_does_any type.Text v p valid has injection memory spot described s matches living lasts known = absurd valid
   undefine_does_any (type.Array low high of) v p valid has injection memory spot described s matches living lasts known = many_does (type.Array low high of) v p injection memory spot described s matches living lasts known tt valid has

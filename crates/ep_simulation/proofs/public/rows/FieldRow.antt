@@ -5,6 +5,7 @@ use Rattle.std.proofs.lemmas.Bool.Decides.{nat_tests}
 use Rattle.std.proofs.lemmas.Option.{same_Some}
 use Rattle.ep_object.specs.Effects.{provided, Continues}
 use Rattle.ep_simulation.specs.Follows.{Facts, PlaceOnTop, Inside}
+use Rattle.ep_simulation.specs.Layouts.{Layout}
 use Rattle.ep_simulation.specs.Matching.{MachineMemory, at, Injection, Part, part_along, part_among, part_behind, all_of, IsSpot, IsLike, Represents, Matches, Slots}
 use Rattle.ep_object.specs.Operands.{Operand}
 use Rattle.ep_object.specs.Operands as operand
@@ -27,7 +28,6 @@ use Rattle.ep_meaning.specs.Steps.{Component, component, has_ended}
 use Rattle.ep_meaning.specs.Steps as meaning
 use Rattle.ep_values.specs.TypeValues as type
 use Rattle.ep_values.specs.TypeValues.{ComponentTypes, TypeValue, size_of, type_among, bare_of}
-use Rattle.ep_meaning.specs.Valid.{Declarations}
 use Rattle.ep_object.specs.declared.op.TheConstants as op
 use Rattle.ep_values.specs.declared.run_error.TheConstants as run_error
 
@@ -59,14 +59,14 @@ part_entered types before (p ∷ ps) (type.next_component t ts) (suc k) part h i
     let x = part_entered types (before + size_of t) ps ts k part h.2 is in record { entered = x.entered; is = x.is; offset = x.offset; described = x.described }
 
 -- the place of a component of a variable, to which an instruction leads that pops the place of the variable, where that lives
-pub record LeadsTo (declared : Declarations) (G : Image) (place : ℕ) (below : List Operand) (k : ℕ) (of : TypeValue) (v : Component) (p : Place) (injection : Injection) (memory : MachineMemory) : Type 0 where
+pub record LeadsTo (layout : Layout) (G : Image) (place : ℕ) (below : List Operand) (k : ℕ) (of : TypeValue) (v : Component) (p : Place) (injection : Injection) (memory : MachineMemory) : Type 0 where
   pub its_place : Place
   pub spot : IsSpot injection memory.types (component v k) its_place
   pub described : IsLike memory.types its_place.type_number of
-  pub leads : (s : meaning.State) → Matches declared G injection s memory → has_ended v.allocation s ≡ false
+  pub leads : (s : meaning.State) → Matches layout G injection s memory → has_ended v.allocation s ≡ false
       → outcome G (at place (operand.Place p ∷ below) memory s.trace) ≡ record { weight = 0; to = Running 0 (at (place + 1) (operand.Place its_place ∷ below) memory s.trace) }
 
-module _ (declared : Declarations) (G : Image) (place line : ℕ) (below : List Operand) (ts : ComponentTypes) (k : ℕ) (of : TypeValue) (v : Component) (p : Place) (has : slice_get G.instructions place ≡ Some (instr op.FIELD (pos k) 0 line)) (injection : Injection) (memory : MachineMemory) (spot : IsSpot injection memory.types v p) (described : IsLike memory.types p.type_number (type.Record ts)) (among : IsAmong 0 ts k of) where
+module _ (layout : Layout) (G : Image) (place line : ℕ) (below : List Operand) (ts : ComponentTypes) (k : ℕ) (of : TypeValue) (v : Component) (p : Place) (has : slice_get G.instructions place ≡ Some (instr op.FIELD (pos k) 0 line)) (injection : Injection) (memory : MachineMemory) (spot : IsSpot injection memory.types v p) (described : IsLike memory.types p.type_number (type.Record ts)) (among : IsAmong 0 ts k of) where
   -- the entry of its type
   pub fields : LikeRecord memory.types p.type_number ts
   fields = like_record memory.types p.type_number ts described
@@ -88,7 +88,7 @@ module _ (declared : Declarations) (G : Image) (place line : ℕ) (below : List 
       outcome_at G (instr op.FIELD (pos k) 0 line) place (operand.Place p ∷ below) memory trace has ∙ rw (fields.stands, in_table.is, entry_there.1, stands) refl
 
   -- of a variable that has ended
-  pub field_fails : (s : meaning.State) → Matches declared G injection s memory → has_ended v.allocation s ≡ true
+  pub field_fails : (s : meaning.State) → Matches layout G injection s memory → has_ended v.allocation s ≡ true
       → FailsWith G (before s.trace) 0 run_error.DISPOSED (unit_in G memory.frames) line s
   field_fails s matches ended =
       record { fails = outcome_at G (instr op.FIELD (pos k) 0 line) place (operand.Place p ∷ below) memory s.trace has ∙ rw (fields.stands, in_table.is, entry_there.1, place_ended matches spot ended) refl }
@@ -118,7 +118,7 @@ module _ (declared : Declarations) (G : Image) (place line : ℕ) (below : List 
   component_described = subst (λ t. IsLike memory.types in_table.entered.type_number t) among.type_is in_table.described
 
   -- of a variable that lives: the place of the component is there
-  field_leads : (s : meaning.State) → Matches declared G injection s memory → has_ended v.allocation s ≡ false
+  field_leads : (s : meaning.State) → Matches layout G injection s memory → has_ended v.allocation s ≡ false
       → outcome G (before s.trace) ≡ record { weight = 0; to = Running 0 (at (place + 1) (operand.Place component_place ∷ below) memory s.trace) }
   field_leads s matches living =
       field_outcome s.trace r.type_number r.words r.stands ∙ ap (λ b. in_one (after G (instr op.FIELD (pos k) 0 line) (before s.trace) (on_operands (before s.trace) (provided b (Continues (operand.Place component_place ∷ below)))))) within
@@ -143,9 +143,9 @@ module _ (declared : Declarations) (G : Image) (place line : ℕ) (below : List 
           grind (arith, nat_tests)
 
   -- which is that of the component of the variable
-  pub field_does : {untouched : Slots} {Here : Facts} (s : meaning.State) → Matches declared G injection s memory
+  pub field_does : {untouched : Slots} {Here : Facts} (s : meaning.State) → Matches layout G injection s memory
       → Here injection s memory → has_ended v.allocation s ≡ false
-      → Does declared G Here (before s.trace) 0 (place + 1) (Inside untouched injection memory (PlaceOnTop of below (component v k))) s
+      → Does layout G Here (before s.trace) 0 (place + 1) (Inside untouched injection memory (PlaceOnTop of below (component v k))) s
   field_does {untouched = untouched} {Here = Here} s matches known living =
       record {
         injection = injection;
@@ -158,5 +158,5 @@ module _ (declared : Declarations) (G : Image) (place line : ℕ) (below : List 
       }
 
   -- what it leads to, wherever the variable lives
-  pub field_leads_to : LeadsTo declared G place below k of v p injection memory
+  pub field_leads_to : LeadsTo layout G place below k of v p injection memory
   field_leads_to = record { its_place = component_place; spot = component_spot; described = component_described; leads = field_leads }

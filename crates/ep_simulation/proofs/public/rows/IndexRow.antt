@@ -4,6 +4,7 @@ use Rattle.ep_simulation.proofs.matching.Likes.{LikeArray, like_array, like_one,
 use Rattle.std.proofs.lemmas.Bool.Decides.{nat_tests}
 use Rattle.ep_object.specs.Effects.{provided, Continues}
 use Rattle.ep_simulation.specs.Follows.{Facts, PlaceOnTop, Inside}
+use Rattle.ep_simulation.specs.Layouts.{Layout}
 use Rattle.ep_simulation.specs.Matching.{MachineMemory, at, Injection, part_along, part_behind, all_of, IsSpot, Represents, Matches, Slots, IsLike}
 use Rattle.ep_object.specs.Operands.{Operand, Word}
 use Rattle.ep_object.specs.Operands as operand
@@ -27,7 +28,6 @@ use Rattle.ep_meaning.specs.Steps.{Component, component, component_number, has_e
 use Rattle.ep_meaning.specs.Steps as meaning
 use Rattle.ep_values.specs.TypeValues as type
 use Rattle.ep_values.specs.TypeValues.{TypeValue, size_of, bare_of}
-use Rattle.ep_meaning.specs.Valid.{Declarations}
 use Rattle.ep_object.specs.declared.op.TheConstants as op
 use Rattle.ep_values.specs.declared.run_error.TheConstants as run_error
 
@@ -40,7 +40,7 @@ is_within_count n (Some j) k h = go (ltb j n) refl h
     go true e found = let less : j < n = grind (arith, nat_tests) in let same : j ≡ k = cc in subst (λ i. i < n) same less
     go false e found = cc
 
-module _ (declared : Declarations) (G : Image) (place line : ℕ) (below : List Operand) (low high : ℤ) (of : TypeValue) (z : ℤ) (v : Component) (p : Place) (has : slice_get G.instructions place ≡ Some (instr op.INDEX (pos 0) 0 line)) (injection : Injection) (memory : MachineMemory) (spot : IsSpot injection memory.types v p) (described : IsLike memory.types p.type_number (type.Array low high of)) where
+module _ (layout : Layout) (G : Image) (place line : ℕ) (below : List Operand) (low high : ℤ) (of : TypeValue) (z : ℤ) (v : Component) (p : Place) (has : slice_get G.instructions place ≡ Some (instr op.INDEX (pos 0) 0 line)) (injection : Injection) (memory : MachineMemory) (spot : IsSpot injection memory.types v p) (described : IsLike memory.types p.type_number (type.Array low high of)) where
   -- the entry of its type
   pub array : LikeArray memory.types p.type_number low high of
   array = like_array memory.types p.type_number low high of described
@@ -57,7 +57,7 @@ module _ (declared : Declarations) (G : Image) (place line : ℕ) (below : List 
       outcome_at G (instr op.INDEX (pos 0) 0 line) place (Word z ∷ operand.Place p ∷ below) memory trace has ∙ rw (array.stands, there, stands) refl
 
   -- of a variable that has ended
-  pub index_fails : (s : meaning.State) → Matches declared G injection s memory → has_ended v.allocation s ≡ true
+  pub index_fails : (s : meaning.State) → Matches layout G injection s memory → has_ended v.allocation s ≡ true
       → FailsWith G (before s.trace) 0 run_error.DISPOSED (unit_in G memory.frames) line s
   index_fails s matches ended =
       let e = like_there memory.types array.component of array.like in
@@ -84,7 +84,7 @@ module _ (declared : Declarations) (G : Image) (place line : ℕ) (below : List 
       }
 
   -- of a variable that lives
-  module _ (s : meaning.State) (matches : Matches declared G injection s memory) (living : has_ended v.allocation s ≡ false) where
+  module _ (s : meaning.State) (matches : Matches layout G injection s memory) (living : has_ended v.allocation s ≡ false) where
     x : Stands injection s memory v p
     x = place_stands matches spot living
 
@@ -131,11 +131,11 @@ module _ (declared : Declarations) (G : Image) (place line : ℕ) (below : List 
         ∙ ap (λ b. in_one (after G (instr op.INDEX (pos 0) 0 line) (before s.trace) (on_operands (before s.trace) (provided b (Continues (operand.Place (component_place k) ∷ below)))))) (within k (is_within_count (count_of low high) (gap low z) k is))
 
     pub index_reads : {untouched : Slots} {Here : Facts} → Here injection s memory
-        → Reads declared G Here (before s.trace) run_error.INDEX (unit_in G memory.frames) line (place + 1) (λ k. Inside untouched injection memory (PlaceOnTop of below (component v k))) s (component_number (type_at v s) z)
+        → Reads layout G Here (before s.trace) run_error.INDEX (unit_in G memory.frames) line (place + 1) (λ k. Inside untouched injection memory (PlaceOnTop of below (component v k))) s (component_number (type_at v s) z)
     index_reads {untouched = untouched} {Here = Here} known = go (component_at low high z) refl
       where
         go : (o : Option ℕ) → component_at low high z ≡ o
-            → Reads declared G Here (before s.trace) run_error.INDEX (unit_in G memory.frames) line (place + 1) (λ k. Inside untouched injection memory (PlaceOnTop of below (component v k))) s (component_number (type_at v s) z)
+            → Reads layout G Here (before s.trace) run_error.INDEX (unit_in G memory.frames) line (place + 1) (λ k. Inside untouched injection memory (PlaceOnTop of below (component v k))) s (component_number (type_at v s) z)
         go None is = Misses (number_is ∙ is) (record { fails = outcome_by None is })
         go (Some k) is =
             let less : k < count_of low high = is_within_count (count_of low high) (gap low z) k is in

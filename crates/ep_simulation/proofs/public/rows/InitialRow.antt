@@ -4,6 +4,7 @@ use Rattle.std.specs.Prelude.{◌==◌, if◌then◌else◌}
 use Rattle.std.proofs.lemmas.Bool.Decides.{nat_tests}
 use Rattle.ep_object.specs.Effects.{Continues, Effect, Fails, Work, having_weighed, mapped}
 use Rattle.ep_simulation.specs.Follows.{Facts, Fragment, Inside, IsStructure, Lasts, point, TypeOnTop}
+use Rattle.ep_simulation.specs.Layouts.{Layout}
 use Rattle.ep_simulation.specs.Matching.{Describes, Injection, IsBare, Matches, MatchesTypes, MachineMemory, Slots, at}
 use Rattle.ep_object.specs.Operands.{Operand, Word, weight}
 use Rattle.ep_object.specs.Operands as operand
@@ -38,7 +39,7 @@ use Rattle.ep_values.specs.TypeValues.{is_within}
 use Rattle.ep_meaning.specs.Steps as meaning
 use Rattle.ep_values.specs.TypeValues as type
 use Rattle.ep_values.specs.TypeValues.{Start, TypeValue, bare_of, same_type, set_start, simple_start, size_of}
-use Rattle.ep_meaning.specs.Valid.{Declarations, IsStructured, IsTypeValue}
+use Rattle.ep_meaning.specs.Valid.{IsStructured, IsTypeValue}
 use Rattle.ep_values.specs.declared.run_error.TheConstants as run_error
 
 -- ---- initial states that may be tried
@@ -133,7 +134,7 @@ module _ (types : TypeTable) (number : ℕ) (of : TypeValue) where
 
 -- ---- the row
 
-module _ (declared : Declarations) (G : Image) (place line : ℕ) (below : List Operand) (of : TypeValue) (number : ℕ) (r : Result) (x : Operand) (has : slice_get G.instructions place ≡ Some (instr op.T_INIT (pos 0) 0 line)) where
+module _ (layout : Layout) (G : Image) (place line : ℕ) (below : List Operand) (of : TypeValue) (number : ℕ) (r : Result) (x : Operand) (has : slice_get G.instructions place ≡ Some (instr op.T_INIT (pos 0) 0 line)) where
   -- the operands before it
   abbrev operands : List Operand
   operands = x ∷ Word (pos number) ∷ below
@@ -167,11 +168,11 @@ module _ (declared : Declarations) (G : Image) (place line : ℕ) (below : List 
   -- It follows what gives a type its initial state: the type with that, where a variable could be assigned it, and else the error.
   pub init_follows : {untouched : Slots} {Here : Facts} (call : Handler) (g : ℕ) (unit : List ℕ) → Lasts untouched Here → (injection : Injection) (memory : MachineMemory) → unit_in G memory.frames ≡ unit
       → (d : Describes memory.types number of) → AreStarts of → (start : Start) → start_from r ≡ Some start
-      → ((s : meaning.State) → Matches declared G injection s memory → IsTried memory.types number of d.kind d.bare r x) → (n credit : ℕ) → suc (weight x + size_of of) ≤ credit
-      → Fragment declared G Here n (point injection memory place operands) (begins_where call g unit line of r (start_from r)) (place + 1)
+      → ((s : meaning.State) → Matches layout G injection s memory → IsTried memory.types number of d.kind d.bare r x) → (n credit : ℕ) → suc (weight x + size_of of) ≤ credit
+      → Fragment layout G Here n (point injection memory place operands) (begins_where call g unit line of r (start_from r)) (place + 1)
       (λ a. Inside untouched injection memory (TypeOnTop (bare_of of) below a)) credit (λ a. credit - weight x)
   init_follows {untouched = untouched} {Here = Here} call g unit lasts injection memory home d starts start is tried n credit enough =
-      subst (λ o. Fragment declared G Here n (point injection memory place operands) (begins_where call g unit line of r o) (place + 1) (λ a. Inside untouched injection memory (TypeOnTop (bare_of of) below a)) credit (λ a. credit - weight x)) (sym is)
+      subst (λ o. Fragment layout G Here n (point injection memory place operands) (begins_where call g unit line of r o) (place + 1) (λ a. Inside untouched injection memory (TypeOnTop (bare_of of) below a)) credit (λ a. credit - weight x)) (sym is)
       (by_case (suits (Some of) r) refl)
     where
       started : Computation TypeValue
@@ -181,7 +182,7 @@ module _ (declared : Declarations) (G : Image) (place line : ℕ) (below : List 
       refused = stop (meaning.Error (misfit r) unit line)
 
       by_case : (b : Bool) → suits (Some of) r ≡ b
-          → Fragment declared G Here n (point injection memory place operands) (if b then started else refused) (place + 1) (λ a. Inside untouched injection memory (TypeOnTop (bare_of of) below a)) credit (λ a. credit - weight x)
+          → Fragment layout G Here n (point injection memory place operands) (if b then started else refused) (place + 1) (λ a. Inside untouched injection memory (TypeOnTop (bare_of of) below a)) credit (λ a. credit - weight x)
       by_case true fits =
           fragment_less {n = suc n} (omega arith)
           (fragment_counted {weight = weight x + size_of of} (size_of of) (with_type (type.Initial of start)) (λ s. s) (type.Initial of start) (λ s. refl) grows_refl
@@ -189,7 +190,7 @@ module _ (declared : Declarations) (G : Image) (place line : ℕ) (below : List 
           let t = tried s matches in
           let one : t.start ≡ start = same_start_is t.start start (sym t.is ∙ is) in
           let ok = t.takes fits in
-          init_does declared G place line below of start number x has lasts injection memory s d starts (subst (IsStartOf of) one ok.0) (ok.1 ∙ ap (λ u. Continues (words_of_start u)) one) matches here)
+          init_does layout G place line below of start number x has lasts injection memory s d starts (subst (IsStartOf of) one ok.0) (ok.1 ∙ ap (λ u. Continues (words_of_start u)) one) matches here)
           (omega (arith, enough)) (omega (arith, enough)) (omega (arith, enough)) (omega (arith, enough)))
         where
           same_start_is : (a b : Start) → ◌≡◌ {A = Option Start} (Some a) (Some b) → a ≡ b

@@ -4,6 +4,7 @@ use Rattle.std.proofs.lemmas.Bool.Decides.{nat_tests}
 use Rattle.std.proofs.lemmas.Bool.{lt-ltb}
 use native.Mathlib.Decide.{ℕ_discrete}
 use Rattle.ep_simulation.specs.Follows.{GivesUp, Facts, Lasts, Bare, Inside}
+use Rattle.ep_simulation.specs.Layouts.{Layout}
 use Rattle.ep_simulation.specs.Matching.{MachineMemory, at, Injection, Describes, Slots, slot_of_frame, slot_in, MatchesFrame, HasType, Matches}
 use Rattle.ep_object.specs.Operands.{Operand, Word}
 use Rattle.ep_object.specs.Placing.{HasDistinctNames}
@@ -23,7 +24,7 @@ use Rattle.ep_values.specs.Events.{Trace}
 use Rattle.ep_meaning.specs.Steps.{Resources, counted, made}
 use Rattle.ep_meaning.specs.Steps as meaning
 use Rattle.ep_values.specs.TypeValues.{TypeValue, bare_of, size_of}
-use Rattle.ep_meaning.specs.Valid.{Declarations, IsTypeValue}
+use Rattle.ep_meaning.specs.Valid.{IsTypeValue}
 use Rattle.ep_typed.specs.declared.unit.UnitVariable.{UnitVariable}
 use Rattle.ep_object.specs.declared.op.TheConstants as op
 use Rattle.ep_values.specs.declared.run_error.TheConstants as run_error
@@ -54,19 +55,19 @@ make_outcome G place line below t number k slots memory trace false has alone fr
     outcome_at G (instr op.MAKE (pos k) 0 line) place (Word (pos number) ∷ below) memory trace has ∙ rw (alone, frame, lt-ltb number (length memory.types) (described_within memory.types number t described), entry.is, lt-ltb k (length slots) within, begun_words t, size_is t starts, fits) refl
 
 -- `Make` of a type in a slot of the unit's frame, over the number of the type
-pub make_does : {untouched : Slots} {Here : Facts} (declared : Declarations) (G : Image) (place line : ℕ) (below : List Operand) (t : TypeValue) (number k : ℕ) (x : ImageUnit)
+pub make_does : {untouched : Slots} {Here : Facts} (layout : Layout) (G : Image) (place line : ℕ) (below : List Operand) (t : TypeValue) (number k : ℕ) (x : ImageUnit)
     → slice_get G.instructions place ≡ Some (instr op.MAKE (pos k) 0 line)
     → HasDistinctNames G → IsTypeValue t → AreStarts t
-    → ((v : UnitVariable) → declared.variables x.name k ≡ Some v → HasType declared x.name v (bare_of t))
+    → ((v : UnitVariable) → layout.variables x.name k ≡ Some v → HasType layout x.name v (bare_of t))
     → (injection : Injection) (memory : MachineMemory) (s : meaning.State)
     → RunsInUnit G memory.frames x → k < x.slots
     → (IsTrue (untouched.of_units memory.frames.unit k) → ⊥)
     → Describes memory.types number t → Lasts untouched Here
-    → Matches declared G injection s memory → Here injection s memory
-    → Does declared G Here (at place (Word (pos number) ∷ below) memory s.trace) (size_of t) (place + 1) (Inside untouched injection memory (Bare below tt)) (made x.name k t (counted t s)) ⊎ GivesUp G (at place (Word (pos number) ∷ below) memory s.trace) 0 1 (counted t s)
-make_does {untouched = untouched} {Here = Here} declared G place line below t number k x has distinct valid starts declared_so injection memory s home within free described lasts matches known = go (leb (memory.live + (size_of t + 1)) live_limit) refl
+    → Matches layout G injection s memory → Here injection s memory
+    → Does layout G Here (at place (Word (pos number) ∷ below) memory s.trace) (size_of t) (place + 1) (Inside untouched injection memory (Bare below tt)) (made x.name k t (counted t s)) ⊎ GivesUp G (at place (Word (pos number) ∷ below) memory s.trace) 0 1 (counted t s)
+make_does {untouched = untouched} {Here = Here} layout G place line below t number k x has distinct valid starts declared_so injection memory s home within free described lasts matches known = go (leb (memory.live + (size_of t + 1)) live_limit) refl
   where
-    frame : MatchesFrame declared (with_segment t injection memory) s.variables memory.frames.units memory.types memory.frames.unit x
+    frame : MatchesFrame layout (with_segment t injection memory) s.variables memory.frames.units memory.types memory.frames.unit x
     frame = frame_here matches t number described valid starts x k home.unit
 
     -- the slots that are kept are what they were
@@ -93,7 +94,7 @@ make_does {untouched = untouched} {Here = Here} declared G place line below t nu
     leads b e = make_outcome G place line below t number k frame.slots memory s.trace b has home.calls frame.is described starts (omega (arith, within, frame.count)) e
 
     go : (b : Bool) → leb (memory.live + (size_of t + 1)) live_limit ≡ b
-        → Does declared G Here (at place (Word (pos number) ∷ below) memory s.trace) (size_of t) (place + 1) (Inside untouched injection memory (Bare below tt)) (made x.name k t (counted t s)) ⊎ GivesUp G (at place (Word (pos number) ∷ below) memory s.trace) 0 1 (counted t s)
+        → Does layout G Here (at place (Word (pos number) ∷ below) memory s.trace) (size_of t) (place + 1) (Inside untouched injection memory (Bare below tt)) (made x.name k t (counted t s)) ⊎ GivesUp G (at place (Word (pos number) ∷ below) memory s.trace) 0 1 (counted t s)
     go true e =
         inl (record {
           injection = with_segment t injection memory;

@@ -6,6 +6,7 @@ use Rattle.std.proofs.lemmas.Bool.{lt-ltb}
 use Rattle.std.proofs.lemmas.Option.{slice_get_within}
 use Rattle.ep_object.specs.Calls.{words_in, words_of}
 use Rattle.ep_simulation.specs.Follows.{Facts, GivesUp, Inside, Lasts}
+use Rattle.ep_simulation.specs.Layouts.{Layout}
 use Rattle.ep_simulation.specs.Matching.{Describes, Injection, IsIn, IsOf, Mapped, Matches, MachineMemory, Slots, at}
 use Rattle.ep_object.specs.Operands.{Operand, Word}
 use Rattle.ep_object.specs.Operands as operand
@@ -35,7 +36,7 @@ use Rattle.ep_meaning.specs.Steps.{Resources, counted, with_all_ended}
 use Rattle.ep_meaning.specs.Steps as meaning
 use Rattle.ep_values.specs.TypeValues as type
 use Rattle.ep_values.specs.TypeValues.{TypeValue, bare_of, size_of}
-use Rattle.ep_meaning.specs.Valid.{Declarations, IsTypeValue}
+use Rattle.ep_meaning.specs.Valid.{IsTypeValue}
 use Rattle.ep_values.specs.declared.run_error.TheConstants as run_error
 
 -- the number of a segment is on top, in which the variable without a name with this number is, of the type; it is no file
@@ -66,7 +67,7 @@ new_outcome G place line below t number memory trace false has described starts 
     let entry = has_entry memory.types number t described in
     outcome_at G (instr op.NEW (pos 0) 0 line) place (Word (pos number) ∷ below) memory trace has ∙ rw (lt-ltb number (length memory.types) (described_within memory.types number t described), entry.is, begun_words t, size_is t starts, fits) refl
 
-module _ {declared : Declarations} {G : Image} {injection : Injection} {s : meaning.State} {memory : MachineMemory} (h : Matches declared G injection s memory) (t : TypeValue) (number : ℕ) (described : Describes memory.types number t) (valid : IsTypeValue t) (starts : AreStarts t) where
+module _ {layout : Layout} {G : Image} {injection : Injection} {s : meaning.State} {memory : MachineMemory} (h : Matches layout G injection s memory) (t : TypeValue) (number : ℕ) (described : Describes memory.types number t) (valid : IsTypeValue t) (starts : AreStarts t) where
   abbrev longer : Injection
   longer = with_segment t injection memory
 
@@ -74,7 +75,7 @@ module _ {declared : Declarations} {G : Image} {injection : Injection} {s : mean
   later = with_variable t number memory.frames memory
 
   -- the machine goes on matching
-  pub matches_nameless : Matches declared G longer (made_nameless t (counted t s)) later
+  pub matches_nameless : Matches layout G longer (made_nameless t (counted t s)) later
   matches_nameless =
       let units = h.units in
       let outside = h.outside in
@@ -128,12 +129,12 @@ module _ {declared : Declarations} {G : Image} {injection : Injection} {s : mean
   pub new_does : {untouched : Slots} {Here : Facts} (place line : ℕ) (below : List Operand)
       → slice_get G.instructions place ≡ Some (instr op.NEW (pos 0) 0 line)
       → Lasts untouched Here → Here injection s memory
-      → Does declared G Here (at place (Word (pos number) ∷ below) memory s.trace) (size_of t) (place + 1) (Inside untouched injection memory (NamelessOnTop t below (suc (length s.allocations)))) (made_nameless t (counted t s))
+      → Does layout G Here (at place (Word (pos number) ∷ below) memory s.trace) (size_of t) (place + 1) (Inside untouched injection memory (NamelessOnTop t below (suc (length s.allocations)))) (made_nameless t (counted t s))
       ⊎ GivesUp G (at place (Word (pos number) ∷ below) memory s.trace) 0 1 (counted t s)
   new_does {untouched = untouched} {Here = Here} place line below has lasts known = go (leb (memory.live + (size_of t + 1)) live_limit) refl
     where
       go : (b : Bool) → leb (memory.live + (size_of t + 1)) live_limit ≡ b
-          → Does declared G Here (at place (Word (pos number) ∷ below) memory s.trace) (size_of t) (place + 1) (Inside untouched injection memory (NamelessOnTop t below (suc (length s.allocations)))) (made_nameless t (counted t s))
+          → Does layout G Here (at place (Word (pos number) ∷ below) memory s.trace) (size_of t) (place + 1) (Inside untouched injection memory (NamelessOnTop t below (suc (length s.allocations)))) (made_nameless t (counted t s))
           ⊎ GivesUp G (at place (Word (pos number) ∷ below) memory s.trace) 0 1 (counted t s)
       go true e =
           inl (record {
@@ -180,18 +181,18 @@ dispose_outcome G place line below (suc segment) x has above memory trace lives 
     outcome_at G (instr op.DISPOSE (pos 0) 0 line) place (Word (pos (suc segment)) ∷ below) memory trace has ∙ rw (lt-ltb (suc segment) (length memory.segments) within, lives, not_standard (suc segment) above) refl
 
 -- whether room is lost by the depth plays no part in matching
-pub matches_depth : {declared : Declarations} {G : Image} {injection : Injection} {s : meaning.State} {memory : MachineMemory} → Matches declared G injection s memory → Matches declared G injection (with_depth s) memory
+pub matches_depth : {layout : Layout} {G : Image} {injection : Injection} {s : meaning.State} {memory : MachineMemory} → Matches layout G injection s memory → Matches layout G injection (with_depth s) memory
 matches_depth h =
     let c = h.counts in
     record { injected = h.injected; store = h.store; types = h.types; units = h.units; outside = h.outside; counts = record { words = c.words; hidden = c.hidden; number = c.number }; depth = h.depth }
 
 -- The variable ends, whose segment lives and is on top.
-pub dispose_does : {untouched : Slots} {Here : Facts} (declared : Declarations) (G : Image) (place line : ℕ) (below : List Operand) (n segment : ℕ) (x : Segment)
+pub dispose_does : {untouched : Slots} {Here : Facts} (layout : Layout) (G : Image) (place line : ℕ) (below : List Operand) (n segment : ℕ) (x : Segment)
     → slice_get G.instructions place ≡ Some (instr op.DISPOSE (pos 0) 0 line) → 2 < n → 2 < segment
     → (injection : Injection) (memory : MachineMemory) (s : meaning.State) → IsIn injection n segment → slice_get memory.segments segment ≡ Some (Some x)
-    → Lasts untouched Here → Matches declared G injection s memory → Here injection s memory
-    → Does declared G Here (at place (Word (pos segment) ∷ below) memory s.trace) 0 (place + 1) (Inside untouched injection memory (λ longer after operands. operands ≡ below)) (with_all_ended (n ∷ []) s)
-dispose_does {untouched = untouched} declared G place line below n segment x has numbered above injection memory s is_in lives lasts matches known =
+    → Lasts untouched Here → Matches layout G injection s memory → Here injection s memory
+    → Does layout G Here (at place (Word (pos segment) ∷ below) memory s.trace) 0 (place + 1) (Inside untouched injection memory (λ longer after operands. operands ≡ below)) (with_all_ended (n ∷ []) s)
+dispose_does {untouched = untouched} layout G place line below n segment x has numbered above injection memory s is_in lives lasts matches known =
     let ends = ends_both (n ∷ []) (segment ∷ []) s memory (is_in, numbered, tt) matches in
     let grown = ends.grown untouched in
     let words : words_of (segment ∷ []) memory.segments ≡ length x.words + 1 = ap (λ o. words_in o + 0) lives ∙ omega arith in

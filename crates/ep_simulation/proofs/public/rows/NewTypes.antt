@@ -10,6 +10,7 @@ use Rattle.std.specs.Prelude.{int_le, ⊤, is_some, option_map, ◌||◌}
 use Rattle.std.proofs.lemmas.Bool.{lt-ltb}
 use Rattle.std.proofs.lemmas.Bool.Decides.{nat_tests}
 use Rattle.std.proofs.lemmas.Option.{slice_get_within, same_Some}
+use Rattle.ep_simulation.specs.Layouts.{Layout}
 use Rattle.ep_simulation.specs.Matching.{MachineMemory, at, Injection, AreBare, AreEntries, Describes, MatchesCounts, Matches, Slots, own_slot, Grown, HasSize, IsBare, IsKindOf, IsLike, HaveSize}
 use Rattle.ep_simulation.specs.Follows.{GivesUp, SameRoutine, Facts, Lasts, Inside, TypeOnTop}
 use Rattle.ep_object.specs.Operands.{Operand, Word, weight}
@@ -28,7 +29,6 @@ use Rattle.ep_simulation.proofs.public.matching.MoreMemory.{entry_as, same_routi
 use Rattle.ep_meaning.specs.Steps.{Resources, held, words_of_type, met, watched, Allocation, with_type}
 use Rattle.ep_values.specs.TypeValues.{same_type}
 use Rattle.ep_meaning.specs.Steps as meaning
-use Rattle.ep_meaning.specs.Valid.{Declarations}
 use Rattle.ep_object.specs.declared.code.Image.{Image}
 use Rattle.ep_values.specs.TypeValues.{ComponentTypes, TypeValue, bare_of, size_of, sizes_of, is_started, Start, are_started}
 use Rattle.ep_values.specs.TypeValues as type
@@ -40,25 +40,25 @@ use Rattle.ep_simulation.proofs.matching.TypeTables.{matches-types, grown-types}
 use Rattle.ep_simulation.proofs.matching.Counts.{met_large, live_bounded}
 
 -- what a row on types leads to: the type's number on top, and the state that has met the type
-pub record Elaborates (untouched : Slots) (declared : Declarations) (G : Image) (injection : Injection)
+pub record Elaborates (untouched : Slots) (layout : Layout) (G : Image) (injection : Injection)
     (memory : MachineMemory) (weight place : ℕ) (below : List Operand) (t : TypeValue) (k : State)
     (s : meaning.State) : Type 0 where
   pub number : ℕ
   pub final : MachineMemory
   pub does : outcome G k ≡ record { weight = weight; to = Running 0 (at (place + 1) (Word (pos number) ∷ below) final s.trace) }
-  pub matches : Matches declared G injection (meaning.with_type t s) final
+  pub matches : Matches layout G injection (meaning.with_type t s) final
   pub described : Describes final.types number t
   pub grown : Grown untouched injection memory injection final
   pub routine : SameRoutine untouched memory.frames final.frames
   pub own : (k : ℕ) → own_slot final.frames k ≡ own_slot memory.frames k
 
 -- an instruction whose effect this is, which makes a type or has no room for it
-elaborates : {untouched : Slots} {declared : Declarations} {G : Image} {injection : Injection} {memory : MachineMemory} (weight place : ℕ) (i : Instr) (operands below : List Operand) (t : TypeValue) (effect : Effect Typing) (s : meaning.State)
+elaborates : {untouched : Slots} {layout : Layout} {G : Image} {injection : Injection} {memory : MachineMemory} (weight place : ℕ) (i : Instr) (operands below : List Operand) (t : TypeValue) (effect : Effect Typing) (s : meaning.State)
     → outcome G (at place operands memory s.trace) ≡ record { weight = weight; to = after G i (at place operands memory s.trace) (mapped (with_typing (at place operands memory s.trace)) effect) }
-    → Matches declared G injection s memory
+    → Matches layout G injection s memory
     → Interns t s.resources below (typing (at place operands memory s.trace)) effect ⊎ IsFull t s.resources effect
-    → Elaborates untouched declared G injection memory weight place below t (at place operands memory s.trace) s ⊎ GivesUp G (at place operands memory s.trace) 0 (suc weight) (meaning.with_type t s)
-elaborates {declared = declared} {G} {injection} {memory} weight place i operands below t effect s leads m (inl x) =
+    → Elaborates untouched layout G injection memory weight place below t (at place operands memory s.trace) s ⊎ GivesUp G (at place operands memory s.trace) 0 (suc weight) (meaning.with_type t s)
+elaborates {layout = layout} {G} {injection} {memory} weight place i operands below t effect s leads m (inl x) =
     inl (record {
       number = x.number;
       final = record memory { types = x.left.types; live = x.left.live };
@@ -81,19 +81,19 @@ module _ {injection : Injection} {r : Resources} {segments : Segments} {types : 
   bounded = live_bounded c
 
 -- what an instruction of a weight does that makes the type, or ends for want of storage
-abbrev pub MakesBy : ℕ → Slots → Declarations → Image → Facts → ℕ → List Operand → List Operand → TypeValue → Injection → MachineMemory → meaning.State → Type 0
-MakesBy weight untouched declared G Here place operands below t injection memory s =
-    Does declared G Here (at place operands memory s.trace) weight (place + 1) (Inside untouched injection memory (TypeOnTop (bare_of t) below t)) (with_type t s)
+abbrev pub MakesBy : ℕ → Slots → Layout → Image → Facts → ℕ → List Operand → List Operand → TypeValue → Injection → MachineMemory → meaning.State → Type 0
+MakesBy weight untouched layout G Here place operands below t injection memory s =
+    Does layout G Here (at place operands memory s.trace) weight (place + 1) (Inside untouched injection memory (TypeOnTop (bare_of t) below t)) (with_type t s)
     ⊎ GivesUp G (at place operands memory s.trace) 0 (suc weight) (with_type t s)
 
 -- one without weight
-abbrev pub Makes : Slots → Declarations → Image → Facts → ℕ → List Operand → List Operand → TypeValue → Injection → MachineMemory → meaning.State → Type 0
+abbrev pub Makes : Slots → Layout → Image → Facts → ℕ → List Operand → List Operand → TypeValue → Injection → MachineMemory → meaning.State → Type 0
 Makes = MakesBy 0
 
-elaborated : {untouched : Slots} {Here : Facts} {declared : Declarations} {G : Image} {weight place : ℕ} {operands below : List Operand} {t : TypeValue}
+elaborated : {untouched : Slots} {Here : Facts} {layout : Layout} {G : Image} {weight place : ℕ} {operands below : List Operand} {t : TypeValue}
     → AreStarts t → Lasts untouched Here → (injection : Injection) (memory : MachineMemory) (s : meaning.State) → Here injection s memory
-    → Elaborates untouched declared G injection memory weight place below t (at place operands memory s.trace) s ⊎ GivesUp G (at place operands memory s.trace) 0 (suc weight) (with_type t s)
-    → MakesBy weight untouched declared G Here place operands below t injection memory s
+    → Elaborates untouched layout G injection memory weight place below t (at place operands memory s.trace) s ⊎ GivesUp G (at place operands memory s.trace) 0 (suc weight) (with_type t s)
+    → MakesBy weight untouched layout G Here place operands below t injection memory s
 elaborated {below = below} {t = t} starts lasts injection memory s known (inl x) =
     inl (record {
       injection = injection;
@@ -107,12 +107,12 @@ elaborated {below = below} {t = t} starts lasts injection memory s known (inl x)
 elaborated starts lasts injection memory s known (inr x) = inr x
 
 -- `TOrd`, over its bounds
-pub ord_does : {untouched : Slots} {Here : Facts} (declared : Declarations) (G : Image) (place line : ℕ) (below : List Operand) (low high : ℤ)
+pub ord_does : {untouched : Slots} {Here : Facts} (layout : Layout) (G : Image) (place line : ℕ) (below : List Operand) (low high : ℤ)
     → IsTrue (int_le low high) → slice_get G.instructions place ≡ Some (instr op.T_ORD (pos 0) 0 line)
     → Lasts untouched Here → (injection : Injection) (memory : MachineMemory) (s : meaning.State)
-    → Matches declared G injection s memory → Here injection s memory
-    → Makes untouched declared G Here place (Word high ∷ Word low ∷ below) below (type.Ordinal low high) injection memory s
-ord_does declared G place line below low high ordered has lasts injection memory s matches known =
+    → Matches layout G injection s memory → Here injection s memory
+    → Makes untouched layout G Here place (Word high ∷ Word low ∷ below) below (type.Ordinal low high) injection memory s
+ord_does layout G place line below low high ordered has lasts injection memory s matches known =
     let i = instr op.T_ORD (pos 0) 0 line in
     let k = at place (Word high ∷ Word low ∷ below) memory s.trace in
     let e = ordinal_entry low high in
@@ -136,13 +136,13 @@ array_begins low high of = go (is_started of)
     go false = refl
 
 -- `TArr`, over the numbers of its index type, whatever that begins with, and the type of its components
-pub arr_does : {untouched : Slots} {Here : Facts} (declared : Declarations) (G : Image) (place line : ℕ) (below : List Operand) (low high : ℤ) (of : TypeValue) (index component : ℕ)
+pub arr_does : {untouched : Slots} {Here : Facts} (layout : Layout) (G : Image) (place line : ℕ) (below : List Operand) (low high : ℤ) (of : TypeValue) (index component : ℕ)
     → slice_get G.instructions place ≡ Some (instr op.T_ARR (pos 0) 0 line)
     → Lasts untouched Here → (injection : Injection) (memory : MachineMemory) (s : meaning.State)
     → IsLike memory.types index (type.Ordinal low high) → Describes memory.types component of → AreStarts of
-    → Matches declared G injection s memory → Here injection s memory
-    → Makes untouched declared G Here place (Word (pos component) ∷ Word (pos index) ∷ below) below (type.Array low high of) injection memory s
-arr_does {untouched = untouched} {Here = Here} declared G place line below low high of index component has lasts injection memory s index_is component_is starts matches known =
+    → Matches layout G injection s memory → Here injection s memory
+    → Makes untouched layout G Here place (Word (pos component) ∷ Word (pos index) ∷ below) below (type.Array low high of) injection memory s
+arr_does {untouched = untouched} {Here = Here} layout G place line below low high of index component has lasts injection memory s index_is component_is starts matches known =
     go (leb (size_of (type.Array low high of)) size_limit) refl
   where
     i : Instr
@@ -198,21 +198,21 @@ arr_does {untouched = untouched} {Here = Here} declared G place line below low h
         (interns_two (type.Array low high of) s.resources below (kind.Array low high component) (starts_length (type.Array low high of) starts) (sym other) (array_entry low high b size) (typing k) matches.types (b, refl, form) is_kind sized (few matches.counts) (bounded matches.counts))
 
     go : (b : Bool) → leb size size_limit ≡ b
-        → Makes untouched declared G Here place operands below (type.Array low high of) injection memory s
+        → Makes untouched layout G Here place operands below (type.Array low high of) injection memory s
     go true fits = elaborated starts lasts injection memory s known (elaborates 0 place i operands below (type.Array low high of) makes s (leads true fits) matches (met_by component_is.bare component_is.other component_is.form))
     go false large = inr (gives_up (leads false large) (inl refl) (is_prefix s.trace) (met_large (type.Array low high of) s.resources (grind (arith, nat_tests))))
 
 -- ---- sets
 
 -- `TSet`, over the number of its base type
-pub set_does : {untouched : Slots} {Here : Facts} (declared : Declarations) (G : Image) (place line : ℕ) (below : List Operand) (low high : ℤ) (base : ℕ)
+pub set_does : {untouched : Slots} {Here : Facts} (layout : Layout) (G : Image) (place line : ℕ) (below : List Operand) (low high : ℤ) (base : ℕ)
     → IsTrue (is_ordinal low) → IsTrue (is_ordinal high)
     → slice_get G.instructions place ≡ Some (instr op.T_SET (pos 0) 0 line)
     → Lasts untouched Here → (injection : Injection) (memory : MachineMemory) (s : meaning.State)
     → IsLike memory.types base (type.Ordinal low high)
-    → Matches declared G injection s memory → Here injection s memory
-    → Makes untouched declared G Here place (Word (pos base) ∷ below) below (type.Set low high) injection memory s
-set_does declared G place line below low high base from to has lasts injection memory s base_is matches known =
+    → Matches layout G injection s memory → Here injection s memory
+    → Makes untouched layout G Here place (Word (pos base) ∷ below) below (type.Set low high) injection memory s
+set_does layout G place line below low high base from to has lasts injection memory s base_is matches known =
     elaborated tt lasts injection memory s known
     (elaborates 0 place i (Word (pos base) ∷ below) below (type.Set low high) (interned (set_entry low high) below (typing k)) s leads matches
     (interns_one (type.Set low high) s.resources below (kind.Set low high) (starts_length (type.Set low high) tt) None (typing k) matches.types (record { is_kind = refl; other = refl; form = λ b e. cc }) refl (few matches.counts) (bounded matches.counts)))
@@ -301,12 +301,12 @@ entered types before (n ∷ ns) (type.next_component t ts) h =
         go false = refl
 
 -- `TRec`, over the numbers of the types of its components
-pub rec_does : {untouched : Slots} {Here : Facts} (declared : Declarations) (G : Image) (place line : ℕ) (below : List Operand) (ns : List ℕ) (ts : ComponentTypes)
+pub rec_does : {untouched : Slots} {Here : Facts} (layout : Layout) (G : Image) (place line : ℕ) (below : List Operand) (ns : List ℕ) (ts : ComponentTypes)
     → slice_get G.instructions place ≡ Some (instr op.T_REC (pos (length ns)) 0 line)
     → Lasts untouched Here → (injection : Injection) (memory : MachineMemory) (s : meaning.State)
-    → AreDescribed memory.types ns ts → AreStartsOfEach ts → Matches declared G injection s memory → Here injection s memory
-    → MakesBy (length ns) untouched declared G Here place (stacked ns below) below (type.Record ts) injection memory s
-rec_does {untouched = untouched} {Here = Here} declared G place line below ns ts has lasts injection memory s described starts matches known =
+    → AreDescribed memory.types ns ts → AreStartsOfEach ts → Matches layout G injection s memory → Here injection s memory
+    → MakesBy (length ns) untouched layout G Here place (stacked ns below) below (type.Record ts) injection memory s
+rec_does {untouched = untouched} {Here = Here} layout G place line below ns ts has lasts injection memory s described starts matches known =
     go (leb (size_of (type.Record ts)) size_limit) refl
   where
     i : Instr
@@ -383,20 +383,20 @@ rec_does {untouched = untouched} {Here = Here} declared G place line below ns ts
         bare = cond (any_bare x.entries) (Some (record_entry (parts_behind 0 (bare_forms x.entries)) size)) None
 
     go : (b : Bool) → leb size size_limit ≡ b
-        → MakesBy (length ns) untouched declared G Here place (stacked ns below) below (type.Record ts) injection memory s
+        → MakesBy (length ns) untouched layout G Here place (stacked ns below) below (type.Record ts) injection memory s
     go true fits = elaborated starts lasts injection memory s known (elaborates (length ns) place i (stacked ns below) below (type.Record ts) makes s (leads true fits) matches is_met)
     go false large = inr (gives_up (leads false large) (inl refl) (is_prefix s.trace) (met_large (type.Record ts) s.resources (grind (arith, nat_tests))))
 
 -- ---- initial states
 
 -- `TInit`, over the number of a type and a value whose words a variable of it may begin with
-pub init_does : {untouched : Slots} {Here : Facts} (declared : Declarations) (G : Image) (place line : ℕ) (below : List Operand) (of : TypeValue) (start : Start) (number : ℕ) (x : Operand)
+pub init_does : {untouched : Slots} {Here : Facts} (layout : Layout) (G : Image) (place line : ℕ) (below : List Operand) (of : TypeValue) (start : Start) (number : ℕ) (x : Operand)
     → slice_get G.instructions place ≡ Some (instr op.T_INIT (pos 0) 0 line)
     → Lasts untouched Here → (injection : Injection) (memory : MachineMemory) (s : meaning.State)
     → (d : Describes memory.types number of) → AreStarts of → IsStartOf of start → words_for d.kind (bare_number number d.bare) x ≡ Continues (words_of_start start)
-    → Matches declared G injection s memory → Here injection s memory
-    → MakesBy (weight x + size_of of) untouched declared G Here place (x ∷ Word (pos number) ∷ below) below (type.Initial of start) injection memory s
-init_does {untouched = untouched} {Here = Here} declared G place line below of start number x has lasts injection memory s d starts fits takes matches known =
+    → Matches layout G injection s memory → Here injection s memory
+    → MakesBy (weight x + size_of of) untouched layout G Here place (x ∷ Word (pos number) ∷ below) below (type.Initial of start) injection memory s
+init_does {untouched = untouched} {Here = Here} layout G place line below of start number x has lasts injection memory s d starts fits takes matches known =
     elaborated (fits, starts) lasts injection memory s known
     (elaborates (weight x + size_of of) place i (x ∷ Word (pos number) ∷ below) below (type.Initial of start) makes s leads matches
     (interns_one (type.Initial of start) s.resources below d.kind (starts_length (type.Initial of start) (fits, starts)) (Some (bare_number number d.bare)) (typing k) matches.types

@@ -7,6 +7,7 @@ use Rattle.std.proofs.lemmas.Bool.{lt-ltb}
 use Rattle.std.proofs.lemmas.Option.{slice_get_within}
 use Rattle.ep_simulation.specs.Activations.{OwnSlot, LevelMatches, InActivation}
 use Rattle.ep_simulation.specs.Follows.{GivesUp, Facts, IsStillCall, StillRuns, Inside, PlaceOnTop}
+use Rattle.ep_simulation.specs.Layouts.{Layout}
 use Rattle.ep_simulation.specs.Matching.{MachineMemory, at, Injection, IsSpot, Grown, Describes, Slots, own_slot, slot_of_frame, MatchesSlot, HasOwnType, Matches, IsLike}
 use Rattle.ep_object.specs.Operands.{Operand, Word}
 use Rattle.ep_object.specs.Operands as operand
@@ -56,19 +57,19 @@ in_frame memory k slot h = go memory.frames.calls refl h
 -- ---- `Slot`
 
 -- `Slot` of a variable of the routine
-pub own_reads : {untouched : Slots} {Here : Facts} (declared : Declarations) (G : Image) (place line : ℕ) (below : List Operand) (k : ℕ) (v : UnitVariable) (t : TypeValue)
+pub own_reads : {untouched : Slots} {Here : Facts} (declared : Declarations) (layout : Layout) (G : Image) (place line : ℕ) (below : List Operand) (k : ℕ) (v : UnitVariable) (t : TypeValue)
     → slice_get G.instructions place ≡ Some (instr op.SLOT (pos k) 0 line) → HasOwnType declared v t
-    → (injection : Injection) (memory : MachineMemory) (s : meaning.State) → Matches declared G injection s memory
+    → (injection : Injection) (memory : MachineMemory) (s : meaning.State) → Matches layout G injection s memory
     → OwnSlot declared injection s memory k v → Here injection s memory
-    → Reads declared G Here (at place below memory s.trace) 1 (unit_in G memory.frames) line (place + 1) (λ n. Inside untouched injection memory (PlaceOnTop t below n)) s (own_variable 0 k s)
-own_reads {untouched = untouched} {Here = Here} declared G place line below k v t has has_type injection memory s matches own known =
+    → Reads layout G Here (at place below memory s.trace) 1 (unit_in G memory.frames) line (place + 1) (λ n. Inside untouched injection memory (PlaceOnTop t below n)) s (own_variable 0 k s)
+own_reads {untouched = untouched} {Here = Here} declared layout G place line below k v t has has_type injection memory s matches own known =
     let f = in_frame memory k own.slot own.is in
     go f.frame f.below f.frames own.slot f.holds (λ p e. own.described p t e has_type) (own_variable 0 k s) refl own.matches
   where
     go : (frame : Frame) (others : List Frame) → memory.frames.calls ≡ frame ∷ others → (slot : Option Place) → slice_get frame.slots k ≡ Some slot
         → ((p : Place) → slot ≡ Some p → IsLike memory.types p.type_number t)
         → (o : Option Component) → own_variable 0 k s ≡ o → MatchesSlot injection memory.types o slot
-        → Reads declared G Here (at place below memory s.trace) 1 (unit_in G memory.frames) line (place + 1) (λ n. Inside untouched injection memory (PlaceOnTop t below n)) s (own_variable 0 k s)
+        → Reads layout G Here (at place below memory s.trace) 1 (unit_in G memory.frames) line (place + 1) (λ n. Inside untouched injection memory (PlaceOnTop t below n)) s (own_variable 0 k s)
     go frame others frames None holds described None is h =
         Misses is (record { fails = slot_misses G place line k 0 below frame.slots memory s.trace has (own_slots memory frame others frames) holds })
     go frame others frames (Some p) holds described None is h = absurd h
@@ -85,12 +86,12 @@ own_reads {untouched = untouched} {Here = Here} declared G place line below k v 
         })
 
 -- `Slot` of a variable of a routine around
-pub level_reads : {untouched : Slots} {Here : Facts} (declared : Declarations) (G : Image) (place line : ℕ) (below : List Operand) (up k : ℕ) (level : Level) (v : UnitVariable) (t : TypeValue)
+pub level_reads : {untouched : Slots} {Here : Facts} (declared : Declarations) (layout : Layout) (G : Image) (place line : ℕ) (below : List Operand) (up k : ℕ) (level : Level) (v : UnitVariable) (t : TypeValue)
     → slice_get G.instructions place ≡ Some (instr op.SLOT (pos k) up line) → HasOwnType declared v t → slice_get level.variables k ≡ Some v
-    → (injection : Injection) (memory : MachineMemory) (s : meaning.State) → Matches declared G injection s memory
+    → (injection : Injection) (memory : MachineMemory) (s : meaning.State) → Matches layout G injection s memory
     → LevelMatches declared.routine_types level injection s.calls memory up → Here injection s memory
-    → Reads declared G Here (at place below memory s.trace) 1 (unit_in G memory.frames) line (place + 1) (λ n. Inside untouched injection memory (PlaceOnTop t below n)) s (own_variable up k s)
-level_reads {untouched = untouched} {Here = Here} declared G place line below up k level v t has has_type its injection memory s matches l known =
+    → Reads layout G Here (at place below memory s.trace) 1 (unit_in G memory.frames) line (place + 1) (λ n. Inside untouched injection memory (PlaceOnTop t below n)) s (own_variable up k s)
+level_reads {untouched = untouched} {Here = Here} declared layout G place line below up k level v t has has_type its injection memory s matches l known =
     let y = l.holds k v its in
     go y.slot y.is (λ p e. y.described p t e has_type) (l.variables k) (ap (λ o. variable_in o k) l.named) y.matches
   where
@@ -99,7 +100,7 @@ level_reads {untouched = untouched} {Here = Here} declared G place line below up
 
     go : (slot : Option Place) → slice_get l.slots k ≡ Some slot → ((p : Place) → slot ≡ Some p → IsLike memory.types p.type_number t)
         → (o : Option Component) → own_variable up k s ≡ o → MatchesSlot injection memory.types o slot
-        → Reads declared G Here (at place below memory s.trace) 1 (unit_in G memory.frames) line (place + 1) (λ n. Inside untouched injection memory (PlaceOnTop t below n)) s (own_variable up k s)
+        → Reads layout G Here (at place below memory s.trace) 1 (unit_in G memory.frames) line (place + 1) (λ n. Inside untouched injection memory (PlaceOnTop t below n)) s (own_variable up k s)
     go None holds described None is h = Misses is (record { fails = slot_misses G place line k up below l.slots memory s.trace has frame holds })
     go (Some p) holds described None is h = absurd h
     go None holds described (Some n) is h = absurd h
@@ -150,16 +151,16 @@ make_own_outcome G place line below t number k frame others memory trace false h
     outcome_at G (instr op.MAKE (pos k) 0 line) place (Word (pos number) ∷ below) memory trace has ∙ rw (frames, lt-ltb number (length memory.types) (described_within memory.types number t described), entry.is, lt-ltb k (length frame.slots) within, begun_words t, size_is t starts, fits) refl
 
 -- `Make` of a type in a slot of the routine's activation, over the number of the type
-pub make_own_does : {untouched : Slots} {first : Injection} {start : MachineMemory} (declared : Declarations) (G : Image) (place line : ℕ) (below : List Operand) (t : TypeValue) (number k : ℕ) (v : UnitVariable)
+pub make_own_does : {untouched : Slots} {first : Injection} {start : MachineMemory} (declared : Declarations) (layout : Layout) (G : Image) (place line : ℕ) (below : List Operand) (t : TypeValue) (number k : ℕ) (v : UnitVariable)
     → slice_get G.instructions place ≡ Some (instr op.MAKE (pos k) 0 line)
     → IsTypeValue t → AreStarts t
     → slice_get (variables_up declared 0) k ≡ Some v
     → ((w : UnitVariable) → slice_get (variables_up declared 0) k ≡ Some w → HasOwnType declared w (bare_of t))
     → (injection : Injection) (memory : MachineMemory) (s : meaning.State)
     → Describes memory.types number t
-    → Matches declared G injection s memory → InActivation declared untouched first start injection s memory
-    → Does declared G (InActivation declared untouched first start) (at place (Word (pos number) ∷ below) memory s.trace) (size_of t) (place + 1) (MadeOwn untouched k t injection memory below) (made_own k t (counted t s)) ⊎ GivesUp G (at place (Word (pos number) ∷ below) memory s.trace) 0 1 (counted t s)
-make_own_does {untouched = untouched} {first = first} {start = start} declared G place line below t number k v has valid starts is_declared declared_so injection memory s described matches known = go (leb (memory.live + (size_of t + 1)) live_limit) refl
+    → Matches layout G injection s memory → InActivation declared untouched first start injection s memory
+    → Does layout G (InActivation declared untouched first start) (at place (Word (pos number) ∷ below) memory s.trace) (size_of t) (place + 1) (MadeOwn untouched k t injection memory below) (made_own k t (counted t s)) ⊎ GivesUp G (at place (Word (pos number) ∷ below) memory s.trace) 0 1 (counted t s)
+make_own_does {untouched = untouched} {first = first} {start = start} declared layout G place line below t number k v has valid starts is_declared declared_so injection memory s described matches known = go (leb (memory.live + (size_of t + 1)) live_limit) refl
   where
     frame : Frame
     frame = known.frame
@@ -195,7 +196,7 @@ make_own_does {untouched = untouched} {first = first} {start = start} declared G
     leads b e = make_own_outcome G place line below t number k frame others memory s.trace b has known.frames described starts within e
 
     go : (b : Bool) → leb (memory.live + (size_of t + 1)) live_limit ≡ b
-        → Does declared G (InActivation declared untouched first start) (at place (Word (pos number) ∷ below) memory s.trace) (size_of t) (place + 1) (MadeOwn untouched k t injection memory below) (made_own k t (counted t s)) ⊎ GivesUp G (at place (Word (pos number) ∷ below) memory s.trace) 0 1 (counted t s)
+        → Does layout G (InActivation declared untouched first start) (at place (Word (pos number) ∷ below) memory s.trace) (size_of t) (place + 1) (MadeOwn untouched k t injection memory below) (made_own k t (counted t s)) ⊎ GivesUp G (at place (Word (pos number) ∷ below) memory s.trace) 0 1 (counted t s)
     go true e =
         inl (record {
           injection = with_segment t injection memory;

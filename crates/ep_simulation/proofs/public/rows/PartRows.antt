@@ -4,6 +4,7 @@ use Rattle.std.proofs.lemmas.Option.{same_Some}
 use Rattle.std.specs.Prelude.{cond, int_lt, is_some}
 use Rattle.ep_object.specs.Effects.{Work}
 use Rattle.ep_simulation.specs.Follows.{Facts, Inside, IsStructure, OnTop}
+use Rattle.ep_simulation.specs.Layouts.{Layout}
 use Rattle.ep_simulation.specs.Matching.{AreBare, HasAt, Injection, IsBare, Matches, MachineMemory, OrdinalAt, SetAt, Part, Slots, at, part_among, part_of}
 use Rattle.ep_object.specs.Operands.{Operand}
 use Rattle.ep_object.specs.Operands as operand
@@ -41,7 +42,7 @@ use Rattle.ep_typed.specs.Hosts.{Host}
 use Rattle.ep_values.specs.TypeValues as type
 use Rattle.ep_values.specs.TypeValues.{ComponentTypes, TypeValue, bare_of, component_type, size_of, type_among}
 use Rattle.ep_meaning.specs.Valid as kind
-use Rattle.ep_meaning.specs.Valid.{Declarations, IsStructured, IsTypeOf, IsTypeOfKind, Kind, tag_type}
+use Rattle.ep_meaning.specs.Valid.{IsStructured, IsTypeOf, IsTypeOfKind, Kind, tag_type}
 use Rattle.ep_object.specs.declared.op.TheConstants as op
 use Rattle.ep_values.specs.declared.run_error.TheConstants as run_error
 
@@ -51,7 +52,7 @@ working G i s w = record { weight = w.weight; to = after G i s (on_operands s w.
 
 -- ---- a component whose words are found
 
-module _ (declared : Declarations) (G : Image) (i : Instr) (place : ℕ) (operands below : List Operand) (injection : Injection) (memory : MachineMemory) where
+module _ (layout : Layout) (G : Image) (i : Instr) (place : ℕ) (operands below : List Operand) (injection : Injection) (memory : MachineMemory) where
   -- the state before it
   abbrev before : Trace → State
   before trace = at place operands memory trace
@@ -65,8 +66,8 @@ module _ (declared : Declarations) (G : Image) (i : Instr) (place : ℕ) (operan
       → (c : ℕ) → IsBare memory.types c (type.Ordinal low high)
       → (words : List ℤ) (offset : ℕ) (fits : offset + size_of (type.Ordinal low high) ≤ length words) → Leaves c words offset
       → (value : Value) → OrdinalAt low high value (slice_get (taken words offset 1 fits) 0)
-      → (s : meaning.State) → Matches declared G injection s memory → Here injection s memory
-      → ReadsResult declared G Here (before s.trace) (length words) run_error.UNDEFINED_VALUE (unit_in G memory.frames) i.line (place + 1) (λ r. Inside untouched injection memory (OnTop (kind.Ordinal host) below r)) s (option_map Number (word_of value))
+      → (s : meaning.State) → Matches layout G injection s memory → Here injection s memory
+      → ReadsResult layout G Here (before s.trace) (length words) run_error.UNDEFINED_VALUE (unit_in G memory.frames) i.line (place + 1) (λ r. Inside untouched injection memory (OnTop (kind.Ordinal host) below r)) s (option_map Number (word_of value))
   word_left host low high of_host c described words offset fits leaves Undefined word s matches known =
       Nothing refl (record { fails = leaves s.trace ∙ rw (described, taken_there words offset 1 fits, word.is) refl })
   word_left host low high of_host c described words offset fits leaves (meaning.Components of) word s matches known = absurd word.is
@@ -89,8 +90,8 @@ module _ (declared : Declarations) (G : Image) (i : Instr) (place : ℕ) (operan
       → (c : ℕ) → IsBare memory.types c (type.Set low high)
       → (words : List ℤ) (offset : ℕ) (fits : offset + set_size ≤ length words) → Leaves c words offset
       → (value : Value) → SetAt low high value (slice_get (taken words offset set_size fits)) 0
-      → (s : meaning.State) → Matches declared G injection s memory → Here injection s memory
-      → ReadsResult declared G Here (before s.trace) (length words) run_error.UNDEFINED_VALUE (unit_in G memory.frames) i.line (place + 1) (λ r. Inside untouched injection memory (OnTop (kind.Set host) below r)) s (option_map Members (set_of value))
+      → (s : meaning.State) → Matches layout G injection s memory → Here injection s memory
+      → ReadsResult layout G Here (before s.trace) (length words) run_error.UNDEFINED_VALUE (unit_in G memory.frames) i.line (place + 1) (λ r. Inside untouched injection memory (OnTop (kind.Set host) below r)) s (option_map Members (set_of value))
   set_left host low high c described words offset fits leaves Undefined held s matches known =
       Nothing refl (record { fails = leaves s.trace ∙ rw (described, taken_there words offset set_size fits, undefined_loaded (taken words offset set_size fits) below held) refl })
   set_left host low high c described words offset fits leaves (meaning.Word w) held s matches known = absurd held
@@ -128,8 +129,8 @@ module _ (declared : Declarations) (G : Image) (i : Instr) (place : ℕ) (operan
       → (c : ℕ) → IsBare memory.types c t
       → (words : List ℤ) (offset : ℕ) (fits : offset + size_of t ≤ length words) → Leaves c words offset
       → (value : Value) → HasAt injection t value (slice_get words) offset
-      → (s : meaning.State) → Matches declared G injection s memory → Here injection s memory
-      → ReadsResult declared G Here (before s.trace) (length words) run_error.UNDEFINED_VALUE (unit_in G memory.frames) i.line (place + 1) (λ r. Inside untouched injection memory (OnTop (kind.Structured t) below r)) s (given_by (Some t) value)
+      → (s : meaning.State) → Matches layout G injection s memory → Here injection s memory
+      → ReadsResult layout G Here (before s.trace) (length words) run_error.UNDEFINED_VALUE (unit_in G memory.frames) i.line (place + 1) (λ r. Inside untouched injection memory (OnTop (kind.Structured t) below r)) s (given_by (Some t) value)
   structure_left t structured bare c described words offset fits leaves value holds s matches known =
       let own : List ℤ = taken words offset (size_of t) fits in
       Result_of (Structure t value) (structure_given t value structured ∙ ap (λ u. Some (Structure u value)) bare) (length words + size_of t) (omega arith) (record {
@@ -161,8 +162,8 @@ module _ (declared : Declarations) (G : Image) (i : Instr) (place : ℕ) (operan
       → (c : ℕ) → IsBare memory.types c t
       → (words : List ℤ) (offset : ℕ) → offset + size_of t ≤ length words → Leaves c words offset
       → (value : Value) → HasAt injection t value (slice_get words) offset
-      → (s : meaning.State) → Matches declared G injection s memory → Here injection s memory
-      → ReadsResult declared G Here (before s.trace) (length words) run_error.UNDEFINED_VALUE (unit_in G memory.frames) i.line (place + 1) (λ r. Inside untouched injection memory (OnTop k below r)) s (given_by (Some t) value)
+      → (s : meaning.State) → Matches layout G injection s memory → Here injection s memory
+      → ReadsResult layout G Here (before s.trace) (length words) run_error.UNDEFINED_VALUE (unit_in G memory.frames) i.line (place + 1) (λ r. Inside untouched injection memory (OnTop k below r)) s (given_by (Some t) value)
   found_left (kind.Ordinal h) (type.Ordinal low high) of_kind bare c described words offset fits leaves value holds s matches known =
       word_left h low high of_kind c described words offset fits leaves value (taken_holds words offset 1 fits injection (type.Ordinal low high) value refl holds) s matches known
   found_left (kind.Ordinal h) type.Text of_kind bare c described words offset fits leaves value holds s matches known = absurd of_kind
@@ -179,7 +180,7 @@ module _ (declared : Declarations) (G : Image) (i : Instr) (place : ℕ) (operan
       set_left h low high c described words offset fits leaves value (taken_holds words offset set_size fits injection (type.Set low high) value refl holds) s matches known
   found_left kind.Bytes t of_kind bare c described words offset fits leaves value holds s matches known = absurd of_kind
   found_left {untouched = untouched} {Here = Here} (kind.Structured u) t (same, structured) bare c described words offset fits leaves value holds s matches known =
-      subst (λ x. ReadsResult declared G Here (before s.trace) (length words) run_error.UNDEFINED_VALUE (unit_in G memory.frames) i.line (place + 1) (λ r. Inside untouched injection memory (OnTop (kind.Structured x) below r)) s (given_by (Some t) value)) (sym same)
+      subst (λ x. ReadsResult layout G Here (before s.trace) (length words) run_error.UNDEFINED_VALUE (unit_in G memory.frames) i.line (place + 1) (λ r. Inside untouched injection memory (OnTop (kind.Structured x) below r)) s (given_by (Some t) value)) (sym same)
       (structure_left t (subst IsStructured same structured) bare c described words offset fits leaves value holds s matches known)
 
 -- ---- a component of a value
@@ -208,13 +209,13 @@ bare_there types before (p ∷ ps) (type.next_component t ts) (suc k) part h is 
 
 -- The component of this number of the value on an operand: the machine leaves it and spends the words of the value besides,
 -- or both end with the error.
-part_left : {untouched : Slots} {Here : Facts} (declared : Declarations) (G : Image) (i : Instr) (place : ℕ) (operands below : List Operand) (injection : Injection) (memory : MachineMemory)
+part_left : {untouched : Slots} {Here : Facts} (layout : Layout) (G : Image) (i : Instr) (place : ℕ) (operands below : List Operand) (injection : Injection) (memory : MachineMemory)
     → (t : TypeValue) (r : Result) (o : Operand) (v : IsStructure t r injection memory o) (number : ℕ) (p : Part) → part_of t number ≡ Some p
     → (k : Kind) → IsTypeOfKind k p.type_value → (c : ℕ) → IsBare memory.types c p.type_value
     → ((trace : Trace) → outcome G (at place operands memory trace) ≡ working G i (at place operands memory trace) (row.part_at memory.types v.words p.offset c below))
-    → (s : meaning.State) → Matches declared G injection s memory → Here injection s memory
-    → ReadsResult declared G Here (at place operands memory s.trace) (weight_of r) run_error.UNDEFINED_VALUE (unit_in G memory.frames) i.line (place + 1) (λ x. Inside untouched injection memory (OnTop k below x)) s (meaning_of.part_of r number)
-part_left {untouched = untouched} {Here = Here} declared G i place operands below injection memory t r o v number p is k of_kind c described leaves s matches known =
+    → (s : meaning.State) → Matches layout G injection s memory → Here injection s memory
+    → ReadsResult layout G Here (at place operands memory s.trace) (weight_of r) run_error.UNDEFINED_VALUE (unit_in G memory.frames) i.line (place + 1) (λ x. Inside untouched injection memory (OnTop k below x)) s (meaning_of.part_of r number)
+part_left {untouched = untouched} {Here = Here} layout G i place operands below injection memory t r o v number p is k of_kind c described leaves s matches known =
     let inner : p.offset + size_of p.type_value ≤ size_of t = component_within t number p is in
     let fits : p.offset + size_of p.type_value ≤ length v.words = omega (arith, inner, v.sized) in
     let holds : HasAt injection p.type_value (component_of v.value number) (slice_get v.words) p.offset
@@ -222,24 +223,24 @@ part_left {untouched = untouched} {Here = Here} declared G i place operands belo
     let many : length v.words ≡ weight_of r = v.sized ∙ sym (ap weight_of v.is_structure) in
     let given : given_by (Some p.type_value) (component_of v.value number) ≡ meaning_of.part_of r number
     = ap (λ x. given_by x (component_of v.value number)) (sym (component_type-is t number p is)) ∙ ap (λ x. meaning_of.part_of x number) (sym v.is_structure) in
-    subst (λ n. ReadsResult declared G Here (at place operands memory s.trace) n run_error.UNDEFINED_VALUE (unit_in G memory.frames) i.line (place + 1) (λ x. Inside untouched injection memory (OnTop k below x)) s (meaning_of.part_of r number)) many
-    (subst (λ x. ReadsResult declared G Here (at place operands memory s.trace) (length v.words) run_error.UNDEFINED_VALUE (unit_in G memory.frames) i.line (place + 1) (λ x. Inside untouched injection memory (OnTop k below x)) s x) given
-    (found_left declared G i place operands below injection memory k p.type_value of_kind (part_bare t number p v.bare is) c described v.words p.offset fits leaves (component_of v.value number) holds s matches known))
+    subst (λ n. ReadsResult layout G Here (at place operands memory s.trace) n run_error.UNDEFINED_VALUE (unit_in G memory.frames) i.line (place + 1) (λ x. Inside untouched injection memory (OnTop k below x)) s (meaning_of.part_of r number)) many
+    (subst (λ x. ReadsResult layout G Here (at place operands memory s.trace) (length v.words) run_error.UNDEFINED_VALUE (unit_in G memory.frames) i.line (place + 1) (λ x. Inside untouched injection memory (OnTop k below x)) s x) given
+    (found_left layout G i place operands below injection memory k p.type_value of_kind (part_bare t number p v.bare is) c described v.words p.offset fits leaves (component_of v.value number) holds s matches known))
 
-module _ (declared : Declarations) (G : Image) (place line : ℕ) (below : List Operand) (injection : Injection) (memory : MachineMemory) where
+module _ (layout : Layout) (G : Image) (place line : ℕ) (below : List Operand) (injection : Injection) (memory : MachineMemory) where
   -- `Field`, of a record
   pub field_part : {untouched : Slots} {Here : Facts} (ts : ComponentTypes) (r : Result) (o : Operand) → IsStructure (type.Record ts) r injection memory o
       → (number : ℕ) (of : TypeValue) → type_among ts number ≡ Some of → (k : Kind) → IsTypeOfKind k of
       → slice_get G.instructions place ≡ Some (instr op.FIELD (pos number) 0 line)
-      → (s : meaning.State) → Matches declared G injection s memory → Here injection s memory
-      → ReadsResult declared G Here (at place (o ∷ below) memory s.trace) (weight_of r) run_error.UNDEFINED_VALUE (unit_in G memory.frames) line (place + 1) (λ x. Inside untouched injection memory (OnTop k below x)) s (meaning_of.part_of r number)
+      → (s : meaning.State) → Matches layout G injection s memory → Here injection s memory
+      → ReadsResult layout G Here (at place (o ∷ below) memory s.trace) (weight_of r) run_error.UNDEFINED_VALUE (unit_in G memory.frames) line (place + 1) (λ x. Inside untouched injection memory (OnTop k below x)) s (meaning_of.part_of r number)
   field_part ts r o v number of among k of_kind has s matches known =
       let i : Instr = instr op.FIELD (pos number) 0 line in
       let component : IsAmong 0 ts number of = among_there 0 ts number of among in
       let part : Part = component.part in
       let parts = v.described in
       let entered : IsBareThere memory.types parts.0 number part = bare_there memory.types 0 parts.0 ts number part parts.2 component.is in
-      part_left declared G i place (o ∷ below) below injection memory (type.Record ts) r o v number part component.is k (subst (IsTypeOfKind k) (sym component.type_is) of_kind) entered.entered.type_number entered.form
+      part_left layout G i place (o ∷ below) below injection memory (type.Record ts) r o v number part component.is k (subst (IsTypeOfKind k) (sym component.type_is) of_kind) entered.entered.type_number entered.form
       (λ trace.
       ap (λ x. outcome G (at place (x ∷ below) memory trace)) v.is
       ∙ (outcome_at G i place (operand.Value v.type_number v.words ∷ below) memory trace has
@@ -295,10 +296,10 @@ module _ (declared : Declarations) (G : Image) (place line : ℕ) (below : List 
 
     -- and where it is within them
     pub index_part : {untouched : Slots} {Here : Facts} (number : ℕ) → component_at low high z ≡ Some number → (k : Kind) → IsTypeOfKind k of
-        → (s : meaning.State) → Matches declared G injection s memory → Here injection s memory
-        → ReadsResult declared G Here (at place (operand.Word z ∷ o ∷ below) memory s.trace) (weight_of r) run_error.UNDEFINED_VALUE (unit_in G memory.frames) line (place + 1) (λ x. Inside untouched injection memory (OnTop k below x)) s (meaning_of.part_of r number)
+        → (s : meaning.State) → Matches layout G injection s memory → Here injection s memory
+        → ReadsResult layout G Here (at place (operand.Word z ∷ o ∷ below) memory s.trace) (weight_of r) run_error.UNDEFINED_VALUE (unit_in G memory.frames) line (place + 1) (λ x. Inside untouched injection memory (OnTop k below x)) s (meaning_of.part_of r number)
     index_part number is k of_kind s matches known =
         let part : Part = record { offset = number * size_of of; type_value = of } in
         let less : number < count_of low high = is_within_count (count_of low high) (gap low z) number is in
-        part_left declared G (instr op.INDEX (pos 0) 0 line) place (operand.Word z ∷ o ∷ below) below injection memory (type.Array low high of) r o v number part (ap (λ b. cond b (Some part) None) (less_true number (count_of low high) less)) k of_kind (v.described).0 (v.described).2
+        part_left layout G (instr op.INDEX (pos 0) 0 line) place (operand.Word z ∷ o ∷ below) below injection memory (type.Array low high of) r o v number part (ap (λ b. cond b (Some part) None) (less_true number (count_of low high) less)) k of_kind (v.described).0 (v.described).2
         (λ trace. index_outcome (Some number) is trace) s matches known

@@ -3,6 +3,7 @@ use Rattle.std.proofs.Common.{◌≡◌, ℕ, ℤ, pos, negsuc, ◌+◌, ◌≤�
 use Rattle.std.proofs.lemmas.Option.{same_Some}
 use Rattle.std.specs.Prelude.{int_lt, is_some}
 use Rattle.ep_simulation.specs.Follows.{IsStructure, Facts, OnTop, PlaceOnTop, Inside}
+use Rattle.ep_simulation.specs.Layouts.{Layout}
 use Rattle.ep_simulation.specs.Matching.{MachineMemory, at, Injection, MatchesSlot, MatchesFrame, IsBare, IsLike, IsSpot, HasAt, OrdinalAt, SetAt, part_along, all_of, Represents, HasType, Matches, Slots}
 use Rattle.ep_object.specs.Operands.{Operand, Word, Text}
 use Rattle.ep_object.specs.Operands as operand
@@ -33,7 +34,7 @@ use Rattle.ep_values.specs.Values.{value_along, Value, Undefined, set_of, word_o
 use Rattle.ep_meaning.specs.Results.{result_of, weight_of}
 use Rattle.ep_meaning.specs.Steps as meaning
 use Rattle.ep_meaning.specs.Valid as kind
-use Rattle.ep_meaning.specs.Valid.{Declarations, IsStructured, IsTypeOf, IsTypeOfKind, Kind}
+use Rattle.ep_meaning.specs.Valid.{IsStructured, IsTypeOf, IsTypeOfKind, Kind}
 use Rattle.ep_typed.specs.Hosts.{Host}
 use Rattle.ep_values.specs.TypeValues.{TypeValue, bare_of, size_of}
 use Rattle.ep_values.specs.TypeValues as type
@@ -63,7 +64,7 @@ structure_result t v p s a structured is leads =
     ∙ (structure_given t (value_at v s) structured
     ∙ (ap (λ u. Some (Structure u (value_at v s))) (own_bare t (type_at v s) of) ∙ ap (λ o. Some (Structure t (value_in o v.path))) is))
 
-module _ (declared : Declarations) (G : Image) (place line : ℕ) (below : List Operand) where
+module _ (layout : Layout) (G : Image) (place line : ℕ) (below : List Operand) where
   -- `Unit`, for `output`
   pub output_pushes : slice_get G.instructions place ≡ Some (instr op.UNIT (negsuc 0) 1 line)
       → RowPushes G place below 0 (operand.Place output_place ∷ below)
@@ -72,13 +73,13 @@ module _ (declared : Declarations) (G : Image) (place line : ℕ) (below : List 
   -- `Unit`, for a variable that is declared
   pub unit_reads : {untouched : Slots} {Here : Facts} (u k : ℕ) (unit : ImageUnit) (v : UnitVariable) (t : TypeValue)
       → slice_get G.instructions place ≡ Some (instr op.UNIT (pos u) k line) → slice_get G.units u ≡ Some unit
-      → k < unit.slots → declared.variables unit.name k ≡ Some v → HasType declared unit.name v t
-      → (injection : Injection) (memory : MachineMemory) (s : meaning.State) → Matches declared G injection s memory
+      → k < unit.slots → layout.variables unit.name k ≡ Some v → HasType layout unit.name v t
+      → (injection : Injection) (memory : MachineMemory) (s : meaning.State) → Matches layout G injection s memory
       → Here injection s memory
-      → Reads declared G Here (at place below memory s.trace) 1 (unit_in G memory.frames) line (place + 1) (λ n. Inside untouched injection memory (PlaceOnTop t below n)) s (s.variables unit.name k)
+      → Reads layout G Here (at place below memory s.trace) 1 (unit_in G memory.frames) line (place + 1) (λ n. Inside untouched injection memory (PlaceOnTop t below n)) s (s.variables unit.name k)
   unit_reads {untouched = untouched} {Here = Here} u k unit v t has there inside is_declared has_type injection memory s matches known =
       let units = matches.units in
-      let f : MatchesFrame declared injection s.variables memory.frames.units memory.types u unit = units.frames u unit there in
+      let f : MatchesFrame layout injection s.variables memory.frames.units memory.types u unit = units.frames u unit there in
       let x = slice_get-some f.slots k (omega (arith, f.count)) in
       go f.slots f.is x.0 x.1 (λ p slot_is. f.described k v p t is_declared slot_is has_type) (s.variables unit.name k) refl (f.matches k v x.0 is_declared x.1)
     where
@@ -86,7 +87,7 @@ module _ (declared : Declarations) (G : Image) (place line : ℕ) (below : List 
           → slice_get slots k ≡ Some slot
           → ((p : Place) → slice_get slots k ≡ Some (Some p) → IsLike memory.types p.type_number t) → (o : Option Component) → s.variables unit.name k ≡ o
           → MatchesSlot injection memory.types o slot
-          → Reads declared G Here (at place below memory s.trace) 1 (unit_in G memory.frames) line (place + 1) (λ n. Inside untouched injection memory (PlaceOnTop t below n)) s (s.variables unit.name k)
+          → Reads layout G Here (at place below memory s.trace) 1 (unit_in G memory.frames) line (place + 1) (λ n. Inside untouched injection memory (PlaceOnTop t below n)) s (s.variables unit.name k)
       go slots is None slot_is described None o_is h =
           Misses o_is (record { fails = outcome_at G (instr op.UNIT (pos u) k line) place below memory s.trace has ∙ rw (is, slot_is) refl })
       go slots is (Some p) slot_is described None o_is h = absurd h
@@ -148,7 +149,7 @@ module _ (declared : Declarations) (G : Image) (place line : ℕ) (below : List 
       → slice_get G.instructions place ≡ Some (instr op.LOAD (pos 0) 0 line)
       → (injection : Injection) (memory : MachineMemory) → IsSpot injection memory.types v p
       → IsLike memory.types p.type_number t → (s : meaning.State)
-      → Matches declared G injection s memory → has_ended v.allocation s ≡ true
+      → Matches layout G injection s memory → has_ended v.allocation s ≡ true
       → FailsWith G (at place (operand.Place p ∷ below) memory s.trace) 0 11 (unit_in G memory.frames) line s
   load_fails k (type.Ordinal low high) v p of_kind has injection memory spot described s matches ended =
       let e = like_ordinal memory.types p.type_number low high described in
@@ -177,8 +178,8 @@ module _ (declared : Declarations) (G : Image) (place line : ℕ) (below : List 
       → slice_get G.instructions place ≡ Some (instr op.LOAD (pos 0) 0 line)
       → (injection : Injection) (memory : MachineMemory) → IsSpot injection memory.types v p
       → IsLike memory.types p.type_number (type.Ordinal low high) → (s : meaning.State)
-      → Matches declared G injection s memory → Here injection s memory → has_ended v.allocation s ≡ false
-      → ReadsResult declared G Here (at place (operand.Place p ∷ below) memory s.trace) 0 1 (unit_in G memory.frames) line (place + 1) (λ r. Inside untouched injection memory (OnTop (kind.Ordinal host) below r)) s (result_of v s)
+      → Matches layout G injection s memory → Here injection s memory → has_ended v.allocation s ≡ false
+      → ReadsResult layout G Here (at place (operand.Place p ∷ below) memory s.trace) 0 1 (unit_in G memory.frames) line (place + 1) (λ r. Inside untouched injection memory (OnTop (kind.Ordinal host) below r)) s (result_of v s)
   word_reads {untouched = untouched} {Here = Here} host low high v p of_host has injection memory spot described s matches known living =
       let x : StandsOrdinal injection s memory v p low high = ordinal_stands low high matches spot described living in
       let a : Allocation = x.allocation in
@@ -188,7 +189,7 @@ module _ (declared : Declarations) (G : Image) (place line : ℕ) (below : List 
       go : (value : Value) → {value2 : Value} → value2 ≡ value → result_of v s ≡ option_map Number (word_of value2) → (type_number : ℕ) (words : List ℤ)
           → slice_get memory.segments p.segment ≡ Some (Some (record { type_number = type_number; words = words }))
           → OrdinalAt low high value (slice_get words p.offset)
-          → ReadsResult declared G Here (at place (operand.Place p ∷ below) memory s.trace) 0 1 (unit_in G memory.frames) line (place + 1) (λ r. Inside untouched injection memory (OnTop (kind.Ordinal host) below r)) s (result_of v s)
+          → ReadsResult layout G Here (at place (operand.Place p ∷ below) memory s.trace) 0 1 (unit_in G memory.frames) line (place + 1) (λ r. Inside untouched injection memory (OnTop (kind.Ordinal host) below r)) s (result_of v s)
       go Undefined value_is result_is type_number words stands word =
           Nothing (result_is ∙ ap (λ x. option_map Number (word_of x)) value_is) (record { fails = load_outcome memory s.trace p low high type_number words undefined has described stands word.is })
       go (meaning.Components of) value_is result_is type_number words stands word = absurd word.is
@@ -211,7 +212,7 @@ module _ (declared : Declarations) (G : Image) (place line : ℕ) (below : List 
       → slice_get G.instructions place ≡ Some (instr op.LOAD (pos 0) 0 line)
       → (injection : Injection) (memory : MachineMemory) → IsSpot injection memory.types v p
       → IsLike memory.types p.type_number t → (s : meaning.State)
-      → Matches declared G injection s memory → has_ended v.allocation s ≡ false
+      → Matches layout G injection s memory → has_ended v.allocation s ≡ false
       → (value : Value) × (result_of v s ≡ Some (Structure t value)) × (o : Operand) × IsStructure t (Structure t value) injection memory o
       × (outcome G (at place (operand.Place p ∷ below) memory s.trace) ≡ record { weight = size_of t; to = Running 0 (at (place + 1) (o ∷ below) memory s.trace) })
   structure_loads t v p structured has injection memory spot described s matches living =
@@ -245,8 +246,8 @@ module _ (declared : Declarations) (G : Image) (place line : ℕ) (below : List 
       → slice_get G.instructions place ≡ Some (instr op.LOAD (pos 0) 0 line)
       → (injection : Injection) (memory : MachineMemory) → IsSpot injection memory.types v p
       → IsLike memory.types p.type_number t → (s : meaning.State)
-      → Matches declared G injection s memory → Here injection s memory → has_ended v.allocation s ≡ false
-      → (value : Value) × (result_of v s ≡ Some (Structure t value)) × Does declared G Here (at place (operand.Place p ∷ below) memory s.trace) (size_of t) (place + 1) (Inside untouched injection memory (OnTop (kind.Structured t) below (Structure t value))) s
+      → Matches layout G injection s memory → Here injection s memory → has_ended v.allocation s ≡ false
+      → (value : Value) × (result_of v s ≡ Some (Structure t value)) × Does layout G Here (at place (operand.Place p ∷ below) memory s.trace) (size_of t) (place + 1) (Inside untouched injection memory (OnTop (kind.Structured t) below (Structure t value))) s
   structure_found t v p structured has injection memory spot described s matches known living =
       let x = structure_loads t v p structured has injection memory spot described s matches living in (
         x.0,
@@ -278,8 +279,8 @@ module _ (declared : Declarations) (G : Image) (place line : ℕ) (below : List 
       → slice_get G.instructions place ≡ Some (instr op.LOAD (pos 0) 0 line)
       → (injection : Injection) (memory : MachineMemory) → IsSpot injection memory.types v p
       → IsLike memory.types p.type_number (type.Set low high) → (s : meaning.State)
-      → Matches declared G injection s memory → Here injection s memory → has_ended v.allocation s ≡ false
-      → ReadsResult declared G Here (at place (operand.Place p ∷ below) memory s.trace) 0 1 (unit_in G memory.frames) line (place + 1) (λ r. Inside untouched injection memory (OnTop (kind.Set host) below r)) s (result_of v s)
+      → Matches layout G injection s memory → Here injection s memory → has_ended v.allocation s ≡ false
+      → ReadsResult layout G Here (at place (operand.Place p ∷ below) memory s.trace) 0 1 (unit_in G memory.frames) line (place + 1) (λ r. Inside untouched injection memory (OnTop (kind.Set host) below r)) s (result_of v s)
   set_reads {untouched = untouched} {Here = Here} host low high v p has injection memory spot described s matches known living =
       let x : Stands injection s memory v p = place_stands matches spot living in
       let a : Allocation = x.allocation in
@@ -295,7 +296,7 @@ module _ (declared : Declarations) (G : Image) (place line : ℕ) (below : List 
       go : (value : Value) (own : List ℤ) → length own ≡ set_size
           → outcome G (at place (operand.Place p ∷ below) memory s.trace) ≡ in_one (after G (instr op.LOAD (pos 0) 0 line) (at place (operand.Place p ∷ below) memory s.trace) (on_operands (at place (operand.Place p ∷ below) memory s.trace) (set_loaded own below)))
           → result_of v s ≡ option_map Members (set_of value) → SetAt low high value (slice_get own) 0
-          → ReadsResult declared G Here (at place (operand.Place p ∷ below) memory s.trace) 0 1 (unit_in G memory.frames) line (place + 1) (λ r. Inside untouched injection memory (OnTop (kind.Set host) below r)) s (result_of v s)
+          → ReadsResult layout G Here (at place (operand.Place p ∷ below) memory s.trace) 0 1 (unit_in G memory.frames) line (place + 1) (λ r. Inside untouched injection memory (OnTop (kind.Set host) below r)) s (result_of v s)
       go Undefined own many leads result_is held = Nothing result_is (record { fails = leads ∙ rw (undefined_loaded own below held) refl })
       go (meaning.Word w) own many leads result_is held = absurd held
       go (meaning.Components of) own many leads result_is held = absurd held
@@ -315,8 +316,8 @@ module _ (declared : Declarations) (G : Image) (place line : ℕ) (below : List 
       → slice_get G.instructions place ≡ Some (instr op.LOAD (pos 0) 0 line)
       → (injection : Injection) (memory : MachineMemory) → IsSpot injection memory.types v p
       → IsLike memory.types p.type_number t → (s : meaning.State)
-      → Matches declared G injection s memory → Here injection s memory → has_ended v.allocation s ≡ false
-      → ReadsResult declared G Here (at place (operand.Place p ∷ below) memory s.trace) 0 1 (unit_in G memory.frames) line (place + 1) (λ r. Inside untouched injection memory (OnTop k below r)) s (result_of v s)
+      → Matches layout G injection s memory → Here injection s memory → has_ended v.allocation s ≡ false
+      → ReadsResult layout G Here (at place (operand.Place p ∷ below) memory s.trace) 0 1 (unit_in G memory.frames) line (place + 1) (λ r. Inside untouched injection memory (OnTop k below r)) s (result_of v s)
   load_reads (kind.Ordinal h) (type.Ordinal low high) v p of_kind has injection memory spot described s matches known living = word_reads h low high v p of_kind has injection memory spot described s matches known living
   load_reads (kind.Ordinal h) type.Text v p of_kind has injection memory spot described s matches known living = absurd of_kind
   load_reads (kind.Ordinal h) (type.Array low high of) v p of_kind has injection memory spot described s matches known living = absurd of_kind
@@ -350,7 +351,7 @@ module _ (declared : Declarations) (G : Image) (place line : ℕ) (below : List 
       → slice_get G.instructions place ≡ Some (instr op.DEFINED (pos 0) 0 line)
       → (injection : Injection) (memory : MachineMemory) → IsSpot injection memory.types v p
       → IsLike memory.types p.type_number (type.Ordinal low high) → (s : meaning.State)
-      → Matches declared G injection s memory → has_ended v.allocation s ≡ true
+      → Matches layout G injection s memory → has_ended v.allocation s ≡ true
       → FailsWith G (at place (operand.Place p ∷ below) memory s.trace) 0 11 (unit_in G memory.frames) line s
   defined_fails low high v p has injection memory spot described s matches ended =
       let e = like_ordinal memory.types p.type_number low high described in
@@ -361,7 +362,7 @@ module _ (declared : Declarations) (G : Image) (place line : ℕ) (below : List 
       → slice_get G.instructions place ≡ Some (instr op.DEFINED (pos 0) 0 line)
       → (injection : Injection) (memory : MachineMemory) → IsSpot injection memory.types v p
       → IsLike memory.types p.type_number (type.Ordinal low high) → (s : meaning.State)
-      → Matches declared G injection s memory → has_ended v.allocation s ≡ false
+      → Matches layout G injection s memory → has_ended v.allocation s ≡ false
       → outcome G (at place (operand.Place p ∷ below) memory s.trace) ≡ record { weight = 0; to = Running 0 (at (place + 1) (Word (bit (is_some (result_of v s))) ∷ below) memory s.trace) }
   defined_tells low high v p has injection memory spot described s matches living =
       let x : StandsOrdinal injection s memory v p low high = ordinal_stands low high matches spot described living in
@@ -390,7 +391,7 @@ module _ (declared : Declarations) (G : Image) (place line : ℕ) (below : List 
       → slice_get G.instructions place ≡ Some (instr op.LOAD (pos 0) 0 line)
       → (injection : Injection) (memory : MachineMemory) → IsSpot injection memory.types v p
       → IsLike memory.types p.type_number (type.Ordinal low high) → (s : meaning.State)
-      → Matches declared G injection s memory → has_ended v.allocation s ≡ false → (r : Result) → result_of v s ≡ Some r
+      → Matches layout G injection s memory → has_ended v.allocation s ≡ false → (r : Result) → result_of v s ≡ Some r
       → (z : ℤ) × (r ≡ Number z) × (outcome G (at place (operand.Place p ∷ below) memory s.trace) ≡ record { weight = 0; to = Running 0 (at (place + 1) (Word z ∷ below) memory s.trace) })
   load_leads low high v p has injection memory spot described s matches living r result =
       let x : StandsOrdinal injection s memory v p low high = ordinal_stands low high matches spot described living in
@@ -418,7 +419,7 @@ module _ (declared : Declarations) (G : Image) (place line : ℕ) (below : List 
       → slice_get G.instructions place ≡ Some (instr op.LOAD (pos 0) 0 line)
       → (injection : Injection) (memory : MachineMemory) → IsSpot injection memory.types v p
       → IsLike memory.types p.type_number (type.Set low high) → (s : meaning.State)
-      → Matches declared G injection s memory → has_ended v.allocation s ≡ false → (ns : List ℕ) → result_of v s ≡ Some (Members ns)
+      → Matches layout G injection s memory → has_ended v.allocation s ≡ false → (ns : List ℕ) → result_of v s ≡ Some (Members ns)
       → outcome G (at place (operand.Place p ∷ below) memory s.trace) ≡ record { weight = 0; to = Running 0 (at (place + 1) (operand.Set ns ∷ below) memory s.trace) }
   set_leads low high v p has injection memory spot described s matches living ns result =
       let x : Stands injection s memory v p = place_stands matches spot living in
@@ -448,7 +449,7 @@ module _ (declared : Declarations) (G : Image) (place line : ℕ) (below : List 
       → slice_get G.instructions place ≡ Some (instr op.LOAD (pos 0) 0 line)
       → (injection : Injection) (memory : MachineMemory) → IsSpot injection memory.types v p
       → IsLike memory.types p.type_number t → (s : meaning.State)
-      → Matches declared G injection s memory → has_ended v.allocation s ≡ false
+      → Matches layout G injection s memory → has_ended v.allocation s ≡ false
       → (r : Result) (earlier : Injection) (before : MachineMemory) (other : Operand) → IsValueOf earlier before k r other → result_of v s ≡ Some r
       → (o : Operand) × IsValueOf injection memory k r o × (outcome G (at place (operand.Place p ∷ below) memory s.trace) ≡ record { weight = weight_of r; to = Running 0 (at (place + 1) (o ∷ below) memory s.trace) })
   value_loads (kind.Ordinal h) (type.Ordinal low high) v p of_kind has injection memory spot described s matches living r earlier before other (z, r_is, of_host, o_is) result =

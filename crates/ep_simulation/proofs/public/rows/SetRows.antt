@@ -4,6 +4,7 @@ use Rattle.std.specs.Prelude.{int_lt, int_le, IsTrue}
 use Rattle.std.proofs.lemmas.Bool.Decides.{nat_tests}
 use Rattle.std.proofs.lemmas.Bool.{lt-ltb}
 use Rattle.ep_simulation.specs.Follows.{Facts, Inside}
+use Rattle.ep_simulation.specs.Layouts.{Layout}
 use Rattle.ep_simulation.specs.Matching.{MachineMemory, at, Injection, Matches, Slots}
 use Rattle.ep_object.specs.Operands.{Operand, Word, Set}
 use Rattle.ep_object.specs.Runs.{unit_in}
@@ -22,7 +23,6 @@ use Rattle.ep_values.specs.Events.{Trace}
 use Rattle.ep_values.specs.Operations.{ordinal_of}
 use Rattle.ep_values.specs.Sets.{has, is_member, is_ordinal, is_same_set, is_subset, least_member, with_member, with_number, with_numbers, with_span, union, difference, intersection, symmetric_difference}
 use Rattle.ep_meaning.specs.Steps as meaning
-use Rattle.ep_meaning.specs.Valid.{Declarations}
 use Rattle.ep_object.specs.declared.op.TheConstants as op
 use Rattle.ep_values.specs.declared.run_error.TheConstants as run_error
 
@@ -103,15 +103,15 @@ pub add_pushes : (G : Image) (place line : ℕ) (below : List Operand) (m : ℕ)
 add_pushes G place line below m ms less has memory trace =
     outcome_at G (instr op.SET_ADD (pos 0) 0 line) place (Word (pos m) ∷ Set ms ∷ below) memory trace has ∙ rw (lt-ltb m member_limit less) refl
 
-module _ {untouched : Slots} {Here : Facts} (declared : Declarations) (G : Image) (place line : ℕ) (below : List Operand) (injection : Injection) (memory : MachineMemory) (s : meaning.State) (matches : Matches declared G injection s memory) (known : Here injection s memory) (ms : List ℕ) where
+module _ {untouched : Slots} {Here : Facts} (layout : Layout) (G : Image) (place line : ℕ) (below : List Operand) (injection : Injection) (memory : MachineMemory) (s : meaning.State) (matches : Matches layout G injection s memory) (known : Here injection s memory) (ms : List ℕ) where
   -- `SetAdd`
   pub add_reads : (z : ℤ) → slice_get G.instructions place ≡ Some (instr op.SET_ADD (pos 0) 0 line)
-      → Reads declared G Here (at place (Word z ∷ Set ms ∷ below) memory s.trace) run_error.SET_MEMBER (unit_in G memory.frames) line (place + 1) (λ ns. Inside untouched injection memory (MembersOnTop below ns)) s (with_number z ms)
+      → Reads layout G Here (at place (Word z ∷ Set ms ∷ below) memory s.trace) run_error.SET_MEMBER (unit_in G memory.frames) line (place + 1) (λ ns. Inside untouched injection memory (MembersOnTop below ns)) s (with_number z ms)
   add_reads (negsuc n) has = Misses refl (record { fails = outcome_at G (instr op.SET_ADD (pos 0) 0 line) place (Word (negsuc n) ∷ Set ms ∷ below) memory s.trace has })
   add_reads (pos n) has = go (ltb n member_limit) refl
     where
       go : (b : Bool) → ltb n member_limit ≡ b
-          → Reads declared G Here (at place (Word (pos n) ∷ Set ms ∷ below) memory s.trace) run_error.SET_MEMBER (unit_in G memory.frames) line (place + 1) (λ ns. Inside untouched injection memory (MembersOnTop below ns)) s (with_number (pos n) ms)
+          → Reads layout G Here (at place (Word (pos n) ∷ Set ms ∷ below) memory s.trace) run_error.SET_MEMBER (unit_in G memory.frames) line (place + 1) (λ ns. Inside untouched injection memory (MembersOnTop below ns)) s (with_number (pos n) ms)
       go false e = Misses (rw e refl) (record { fails = outcome_at G (instr op.SET_ADD (pos 0) 0 line) place (Word (pos n) ∷ Set ms ∷ below) memory s.trace has ∙ rw e refl })
       go true e =
           Finds (with_member n ms) (rw e refl) (record {
@@ -126,14 +126,14 @@ module _ {untouched : Slots} {Here : Facts} (declared : Declarations) (G : Image
 
   -- `SetSpan`
   pub span_reads : (lo hi : ℤ) → IsSet ms → slice_get G.instructions place ≡ Some (instr op.SET_SPAN (pos 0) 0 line)
-      → Reads declared G Here (at place (Word hi ∷ Word lo ∷ Set ms ∷ below) memory s.trace) run_error.SET_MEMBER (unit_in G memory.frames) line (place + 1) (λ ns. Inside untouched injection memory (MembersOnTop below ns)) s (with_numbers lo hi ms)
+      → Reads layout G Here (at place (Word hi ∷ Word lo ∷ Set ms ∷ below) memory s.trace) run_error.SET_MEMBER (unit_in G memory.frames) line (place + 1) (λ ns. Inside untouched injection memory (MembersOnTop below ns)) s (with_numbers lo hi ms)
   span_reads lo hi is_set has = go (int_lt hi lo) (is_ordinal lo && is_ordinal hi) refl refl
     where
       i : Instr
       i = instr op.SET_SPAN (pos 0) 0 line
 
       go : (b c : Bool) → int_lt hi lo ≡ b → (is_ordinal lo && is_ordinal hi) ≡ c
-          → Reads declared G Here (at place (Word hi ∷ Word lo ∷ Set ms ∷ below) memory s.trace) run_error.SET_MEMBER (unit_in G memory.frames) line (place + 1) (λ ns. Inside untouched injection memory (MembersOnTop below ns)) s (with_numbers lo hi ms)
+          → Reads layout G Here (at place (Word hi ∷ Word lo ∷ Set ms ∷ below) memory s.trace) run_error.SET_MEMBER (unit_in G memory.frames) line (place + 1) (λ ns. Inside untouched injection memory (MembersOnTop below ns)) s (with_numbers lo hi ms)
       go true c e f =
           Finds ms (rw e refl) (record {
             injection = injection;

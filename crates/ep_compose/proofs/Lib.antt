@@ -1,0 +1,3 @@
+mod Activations
+mod Composed
+mod Turns
