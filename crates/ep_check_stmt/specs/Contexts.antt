@@ -3,7 +3,7 @@ use Rattle.std.specs.Prelude.{map}
 use Rattle.ep_check_stmt.specs.declared.statements.Context.{Context}
 use Rattle.ep_stmt_rules.specs.Answers.{locals_of, result_of}
 use Rattle.ep_stmt_rules.specs.Statements as rows
-use Rattle.ep_threats.specs.RoutineForms.{routine_form}
+use Rattle.ep_threats.specs.Callees.{callees_among}
 
 -- what they know
 abbrev pub context_of : Context → rows.Context
@@ -15,6 +15,6 @@ context_of c =
       results = map result_of c.results.now;
       locals = locals_of c.locals;
       members = c.members;
-      routines = map routine_form c.routines.now;
+      callees = callees_among c.routines.now;
       withs = c.withs;
     }

@@ -57,7 +57,7 @@ pub struct Context<'a> {
     pub locals: Locals<'a>,
     /// The number of the auxiliary variable of `for` statements over members among them (ISO 10206, 6.9.3.9.3).
     pub members: u32,
-    /// The routines of the unit.
+    /// The routines of the unit, with the headings that it is given.
     pub routines: &'a Routines<'a>,
     /// The number of the variable that stands for the next record which a `with` opens (ISO 10206, 6.9.3.10).
     pub withs: u32,

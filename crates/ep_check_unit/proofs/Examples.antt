@@ -249,16 +249,20 @@ given_nowhere c h = rw (nothing_assigned (codes "f"), h) refl
 abbrev threatened : ℕ → Bool
 threatened up =
     is_threatened inside_f.own.result
-    (inside_f.routines
-    ++ record {
-      name = codes "q";
-      line = 5;
-      formals = [];
-      result = None;
-      variables = [];
-      around = 1 ∷ [];
-      block = tree.Assign 5 (tree.Own up 1) (tree.Constant (pos 3));
-    } ∷ [])
+    (record {
+      own =
+          inside_f.routines
+          ++ record {
+            name = codes "q";
+            line = 5;
+            formals = [];
+            result = None;
+            variables = [];
+            around = 1 ∷ [];
+            block = tree.Assign 5 (tree.Own up 1) (tree.Constant (pos 3));
+          } ∷ [];
+      given = [];
+    })
     tree.none
 
 threatened_inside : threatened 1 ≡ true

@@ -1,10 +1,11 @@
 -- What has been declared in a block, as plain data.
-use Rattle.std.specs.Prelude.{ℕ, List, map, Option}
+use Rattle.std.specs.Prelude.{ℕ, List, [], map, Option}
 use Rattle.ep_typed.specs.declared.interface.ConstantEntry.{ConstantEntry}
 use Rattle.ep_typed.specs.declared.unit.UnitType.{UnitType}
 use Rattle.ep_typed.specs.declared.unit.UnitVariable.{UnitVariable}
 use Rattle.ep_scope.specs.Scopes.{Row}
 use Rattle.ep_scope.specs.declared.standard.StandardFiles.{StandardFiles}
+use Rattle.ep_threats.specs.Callees.{Callees}
 pub use Rattle.ep_threats.specs.RoutineForms.{RoutineForm, routine_form}
 use Rattle.ep_check_unit.specs.declared.block.Block as declared
 use Rattle.ep_check_unit.specs.declared.block.Forward.{Forward}
@@ -32,6 +33,10 @@ pub record Block : Type 0 where
   pub bodies : List ℕ
   -- the line of the first item that is accepted and not built
   pub waits : Option ℕ
+
+-- the routines that its code may call; it is given no heading so far
+abbrev pub block_callees : Block → Callees
+block_callees b = record { own = b.routines; given = [] }
 
 abbrev pub block_of : declared.Block → Block
 block_of b =

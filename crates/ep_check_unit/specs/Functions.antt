@@ -10,10 +10,10 @@ use Rattle.ep_scope.specs.declared.parameter.Protection.TheVariants as protectio
 use Rattle.ep_scope.specs.declared.rule.TheConstants as rule
 use Rattle.ep_scope.specs.declared.thing.Declaration.TheVariants as declaration
 use Rattle.ep_rules.specs.Judgements.{Judged, Accepts}
-use Rattle.ep_threats.specs.RoutineForms.{formals_at}
+use Rattle.ep_threats.specs.Callees.{Callees, formals_at}
 use Rattle.ep_stmt_rules.specs.Statements.{FunctionResult, Judgement, Passes, Waits, Fails}
 use Rattle.ep_threats.specs.Threats.{inner_threatens, stmts_threaten}
-use Rattle.ep_check_unit.specs.Blocks.{Block, RoutineForm}
+use Rattle.ep_check_unit.specs.Blocks.{Block, RoutineForm, block_callees}
 use Rattle.ep_check_unit.specs.Declarations.{Standing, Falls, entered, own_thing, scopes_of}
 use Rattle.ep_unit_rules.specs.declared.own.Enclosing.{Enclosing}
 use Rattle.ep_unit_rules.specs.declared.own.OwnResult.{OwnResult}
@@ -82,11 +82,11 @@ is_in_view (Some r) name b = r.named || is_that_function b.unit r.function (mean
 
 -- The statements of the function, or those of a routine in it, threaten the variable that has the result (ISO 10206,
 -- 6.9.4).
-abbrev pub is_threatened : Option OwnResult → List RoutineForm → Stmts → Bool
-is_threatened None routines ss = true
-is_threatened (Some r) routines ss =
-    stmts_threaten (formals_at routines) (tree.OfRoutine 0 r.variable) ss
-    || inner_threatens r.function routines r.variable
+abbrev pub is_threatened : Option OwnResult → Callees → Stmts → Bool
+is_threatened None callees ss = true
+is_threatened (Some r) callees ss =
+    stmts_threaten (formals_at callees) (tree.OfRoutine 0 r.variable) ss
+    || inner_threatens r.function callees r.variable
 
 -- A routine in the function waits: its statements, which may give the result, are not known.
 abbrev pub is_open : Option OwnResult → List RoutineForm → Option ℕ → Bool
@@ -96,7 +96,7 @@ is_open (Some r) routines waits = is_some waits && has_unknown r.function routin
 -- Statements that break a rule, or wait for what is not built, count as those that do. So do all where a routine in
 -- the function itself waits, since its statements may not be known; what waits elsewhere says nothing of the function.
 abbrev pub row_gives : Block → Judgement Stmts → Bool
-row_gives b (Passes ss) = is_open b.own.result b.routines b.waits || is_threatened b.own.result b.routines ss
+row_gives b (Passes ss) = is_open b.own.result b.routines b.waits || is_threatened b.own.result (block_callees b) ss
 row_gives b (Waits line) = true
 row_gives b (Fails line rules) = true
 

@@ -35,7 +35,7 @@ use Rattle.ep_stmt_rules.specs.Statements.{compound_judged}
 use Rattle.ep_stmt_rules.specs.Tags.{assigns_tag}
 use Rattle.ep_unit_rules.specs.Own.{around_of, first_own, own_count}
 use Rattle.ep_threats.specs.RoutineForms.{block_set}
-use Rattle.ep_check_unit.specs.Blocks.{Block, RoutineForm}
+use Rattle.ep_check_unit.specs.Blocks.{Block, RoutineForm, block_callees}
 use Rattle.ep_unit_rules.specs.Numbers.{has_number}
 use Rattle.ep_unit_rules.specs.declared.own.Enclosing.{Enclosing}
 use Rattle.ep_unit_rules.specs.declared.own.OwnVariables.{OwnVariables}
@@ -275,7 +275,7 @@ context_of b c =
       results = assigned_functions b.own.enclosing;
       locals = locals_of b;
       members = members_of (scopes_of b) (locals_of b) c;
-      routines = b.routines;
+      callees = block_callees b;
       withs = withs_of (scopes_of b) (locals_of b) c;
     }
 

@@ -5,7 +5,7 @@ ghost use Rattle.std.specs.Prelude.{◌≡◌, Some, IfOk, map};
 ghost use Rattle.ep_rules.specs.Answers.{AnswersForm};
 ghost use Rattle.ep_stmt_rules.specs.Answers.{passed, result_of, stmts_of};
 ghost use Rattle.ep_check_unit.specs.Answers.{AnswersBlock, AnswersGiven};
-ghost use Rattle.ep_check_unit.specs.Blocks.{block_of};
+ghost use Rattle.ep_check_unit.specs.Blocks.{block_callees, block_of};
 ghost use Rattle.ep_check_unit.specs.Functions as spec;
 ghost use Rattle.ep_check_unit.specs.Functions.{assigned_function, is_named, own_name_entered, row_gives};
 ghost use Rattle.ep_check_unit.specs.Routines.{given_among, part_judged, result_judged, routine_judged};
@@ -15,7 +15,7 @@ use ep_base::{Line, List, Name, NoMemory};
 use ep_rules::Refusal;
 use ep_scope::{Declaration, Protection, meaning_of, rule};
 use ep_stmt_rules::{CheckRefusal, FunctionResult, Outcome, refused_at};
-use ep_threats::{Entire, inner_threatens, threatens};
+use ep_threats::{Callees, Entire, inner_threatens, threatens};
 use ep_tree::{Compound, Part, QualifiedName, Routine, RoutineBody};
 use ep_typed::{TypedStmt, TypedStmts};
 use ep_unit_rules::{
@@ -121,16 +121,13 @@ impl Block {
     /// Whether these statements, or those of a routine in the function, threaten the variable that has its result.
     fn is_threatened(&self, own: OwnResult, statements: &[TypedStmt]) -> Result<bool, NoMemory>
         ensures { IfOk result (λ threatened. threatened ≡ spec.is_threatened (Some own)
-            (block_of self.now).routines (stmts_of statements.now)) }
+            (block_callees (block_of self.now)) (stmts_of statements.now)) }
     {
-        if threatens(
-            self.routines.items(),
-            Entire::Own(0, own.variable),
-            statements,
-        ) {
+        let callees = Callees::of(self.routines.items(), &[]);
+        if threatens(&callees, Entire::Own(0, own.variable), statements) {
             return Ok(true);
         }
-        inner_threatens(own.function, &self.routines, own.variable)
+        inner_threatens(own.function, &self.routines, &[], own.variable)
     }
 
     /// The functions to whose names the block assigns, the innermost first.

@@ -1,6 +1,6 @@
 //! The parts of a block, and declarations of procedures and functions.
 
-ghost use Rattle.std.specs.Prelude.{◌≡◌, None, true, false, IfOk, map};
+ghost use Rattle.std.specs.Prelude.{◌≡◌, [], None, true, false, IfOk, map};
 ghost use Rattle.ep_built.specs.Built.{compound_unbuilt, first_in, part_unbuilt, routine_unbuilt, start_unbuilt};
 ghost use Rattle.ep_typed.specs.Trees as tree;
 ghost use Rattle.ep_stmt_rules.specs.Answers.{AnswersRow, locals_of as locals_view, passed, stmts_of};
@@ -76,22 +76,22 @@ fn withs_behind(members: u32, statements: &Compound) -> Result<u32, Refusal>
     }
 }
 
-/// The routines of the unit as the statements of a block with these variables see them. Where these have a `for`, it is
-/// gathered once which of the variables are threatened, since each `for` asks it of one.
+/// The routines of the unit, which is given no heading so far, as the statements of a block with these variables see them.
+/// Where these have a `for`, it is gathered once which of the variables are threatened, since each `for` asks it of one.
 fn known_routines<'a>(
     alloc: Global,
     locals: Locals<'a>,
     routines: &'a RoutineTable,
     statements: &Compound,
 ) -> Result<Routines<'a>, NoMemory>
-    ensures { IfOk result (λ known. known ≡ routines.now) }
+    ensures { IfOk result (λ known. known ≡ (routines.now, [])) }
 {
     if !has_for(statements) && !has_for_in(statements) {
-        return Ok(Routines::new(alloc, routines));
+        return Ok(Routines::new(alloc, routines, &[]));
     }
     match locals {
-        Locals::Unit(unit, _) => Routines::of_unit(alloc, unit, routines),
-        Locals::Routine(routine, _, _) => Routines::of_routine(alloc, routine, routines),
+        Locals::Unit(unit, _) => Routines::of_unit(alloc, unit, routines, &[]),
+        Locals::Routine(routine, _, _) => Routines::of_routine(alloc, routine, routines, &[]),
     }
 }
 

@@ -4,7 +4,7 @@ use Rattle.std.proofs.lemmas.List.Elements.{All-nil, All-cons, All-replicate}
 use Rattle.ep_token.specs.Tokens.{is_separator}
 use Rattle.ep_token.specs.declared.token.Token.{Token}
 use Rattle.ep_token.specs.declared.token.TokenKind.{TokenKind}
-use Rattle.ep_marks.specs.Marks.{Mark}
+use Rattle.ep_marks.specs.declared.mark.Mark.{Mark}
 use Rattle.ep_pieces.specs.declared.piece.Piece.{Piece}
 use Rattle.ep_pieces.specs.Pieces.{Pieces, is_comment, kind_of, token_kind, without_comments}
 use Rattle.ep_pieces.specs.Joining.{joined, IsSpace, IsGap, AreSpaced, second}

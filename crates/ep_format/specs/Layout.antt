@@ -7,7 +7,8 @@ use Rattle.ep_token.specs.declared.token.Token.{Token}
 use Rattle.ep_token.specs.declared.token.TokenKind.{TokenKind}
 use Rattle.ep_token.specs.declared.token.TokenKind.TheVariants.{Sym}
 use Rattle.ep_grammar.specs.declared.stop.TheConstants.{MAX_NESTING}
-use Rattle.ep_marks.specs.Marks.{Mark, no_mark}
+use Rattle.ep_marks.specs.Marks.{no_mark}
+use Rattle.ep_marks.specs.declared.mark.Mark.{Mark}
 use Rattle.ep_marks.specs.Texts.{text_marks}
 use Rattle.ep_pieces.specs.declared.piece.Piece.{Piece}
 use Rattle.ep_pieces.specs.declared.kind.TheConstants as kind

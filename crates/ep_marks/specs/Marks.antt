@@ -7,12 +7,8 @@ use Rattle.ep_grammar.specs.Classes.{Class, has, class_of}
 use Rattle.ep_grammar.specs.Descriptions.{Nonterminal, Step, More, Last, Syntax, inside, apply}
 use Rattle.ep_grammar.specs.Descriptions.{either, switch, row, deeper, shaped}
 use Rattle.ep_grammar.specs.Reading.{Inside, Outcome, Parser, read}
+pub use Rattle.ep_marks.specs.declared.mark.Mark.{Mark}
 use Rattle.ep_marks.specs.Styles.{Style, within, part, choice, rows, level, shapes, starts, indents, given}
-
--- whether a token starts a line, and in how many parts it stands that are written deeper
-pub record Mark : Type 0 where
-  pub starts : Bool
-  pub depth : ℕ
 
 abbrev pub no_mark : Mark
 no_mark = record { starts = false; depth = 0 }

@@ -9,7 +9,11 @@
 //! specs/Marks.antt the marks that it gives, and specs/Texts.antt the laws.
 #![tactic(auto)]
 
+mod mark;
+
 ghost use Rattle.ep_marks.specs.Texts.{EachTokenIsMarked, StylesFit};
+
+pub use mark::Mark;
 
 /// Does nothing: its contract states what holds of the styles and of every text.
 pub fn laws_of_marks()

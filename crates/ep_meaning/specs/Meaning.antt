@@ -716,10 +716,10 @@ handler_of units (suc depth) =
       named_type = λ from line index. type_does (handler_of units depth) depth from line (type_in units from index);
     }
 
--- The meaning of joined units within so many steps: they are started in order, and then all but the last one are stopped
--- in reverse. Loops turn and calls nest at most that often, which is enough, since each turn and each call spends a
--- step.
+-- The meaning of joined units within so many steps: they are started in order, and then all but the last one are
+-- stopped in reverse. Loops turn and calls nest at most that often, which is enough, since each turn and each call
+-- spends a step.
 abbrev pub meaning : List TypedUnit → ℕ → Outcome (Unit {0})
 meaning units steps =
-    starts_of (handler_of units steps) steps units (stops_of (handler_of units steps) steps (stopped_units units)) steps
-    first_state
+    starts_of (handler_of units steps) steps units
+    (stops_of (handler_of units steps) steps (stopped_units units)) steps first_state

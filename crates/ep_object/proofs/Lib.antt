@@ -1,5 +1,6 @@
 mod Effects
 mod Examples
+mod Numbers
 pub mod public
 mod Ticks
 mod TypeEntries

@@ -9,4 +9,4 @@
 
 mod statements;
 
-pub use statements::{boxed_statement, compound};
+pub use statements::{accesses, boxed_statement, compound, simple_statement};

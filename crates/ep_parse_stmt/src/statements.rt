@@ -335,7 +335,7 @@ fn for_rest(
 }
 
 /// `access { "," access }`
-fn accesses(alloc: Global, reader: &mut Reader<'_>, room: u32) -> Result<List<Access>, Stop>
+pub fn accesses(alloc: Global, reader: &mut Reader<'_>, room: u32) -> Result<List<Access>, Stop>
     ensures { Reads (read (inside_at room) accesses reader.old) result reader.new }
 {
     separated(
@@ -365,7 +365,11 @@ fn with_statement(alloc: Global, reader: &mut Reader<'_>, room: u32) -> Result<S
 
 /// `access [ ":=" cvalue ]`
 #[tactic(auto, unfolding(ep_grammar::specs::Statements::simple_statement))]
-fn simple_statement(alloc: Global, reader: &mut Reader<'_>, room: u32) -> Result<Statement, Stop>
+pub fn simple_statement(
+    alloc: Global,
+    reader: &mut Reader<'_>,
+    room: u32,
+) -> Result<Statement, Stop>
     ensures { Reads (read (inside_at room) simple_statement reader.old) result reader.new }
 {
     let line = reader.line();

@@ -54,7 +54,7 @@ pub fn names_in_parentheses(
 
 /// `[ "value" cvalue ]`
 #[tactic(auto, unfolding(ep_grammar::specs::Types::initial))]
-fn initial(
+pub fn initial(
     alloc: Global,
     reader: &mut Reader<'_>,
     room: u32,
@@ -267,7 +267,7 @@ fn structured(alloc: Global, reader: &mut Reader<'_>, room: u32) -> Result<Core,
 /// `core`
 #[cycle(types)]
 #[tactic(auto, unfolding(ep_grammar::specs::Types::core))]
-fn core(alloc: Global, reader: &mut Reader<'_>, room: u32) -> Result<Core, Stop>
+pub fn core(alloc: Global, reader: &mut Reader<'_>, room: u32) -> Result<Core, Stop>
     ensures { Reads (read (inside_at room) core reader.old) result reader.new }
 {
     if reader.sees_symbol(symbol::LEFT_PARENTHESIS) {
@@ -318,7 +318,7 @@ fn field_section(alloc: Global, reader: &mut Reader<'_>, room: u32) -> Result<Fi
 
 /// `id ":" name | id`
 #[tactic(auto, unfolding(ep_grammar::specs::Types::variant_selector))]
-fn variant_selector(
+pub fn variant_selector(
     alloc: Global,
     reader: &mut Reader<'_>,
     room: u32,

@@ -10,4 +10,4 @@
 
 mod denoters;
 
-pub use denoters::{names, names_in_parentheses, type_denoter};
+pub use denoters::{core, initial, names, names_in_parentheses, type_denoter, variant_selector};

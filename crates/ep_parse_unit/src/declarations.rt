@@ -27,7 +27,7 @@ use std::alloc::Global;
 
 /// `id "=" cvalue ";"`
 #[tactic(auto, unfolding(ep_grammar::specs::Declarations::constant_definition))]
-fn constant_definition(
+pub fn constant_definition(
     alloc: Global,
     reader: &mut Reader<'_>,
     room: u32,
@@ -110,7 +110,7 @@ fn discriminant_sections(
 
 /// `[ "(" dsec { ";" dsec } ")" ]`
 #[tactic(auto, unfolding(ep_grammar::specs::Declarations::discriminants))]
-fn discriminants(
+pub fn discriminants(
     alloc: Global,
     reader: &mut Reader<'_>,
     room: u32,
@@ -381,7 +381,11 @@ fn function_start(alloc: Global, reader: &mut Reader<'_>, room: u32) -> Result<R
 
 /// `rhead | "function" id`
 #[tactic(auto, unfolding(ep_grammar::specs::Declarations::routine_start))]
-fn routine_start(alloc: Global, reader: &mut Reader<'_>, room: u32) -> Result<RoutineStart, Stop>
+pub fn routine_start(
+    alloc: Global,
+    reader: &mut Reader<'_>,
+    room: u32,
+) -> Result<RoutineStart, Stop>
     ensures { Reads (read (inside_at room) routine_start reader.old) result reader.new }
 {
     if !reader.sees_word(word::PROCEDURE) {
@@ -454,7 +458,7 @@ pub(crate) fn parts(alloc: Global, reader: &mut Reader<'_>, room: u32) -> Result
 
 /// `"forward"`
 #[tactic(auto, unfolding(ep_grammar::specs::Declarations::forward_body))]
-fn forward_body(alloc: Global, reader: &mut Reader<'_>, room: u32) -> Result<RoutineBody, Stop>
+pub fn forward_body(alloc: Global, reader: &mut Reader<'_>, room: u32) -> Result<RoutineBody, Stop>
     ensures { Reads (read (inside_at room) forward_body reader.old) result reader.new }
 {
     let line = reader.line();

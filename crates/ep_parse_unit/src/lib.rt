@@ -11,4 +11,5 @@
 mod declarations;
 mod units;
 
-pub use units::all_components;
+pub use declarations::{constant_definition, discriminants, forward_body, routine_start};
+pub use units::{all_components, export_part, heading_routine, import_specification, parameters};

@@ -32,7 +32,7 @@ type Actions = (Option<Boxed<Statement>>, Option<Boxed<Statement>>);
 
 /// `[ "(" ids ")" ]`
 #[tactic(auto, unfolding(ep_grammar::specs::Units::parameters))]
-fn parameters(alloc: Global, reader: &mut Reader<'_>, room: u32) -> Result<Names, Stop>
+pub fn parameters(alloc: Global, reader: &mut Reader<'_>, room: u32) -> Result<Names, Stop>
     ensures { Reads (read (inside_at room) parameters reader.old) result reader.new }
 {
     if !reader.sees_symbol(symbol::LEFT_PARENTHESIS) {
@@ -117,7 +117,11 @@ fn import_part(
 
 /// `import ";"`, where `import = id [ "qualified" ] [ [ "only" ] "(" iitem { "," iitem } ")" ]`
 #[tactic(auto, unfolding(ep_grammar::specs::Units::import_specification))]
-fn import_specification(alloc: Global, reader: &mut Reader<'_>, room: u32) -> Result<Import, Stop>
+pub fn import_specification(
+    alloc: Global,
+    reader: &mut Reader<'_>,
+    room: u32,
+) -> Result<Import, Stop>
     ensures { Reads (read (inside_at room) import_specification reader.old) result reader.new }
 {
     let line = reader.line();
@@ -218,7 +222,7 @@ fn export_items(alloc: Global, reader: &mut Reader<'_>, room: u32) -> Result<Lis
 
 /// `export ";"`, where `export = id "=" "(" eitem { "," eitem } ")"`
 #[tactic(auto, unfolding(ep_grammar::specs::Units::export_part))]
-fn export_part(alloc: Global, reader: &mut Reader<'_>, room: u32) -> Result<Export, Stop>
+pub fn export_part(alloc: Global, reader: &mut Reader<'_>, room: u32) -> Result<Export, Stop>
     ensures { Reads (read (inside_at room) export_part reader.old) result reader.new }
 {
     let line = reader.line();
@@ -255,7 +259,11 @@ fn exports(alloc: Global, reader: &mut Reader<'_>, room: u32) -> Result<List<Exp
 
 /// `rhead ";"`
 #[tactic(auto, unfolding(ep_grammar::specs::Units::heading_routine))]
-fn heading_routine(alloc: Global, reader: &mut Reader<'_>, room: u32) -> Result<HeadingPart, Stop>
+pub fn heading_routine(
+    alloc: Global,
+    reader: &mut Reader<'_>,
+    room: u32,
+) -> Result<HeadingPart, Stop>
     ensures { Reads (read (inside_at room) heading_routine reader.old) result reader.new }
 {
     let heading = routine_heading(alloc, reader, room)?;

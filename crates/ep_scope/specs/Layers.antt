@@ -117,4 +117,5 @@ HasFields old number fields new =
 pub data Adds (old : FieldTable) (number : ℕ) (fields : List FieldType) (new : FieldTable) : Type 0 where
   Asked : new.places ≡ old.places → new.large ≡ old.large ++ number ∷ [] → Adds old number fields new
   Listed :
-      new.large ≡ old.large → HasFields old.places.entries number fields new.places.entries → Adds old number fields new
+      new.large ≡ old.large → HasFields old.places.entries number fields new.places.entries
+      → Adds old number fields new

@@ -7,8 +7,8 @@
 //! A required identifier: specs/Required.antt, src/required.rt. The number of a static rule: src/rule.rt. What is
 //! declared of a name: src/thing.rt, of parameters src/parameter.rt, of structured types src/structure.rt, and how they
 //! and the fields of records are found src/structures.rt and src/fields.rt with specs/Numbers.antt and specs/Fields.antt.
-//! Kinds: src/kind.rt, specs/Kinds.antt. Which standard files code may use: src/standard.rt, specs/Standard.antt. Records that `with` opens: src/record.rt, specs/Records.antt, and how their
-//! fields are found src/layer.rt, specs/Layers.antt.
+//! Kinds: src/kind.rt, specs/Kinds.antt. Which standard files code may use: src/standard.rt, specs/Standard.antt. Records
+//! that `with` opens: src/record.rt, specs/Records.antt, and how their fields are found src/layer.rt, specs/Layers.antt.
 #![tactic(auto)]
 
 mod entries;

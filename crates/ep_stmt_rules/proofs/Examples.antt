@@ -9,10 +9,12 @@ use Rattle.ep_tree.specs.declared.expression.Factor.TheVariants as factor
 use Rattle.ep_tree.specs.declared.expression.Selector.TheVariants as selector
 use Rattle.ep_typed.specs.Trees as tree
 use Rattle.ep_typed.specs.Trees.{Stmt, Accessed, Assign, Constant, Empty, Evaluated, ForIn, Indexed, Own, Procedure, Read, Variable, actuals}
+use Rattle.ep_typed.specs.declared.denoter.Denoter.TheVariants as denoter
 use Rattle.ep_typed.specs.declared.denoter.RequiredType.{RequiredType}
 use Rattle.ep_typed.specs.declared.denoter.RequiredType.TheVariants as simple
 use Rattle.ep_typed.specs.declared.interface.FormalMode.{FormalMode}
 use Rattle.ep_typed.specs.declared.interface.FormalMode.TheVariants as mode
+use Rattle.ep_typed.specs.declared.interface.Interface.{Interface}
 use Rattle.ep_typed.specs.declared.value.Value.TheVariants as value
 use Rattle.ep_scope.specs.declared.structure.Composition.TheVariants as composition
 use Rattle.ep_scope.specs.declared.structure.StructuredType.{StructuredType}
@@ -32,6 +34,7 @@ use Rattle.ep_rules.specs.declared.access.Access.TheVariants as access
 use Rattle.ep_check_expr.proofs.public.Nodes.{access-judged, argument-judged, expression-judged, indexes-judged, simple-judged, term-judged, name-judged, number-judged}
 use Rattle.ep_check_expr.specs.Expressions.{judged}
 use Rattle.ep_rules.specs.Judgements.{Judged, Accepts, Breaks, both}
+use Rattle.ep_threats.specs.Callees.{Callees}
 use Rattle.ep_threats.specs.RoutineForms.{RoutineForm}
 use Rattle.ep_stmt_rules.specs.Statements.{At, Context, FunctionResult, MemberHead, OfRoutine, OfUnit, assigned, counted_by, declared_called, declared_control, declared_target, function_target, is_threatened_in, members_judged, stmt_threat, target_judged, unless_threatening}
 
@@ -67,6 +70,10 @@ declares_at level number what = record { unit = codes "u"; number = number; leve
 abbrev declares : ℕ → Declaration → Declared
 declares number what = declares_at 0 number what
 
+-- no routine
+abbrev nothing_called : Callees
+nothing_called = record { own = []; given = [] }
+
 -- the integer x and the char c
 abbrev context : Context
 context =
@@ -85,7 +92,7 @@ context =
       results = [];
       locals = OfUnit (codes "u") 2;
       members = 2;
-      routines = [];
+      callees = nothing_called;
       withs = 3;
     }
 
@@ -149,8 +156,8 @@ abbrev form : List ℕ → List ℕ → Stmt → RoutineForm
 form name around s = record { name = name; line = 1; formals = []; result = None; variables = []; around = around; block = s }
 
 -- routine 0, in it 1, and in that 2, which assigns to variable 5 so many levels up
-abbrev nested : ℕ → List RoutineForm
-nested up = form (codes "a") [] Empty ∷ form (codes "b") (0 ∷ []) Empty ∷ form (codes "c") (1 ∷ 0 ∷ []) (Assign 1 (Own up 5) (Constant (pos 1))) ∷ []
+abbrev nested : ℕ → Callees
+nested up = record { own = form (codes "a") [] Empty ∷ form (codes "b") (0 ∷ []) Empty ∷ form (codes "c") (1 ∷ 0 ∷ []) (Assign 1 (Own up 5) (Constant (pos 1))) ∷ []; given = [] }
 
 -- it threatens the one of routine 0 two levels up, and that of routine 1 one level up, and its own in no other one
 two_levels_up : is_threatened_in (OfRoutine 0 0 9) (nested 2) (tree.OfRoutine 0 5) ≡ true
@@ -164,6 +171,28 @@ one_level_up_of_inner = refl
 
 by_itself : is_threatened_in (OfRoutine 2 0 9) (nested 0) (tree.OfRoutine 0 5) ≡ false
 by_itself = refl
+
+-- p(v) of another unit, whose heading has a variable parameter of p, threatens v, and so does one of this unit that has it
+abbrev heading : Interface
+heading =
+    record {
+      «module» = codes "m";
+      imports = [];
+      types = [];
+      constants = [];
+      variables = [];
+      routines = record { name = codes "p"; formals = record { name = codes "a"; mode = mode.Variable; section = 0; denoter = denoter.Required simple.Integer } ∷ []; result = None } ∷ [];
+      exports = [];
+    }
+
+abbrev calls : List ℕ → Stmt
+calls unit = Procedure 1 (record { unit = unit; number = 0; levels = 0 }) (actuals (Accessed (Variable (codes "u") 0) ∷ []))
+
+threatened_by_call : stmt_threat (record { own = []; given = heading ∷ [] }) (tree.OfUnit (codes "u") 0) (calls (codes "m")) ≡ true
+threatened_by_call = refl
+
+no_such_routine : stmt_threat (record { own = []; given = heading ∷ [] }) (tree.OfUnit (codes "u") 0) (calls (codes "u")) ≡ false
+no_such_routine = refl
 
 -- ---- the names of functions
 
@@ -179,7 +208,7 @@ other_function = refl
 
 -- inside of `for x`, x := 3 and c := 3
 abbrev inside : ℕ → Judged (Option Stmt)
-inside number = unless_threatening (stmt_threat []) (tree.OfUnit (codes "u") 0 ∷ []) (Accepts (Some (Assign 1 (Variable (codes "u") number) (Constant (pos 3)))))
+inside number = unless_threatening (stmt_threat nothing_called) (tree.OfUnit (codes "u") 0 ∷ []) (Accepts (Some (Assign 1 (Variable (codes "u") number) (Constant (pos 3)))))
 
 assigned_inside : inside 0 ≡ Breaks (rule.CONTROL_THREATENED ∷ [])
 assigned_inside = refl
@@ -265,10 +294,10 @@ array_does_not_count : counted_by (tree.OfUnit (codes "u") 2) (kind.Structured 3
 array_does_not_count = refl
 
 -- a[v] := 3 threatens a, and not the control variable v
-threatened_array : stmt_threat [] (tree.OfUnit (codes "u") 2) (Assign 1 (Indexed (Variable (codes "u") 2) (Read (Variable (codes "u") 5))) (Constant (pos 3))) ≡ true
+threatened_array : stmt_threat nothing_called (tree.OfUnit (codes "u") 2) (Assign 1 (Indexed (Variable (codes "u") 2) (Read (Variable (codes "u") 5))) (Constant (pos 3))) ≡ true
 threatened_array = refl
 
-index_is_no_threat : stmt_threat [] (tree.OfUnit (codes "u") 5) (Assign 1 (Indexed (Variable (codes "u") 2) (Read (Variable (codes "u") 5))) (Constant (pos 3))) ≡ false
+index_is_no_threat : stmt_threat nothing_called (tree.OfUnit (codes "u") 5) (Assign 1 (Indexed (Variable (codes "u") 2) (Read (Variable (codes "u") 5))) (Constant (pos 3))) ≡ false
 index_is_no_threat = refl
 
 -- ---- `for` over members
@@ -294,8 +323,8 @@ no_set : over (kind.Ordinal host.Char) ≡ Breaks (rule.ASSIGNMENT ∷ [])
 no_set = refl
 
 -- it threatens its control variable, and not its auxiliary one
-control_threatened : stmt_threat [] (tree.OfUnit (codes "u") 1) (ForIn 1 char_head.control char_head.set Empty) ≡ true
+control_threatened : stmt_threat nothing_called (tree.OfUnit (codes "u") 1) (ForIn 1 char_head.control char_head.set Empty) ≡ true
 control_threatened = refl
 
-rest_not_threatened : stmt_threat [] (tree.OfUnit (codes "u") 4) (ForIn 1 char_head.control char_head.set Empty) ≡ false
+rest_not_threatened : stmt_threat nothing_called (tree.OfUnit (codes "u") 4) (ForIn 1 char_head.control char_head.set Empty) ≡ false
 rest_not_threatened = refl

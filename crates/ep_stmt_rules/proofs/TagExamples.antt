@@ -72,7 +72,7 @@ abbrev opened : Protection → List Region
 opened guarded = within (record { variable = tree.OfUnit (codes "u") 9; guarded = guarded; fields = fields }) in_view
 
 abbrev context : List Region → Context
-context scopes = record { unit = codes "u"; scopes = scopes; files = record { input = false; output = false }; results = []; locals = OfUnit (codes "u") 2; members = 2; routines = []; withs = 9 }
+context scopes = record { unit = codes "u"; scopes = scopes; files = record { input = false; output = false }; results = []; locals = OfUnit (codes "u") 2; members = 2; callees = record { own = []; given = [] }; withs = 9 }
 
 -- a name, and one with a field
 abbrev alone : List ℕ → Access

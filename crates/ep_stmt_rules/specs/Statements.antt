@@ -67,7 +67,7 @@ use Rattle.ep_check_expr.specs.Expressions.{given, judged, judged_value, name_ju
 use Rattle.ep_check_expr.specs.StructuredValues.{asked_by}
 use Rattle.ep_tree.specs.declared.expression.ComponentValue.{ComponentValue}
 use Rattle.ep_stmt_rules.specs.Cases.{CaseSelector, own_ranges, selector_judged}
-use Rattle.ep_threats.specs.RoutineForms.{RoutineForm, formals_at}
+use Rattle.ep_threats.specs.Callees.{Callees, formals_at}
 use Rattle.ep_threats.specs.Threats.{expr_threatens, inner_threatens, is_variable, place_threatens, threatens}
 
 -- ---- rows of items
@@ -413,16 +413,16 @@ counted_by variable _ = Breaks (rule.ORDINAL ∷ [])
 
 -- One that a routine of the block threatens is none, however deep it is (ISO 10206, 6.9.3.9.1). Variables of a unit
 -- are the same from everywhere; in the block of a routine no variable of a unit counts.
-abbrev pub is_threatened_in : Locals → List RoutineForm → Entire → Bool
-is_threatened_in (OfUnit unit auxiliary) routines variable =
-    list_any (λ r. threatens (formals_at routines) variable r.block) routines
-is_threatened_in (OfRoutine routine first auxiliary) routines (tree.OfRoutine up number) =
-    inner_threatens routine routines number
-is_threatened_in (OfRoutine routine first auxiliary) routines variable = false
+abbrev pub is_threatened_in : Locals → Callees → Entire → Bool
+is_threatened_in (OfUnit unit auxiliary) callees variable =
+    list_any (λ r. threatens (formals_at callees) variable r.block) callees.own
+is_threatened_in (OfRoutine routine first auxiliary) callees (tree.OfRoutine up number) =
+    inner_threatens routine callees number
+is_threatened_in (OfRoutine routine first auxiliary) callees variable = false
 
-abbrev pub unless_threatened_in : Locals → List RoutineForm → Counted → Judged Counted
-unless_threatened_in locals routines c =
-    if is_threatened_in locals routines c.variable then Breaks (rule.CONTROL_THREATENED ∷ []) else Accepts c
+abbrev pub unless_threatened_in : Locals → Callees → Counted → Judged Counted
+unless_threatened_in locals callees c =
+    if is_threatened_in locals callees c.variable then Breaks (rule.CONTROL_THREATENED ∷ []) else Accepts c
 
 abbrev pub falls_by : Direction → Bool
 falls_by direction.To = false
@@ -499,19 +499,19 @@ unless_threatening threat controls (Breaks rules) = Breaks rules
 
 -- the items that are one: a statement without statements inside, an expression of a statement, or a `for` of either
 -- form without its body
-abbrev pub stmt_threat : List RoutineForm → Entire → Stmt → Bool
-stmt_threat routines v s = threatens (formals_at routines) v s
+abbrev pub stmt_threat : Callees → Entire → Stmt → Bool
+stmt_threat callees v s = threatens (formals_at callees) v s
 
-abbrev pub expr_threat : List RoutineForm → Entire → Expr → Bool
-expr_threat routines v x = expr_threatens (formals_at routines) v x
+abbrev pub expr_threat : Callees → Entire → Expr → Bool
+expr_threat callees v x = expr_threatens (formals_at callees) v x
 
-abbrev pub head_threat : List RoutineForm → Entire → ForHead → Bool
-head_threat routines v h =
+abbrev pub head_threat : Callees → Entire → ForHead → Bool
+head_threat callees v h =
     is_variable v (tree.entire h.control.variable)
-    || (expr_threat routines v h.initial || expr_threat routines v h.last)
+    || (expr_threat callees v h.initial || expr_threat callees v h.last)
 
-abbrev pub member_threat : List RoutineForm → Entire → MemberHead → Bool
-member_threat routines v h = is_variable v (tree.entire h.control.variable) || expr_threat routines v h.set
+abbrev pub member_threat : Callees → Entire → MemberHead → Bool
+member_threat callees v h = is_variable v (tree.entire h.control.variable) || expr_threat callees v h.set
 
 -- a `for` by its head and its body
 abbrev pub for_row : ℕ → Judgement ForHead → Judgement Stmt → Judgement Stmt
@@ -528,7 +528,7 @@ halt_judged line (first ∷ more) = Breaks (rule.ARGUMENTS ∷ [])
 
 -- What a block knows: its unit, its scopes, the innermost first, which standard files are parameters or imported, the
 -- functions in whose blocks it is and whose results have no names, the innermost first, its own variables, the number
--- of the auxiliary variable of `for` over members among these, the routines of the unit, and the number of the
+-- of the auxiliary variable of `for` over members among these, the routines that it may call, and the number of the
 -- variable of the next `with`.
 pub record Context : Type 0 where
   pub unit : List ℕ
@@ -537,7 +537,7 @@ pub record Context : Type 0 where
   pub results : List FunctionResult
   pub locals : Locals
   pub members : ℕ
-  pub routines : List RoutineForm
+  pub callees : Callees
   pub withs : ℕ
 
 -- ---- statements in statements
@@ -705,11 +705,11 @@ module _ (context : Context) where
 
   -- an item of a statement inside of `for` statements with these control variables
   abbrev pub stmt_item : List Entire → ℕ → Judged (Option Stmt) → Judgement Stmt
-  stmt_item controls line s = at_item line (unless_threatening (stmt_threat context.routines) controls s)
+  stmt_item controls line s = at_item line (unless_threatening (stmt_threat context.callees) controls s)
 
   -- an expression of a statement there
   abbrev pub expr_item : List Entire → Judged (Option Expr) → Judged (Option Expr)
-  expr_item controls x = unless_threatening (expr_threat context.routines) controls x
+  expr_item controls x = unless_threatening (expr_threat context.callees) controls x
 
   -- a statement with this condition
   abbrev pub condition_judged : List Entire → ℕ → Expression → Judgement Expr
@@ -718,7 +718,7 @@ module _ (context : Context) where
   -- a name as the control variable of a `for`
   abbrev pub control_judged : List ℕ → Judged Counted
   control_judged name =
-      when_accepted (unless_threatened_in context.locals context.routines)
+      when_accepted (unless_threatened_in context.locals context.callees)
       (when_accepted (λ v. counted_by v.variable v.kind)
       (control_named context.locals (depth_in context.scopes) name (meant context.scopes name)))
 
@@ -729,7 +729,7 @@ for_judged context controls line (Breaks rules) falls start end body = Fails lin
 for_judged context controls line (Accepts c) falls start end body =
     for_row line
     (at_item line
-    (unless_threatening (head_threat context.routines) controls (bounds_judged context.locals falls c
+    (unless_threatening (head_threat context.callees) controls (bounds_judged context.locals falls c
     (judged context.scopes start) (judged context.scopes end))))
     (body context (c.variable ∷ controls))
 
@@ -739,7 +739,7 @@ for_in_judged context controls line (Breaks rules) set body = Fails line rules
 for_in_judged context controls line (Accepts c) set body =
     for_in_row line
     (at_item line
-    (unless_threatening (member_threat context.routines) controls (members_judged context.locals
+    (unless_threatening (member_threat context.callees) controls (members_judged context.locals
     context.members c (judged context.scopes set))))
     (body context (c.variable ∷ controls))
 
@@ -804,11 +804,11 @@ records_opened c [] o = Accepts o
 records_opened c (a ∷ more) o = when_accepted (records_opened c more) (record_opened c a o)
 
 -- a place of them threatens a variable, where an index does
-abbrev pub place_threat : List RoutineForm → Entire → WithRecord → Bool
-place_threat routines v h = place_threatens (formals_at routines) v h.place
+abbrev pub place_threat : Callees → Entire → WithRecord → Bool
+place_threat callees v h = place_threatens (formals_at callees) v h.place
 
-abbrev pub heads_threat : List RoutineForm → Entire → List WithRecord → Bool
-heads_threat routines v heads = list_any (place_threat routines v) heads
+abbrev pub heads_threat : Callees → Entire → List WithRecord → Bool
+heads_threat callees v heads = list_any (place_threat callees v) heads
 
 -- what is known in its statement
 abbrev pub inside : Context → Opened → Context
@@ -818,7 +818,7 @@ inside c o = record c { scopes = o.scopes; withs = o.withs }
 abbrev pub with_judged : Context → List Entire → ℕ → Judged Opened → Under Stmt → Judgement Stmt
 with_judged c controls line (Breaks rules) body = Fails line rules
 with_judged c controls line (Accepts o) body =
-    after (with_form line) (at_item line (unless_threatening (heads_threat c.routines) controls (Accepts o.heads)))
+    after (with_form line) (at_item line (unless_threatening (heads_threat c.callees) controls (Accepts o.heads)))
     (body (inside c o) controls)
 
 -- ---- all statements

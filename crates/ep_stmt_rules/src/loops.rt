@@ -14,6 +14,7 @@ ghost use Rattle.ep_rules.specs.Judgements.{Judged, Accepts, both, when_accepted
 ghost use Rattle.ep_rules.specs.Operators.{map_both};
 ghost use Rattle.ep_stmt_rules.specs.Answers.{AnswersForm, AnswersRow, counted_of, head_of, locals_of, named_of};
 ghost use Rattle.ep_threats.specs.Variables.{entire_of};
+ghost use Rattle.ep_threats.specs.Callees.{callees_among, callees_of};
 ghost use Rattle.ep_threats.specs.RoutineForms.{routine_form};
 ghost use Rattle.ep_stmt_rules.specs.Statements as spec;
 ghost use Rattle.ep_stmt_rules.specs.Statements.{Judgement, bound_judged, bounds_judged, control_named, declared_control, declares_own, declares_variable, expr_threat, for_control, for_head, for_row, head_threat, initial_variable, last_variable, stmt_threat, unless_threatening};
@@ -24,9 +25,11 @@ use ep_base::{Boxed, Line, List, Name, NoMemory};
 use ep_check_expr::typed_expression;
 use ep_rules::{Refusal, given_value, greatest, least, undeclared, unless_protected};
 use ep_scope::{Declaration, Declared, Host, Kind, Meaning, View, depth_in, meaning_of, rule};
-use ep_threats::{Entire, Routines, expr_threatens, inner_threatens, is_same, statement_threatens};
+use ep_threats::{
+    Callees, Entire, Routines, expr_threatens, inner_threatens, is_same, statement_threatens,
+};
 use ep_tree::{Direction, Expression};
-use ep_typed::{EntireVariable, ForControl, TypedExpr, TypedStmt, UnitRoutine};
+use ep_typed::{EntireVariable, ForControl, TypedExpr, TypedStmt};
 use std::alloc::{AllocError, Global};
 
 /// A control variable, and the host of its type.
@@ -143,11 +146,11 @@ pub fn counted_by<'a>(named: (Entire<'a>, Kind)) -> Result<Counted<'a>, Refusal>
 }
 
 /// Whether the block of one of these routines of the unit threatens a variable.
-fn routines_threaten(routines: &[UnitRoutine], variable: Entire<'_>) -> bool
-    ensures { result ≡ list_any (λ r. stmt_threat (map routine_form routines.now) (entire_of variable.entry) r.block)
-        (map routine_form routines.now) }
+fn routines_threaten(routines: &Callees<'_>, variable: Entire<'_>) -> bool
+    ensures { result ≡ list_any (λ r. stmt_threat (callees_of routines.now) (entire_of variable.entry) r.block)
+        (map routine_form routines.now.own.now) }
 {
-    for routine in routines {
+    for routine in routines.own {
         if statement_threatens(&routine.block, routines, variable) {
             return true;
         }
@@ -162,20 +165,20 @@ pub fn is_threatened_in(
     variable: Entire<'_>,
 ) -> Result<bool, NoMemory>
     ensures { IfOk result (λ threatened. threatened ≡ spec.is_threatened_in (locals_of locals.entry)
-        (map routine_form routines.now) (entire_of variable.entry)) }
+        (callees_among routines.now) (entire_of variable.entry)) }
 {
     match (locals, variable) {
         (Locals::Unit(_, _), Entire::Variable(unit, number)) => {
             match routines.threaten_of_unit(unit, number) {
                 Some(threatened) => Ok(threatened),
-                None => Ok(routines_threaten(routines.all(), variable)),
+                None => Ok(routines_threaten(&routines.callees(), variable)),
             }
         }
-        (Locals::Unit(_, _), _) => Ok(routines_threaten(routines.all(), variable)),
+        (Locals::Unit(_, _), _) => Ok(routines_threaten(&routines.callees(), variable)),
         (Locals::Routine(routine, _, _), Entire::Own(_, number)) => {
             match routines.threaten_of_routine(routine, number) {
                 Some(threatened) => Ok(threatened),
-                None => inner_threatens(routine, routines.table(), number),
+                None => inner_threatens(routine, routines.table(), routines.given(), number),
             }
         }
         _ => Ok(false),
@@ -299,8 +302,8 @@ impl ForHead {
 // ---- threats
 
 /// Whether a statement threatens one of these control variables.
-fn statement_threatens_one(s: &TypedStmt, routines: &[UnitRoutine], controls: &[Entire<'_>]) -> bool
-    ensures { result ≡ list_any (λ v. stmt_threat (map routine_form routines.now) v (stmt_of s.now))
+fn statement_threatens_one(s: &TypedStmt, routines: &Callees<'_>, controls: &[Entire<'_>]) -> bool
+    ensures { result ≡ list_any (λ v. stmt_threat (callees_of routines.now) v (stmt_of s.now))
         (map entire_of controls.now) }
 {
     for control in controls {
@@ -312,8 +315,8 @@ fn statement_threatens_one(s: &TypedStmt, routines: &[UnitRoutine], controls: &[
 }
 
 /// Whether an expression threatens one of these control variables.
-fn value_threatens_one(x: &TypedExpr, routines: &[UnitRoutine], controls: &[Entire<'_>]) -> bool
-    ensures { result ≡ list_any (λ v. expr_threat (map routine_form routines.now) v (expr_of x.now))
+fn value_threatens_one(x: &TypedExpr, routines: &Callees<'_>, controls: &[Entire<'_>]) -> bool
+    ensures { result ≡ list_any (λ v. expr_threat (callees_of routines.now) v (expr_of x.now))
         (map entire_of controls.now) }
 {
     for control in controls {
@@ -325,8 +328,8 @@ fn value_threatens_one(x: &TypedExpr, routines: &[UnitRoutine], controls: &[Enti
 }
 
 /// Whether the head of a `for` threatens a control variable.
-fn head_threatens(head: &ForHead, routines: &[UnitRoutine], control: Entire<'_>) -> bool
-    ensures { result ≡ head_threat (map routine_form routines.now) (entire_of control.entry) (head_of head.now) }
+fn head_threatens(head: &ForHead, routines: &Callees<'_>, control: Entire<'_>) -> bool
+    ensures { result ≡ head_threat (callees_of routines.now) (entire_of control.entry) (head_of head.now) }
 {
     is_same(control, &head.control.get().variable)
         || expr_threatens(head.initial.get(), routines, control)
@@ -334,8 +337,8 @@ fn head_threatens(head: &ForHead, routines: &[UnitRoutine], control: Entire<'_>)
 }
 
 /// Whether it threatens one of these.
-fn head_threatens_one(head: &ForHead, routines: &[UnitRoutine], controls: &[Entire<'_>]) -> bool
-    ensures { result ≡ list_any (λ v. head_threat (map routine_form routines.now) v (head_of head.now))
+fn head_threatens_one(head: &ForHead, routines: &Callees<'_>, controls: &[Entire<'_>]) -> bool
+    ensures { result ≡ list_any (λ v. head_threat (callees_of routines.now) v (head_of head.now))
         (map entire_of controls.now) }
 {
     for control in controls {
@@ -409,12 +412,12 @@ pub fn unless_statement_threatens(
 ) -> Result<Option<Boxed<TypedStmt>>, Refusal>
     ensures { (j : Judged (Option Stmt)) → AnswersForm (option_map stmt_of) form j
         → AnswersForm (option_map stmt_of) result
-        (unless_threatening (stmt_threat (map routine_form routines.now)) (map entire_of controls.now) j) }
+        (unless_threatening (stmt_threat (callees_among routines.now)) (map entire_of controls.now) j) }
 {
     let Some(s) = form? else {
         return Ok(None);
     };
-    if statement_threatens_one(s.get(), routines.all(), controls) {
+    if statement_threatens_one(s.get(), &routines.callees(), controls) {
         return Err(Refusal::Rule(rule::CONTROL_THREATENED));
     }
     Ok(Some(s))
@@ -428,12 +431,12 @@ pub fn unless_value_threatens(
 ) -> Result<Option<Boxed<TypedExpr>>, Refusal>
     ensures { (j : Judged (Option Expr)) → AnswersForm (option_map expr_of) form j
         → AnswersForm (option_map expr_of) result
-        (unless_threatening (expr_threat (map routine_form routines.now)) (map entire_of controls.now) j) }
+        (unless_threatening (expr_threat (callees_among routines.now)) (map entire_of controls.now) j) }
 {
     let Some(x) = form? else {
         return Ok(None);
     };
-    if value_threatens_one(x.get(), routines.all(), controls) {
+    if value_threatens_one(x.get(), &routines.callees(), controls) {
         return Err(Refusal::Rule(rule::CONTROL_THREATENED));
     }
     Ok(Some(x))
@@ -447,12 +450,12 @@ pub fn unless_head_threatens(
 ) -> Result<Option<ForHead>, Refusal>
     ensures { (j : Judged (Option spec.ForHead)) → AnswersForm (option_map head_of) head j
         → AnswersForm (option_map head_of) result
-        (unless_threatening (head_threat (map routine_form routines.now)) (map entire_of controls.now) j) }
+        (unless_threatening (head_threat (callees_among routines.now)) (map entire_of controls.now) j) }
 {
     let Some(h) = head? else {
         return Ok(None);
     };
-    if head_threatens_one(&h, routines.all(), controls) {
+    if head_threatens_one(&h, &routines.callees(), controls) {
         return Err(Refusal::Rule(rule::CONTROL_THREATENED));
     }
     Ok(Some(h))

@@ -12,7 +12,7 @@ ghost use Rattle.ep_check_expr.specs.Expressions.{judged};
 ghost use Rattle.ep_rules.specs.Judgements.{Judged, when_accepted};
 ghost use Rattle.ep_stmt_rules.specs.Answers.{AnswersForm, AnswersRow, counted_of, locals_of, member_head_of};
 ghost use Rattle.ep_threats.specs.Variables.{entire_of};
-ghost use Rattle.ep_threats.specs.RoutineForms.{routine_form};
+ghost use Rattle.ep_threats.specs.Callees.{callees_among, callees_of};
 ghost use Rattle.ep_stmt_rules.specs.Statements as spec;
 ghost use Rattle.ep_stmt_rules.specs.Statements.{Judgement, for_in_row, member_control, member_threat, members_judged, block_variable, set_judged, unless_threatening};
 
@@ -23,9 +23,9 @@ use ep_base::{Boxed, Line, NoMemory};
 use ep_check_expr::typed_expression;
 use ep_rules::{Refusal, given_value};
 use ep_scope::{Host, Kind, View, rule};
-use ep_threats::{Entire, Routines, expr_threatens, is_same};
+use ep_threats::{Callees, Entire, Routines, expr_threatens, is_same};
 use ep_tree::Expression;
-use ep_typed::{EntireVariable, MemberControl, TypedExpr, TypedStmt, UnitRoutine};
+use ep_typed::{EntireVariable, MemberControl, TypedExpr, TypedStmt};
 use std::alloc::Global;
 
 /// A `for` statement over members without its body: what it goes by, and the set.
@@ -103,8 +103,8 @@ pub fn for_in_form(
 }
 
 /// Whether the head of a `for` over members threatens a control variable.
-fn member_threatens(head: &MemberHead, routines: &[UnitRoutine], control: Entire<'_>) -> bool
-    ensures { result ≡ member_threat (map routine_form routines.now) (entire_of control.entry)
+fn member_threatens(head: &MemberHead, routines: &Callees<'_>, control: Entire<'_>) -> bool
+    ensures { result ≡ member_threat (callees_of routines.now) (entire_of control.entry)
         (member_head_of head.now) }
 {
     is_same(control, &head.control.get().variable)
@@ -112,12 +112,8 @@ fn member_threatens(head: &MemberHead, routines: &[UnitRoutine], control: Entire
 }
 
 /// Whether it threatens one of these.
-fn member_threatens_one(
-    head: &MemberHead,
-    routines: &[UnitRoutine],
-    controls: &[Entire<'_>],
-) -> bool
-    ensures { result ≡ list_any (λ v. member_threat (map routine_form routines.now) v (member_head_of head.now))
+fn member_threatens_one(head: &MemberHead, routines: &Callees<'_>, controls: &[Entire<'_>]) -> bool
+    ensures { result ≡ list_any (λ v. member_threat (callees_of routines.now) v (member_head_of head.now))
         (map entire_of controls.now) }
 {
     for control in controls {
@@ -172,12 +168,12 @@ pub fn unless_member_threatens(
 ) -> Result<Option<MemberHead>, Refusal>
     ensures { (j : Judged (Option spec.MemberHead)) → AnswersForm (option_map member_head_of) head j
         → AnswersForm (option_map member_head_of) result
-        (unless_threatening (member_threat (map routine_form routines.now)) (map entire_of controls.now) j) }
+        (unless_threatening (member_threat (callees_among routines.now)) (map entire_of controls.now) j) }
 {
     let Some(h) = head? else {
         return Ok(None);
     };
-    if member_threatens_one(&h, routines.all(), controls) {
+    if member_threatens_one(&h, &routines.callees(), controls) {
         return Err(Refusal::Rule(rule::CONTROL_THREATENED));
     }
     Ok(Some(h))

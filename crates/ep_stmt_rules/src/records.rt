@@ -13,7 +13,7 @@ ghost use Rattle.ep_check_expr.specs.Expressions.{name_judged};
 ghost use Rattle.ep_rules.specs.Judgements.{Accepts, when_accepted};
 ghost use Rattle.ep_stmt_rules.specs.Answers.{AnswersForm, AnswersRow, heads_of, locals_of, opened_of, record_named_of};
 ghost use Rattle.ep_threats.specs.Variables.{entire_of};
-ghost use Rattle.ep_threats.specs.RoutineForms.{routine_form};
+ghost use Rattle.ep_threats.specs.Callees.{callees_among, callees_of};
 ghost use Rattle.ep_stmt_rules.specs.Statements as spec;
 ghost use Rattle.ep_stmt_rules.specs.Statements.{Judgement, after, block_variable, heads_threat, one_opened, record_accessed, unless_threatening};
 
@@ -27,8 +27,8 @@ use ep_scope::{
     Composition, FieldTypes, Inner, Kind, OpenRecord, Protection, RecordVariable, View, rule,
     structure_of,
 };
-use ep_threats::{Entire, Routines, place_threatens};
-use ep_typed::{TypedPlace, TypedStmt, UnitRoutine, WithRecord, WithRecords};
+use ep_threats::{Callees, Entire, Routines, place_threatens};
+use ep_typed::{TypedPlace, TypedStmt, WithRecord, WithRecords};
 use std::alloc::{AllocError, Global};
 
 /// A record variable that a `with` names.
@@ -233,8 +233,8 @@ pub fn with_form(
 }
 
 /// Whether a place of these records threatens a control variable.
-fn places_threaten(heads: &[WithRecord], routines: &[UnitRoutine], control: Entire<'_>) -> bool
-    ensures { result ≡ heads_threat (map routine_form routines.now) (entire_of control.entry)
+fn places_threaten(heads: &[WithRecord], routines: &Callees<'_>, control: Entire<'_>) -> bool
+    ensures { result ≡ heads_threat (callees_of routines.now) (entire_of control.entry)
         (map with_record_of heads.now) }
 {
     for head in heads {
@@ -248,10 +248,10 @@ fn places_threaten(heads: &[WithRecord], routines: &[UnitRoutine], control: Enti
 /// Whether one does threaten one of these.
 fn places_threaten_one(
     heads: &[WithRecord],
-    routines: &[UnitRoutine],
+    routines: &Callees<'_>,
     controls: &[Entire<'_>],
 ) -> bool
-    ensures { result ≡ list_any (λ v. heads_threat (map routine_form routines.now) v (map with_record_of heads.now))
+    ensures { result ≡ list_any (λ v. heads_threat (callees_of routines.now) v (map with_record_of heads.now))
         (map entire_of controls.now) }
 {
     for control in controls {
@@ -285,13 +285,13 @@ pub fn unless_places_threaten(
     heads: Option<WithRecords>,
 ) -> Result<Option<WithRecords>, Refusal>
     ensures { AnswersForm (option_map heads_of) result
-        (unless_threatening (heads_threat (map routine_form routines.now)) (map entire_of controls.now)
+        (unless_threatening (heads_threat (callees_among routines.now)) (map entire_of controls.now)
         (Accepts (option_map heads_of heads))) }
 {
     let Some(records) = heads else {
         return Ok(None);
     };
-    if places_threaten_one(records.items(), routines.all(), controls) {
+    if places_threaten_one(records.items(), &routines.callees(), controls) {
         return Err(Refusal::Rule(rule::CONTROL_THREATENED));
     }
     Ok(Some(records))

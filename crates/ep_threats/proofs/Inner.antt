@@ -5,12 +5,14 @@ use Rattle.std.specs.Map.{lookup}
 use Rattle.std.specs.Cmp.{unsigned_Decides}
 use Rattle.std.proofs.lemmas.Iterator.Adapters.{position_from-zero}
 use Rattle.std.proofs.lemmas.List.{take-append-drop, take-map}
+use Rattle.ep_typed.specs.declared.interface.Interface.{Interface}
 use Rattle.ep_typed.specs.declared.unit.UnitRoutine.{UnitRoutine}
 use Rattle.ep_typed.specs.declared.unit.UnitVariable.{UnitVariable}
 use Rattle.ep_typed.specs.Trees.{Stmt}
 use Rattle.ep_threats.specs.Inner.{AreBehind, AreNoted, ArePlaces, IsNotBehind, IsNoted, KeepsNoted, NoneIsIn, all_around, noted}
 use Rattle.ep_threats.specs.Threats.{inner_threatens, some_threaten, threatens_from}
 use Rattle.ep_threats.specs.RoutineForms.{RoutineForm, block_set, routine_form, set_to, with_its_block}
+use Rattle.ep_threats.specs.Callees.{callees_in}
 
 -- ---- places that are noted
 
@@ -202,8 +204,8 @@ any-behind routine all behind f are none =
         rw (none (routine_form r) (outside routine r.around (h 0 r.around refl))) (skip rs (λ k around there. h (suc k) around there))
 
 -- so threats are asked of those behind alone
-pub inner-behind : (routine : ℕ) (all behind : List UnitRoutine) (number : ℕ) → AreBehind routine all behind
-    → some_threaten routine (map routine_form all) number (map routine_form behind) ≡ inner_threatens routine (map routine_form all) number
-inner-behind routine all behind number are =
-    sym (any-behind routine all behind (λ r. threatens_from (map routine_form all) number r.block (position (nat_eq routine) r.around)) are
-    (λ r none. ap (threatens_from (map routine_form all) number r.block) none))
+pub inner-behind : (routine : ℕ) (all behind : List UnitRoutine) (given : List Interface) (number : ℕ) → AreBehind routine all behind
+    → some_threaten routine (callees_in all given) number (map routine_form behind) ≡ inner_threatens routine (callees_in all given) number
+inner-behind routine all behind given number are =
+    sym (any-behind routine all behind (λ r. threatens_from (callees_in all given) number r.block (position (nat_eq routine) r.around)) are
+    (λ r none. ap (threatens_from (callees_in all given) number r.block) none))

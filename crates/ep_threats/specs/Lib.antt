@@ -1,3 +1,4 @@
+pub mod Callees
 pub mod Inner
 pub mod RoutineForms
 pub mod Threatened

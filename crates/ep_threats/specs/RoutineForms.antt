@@ -35,11 +35,6 @@ abbrev pub formals_if : Option RoutineForm → List Formal
 formals_if None = []
 formals_if (Some r) = r.formals
 
--- the formal parameters of the routine of this number of a unit, of which there is one so far, so that its name is not
--- asked for
-abbrev pub formals_at : List RoutineForm → List ℕ → ℕ → List Formal
-formals_at routines unit number = formals_if (slice_get routines number)
-
 -- a routine with the block that a declaration on this line has, and the variables that are declared there
 abbrev pub with_its_block : ℕ → List UnitVariable → Stmt → RoutineForm → RoutineForm
 with_its_block line variables s r = record r { line = line; variables = variables; block = s }

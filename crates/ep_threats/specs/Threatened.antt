@@ -3,7 +3,7 @@ use Rattle.std.specs.Prelude.{◌≡◌, ℕ, nat_eq, Bool, false, List, [], ◌
 use Rattle.std.specs.List.{list_any}
 use Rattle.ep_typed.specs.Trees.{Entire, OfUnit, OfRoutine, Stmt, WithRecord, with_form}
 use Rattle.ep_typed.specs.declared.interface.Formal.{Formal}
-use Rattle.ep_threats.specs.RoutineForms.{RoutineForm, formals_at}
+use Rattle.ep_threats.specs.Callees.{Callees, formals_at}
 use Rattle.ep_threats.specs.Threats.{inner_threatens, is_variable, place_threatens, threatens}
 use Rattle.ep_threats.specs.declared.gathering.Owner.{Owner}
 use Rattle.ep_threats.specs.declared.gathering.Owner.TheVariants as owner
@@ -44,13 +44,13 @@ abbrev pub Gathers : Owner → (Entire → Bool) → List ℕ → List ℕ → T
 Gathers of threat old new = Adds (λ n. threat (owned of n)) old new
 
 -- whether a routine of the unit threatens this variable
-abbrev pub one_threatens : List RoutineForm → Entire → Bool
-one_threatens routines variable = list_any (λ r. threatens (formals_at routines) variable r.block) routines
+abbrev pub one_threatens : Callees → Entire → Bool
+one_threatens callees variable = list_any (λ r. threatens (formals_at callees) variable r.block) callees.own
 
 -- the numbers are those of the variables that routines threaten
-abbrev pub KnowsThreats : Gathered → List RoutineForm → List ℕ → Type 0
-KnowsThreats gathered.Nothing routines numbers = Unit {0}
-KnowsThreats (gathered.OfUnit unit) routines numbers =
-    (n : ℕ) → has numbers n ≡ one_threatens routines (OfUnit unit.now n)
-KnowsThreats (gathered.OfRoutine routine) routines numbers =
-    (n : ℕ) → has numbers n ≡ inner_threatens routine routines n
+abbrev pub KnowsThreats : Gathered → Callees → List ℕ → Type 0
+KnowsThreats gathered.Nothing callees numbers = Unit {0}
+KnowsThreats (gathered.OfUnit unit) callees numbers =
+    (n : ℕ) → has numbers n ≡ one_threatens callees (OfUnit unit.now n)
+KnowsThreats (gathered.OfRoutine routine) callees numbers =
+    (n : ℕ) → has numbers n ≡ inner_threatens routine callees n

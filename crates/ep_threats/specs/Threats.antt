@@ -23,7 +23,8 @@ use Rattle.ep_typed.specs.Trees as tree
 use Rattle.ep_typed.specs.declared.interface.Formal.{Formal}
 use Rattle.ep_typed.specs.declared.interface.FormalMode.{FormalMode}
 use Rattle.ep_typed.specs.declared.interface.FormalMode.TheVariants as mode
-use Rattle.ep_threats.specs.RoutineForms.{RoutineForm, formals_at}
+use Rattle.ep_threats.specs.Callees.{Callees, formals_at}
+use Rattle.ep_threats.specs.RoutineForms.{RoutineForm}
 
 -- ---- threats to a variable, by typed statements (ISO 10206, 6.9.4)
 
@@ -167,18 +168,18 @@ module _ (formals_of : List ℕ → ℕ → List Formal) where
 -- ---- threats by the routines in a routine, however deep (ISO 10206, 6.9.4)
 
 -- Whether this routine threatens a variable, by its number, of a routine around it, where so many stand between.
-abbrev pub threatens_from : List RoutineForm → ℕ → Stmt → Option ℕ → Bool
-threatens_from routines number s None = false
-threatens_from routines number s (Some between) = threatens (formals_at routines) (OfRoutine (suc between) number) s
+abbrev pub threatens_from : Callees → ℕ → Stmt → Option ℕ → Bool
+threatens_from callees number s None = false
+threatens_from callees number s (Some between) = threatens (formals_at callees) (OfRoutine (suc between) number) s
 
 -- whether one of some routines does, where it is in the one of this number
-abbrev pub some_threaten : ℕ → List RoutineForm → ℕ → List RoutineForm → Bool
-some_threaten routine routines number some =
-    list_any (λ r. threatens_from routines number r.block (position (nat_eq routine) r.around)) some
+abbrev pub some_threaten : ℕ → Callees → ℕ → List RoutineForm → Bool
+some_threaten routine callees number some =
+    list_any (λ r. threatens_from callees number r.block (position (nat_eq routine) r.around)) some
 
 -- whether a routine in the one of this number does
-abbrev pub inner_threatens : ℕ → List RoutineForm → ℕ → Bool
-inner_threatens routine routines number = some_threaten routine routines number routines
+abbrev pub inner_threatens : ℕ → Callees → ℕ → Bool
+inner_threatens routine callees number = some_threaten routine callees number callees.own
 
 -- ---- assignments to a name, by the text (ISO 10206, 6.9.2.2)
 

@@ -8,16 +8,17 @@ ghost use Rattle.ep_typed.specs.Trees as tree;
 ghost use Rattle.ep_typed.specs.Trees.{entire, stmts};
 ghost use Rattle.ep_typed.specs.Viewed as viewed;
 ghost use Rattle.ep_typed.specs.Viewed.{actual_of, arm_of, designator_of, element_of, expr_of, item_of, place_of, stmt_of, with_record_of};
-ghost use Rattle.ep_threats.specs.RoutineForms.{formals_at, routine_form};
+ghost use Rattle.ep_threats.specs.Callees.{callees_of, formals_at};
 ghost use Rattle.ep_threats.specs.Threatened.{Adds, Gathers, is_number, opened_threat, owned, record_threat};
 ghost use Rattle.ep_threats.specs.Threats as spec;
 
+use crate::callees::Callees;
 use crate::numbers::Numbers;
-use crate::threats::{Entire, formals_of, mode_threatens, opened_threatens};
+use crate::threats::{Entire, mode_threatens, opened_threatens};
 use ep_base::{Name, NoMemory};
 use ep_typed::{
     Actual, CaseArm, Element, EntireVariable, Formal, FormalMode, MemberDesignator, TypedExpr,
-    TypedPlace, TypedStmt, UnitRoutine, WithRecord, WriteItem,
+    TypedPlace, TypedStmt, WithRecord, WriteItem,
 };
 
 /// Whose variables are asked of, by their numbers.
@@ -111,10 +112,10 @@ fn record_gathered(
     record: &WithRecord,
     behind: &[WithRecord],
     of: Owner<'_>,
-    routines: &[UnitRoutine],
+    routines: &Callees<'_>,
     found: &mut Numbers,
 ) -> Result<(), NoMemory>
-    ensures { OnOk result (Gathers of.entry (λ v. record_threat (formals_at (map routine_form routines.now)) v
+    ensures { OnOk result (Gathers of.entry (λ v. record_threat (formals_at (callees_of routines.now)) v
         (with_record_of record.now) (map with_record_of behind.now) (stmt_of body.now)) found.old found.new) }
 {
     place_gathered(&record.place, of, routines, found)?;
@@ -131,10 +132,10 @@ fn opened_gathered(
     body: &TypedStmt,
     records: &[WithRecord],
     of: Owner<'_>,
-    routines: &[UnitRoutine],
+    routines: &Callees<'_>,
     found: &mut Numbers,
 ) -> Result<(), NoMemory>
-    ensures { OnOk result (Gathers of.entry (λ v. opened_threat (formals_at (map routine_form routines.now)) v
+    ensures { OnOk result (Gathers of.entry (λ v. opened_threat (formals_at (callees_of routines.now)) v
         (map with_record_of records.now) (stmt_of body.now)) found.old found.new) }
 {
     let mut left = records;
@@ -153,10 +154,10 @@ fn opened_gathered(
 fn stmts_gathered(
     all: &[TypedStmt],
     of: Owner<'_>,
-    routines: &[UnitRoutine],
+    routines: &Callees<'_>,
     found: &mut Numbers,
 ) -> Result<(), NoMemory>
-    ensures { OnOk result (Gathers of.entry (λ v. spec.stmts_threaten (formals_at (map routine_form routines.now)) v
+    ensures { OnOk result (Gathers of.entry (λ v. spec.stmts_threaten (formals_at (callees_of routines.now)) v
         (stmts (map stmt_of all.now))) found.old found.new) }
 {
     for s in all {
@@ -170,10 +171,10 @@ fn stmts_gathered(
 pub(crate) fn gather(
     s: &TypedStmt,
     of: Owner<'_>,
-    routines: &[UnitRoutine],
+    routines: &Callees<'_>,
     found: &mut Numbers,
 ) -> Result<(), NoMemory>
-    ensures { OnOk result (Gathers of.entry (λ v. spec.threatens (formals_at (map routine_form routines.now)) v
+    ensures { OnOk result (Gathers of.entry (λ v. spec.threatens (formals_at (callees_of routines.now)) v
         (stmt_of s.now)) found.old found.new) }
 {
     match s {
@@ -218,7 +219,7 @@ pub(crate) fn gather(
             opened_gathered(body.get(), records.items(), of, routines, found)
         }
         TypedStmt::Procedure(_, callee, given) => {
-            let formals = formals_of(routines, callee.number);
+            let formals = routines.formals(&callee.unit, callee.number);
             actuals_gathered(formals, given.items(), of, routines, found)
         }
         TypedStmt::Case(_, selector, arms, None) => {
@@ -239,10 +240,10 @@ pub(crate) fn gather(
 fn arms_gathered(
     all: &[CaseArm],
     of: Owner<'_>,
-    routines: &[UnitRoutine],
+    routines: &Callees<'_>,
     found: &mut Numbers,
 ) -> Result<(), NoMemory>
-    ensures { OnOk result (Gathers of.entry (λ v. spec.arms_threaten (formals_at (map routine_form routines.now)) v
+    ensures { OnOk result (Gathers of.entry (λ v. spec.arms_threaten (formals_at (callees_of routines.now)) v
         (tree.arms (map arm_of all.now))) found.old found.new) }
 {
     for a in all {
@@ -256,10 +257,10 @@ fn arms_gathered(
 fn arm_gathered(
     a: &CaseArm,
     of: Owner<'_>,
-    routines: &[UnitRoutine],
+    routines: &Callees<'_>,
     found: &mut Numbers,
 ) -> Result<(), NoMemory>
-    ensures { OnOk result (Gathers of.entry (λ v. spec.threatens (formals_at (map routine_form routines.now)) v
+    ensures { OnOk result (Gathers of.entry (λ v. spec.threatens (formals_at (callees_of routines.now)) v
         (arm_of a.now).1) found.old found.new) }
 {
     gather(a.body.get(), of, routines, found)
@@ -269,10 +270,10 @@ fn arm_gathered(
 fn items_gathered(
     all: &[WriteItem],
     of: Owner<'_>,
-    routines: &[UnitRoutine],
+    routines: &Callees<'_>,
     found: &mut Numbers,
 ) -> Result<(), NoMemory>
-    ensures { OnOk result (Gathers of.entry (λ v. spec.items_threaten (formals_at (map routine_form routines.now)) v
+    ensures { OnOk result (Gathers of.entry (λ v. spec.items_threaten (formals_at (callees_of routines.now)) v
         (map item_of all.now)) found.old found.new) }
 {
     for i in all {
@@ -285,10 +286,10 @@ fn items_gathered(
 fn item_gathered(
     i: &WriteItem,
     of: Owner<'_>,
-    routines: &[UnitRoutine],
+    routines: &Callees<'_>,
     found: &mut Numbers,
 ) -> Result<(), NoMemory>
-    ensures { OnOk result (Gathers of.entry (λ v. spec.item_threatens (formals_at (map routine_form routines.now)) v
+    ensures { OnOk result (Gathers of.entry (λ v. spec.item_threatens (formals_at (callees_of routines.now)) v
         (item_of i.now)) found.old found.new) }
 {
     expr_gathered(i.value.get(), of, routines, found)?;
@@ -303,10 +304,10 @@ fn item_gathered(
 fn expr_gathered(
     x: &TypedExpr,
     of: Owner<'_>,
-    routines: &[UnitRoutine],
+    routines: &Callees<'_>,
     found: &mut Numbers,
 ) -> Result<(), NoMemory>
-    ensures { OnOk result (Gathers of.entry (λ v. spec.expr_threatens (formals_at (map routine_form routines.now)) v
+    ensures { OnOk result (Gathers of.entry (λ v. spec.expr_threatens (formals_at (callees_of routines.now)) v
         (expr_of x.now)) found.old found.new) }
 {
     match x {
@@ -339,7 +340,7 @@ fn expr_gathered(
             expr_gathered(right.get(), of, routines, found)
         }
         TypedExpr::Function(callee, given) => {
-            let formals = formals_of(routines, callee.number);
+            let formals = routines.formals(&callee.unit, callee.number);
             actuals_gathered(formals, given.items(), of, routines, found)
         }
         TypedExpr::Set(designators) => {
@@ -356,10 +357,10 @@ fn expr_gathered(
 fn element_gathered(
     e: &Element,
     of: Owner<'_>,
-    routines: &[UnitRoutine],
+    routines: &Callees<'_>,
     found: &mut Numbers,
 ) -> Result<(), NoMemory>
-    ensures { OnOk result (Gathers of.entry (λ v. spec.element_threatens (formals_at (map routine_form routines.now)) v
+    ensures { OnOk result (Gathers of.entry (λ v. spec.element_threatens (formals_at (callees_of routines.now)) v
         (element_of e.now)) found.old found.new) }
 {
     match e {
@@ -383,10 +384,10 @@ fn element_gathered(
 fn elements_gathered(
     all: &[Element],
     of: Owner<'_>,
-    routines: &[UnitRoutine],
+    routines: &Callees<'_>,
     found: &mut Numbers,
 ) -> Result<(), NoMemory>
-    ensures { OnOk result (Gathers of.entry (λ v. spec.elements_threaten (formals_at (map routine_form routines.now)) v
+    ensures { OnOk result (Gathers of.entry (λ v. spec.elements_threaten (formals_at (callees_of routines.now)) v
         (tree.elements (map element_of all.now))) found.old found.new) }
 {
     for e in all {
@@ -400,10 +401,10 @@ fn elements_gathered(
 fn member_gathered(
     designator: &MemberDesignator,
     of: Owner<'_>,
-    routines: &[UnitRoutine],
+    routines: &Callees<'_>,
     found: &mut Numbers,
 ) -> Result<(), NoMemory>
-    ensures { OnOk result (Gathers of.entry (λ v. spec.member_threatens (formals_at (map routine_form routines.now)) v
+    ensures { OnOk result (Gathers of.entry (λ v. spec.member_threatens (formals_at (callees_of routines.now)) v
         (designator_of designator.now)) found.old found.new) }
 {
     match designator {
@@ -420,10 +421,10 @@ fn member_gathered(
 fn members_gathered(
     all: &[MemberDesignator],
     of: Owner<'_>,
-    routines: &[UnitRoutine],
+    routines: &Callees<'_>,
     found: &mut Numbers,
 ) -> Result<(), NoMemory>
-    ensures { OnOk result (Gathers of.entry (λ v. spec.members_threaten (formals_at (map routine_form routines.now)) v
+    ensures { OnOk result (Gathers of.entry (λ v. spec.members_threaten (formals_at (callees_of routines.now)) v
         (tree.designators (map designator_of all.now))) found.old found.new) }
 {
     for designator in all {
@@ -437,10 +438,10 @@ fn members_gathered(
 fn place_gathered(
     place: &TypedPlace,
     of: Owner<'_>,
-    routines: &[UnitRoutine],
+    routines: &Callees<'_>,
     found: &mut Numbers,
 ) -> Result<(), NoMemory>
-    ensures { OnOk result (Gathers of.entry (λ v. spec.place_threatens (formals_at (map routine_form routines.now)) v
+    ensures { OnOk result (Gathers of.entry (λ v. spec.place_threatens (formals_at (callees_of routines.now)) v
         (place_of place.now)) found.old found.new) }
 {
     match place {
@@ -461,10 +462,10 @@ fn actuals_gathered(
     formals: &[Formal],
     given: &[Actual],
     of: Owner<'_>,
-    routines: &[UnitRoutine],
+    routines: &Callees<'_>,
     found: &mut Numbers,
 ) -> Result<(), NoMemory>
-    ensures { OnOk result (Gathers of.entry (λ v. spec.actuals_threaten (formals_at (map routine_form routines.now)) v
+    ensures { OnOk result (Gathers of.entry (λ v. spec.actuals_threaten (formals_at (callees_of routines.now)) v
         formals.now (tree.actuals (map actual_of given.now))) found.old found.new) }
 {
     for (place, a) in given.iter().enumerate() {
@@ -483,10 +484,10 @@ fn actual_gathered(
     mode: FormalMode,
     a: &Actual,
     of: Owner<'_>,
-    routines: &[UnitRoutine],
+    routines: &Callees<'_>,
     found: &mut Numbers,
 ) -> Result<(), NoMemory>
-    ensures { OnOk result (Gathers of.entry (λ v. spec.actual_threatens (formals_at (map routine_form routines.now)) v
+    ensures { OnOk result (Gathers of.entry (λ v. spec.actual_threatens (formals_at (callees_of routines.now)) v
         mode (actual_of a.now)) found.old found.new) }
 {
     match a {

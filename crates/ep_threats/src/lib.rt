@@ -7,15 +7,17 @@
 //! To change what a statement or an expression threatens: specs/Threats.antt, src/threats.rt and src/gathering.rt, which
 //! walks the same forms for all variables at once; what is gathered: specs/Threatened.antt, src/routines.rt; how the
 //! routines in a routine are found: specs/Inner.antt, src/table.rt. How the
-//! routines of a unit are plain data: specs/RoutineForms.antt.
+//! routines of a unit are plain data: specs/RoutineForms.antt; what code may call: specs/Callees.antt, src/callees.rt.
 #![tactic(auto)]
 
+mod callees;
 mod gathering;
 mod numbers;
 mod routines;
 mod table;
 mod threats;
 
+pub use callees::Callees;
 pub use routines::Routines;
 pub use table::RoutineTable;
 pub use threats::{

@@ -1,22 +1,24 @@
 //! Whether statements threaten a variable, and whether they assign to a name, as specs/Threats.antt says. Nothing here
 //! takes memory.
 
-ghost use Rattle.std.specs.Prelude.{◌≡◌, IfOk, nat_eq, map, position, slice_get, ℕ};
+ghost use Rattle.std.specs.Prelude.{◌≡◌, IfOk, nat_eq, map, position, ℕ};
 ghost use Rattle.ep_typed.specs.Trees as tree;
 ghost use Rattle.ep_typed.specs.Trees.{entire, stmts};
 ghost use Rattle.ep_typed.specs.Viewed as viewed;
 ghost use Rattle.ep_typed.specs.Viewed.{actual_of, arm_of, designator_of, element_of, expr_of, item_of, place_of, stmt_of, with_record_of};
 ghost use Rattle.ep_threats.specs.Variables.{entire_of};
-ghost use Rattle.ep_threats.specs.RoutineForms.{formals_at, formals_if, routine_form};
+ghost use Rattle.ep_threats.specs.Callees.{callees_in, callees_of, formals_at};
+ghost use Rattle.ep_threats.specs.RoutineForms.{routine_form};
 ghost use Rattle.ep_threats.specs.Threats as spec;
 ghost use Rattle.ep_threats.specs.Threats.{any_true, arm_assigns, statement_assigns, stmts_threaten};
 
+use crate::callees::Callees;
 use crate::table::RoutineTable;
 use ep_base::{Name, NoMemory};
 use ep_tree::{Access, Arm, Compound, Statement};
 use ep_typed::{
-    Actual, CaseArm, Element, EntireVariable, Formal, FormalMode, MemberDesignator, TypedExpr,
-    TypedPlace, TypedStmt, UnitRoutine, WithRecord, WriteItem,
+    Actual, CaseArm, Element, EntireVariable, Formal, FormalMode, Interface, MemberDesignator,
+    TypedExpr, TypedPlace, TypedStmt, UnitRoutine, WithRecord, WriteItem,
 };
 use std::alloc::{AllocError, Global};
 
@@ -52,10 +54,9 @@ impl<'a> Entire<'a> {
 }
 
 /// Whether statements threaten a variable: it or a component of it is assigned to, given for a variable parameter that is
-/// not protected, or the control variable of a `for` (ISO 10206, 6.9.4). The routines are those of the unit, of which
-/// there is one so far, so that a call is looked up by its number alone.
-pub fn threatens(routines: &[UnitRoutine], variable: Entire<'_>, statements: &[TypedStmt]) -> bool
-    ensures { result ≡ stmts_threaten (formals_at (map routine_form routines.now)) (entire_of variable.entry)
+/// not protected, or the control variable of a `for` (ISO 10206, 6.9.4). The routines are those that they may call.
+pub fn threatens(routines: &Callees<'_>, variable: Entire<'_>, statements: &[TypedStmt]) -> bool
+    ensures { result ≡ stmts_threaten (formals_at (callees_of routines.now)) (entire_of variable.entry)
         (stmts (map stmt_of statements.now)) }
 {
     stmts_threaten(statements, routines, variable)
@@ -63,12 +64,18 @@ pub fn threatens(routines: &[UnitRoutine], variable: Entire<'_>, statements: &[T
 
 /// Whether a routine in the one of the first number, however deep in it, threatens the variable of the second number of that
 /// one, whether it is called or not. An error comes where 32 bits do not hold how many routines are around one.
-pub fn inner_threatens(routine: u32, routines: &RoutineTable, number: u32) -> Result<bool, NoMemory>
+pub fn inner_threatens(
+    routine: u32,
+    routines: &RoutineTable,
+    given: &[Interface],
+    number: u32,
+) -> Result<bool, NoMemory>
     ensures { IfOk result (λ threatened.
-        threatened ≡ spec.inner_threatens routine (map routine_form routines.now) number) }
+        threatened ≡ spec.inner_threatens routine (callees_in routines.now given.now) number) }
 {
     let inner = routines.inner(routine);
-    let threatened = one_threatens_from(inner, routine, routines.items(), number)?;
+    let callees = Callees::of(routines.items(), given);
+    let threatened = one_threatens_from(inner, routine, &callees, number)?;
     Ok(threatened)
 }
 
@@ -76,11 +83,11 @@ pub fn inner_threatens(routine: u32, routines: &RoutineTable, number: u32) -> Re
 fn one_threatens_from(
     some: &[UnitRoutine],
     routine: u32,
-    routines: &[UnitRoutine],
+    routines: &Callees<'_>,
     number: u32,
 ) -> Result<bool, NoMemory>
     ensures { IfOk result (λ threatened. threatened
-        ≡ spec.some_threaten routine (map routine_form routines.now) number (map routine_form some.now)) }
+        ≡ spec.some_threaten routine (callees_of routines.now) number (map routine_form some.now)) }
 {
     for inner in some {
         if threatens_from(inner, routine, routines, number)? {
@@ -101,10 +108,10 @@ pub(crate) fn levels_between(routine: u32, around: &[u32]) -> Option<usize>
 fn threatens_from(
     inner: &UnitRoutine,
     routine: u32,
-    routines: &[UnitRoutine],
+    routines: &Callees<'_>,
     number: u32,
 ) -> Result<bool, NoMemory>
-    ensures { IfOk result (λ threatened. threatened ≡ spec.threatens_from (map routine_form routines.now) number
+    ensures { IfOk result (λ threatened. threatened ≡ spec.threatens_from (callees_of routines.now) number
         (stmt_of inner.now.block) (position (nat_eq routine) inner.now.around)) }
 {
     let Some(between) = levels_between(routine, inner.around.items()) else {
@@ -121,8 +128,8 @@ fn threatens_from(
 
 /// Whether one of these statements threatens the variable.
 #[cycle(threats)]
-fn stmts_threaten(all: &[TypedStmt], routines: &[UnitRoutine], variable: Entire<'_>) -> bool
-    ensures { result ≡ stmts_threaten (formals_at (map routine_form routines.now)) (entire_of variable.entry)
+fn stmts_threaten(all: &[TypedStmt], routines: &Callees<'_>, variable: Entire<'_>) -> bool
+    ensures { result ≡ stmts_threaten (formals_at (callees_of routines.now)) (entire_of variable.entry)
         (stmts (map stmt_of all.now)) }
 {
     for s in all {
@@ -135,8 +142,8 @@ fn stmts_threaten(all: &[TypedStmt], routines: &[UnitRoutine], variable: Entire<
 
 /// Whether a statement, or one inside of it, threatens the variable.
 #[cycle(threats)]
-pub fn statement_threatens(s: &TypedStmt, routines: &[UnitRoutine], variable: Entire<'_>) -> bool
-    ensures { result ≡ spec.threatens (formals_at (map routine_form routines.now)) (entire_of variable.entry)
+pub fn statement_threatens(s: &TypedStmt, routines: &Callees<'_>, variable: Entire<'_>) -> bool
+    ensures { result ≡ spec.threatens (formals_at (callees_of routines.now)) (entire_of variable.entry)
         (stmt_of s.now) }
 {
     match s {
@@ -180,7 +187,7 @@ pub fn statement_threatens(s: &TypedStmt, routines: &[UnitRoutine], variable: En
             opened_threatens(body.get(), records.items(), routines, variable)
         }
         TypedStmt::Procedure(_, callee, given) => {
-            let formals = formals_of(routines, callee.number);
+            let formals = routines.formals(&callee.unit, callee.number);
             actuals_threaten(formals, given.items(), routines, variable)
         }
         TypedStmt::Case(_, selector, arms, None) => {
@@ -203,10 +210,10 @@ pub fn statement_threatens(s: &TypedStmt, routines: &[UnitRoutine], variable: En
 pub(crate) fn opened_threatens(
     body: &TypedStmt,
     records: &[WithRecord],
-    routines: &[UnitRoutine],
+    routines: &Callees<'_>,
     variable: Entire<'_>,
 ) -> bool
-    ensures { (line : ℕ) → result ≡ spec.threatens (formals_at (map routine_form routines.now))
+    ensures { (line : ℕ) → result ≡ spec.threatens (formals_at (callees_of routines.now))
         (entire_of variable.entry) (tree.with_form line (map with_record_of records.now) (stmt_of body.now)) }
 {
     let mut left = records;
@@ -224,8 +231,8 @@ pub(crate) fn opened_threatens(
 
 /// Whether the statement of one of these arms does.
 #[cycle(threats)]
-fn arms_threaten(all: &[CaseArm], routines: &[UnitRoutine], variable: Entire<'_>) -> bool
-    ensures { result ≡ spec.arms_threaten (formals_at (map routine_form routines.now)) (entire_of variable.entry)
+fn arms_threaten(all: &[CaseArm], routines: &Callees<'_>, variable: Entire<'_>) -> bool
+    ensures { result ≡ spec.arms_threaten (formals_at (callees_of routines.now)) (entire_of variable.entry)
         (tree.arms (map arm_of all.now)) }
 {
     for a in all {
@@ -238,16 +245,16 @@ fn arms_threaten(all: &[CaseArm], routines: &[UnitRoutine], variable: Entire<'_>
 
 /// Whether the statement of an arm does.
 #[cycle(threats)]
-fn arm_threatens(a: &CaseArm, routines: &[UnitRoutine], variable: Entire<'_>) -> bool
-    ensures { result ≡ spec.threatens (formals_at (map routine_form routines.now)) (entire_of variable.entry)
+fn arm_threatens(a: &CaseArm, routines: &Callees<'_>, variable: Entire<'_>) -> bool
+    ensures { result ≡ spec.threatens (formals_at (callees_of routines.now)) (entire_of variable.entry)
         (arm_of a.now).1 }
 {
     statement_threatens(a.body.get(), routines, variable)
 }
 
 /// Whether one of these expressions that are written does.
-fn items_threaten(all: &[WriteItem], routines: &[UnitRoutine], variable: Entire<'_>) -> bool
-    ensures { result ≡ spec.items_threaten (formals_at (map routine_form routines.now)) (entire_of variable.entry)
+fn items_threaten(all: &[WriteItem], routines: &Callees<'_>, variable: Entire<'_>) -> bool
+    ensures { result ≡ spec.items_threaten (formals_at (callees_of routines.now)) (entire_of variable.entry)
         (map item_of all.now) }
 {
     for i in all {
@@ -259,8 +266,8 @@ fn items_threaten(all: &[WriteItem], routines: &[UnitRoutine], variable: Entire<
 }
 
 /// Whether an expression that is written, or its width, does.
-fn item_threatens(i: &WriteItem, routines: &[UnitRoutine], variable: Entire<'_>) -> bool
-    ensures { result ≡ spec.item_threatens (formals_at (map routine_form routines.now)) (entire_of variable.entry)
+fn item_threatens(i: &WriteItem, routines: &Callees<'_>, variable: Entire<'_>) -> bool
+    ensures { result ≡ spec.item_threatens (formals_at (callees_of routines.now)) (entire_of variable.entry)
         (item_of i.now) }
 {
     match &i.width {
@@ -274,8 +281,8 @@ fn item_threatens(i: &WriteItem, routines: &[UnitRoutine], variable: Entire<'_>)
 
 /// Whether an expression has a function designator that does.
 #[cycle(threats_in_expressions)]
-pub fn expr_threatens(x: &TypedExpr, routines: &[UnitRoutine], variable: Entire<'_>) -> bool
-    ensures { result ≡ spec.expr_threatens (formals_at (map routine_form routines.now)) (entire_of variable.entry)
+pub fn expr_threatens(x: &TypedExpr, routines: &Callees<'_>, variable: Entire<'_>) -> bool
+    ensures { result ≡ spec.expr_threatens (formals_at (callees_of routines.now)) (entire_of variable.entry)
         (expr_of x.now) }
 {
     match x {
@@ -295,7 +302,7 @@ pub fn expr_threatens(x: &TypedExpr, routines: &[UnitRoutine], variable: Entire<
                 || expr_threatens(count.get(), routines, variable)
         }
         TypedExpr::Function(callee, given) => {
-            let formals = formals_of(routines, callee.number);
+            let formals = routines.formals(&callee.unit, callee.number);
             actuals_threaten(formals, given.items(), routines, variable)
         }
         TypedExpr::IndexedValue(array, index) => {
@@ -318,8 +325,8 @@ pub fn expr_threatens(x: &TypedExpr, routines: &[UnitRoutine], variable: Entire<
 
 /// Whether an index or a value in what a component of a structured value is given does.
 #[cycle(threats_in_expressions)]
-fn element_threatens(e: &Element, routines: &[UnitRoutine], variable: Entire<'_>) -> bool
-    ensures { result ≡ spec.element_threatens (formals_at (map routine_form routines.now)) (entire_of variable.entry)
+fn element_threatens(e: &Element, routines: &Callees<'_>, variable: Entire<'_>) -> bool
+    ensures { result ≡ spec.element_threatens (formals_at (callees_of routines.now)) (entire_of variable.entry)
         (element_of e.now) }
 {
     match e {
@@ -339,8 +346,8 @@ fn element_threatens(e: &Element, routines: &[UnitRoutine], variable: Entire<'_>
 
 /// Whether what components are given does.
 #[cycle(threats_in_expressions)]
-fn elements_threaten(all: &[Element], routines: &[UnitRoutine], variable: Entire<'_>) -> bool
-    ensures { result ≡ spec.elements_threaten (formals_at (map routine_form routines.now)) (entire_of variable.entry)
+fn elements_threaten(all: &[Element], routines: &Callees<'_>, variable: Entire<'_>) -> bool
+    ensures { result ≡ spec.elements_threaten (formals_at (callees_of routines.now)) (entire_of variable.entry)
         (tree.elements (map element_of all.now)) }
 {
     for e in all {
@@ -355,10 +362,10 @@ fn elements_threaten(all: &[Element], routines: &[UnitRoutine], variable: Entire
 #[cycle(threats_in_expressions)]
 fn member_threatens(
     designator: &MemberDesignator,
-    routines: &[UnitRoutine],
+    routines: &Callees<'_>,
     variable: Entire<'_>,
 ) -> bool
-    ensures { result ≡ spec.member_threatens (formals_at (map routine_form routines.now)) (entire_of variable.entry)
+    ensures { result ≡ spec.member_threatens (formals_at (callees_of routines.now)) (entire_of variable.entry)
         (designator_of designator.now) }
 {
     match designator {
@@ -372,12 +379,8 @@ fn member_threatens(
 
 /// Whether member designators do.
 #[cycle(threats_in_expressions)]
-fn members_threaten(
-    all: &[MemberDesignator],
-    routines: &[UnitRoutine],
-    variable: Entire<'_>,
-) -> bool
-    ensures { result ≡ spec.members_threaten (formals_at (map routine_form routines.now)) (entire_of variable.entry)
+fn members_threaten(all: &[MemberDesignator], routines: &Callees<'_>, variable: Entire<'_>) -> bool
+    ensures { result ≡ spec.members_threaten (formals_at (callees_of routines.now)) (entire_of variable.entry)
         (tree.designators (map designator_of all.now)) }
 {
     for designator in all {
@@ -390,8 +393,8 @@ fn members_threaten(
 
 /// Whether an index in a place does.
 #[cycle(threats_in_expressions)]
-pub fn place_threatens(place: &TypedPlace, routines: &[UnitRoutine], variable: Entire<'_>) -> bool
-    ensures { result ≡ spec.place_threatens (formals_at (map routine_form routines.now)) (entire_of variable.entry)
+pub fn place_threatens(place: &TypedPlace, routines: &Callees<'_>, variable: Entire<'_>) -> bool
+    ensures { result ≡ spec.place_threatens (formals_at (callees_of routines.now)) (entire_of variable.entry)
         (place_of place.now) }
 {
     match place {
@@ -411,10 +414,10 @@ pub fn place_threatens(place: &TypedPlace, routines: &[UnitRoutine], variable: E
 fn actuals_threaten(
     formals: &[Formal],
     given: &[Actual],
-    routines: &[UnitRoutine],
+    routines: &Callees<'_>,
     variable: Entire<'_>,
 ) -> bool
-    ensures { result ≡ spec.actuals_threaten (formals_at (map routine_form routines.now)) (entire_of variable.entry)
+    ensures { result ≡ spec.actuals_threaten (formals_at (callees_of routines.now)) (entire_of variable.entry)
         formals.now (tree.actuals (map actual_of given.now)) }
 {
     for (place, a) in given.iter().enumerate() {
@@ -434,10 +437,10 @@ fn actuals_threaten(
 fn actual_threatens(
     mode: FormalMode,
     a: &Actual,
-    routines: &[UnitRoutine],
+    routines: &Callees<'_>,
     variable: Entire<'_>,
 ) -> bool
-    ensures { result ≡ spec.actual_threatens (formals_at (map routine_form routines.now)) (entire_of variable.entry)
+    ensures { result ≡ spec.actual_threatens (formals_at (callees_of routines.now)) (entire_of variable.entry)
         mode (actual_of a.now) }
 {
     match a {
@@ -491,16 +494,6 @@ pub(crate) fn is_variable(variable: Entire<'_>, place: &TypedPlace) -> bool
             | TypedPlace::Variant(whole, _, _),
         ) => is_variable(variable, whole.get()),
         _ => false,
-    }
-}
-
-/// The formal parameters of the routine of this number, where there is one.
-pub(crate) fn formals_of(routines: &[UnitRoutine], number: u32) -> &[Formal]
-    ensures { result.now ≡ formals_if (slice_get (map routine_form routines.now) number) }
-{
-    match routines.get(number as usize) {
-        None => &[],
-        Some(routine) => routine.formals.items(),
     }
 }
 

@@ -76,6 +76,7 @@ routine_number u k = k
 abbrev pub routine_numbered : TypedUnit → ℕ → Option UnitRoutine
 routine_numbered u number = slice_get u.routines number
 
--- the first number behind those, from which on the routines are numbered that no text writes, as the start and the stop
+-- the first number behind those, from which on the routines are numbered that no text writes, as the start and the
+-- stop
 abbrev pub first_private : TypedUnit → ℕ
 first_private u = routine_number u (length u.routines)

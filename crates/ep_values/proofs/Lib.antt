@@ -1,3 +1,4 @@
 mod Agreement
 pub mod public
+mod RunErrors
 mod Sizes

@@ -101,11 +101,11 @@ module _ (declared : Declarations) (scopes : List Region) (agrees : Agrees decla
 
   pub control_fits : (c : Context) → c.scopes ≡ scopes → (name : List ℕ) → Fits IsCounted (control_judged c name)
   control_fits c is name =
-      fits_then IsCounted IsCounted (unless_threatened_in c.locals c.routines) (when_accepted (λ v. counted_by v.variable v.kind) (control_named c.locals (depth_in c.scopes) name (meant c.scopes name)))
+      fits_then IsCounted IsCounted (unless_threatened_in c.locals c.callees) (when_accepted (λ v. counted_by v.variable v.kind) (control_named c.locals (depth_in c.scopes) name (meant c.scopes name)))
       (fits_then IsVariable IsCounted (λ v. counted_by v.variable v.kind) (control_named c.locals (depth_in c.scopes) name (meant c.scopes name))
       (subst (λ s. Fits IsVariable (control_named c.locals (depth_in s) name (meant s name))) (sym is) (named_fits c.locals name (meant scopes name) (meant-declared declared agrees.0 (structures_of scopes) (depth_in scopes) scopes name agrees.1)))
       (λ v x. counted_fits v.variable v.kind x))
-      (λ k x. unless_fits (is_threatened_in c.locals c.routines k.variable) k x)
+      (λ k x. unless_fits (is_threatened_in c.locals c.callees k.variable) k x)
 
   -- ---- the head
 
@@ -130,10 +130,10 @@ module _ (declared : Declarations) (scopes : List Region) (agrees : Agrees decla
       (bound_fits c.host start) (bound_fits c.host end) (λ x y p q. head_fits locals falls c is x y p q)
 
   pub head_row_fits : (c : Context) → c.scopes ≡ scopes → (controls : List Entire) (line : ℕ) (k : Counted) (falls : Bool) (start end : Expression) → IsCounted k
-      → FitsRow (IsHead c.locals) (at_item line (unless_threatening (head_threat c.routines) controls (bounds_judged c.locals falls k (judged c.scopes start) (judged c.scopes end))))
+      → FitsRow (IsHead c.locals) (at_item line (unless_threatening (head_threat c.callees) controls (bounds_judged c.locals falls k (judged c.scopes start) (judged c.scopes end))))
   head_row_fits c is controls line k falls start end p =
-      subst (λ s. FitsRow (IsHead c.locals) (at_item line (unless_threatening (head_threat c.routines) controls (bounds_judged c.locals falls k (judged s start) (judged s end))))) (sym is)
-      (item_fits (IsHead c.locals) line _ (unthreatening_fits (IsHead c.locals) (head_threat c.routines) controls (bounds_judged c.locals falls k (judged scopes start) (judged scopes end)) (bounds_fit c.locals falls k p start end)))
+      subst (λ s. FitsRow (IsHead c.locals) (at_item line (unless_threatening (head_threat c.callees) controls (bounds_judged c.locals falls k (judged s start) (judged s end))))) (sym is)
+      (item_fits (IsHead c.locals) line _ (unthreatening_fits (IsHead c.locals) (head_threat c.callees) controls (bounds_judged c.locals falls k (judged scopes start) (judged scopes end)) (bounds_fit c.locals falls k p start end)))
 
   -- ---- the head of a `for` over members
 
@@ -156,10 +156,10 @@ module _ (declared : Declarations) (scopes : List Region) (agrees : Agrees decla
       fits_then (IfForm (IsSetOver k.host)) (IfForm (IsMemberHead c)) (λ x. Accepts (option_map (member_head c.locals c.members k) x)) (when_accepted (set_judged k.host) (judged scopes set)) (set_fits k.host set) (λ x p. member_head_fits c k is x p)
 
   pub member_row_fits : (c : Context) → c.scopes ≡ scopes → (controls : List Entire) (line : ℕ) (k : Counted) (set : Expression) → IsCounted k
-      → FitsRow (IsMemberHead c) (at_item line (unless_threatening (member_threat c.routines) controls (members_judged c.locals c.members k (judged c.scopes set))))
+      → FitsRow (IsMemberHead c) (at_item line (unless_threatening (member_threat c.callees) controls (members_judged c.locals c.members k (judged c.scopes set))))
   member_row_fits c is controls line k set p =
-      subst (λ s. FitsRow (IsMemberHead c) (at_item line (unless_threatening (member_threat c.routines) controls (members_judged c.locals c.members k (judged s set))))) (sym is)
-      (item_fits (IsMemberHead c) line _ (unthreatening_fits (IsMemberHead c) (member_threat c.routines) controls (members_judged c.locals c.members k (judged scopes set)) (members_fit c k p set)))
+      subst (λ s. FitsRow (IsMemberHead c) (at_item line (unless_threatening (member_threat c.callees) controls (members_judged c.locals c.members k (judged s set))))) (sym is)
+      (item_fits (IsMemberHead c) line _ (unthreatening_fits (IsMemberHead c) (member_threat c.callees) controls (members_judged c.locals c.members k (judged scopes set)) (members_fit c k p set)))
 
 -- ---- the statements
 
@@ -181,7 +181,7 @@ module _ (declared : Declarations) (types : TypeValues) (structures : List Struc
       go (Breaks rules) is = tt
       go (Accepts k) is =
           after_fits (λ h. Agreed declared types structures depth c → IsHeadIn declared c.locals h) (Sound c) (Sound c) (λ h s. tree.For line h.control h.initial h.last s) _ (body c (k.variable ∷ controls))
-          (fits_if (Agreed declared types structures depth c) (IsHeadIn declared c.locals) (at_item line (unless_threatening (head_threat c.routines) controls (bounds_judged c.locals falls k (judged c.scopes start) (judged c.scopes end))))
+          (fits_if (Agreed declared types structures depth c) (IsHeadIn declared c.locals) (at_item line (unless_threatening (head_threat c.callees) controls (bounds_judged c.locals falls k (judged c.scopes start) (judged c.scopes end))))
           (λ agreed. head_row_fits declared c.scopes (agrees_in declared types structures depth c.scopes agreed.0) (expressions agreed.0) c refl controls line k falls start end (counted agreed.0 name k is)))
           (p c (k.variable ∷ controls))
           (λ h s f g. λ agreed there. (f agreed (there.0 line refl), g agreed (λ other e. there.0 line refl, there.1, there.2)))
@@ -194,7 +194,7 @@ module _ (declared : Declarations) (types : TypeValues) (structures : List Struc
       go (Breaks rules) is = tt
       go (Accepts k) is =
           after_fits (λ h. Agreed declared types structures depth c → IsMemberHeadIn declared c h) (Sound c) (Sound c) (λ h s. tree.ForIn line h.control h.set s) _ (body c (k.variable ∷ controls))
-          (fits_if (Agreed declared types structures depth c) (IsMemberHeadIn declared c) (at_item line (unless_threatening (member_threat c.routines) controls (members_judged c.locals c.members k (judged c.scopes set))))
+          (fits_if (Agreed declared types structures depth c) (IsMemberHeadIn declared c) (at_item line (unless_threatening (member_threat c.callees) controls (members_judged c.locals c.members k (judged c.scopes set))))
           (λ agreed. member_row_fits declared c.scopes (agrees_in declared types structures depth c.scopes agreed.0) (expressions agreed.0) c refl controls line k set (counted agreed.0 name k is)))
           (p c (k.variable ∷ controls))
           (λ h s f g. λ agreed there. (f agreed (there.1 line refl), g agreed (there.0, λ other e. there.1 line refl, there.2)))

@@ -100,14 +100,14 @@ module _ (declared : Declarations) (expressions : ExpressionsAreSound) (passed :
   condition_fits c is controls line e =
       subst (λ s. FitsRow (IsExpr declared (valid.Ordinal typed.Boolean)) (at_item line (expr_item c controls (condition (judged s e))))) (sym is)
       (item_fits (IsExpr declared (valid.Ordinal typed.Boolean)) line (expr_item c controls (condition (judged scopes e)))
-      (unthreatening_fits (IsExpr declared (valid.Ordinal typed.Boolean)) (expr_threat c.routines) controls (condition (judged scopes e))
+      (unthreatening_fits (IsExpr declared (valid.Ordinal typed.Boolean)) (expr_threat c.callees) controls (condition (judged scopes e))
       (fits_then IsSoundForm (IfForm (IsExpr declared (valid.Ordinal typed.Boolean))) (λ v. tested v.kind v.form) (judged scopes e) (expression_fits e) (λ t h. tested_fits t.kind t.form h))))
 
   -- ---- statements without statements inside
 
   -- one that is valid, inside of `for` statements
   stmt_fits : (c : Context) (controls : List Entire) (line : ℕ) (j : Judged (Option Stmt)) → Fits (IfForm (IsStmt declared)) j → FitsRow (IsStmt declared) (stmt_item c controls line j)
-  stmt_fits c controls line j h = item_fits (IsStmt declared) line (unless_threatening (stmt_threat c.routines) controls j) (unthreatening_fits (IsStmt declared) (stmt_threat c.routines) controls j h)
+  stmt_fits c controls line j h = item_fits (IsStmt declared) line (unless_threatening (stmt_threat c.callees) controls j) (unthreatening_fits (IsStmt declared) (stmt_threat c.callees) controls j h)
 
   -- how many routines are around the statements
   abbrev depth : ℕ
@@ -349,7 +349,7 @@ module _ (declared : Declarations) (expressions : ExpressionsAreSound) (passed :
   assigned_row c controls line j h =
       weaker (stmt_item c controls line j)
       (fits_if (Agrees_with c) (IsAssigned declared c.locals) (stmt_item c controls line j)
-      (λ agreed. item_fits (IsAssigned declared c.locals) line (unless_threatening (stmt_threat c.routines) controls j) (unthreatening_fits (IsAssigned declared c.locals) (stmt_threat c.routines) controls j (h agreed))))
+      (λ agreed. item_fits (IsAssigned declared c.locals) line (unless_threatening (stmt_threat c.callees) controls j) (unthreatening_fits (IsAssigned declared c.locals) (stmt_threat c.callees) controls j (h agreed))))
     where
       weaker : (x : Judgement Stmt) → FitsRow (λ s. Agrees_with c → IsAssigned declared c.locals s) x → Sound c x
       weaker (Passes s) p = λ agreed there. p agreed there.0
@@ -385,7 +385,7 @@ module _ (declared : Declarations) (expressions : ExpressionsAreSound) (passed :
       go (Breaks rules) is = tt
       go (Accepts s) is =
           arms_row_fits declared types structures depth labels s.host line c controls s.form (expr_item c controls (Accepts s.form)) all other
-          (form_if (Agrees_with c) (λ x. IsExpr declared (valid.Ordinal (typed_host s.host)) x) (expr_item c controls (Accepts s.form)) (λ agreed. unthreatening_fits (IsExpr declared (valid.Ordinal (typed_host s.host))) (expr_threat c.routines) controls (Accepts s.form) (chosen s is agreed).0))
+          (form_if (Agrees_with c) (λ x. IsExpr declared (valid.Ordinal (typed_host s.host)) x) (expr_item c controls (Accepts s.form)) (λ agreed. unthreatening_fits (IsExpr declared (valid.Ordinal (typed_host s.host))) (expr_threat c.callees) controls (Accepts s.form) (chosen s is agreed).0))
           (λ agreed. (chosen s is agreed).1) (bodies s.host all q) r
 
   -- ---- each statement
@@ -481,8 +481,8 @@ module _ (declared : Declarations) (expressions : ExpressionsAreSound) (passed :
       go (Breaks rules) h = tt
       go (Accepts o) h =
           after_fits (λ hs. IfBuilt declared types structures depth variables c o (Some hs)) (IsSound declared types structures depth (inside c o)) (IsSound declared types structures depth c) (with_form line) _ (body (inside c o) controls)
-          (item_fits (λ hs. IfBuilt declared types structures depth variables c o (Some hs)) line (unless_threatening (heads_threat c.routines) controls (Accepts o.heads))
-          (unthreatening_fits (λ hs. IfBuilt declared types structures depth variables c o (Some hs)) (heads_threat c.routines) controls (Accepts o.heads) (built o.heads h)))
+          (item_fits (λ hs. IfBuilt declared types structures depth variables c o (Some hs)) line (unless_threatening (heads_threat c.callees) controls (Accepts o.heads))
+          (unthreatening_fits (λ hs. IfBuilt declared types structures depth variables c o (Some hs)) (heads_threat c.callees) controls (Accepts o.heads) (built o.heads h)))
           (p (inside c o) controls) (λ hs s f g. nested_sound declared types structures depth variables c line s o hs f g)
         where
           built : (hs : Option (List WithRecord)) → IfBuilt declared types structures depth variables c o hs → IfForm (λ xs. IfBuilt declared types structures depth variables c o (Some xs)) hs

@@ -199,7 +199,7 @@ module _ (asked : ForForm) where
 
   module _ (c : Context) (scopes : List Region) (controls : List Entire) where
     simple_row : (line : ℕ) (j : Judged (Option Stmt)) → Fits (IfForm IsSimple) j → Row c scopes (told asked false false) (stmt_item c controls line j)
-    simple_row line j h = item_fits HasNone line (unless_threatening (stmt_threat c.routines) controls j) (unthreatening_fits HasNone (stmt_threat c.routines) controls j (fits_weaker (IfForm IsSimple) (IfForm HasNone) j weaker h))
+    simple_row line j h = item_fits HasNone line (unless_threatening (stmt_threat c.callees) controls j) (unthreatening_fits HasNone (stmt_threat c.callees) controls j (fits_weaker (IfForm IsSimple) (IfForm HasNone) j weaker h))
       where
         HasNone : Stmt → Type 0
         HasNone s = Alike scopes c.scopes → Has asked (told asked false false) s
@@ -211,8 +211,8 @@ module _ (asked : ForForm) where
     assigned_row : (line : ℕ) (a : Access) (v : ComponentValue) → Row c scopes (told asked false (tags.is_tag scopes a)) (stmt_item c controls line (both (assigned c.locals line) (target_judged c a) (value_judged c a v)))
     assigned_row line a v =
         let j : Judged (Option Stmt) = both (assigned c.locals line) (target_judged c a) (value_judged c a v) in
-        item_fits HasTag line (unless_threatening (stmt_threat c.routines) controls j)
-        (unthreatening_fits HasTag (stmt_threat c.routines) controls j (fits_weaker (IfForm (AssignsTag (tags.is_tag c.scopes a))) (IfForm HasTag) j weaker (assignment_assigns c line a v)))
+        item_fits HasTag line (unless_threatening (stmt_threat c.callees) controls j)
+        (unthreatening_fits HasTag (stmt_threat c.callees) controls j (fits_weaker (IfForm (AssignsTag (tags.is_tag c.scopes a))) (IfForm HasTag) j weaker (assignment_assigns c line a v)))
       where
         HasTag : Stmt → Type 0
         HasTag s = Alike scopes c.scopes → Has asked (told asked false (tags.is_tag scopes a)) s

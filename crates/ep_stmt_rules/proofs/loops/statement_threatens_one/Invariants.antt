@@ -2,10 +2,10 @@ use Rattle.std.proofs.Common.{◌≡◌, drop, map}
 use Rattle.std.specs.List.{list_any}
 use Rattle.ep_typed.specs.Viewed.{stmt_of}
 use Rattle.ep_threats.specs.Variables.{entire_of}
-use Rattle.ep_threats.specs.RoutineForms.{routine_form}
+use Rattle.ep_threats.specs.Callees.{callees_of}
 use Rattle.ep_stmt_rules.specs.Statements.{stmt_threat}
 use Rattle.ep_stmt_rules.proofs.loops.statement_threatens_one.Given as goal
 
 abbrev pub invariant-loop-control : goal.invariant-loop-control
 invariant-loop-control l =
-    list_any (λ v. stmt_threat (map routine_form l.routines) v (stmt_of l.s)) (map entire_of (drop l.control-index l.controls)) ≡ list_any (λ v. stmt_threat (map routine_form l.routines) v (stmt_of l.s)) (map entire_of l.controls)
+    list_any (λ v. stmt_threat (callees_of l.routines) v (stmt_of l.s)) (map entire_of (drop l.control-index l.controls)) ≡ list_any (λ v. stmt_threat (callees_of l.routines) v (stmt_of l.s)) (map entire_of l.controls)

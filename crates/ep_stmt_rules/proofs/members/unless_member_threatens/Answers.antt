@@ -2,7 +2,7 @@ use Rattle.std.proofs.Common.{◌≡◌, ◌∙◌, Some, map, sym}
 use Rattle.ep_rules.specs.Judgements.{Accepts}
 use Rattle.ep_stmt_rules.specs.Answers.{member_head_of}
 use Rattle.ep_threats.specs.Variables.{entire_of}
-use Rattle.ep_threats.specs.RoutineForms.{routine_form}
+use Rattle.ep_threats.specs.Callees.{callees_among}
 use Rattle.ep_stmt_rules.specs.Statements.{member_threat}
 use Rattle.ep_stmt_rules.proofs.Threatening.{is_kept, is_refused}
 use Rattle.ep_stmt_rules.proofs.members.unless_member_threatens.Goals as goal
@@ -10,9 +10,9 @@ use Rattle.ep_stmt_rules.proofs.members.unless_member_threatens.Goals as goal
 pub returns : goal.returns
 returns c j h =
     let is : j ≡ Accepts (Some (member_head_of c.in-Some.h)) = rw (c.in_ok-h.was, c.in-Some.is) at h in
-    is_kept (member_threat (map routine_form c.args.routines.now)) (map entire_of c.args.controls.now) j (member_head_of c.in-Some.h) is (rw c.all.ensures at (sym c.member_threatens_one.ensures ∙ c.if-member_threatens_one.false))
+    is_kept (member_threat (callees_among c.args.routines.now)) (map entire_of c.args.controls.now) j (member_head_of c.in-Some.h) is (rw c.callees.ensures at (sym c.member_threatens_one.ensures ∙ c.if-member_threatens_one.false))
 
 pub returns-then-member_threatens_one : goal.returns-then-member_threatens_one
 returns-then-member_threatens_one c j h =
     let is : j ≡ Accepts (Some (member_head_of c.in-Some.h)) = rw (c.in_ok-h.was, c.in-Some.is) at h in
-    is_refused (member_threat (map routine_form c.args.routines.now)) (map entire_of c.args.controls.now) j (member_head_of c.in-Some.h) is (rw c.all.ensures at (sym c.member_threatens_one.ensures ∙ c.if-member_threatens_one.true))
+    is_refused (member_threat (callees_among c.args.routines.now)) (map entire_of c.args.controls.now) j (member_head_of c.in-Some.h) is (rw c.callees.ensures at (sym c.member_threatens_one.ensures ∙ c.if-member_threatens_one.true))

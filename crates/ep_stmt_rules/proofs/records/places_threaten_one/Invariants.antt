@@ -2,10 +2,10 @@ use Rattle.std.proofs.Common.{◌≡◌, drop, map}
 use Rattle.std.specs.List.{list_any}
 use Rattle.ep_typed.specs.Viewed.{with_record_of}
 use Rattle.ep_threats.specs.Variables.{entire_of}
-use Rattle.ep_threats.specs.RoutineForms.{routine_form}
+use Rattle.ep_threats.specs.Callees.{callees_of}
 use Rattle.ep_stmt_rules.specs.Statements.{heads_threat}
 use Rattle.ep_stmt_rules.proofs.records.places_threaten_one.Given as goal
 
 abbrev pub invariant-loop-control : goal.invariant-loop-control
 invariant-loop-control l =
-    list_any (λ v. heads_threat (map routine_form l.routines) v (map with_record_of l.heads)) (map entire_of (drop l.control-index l.controls)) ≡ list_any (λ v. heads_threat (map routine_form l.routines) v (map with_record_of l.heads)) (map entire_of l.controls)
+    list_any (λ v. heads_threat (callees_of l.routines) v (map with_record_of l.heads)) (map entire_of (drop l.control-index l.controls)) ≡ list_any (λ v. heads_threat (callees_of l.routines) v (map with_record_of l.heads)) (map entire_of l.controls)

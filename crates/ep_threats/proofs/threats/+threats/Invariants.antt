@@ -4,20 +4,20 @@ use Rattle.ep_typed.specs.Viewed.{arm_of, stmt_of, with_record_of}
 use Rattle.ep_typed.specs.declared.tree.CaseArm.{size-CaseArm}
 use Rattle.ep_typed.specs.declared.tree.TypedStmt.{size-TypedStmt}
 use Rattle.ep_threats.specs.Variables.{entire_of}
-use Rattle.ep_threats.specs.RoutineForms.{formals_at, routine_form}
+use Rattle.ep_threats.specs.Callees.{callees_of, formals_at}
 use Rattle.ep_threats.specs.Threats.{arms_threaten, stmts_threaten, threatens}
 use Rattle.ep_threats.proofs.threats.+threats.Given as goal
 
 abbrev pub invariant-stmts_threaten-loop-s : goal.invariant-stmts_threaten-loop-s
-invariant-stmts_threaten-loop-s l = stmts_threaten (formals_at (map routine_form l.routines)) (entire_of l.variable) (stmts (map stmt_of (drop l.s-index l.all))) ≡ stmts_threaten (formals_at (map routine_form l.routines)) (entire_of l.variable) (stmts (map stmt_of l.all))
+invariant-stmts_threaten-loop-s l = stmts_threaten (formals_at (callees_of l.routines)) (entire_of l.variable) (stmts (map stmt_of (drop l.s-index l.all))) ≡ stmts_threaten (formals_at (callees_of l.routines)) (entire_of l.variable) (stmts (map stmt_of l.all))
 
 abbrev pub invariant-arms_threaten-loop-a : goal.invariant-arms_threaten-loop-a
-invariant-arms_threaten-loop-a l = arms_threaten (formals_at (map routine_form l.routines)) (entire_of l.variable) (arms (map arm_of (drop l.a-index l.all))) ≡ arms_threaten (formals_at (map routine_form l.routines)) (entire_of l.variable) (arms (map arm_of l.all))
+invariant-arms_threaten-loop-a l = arms_threaten (formals_at (callees_of l.routines)) (entire_of l.variable) (arms (map arm_of (drop l.a-index l.all))) ≡ arms_threaten (formals_at (callees_of l.routines)) (entire_of l.variable) (arms (map arm_of l.all))
 
 abbrev pub invariant-opened_threatens-loop-record : goal.invariant-opened_threatens-loop-record
 invariant-opened_threatens-loop-record l =
     (length l.left ≤ length l.records)
-    × ((line : ℕ) → threatens (formals_at (map routine_form l.routines)) (entire_of l.variable) (with_form line (map with_record_of l.left) (stmt_of l.body)) ≡ threatens (formals_at (map routine_form l.routines)) (entire_of l.variable) (with_form line (map with_record_of l.records) (stmt_of l.body)))
+    × ((line : ℕ) → threatens (formals_at (callees_of l.routines)) (entire_of l.variable) (with_form line (map with_record_of l.left) (stmt_of l.body)) ≡ threatens (formals_at (callees_of l.routines)) (entire_of l.variable) (with_form line (map with_record_of l.records) (stmt_of l.body)))
 
 abbrev pub decreases-opened_threatens-loop-record : goal.decreases-opened_threatens-loop-record
 decreases-opened_threatens-loop-record l = length l.left
