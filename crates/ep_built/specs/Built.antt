@@ -67,8 +67,8 @@ use Rattle.ep_tree.specs.declared.statement.Statement.TheOpen.{Statement-F}
 use Rattle.ep_tree.specs.declared.statement.Statement.{Statement}
 use Rattle.ep_tree.specs.declared.statement.Arm.{Arm}
 use Rattle.ep_tree.specs.declared.statement.Compound.{Compound}
-use Rattle.ep_tree.specs.declared.routine.Part.TheOpen.{Part-F, RoutineBody-F, Routine-F}
-use Rattle.ep_tree.specs.declared.routine.Part.{Part, fold-Part}
+use Rattle.ep_tree.specs.declared.routine.BlockPart.TheOpen.{BlockPart-F, RoutineBody-F, Routine-F}
+use Rattle.ep_tree.specs.declared.routine.BlockPart.{BlockPart, fold-BlockPart}
 use Rattle.ep_tree.specs.declared.routine.Routine.{Routine, fold-Routine}
 use Rattle.ep_tree.specs.declared.routine.RoutineBody.{RoutineBody, fold-RoutineBody}
 use Rattle.ep_tree.specs.declared.routine.RoutineStart.{RoutineStart}
@@ -580,11 +580,11 @@ start_unbuilt (start_is.Heading heading) = heading_unbuilt heading
 start_unbuilt (start_is.Function line name) = None
 
 -- a part, by its definitions or declarations, or as a routine
-abbrev pub at_part : Part-F Found Found Found → Found
-at_part (Part-F.Constants c) = first_in (map constant_unbuilt c.definitions)
-at_part (Part-F.Types t) = first_in (map type_unbuilt t.definitions)
-at_part (Part-F.Variables v) = first_in (map variable_unbuilt v.declarations)
-at_part (Part-F.Routine r) = r
+abbrev pub at_part : BlockPart-F Found Found Found → Found
+at_part (BlockPart-F.Constants c) = first_in (map constant_unbuilt c.definitions)
+at_part (BlockPart-F.Types t) = first_in (map type_unbuilt t.definitions)
+at_part (BlockPart-F.Variables v) = first_in (map variable_unbuilt v.declarations)
+at_part (BlockPart-F.Routine r) = r
 
 -- the parts of a block, routines among them, before its statements
 abbrev pub at_body : RoutineBody-F Found Found Found → Found
@@ -596,8 +596,8 @@ abbrev pub at_routine : Routine-F Found Found Found → Found
 at_routine r = at_node (built_routine r) r.line (option_or (start_unbuilt r.start) r.body)
 
 -- the first line in a part
-abbrev pub part_unbuilt : Part → Found
-part_unbuilt = fold-Part Found Found Found at_part at_body at_routine
+abbrev pub part_unbuilt : BlockPart → Found
+part_unbuilt = fold-BlockPart Found Found Found at_part at_body at_routine
 
 -- the first line in the body of a routine
 abbrev pub body_unbuilt : RoutineBody → Found

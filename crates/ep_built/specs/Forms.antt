@@ -21,7 +21,7 @@ use Rattle.ep_tree.specs.declared.declaration.RoutineHeading.{RoutineHeading}
 use Rattle.ep_tree.specs.declared.declaration.RoutineHeading.TheVariants as heading_is
 use Rattle.ep_tree.specs.declared.declaration.TypeDefinition.{TypeDefinition}
 use Rattle.ep_tree.specs.declared.statement.Statement.TheOpen.{Statement-F}
-use Rattle.ep_tree.specs.declared.routine.Part.TheOpen.{Routine-F}
+use Rattle.ep_tree.specs.declared.routine.BlockPart.TheOpen.{Routine-F}
 use Rattle.ep_tree.specs.declared.routine.RoutineStart.{RoutineStart}
 use Rattle.ep_tree.specs.declared.routine.RoutineStart.TheVariants as start_is
 use Rattle.ep_tree.specs.declared.component.Component.{Component}

@@ -20,8 +20,8 @@ use Rattle.ep_stmt_rules.specs.Outcomes.{item_at}
 use Rattle.ep_stmt_rules.specs.Statements.{ArmJudged, Context, Under, Judgement, behind, Passes, Waits, Fails, after, at_arm, at_compound, at_item, at_otherwise, at_statement, in_order, statement_judged}
 use Rattle.ep_stmt_rules.specs.declared.outcome.CheckRefusal.{CheckRefusal}
 use Rattle.ep_stmt_rules.specs.declared.outcome.CheckRefusal.TheVariants as refusal
-use Rattle.ep_stmt_rules.specs.declared.outcome.Outcome.{Outcome}
-use Rattle.ep_stmt_rules.specs.declared.outcome.Outcome.TheVariants as outcome
+use Rattle.ep_stmt_rules.specs.declared.outcome.Admission.{Admission}
+use Rattle.ep_stmt_rules.specs.declared.outcome.Admission.TheVariants as outcome
 use Rattle.ep_stmt_rules.proofs.public.judged.Rounds.{next_item}
 
 both_pass : (a b : Bool) → a ≡ true → b ≡ true → (a && b) ≡ true
@@ -48,7 +48,7 @@ first_falls f (refusal.Broken b) (Passes a) y h = cc
 first_falls f (refusal.Broken b) (Waits line) y h = cc
 first_falls f (refusal.Broken b) (Fails line rules) y h = h
 
-pub second_falls : {T A B C : Type 0} (f : A → B → C) (view : T → A) (r : CheckRefusal) (x : Judgement A) (y : Judgement B) (found : Outcome T) → x ≡ passed view found → RefusesRow r y → RefusesRow r (after f x y)
+pub second_falls : {T A B C : Type 0} (f : A → B → C) (view : T → A) (r : CheckRefusal) (x : Judgement A) (y : Judgement B) (found : Admission T) → x ≡ passed view found → RefusesRow r y → RefusesRow r (after f x y)
 second_falls f view refusal.NoMemory x y found is h = tt
 second_falls f view (refusal.NotBuilt line) x y found is h = h
 second_falls f view (refusal.Broken b) x (Passes c) found is h = cc

@@ -25,12 +25,12 @@ use ep_scope::{
     View, depth_in, meaning_of, rule,
 };
 use ep_stmt_rules::{
-    Counted, FunctionResult, Locals, Opened, Outcome, Row, Target, arm_form, assigned, behind_arm,
-    behind_arms, behind_statement, behind_then, call_arguments, case_form, component_rule,
-    compound_form, control_named, counted_by, denoted, falls_by, for_form, for_in_form, head,
-    identifier, if_form, is_threatened_in, item_at, member_head, named_record, named_target,
-    no_otherwise, one_more, otherwise_form, own_ranges, refused_at, repeat_form, selector, tested,
-    unless_head_threatens, unless_member_threatens, unless_places_threaten,
+    Admission, Counted, FunctionResult, Locals, Opened, Row, Target, arm_form, assigned,
+    behind_arm, behind_arms, behind_statement, behind_then, call_arguments, case_form,
+    component_rule, compound_form, control_named, counted_by, denoted, falls_by, for_form,
+    for_in_form, head, identifier, if_form, is_threatened_in, item_at, member_head, named_record,
+    named_target, no_otherwise, one_more, otherwise_form, own_ranges, refused_at, repeat_form,
+    selector, tested, unless_head_threatens, unless_member_threatens, unless_places_threaten,
     unless_statement_threatens, unless_value_threatens, while_form, with_form, write_to,
 };
 use ep_threats::{Entire, Routines};
@@ -96,13 +96,13 @@ impl<'a> Context<'a> {
             let one = self.numbered(withs).statement(s, controls)?;
             withs = behind_statement(withs, &one)?;
             match one {
-                Outcome::Passes(form) => found.push(form.into_inner())?,
-                Outcome::Waits(line) => waits = waits.or(Some(line)),
+                Admission::Passes(form) => found.push(form.into_inner())?,
+                Admission::Waits(line) => waits = waits.or(Some(line)),
             }
         }
         match waits {
-            None => Ok(Outcome::Passes(found)),
-            Some(line) => Ok(Outcome::Waits(line)),
+            None => Ok(Admission::Passes(found)),
+            Some(line) => Ok(Admission::Waits(line)),
         }
     }
 
@@ -401,13 +401,13 @@ impl<'a> Context<'a> {
             let one = self.numbered(withs).arm(line, host, a, controls)?;
             withs = behind_arm(withs, &one)?;
             match one {
-                Outcome::Passes(form) => found.push(form.into_inner())?,
-                Outcome::Waits(line) => waits = waits.or(Some(line)),
+                Admission::Passes(form) => found.push(form.into_inner())?,
+                Admission::Waits(line) => waits = waits.or(Some(line)),
             }
         }
         match waits {
-            None => Ok(Outcome::Passes(found)),
-            Some(line) => Ok(Outcome::Waits(line)),
+            None => Ok(Admission::Passes(found)),
+            Some(line) => Ok(Admission::Waits(line)),
         }
     }
 
@@ -430,7 +430,7 @@ impl<'a> Context<'a> {
         ensures { AnswersRow stmt_of result (spec.Passes tree.Empty) }
     {
         let form = Boxed::new(self.alloc, TypedStmt::Empty)?;
-        Ok(Outcome::Passes(form))
+        Ok(Admission::Passes(form))
     }
 
     /// The condition of a statement on this line.

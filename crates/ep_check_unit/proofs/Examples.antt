@@ -2,7 +2,7 @@
 use Rattle.std.proofs.Common.{◌≡◌, ℕ, pos, Bool, true, false, List, [], ◌∷◌, ◌++◌, Option, Some, None, refl, codes, slice_get}
 use Rattle.std.specs.Option.{option_map}
 use Rattle.ep_tree.specs.declared.declaration.RoutineHeading.TheVariants as heading
-use Rattle.ep_tree.specs.declared.routine.Part.TheOpen.{Part-F, RoutineBody-F}
+use Rattle.ep_tree.specs.declared.routine.BlockPart.TheOpen.{BlockPart-F, RoutineBody-F}
 use Rattle.ep_tree.specs.declared.routine.RoutineStart.TheVariants as start
 use Rattle.ep_tree.specs.declared.statement.Compound.{Compound, roll-Compound}
 use Rattle.ep_tree.specs.declared.statement.Statement.TheFolds.{fold-roll-Compound}
@@ -229,7 +229,7 @@ nothing_assigned name = fold-roll-Compound Bool Bool Bool Bool (in_statement nam
 -- procedure q; begin .. end, with these statements
 abbrev inner : Compound → PartJudged
 inner c =
-    of_part (Part-F.Routine (of_routine (record {
+    of_part (BlockPart-F.Routine (of_routine (record {
       line = 5;
       start = start.Heading (heading.Procedure 5 (codes "q") []);
       body = of_body (RoutineBody-F.Block 5 [] c);

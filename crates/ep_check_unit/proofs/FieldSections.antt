@@ -14,7 +14,7 @@ use Rattle.ep_unit_rules.specs.Answers.{field_in, field_named}
 use Rattle.ep_check_unit.specs.Answers.{fields_in, named_in}
 use Rattle.ep_check_unit.specs.Blocks.{Block}
 use Rattle.ep_unit_rules.specs.Records.{fields_named}
-use Rattle.ep_check_unit.specs.Declarations.{Fielded, ListJudged, Part, PartJudged, Section, VariantJudged, Written, at_core, at_field_section, at_fields, at_plain, at_structure, at_type_denoter, at_variant, at_variant_part, denoter_part, field_of, section_part, section_written, sections_written, settled_part}
+use Rattle.ep_check_unit.specs.Declarations.{Fielded, ListJudged, DenoterPart, PartJudged, Section, VariantJudged, Written, at_core, at_field_section, at_fields, at_plain, at_structure, at_type_denoter, at_variant, at_variant_part, denoter_part, field_of, section_part, section_written, sections_written, settled_part}
 use Rattle.ep_unit_rules.specs.declared.records.WrittenField.{WrittenField}
 use Rattle.ep_unit_rules.specs.declared.types.NamedType.{NamedType}
 
@@ -24,7 +24,7 @@ type_in s = (out-FieldSection s).of
 
 -- a section by its parts
 section_is : (s : FieldSection) → section_part s ≡ record { names = (out-FieldSection s).names; of = denoter_part (type_in s) }
-section_is s = fold_out-FieldSection Part Part Section ListJudged Part Part VariantJudged PartJudged at_core at_structure at_field_section at_fields at_plain at_type_denoter at_variant at_variant_part s
+section_is s = fold_out-FieldSection DenoterPart DenoterPart Section ListJudged DenoterPart DenoterPart VariantJudged PartJudged at_core at_structure at_field_section at_fields at_plain at_type_denoter at_variant at_variant_part s
 
 -- where a section is built, its type is
 pub section_built : (s : FieldSection) → field_section_unbuilt s ≡ None → type_denoter_unbuilt (type_in s) ≡ None

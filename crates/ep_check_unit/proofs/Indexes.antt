@@ -27,7 +27,7 @@ use Rattle.ep_unit_rules.specs.Answers.{index_of}
 use Rattle.ep_check_unit.specs.Answers.{arrays_below, indexes_written, named_in}
 use Rattle.ep_check_unit.specs.Blocks.{Block}
 use Rattle.ep_unit_rules.specs.Types.{type_denoter}
-use Rattle.ep_check_unit.specs.Declarations.{ListJudged, Part, PartJudged, Section, VariantJudged, Written, array_over, array_part, at_core, at_field_section, at_fields, at_plain, at_structure, at_type_denoter, at_variant, at_variant_part, core_part, index_values, plain_part, settled, settled_part, structure_part, structured}
+use Rattle.ep_check_unit.specs.Declarations.{ListJudged, DenoterPart, PartJudged, Section, VariantJudged, Written, array_over, array_part, at_core, at_field_section, at_fields, at_plain, at_structure, at_type_denoter, at_variant, at_variant_part, core_part, index_values, plain_part, settled, settled_part, structure_part, structured}
 use Rattle.ep_unit_rules.specs.declared.labels.TagValues.{TagValues}
 use Rattle.ep_unit_rules.specs.declared.types.IndexType.{IndexType}
 use Rattle.ep_unit_rules.specs.declared.types.NamedType.{NamedType}
@@ -44,14 +44,14 @@ alone (Accepts w) = refl
 alone (Breaks rules) = refl
 
 -- the arrays over components, behind these index types
-abbrev pub over_components : ℕ → Part → Judged (Indexes × Block) → Judged Written
+abbrev pub over_components : ℕ → DenoterPart → Judged (Indexes × Block) → Judged Written
 over_components line of j = when_accepted (λ r. when_accepted (λ w. Accepts (arrays_below line r.0 w)) (settled_part of line r.1)) j
 
 -- the same but for the last array
-abbrev pub last_over : ℕ → Part → Denoter → ℕ → TagValues → Judged (Indexes × Block) → Judged Written
+abbrev pub last_over : ℕ → DenoterPart → Denoter → ℕ → TagValues → Judged (Indexes × Block) → Judged Written
 last_over line of d n v j = when_accepted (λ r. when_accepted (λ w. Accepts (array_over d n v (arrays_below line r.0 w))) (settled_part of line r.1)) j
 
-last_settled : (line : ℕ) (of : Part) (d : Denoter) (n : ℕ) (v : TagValues) (j : Judged (Indexes × Block))
+last_settled : (line : ℕ) (of : DenoterPart) (d : Denoter) (n : ℕ) (v : TagValues) (j : Judged (Indexes × Block))
     → when_accepted (λ w. Accepts (settled line w)) (when_accepted (λ below. Accepts (array_over d n v below)) (over_components line of j)) ≡ over_components line of (when_accepted (λ r. Accepts ((d, n, v) ∷ r.0, r.1)) j)
 last_settled line of d n v (Breaks rules) = refl
 last_settled line of d n v (Accepts r) = at (settled_part of line r.1)
@@ -60,7 +60,7 @@ last_settled line of d n v (Accepts r) = at (settled_part of line r.1)
     at (Accepts w) = refl
     at (Breaks rules) = refl
 
-last_written : (line : ℕ) (of : Part) (d : Denoter) (n : ℕ) (v : TagValues) (j : Judged (Indexes × Block)) → when_accepted (λ below. Accepts (array_over d n v below)) (over_components line of j) ≡ last_over line of d n v j
+last_written : (line : ℕ) (of : DenoterPart) (d : Denoter) (n : ℕ) (v : TagValues) (j : Judged (Indexes × Block)) → when_accepted (λ below. Accepts (array_over d n v below)) (over_components line of j) ≡ last_over line of d n v j
 last_written line of d n v (Breaks rules) = refl
 last_written line of d n v (Accepts r) = at (settled_part of line r.1)
   where
@@ -69,7 +69,7 @@ last_written line of d n v (Accepts r) = at (settled_part of line r.1)
     at (Breaks rules) = refl
 
 -- by an index type that is judged first, and its values
-settled_first : (line : ℕ) (of : Part) (is : List Part) (i : Judged Written) (values : Written → Judged TagValues) → ((b : Block) → settled_part (array_part of is) line b ≡ over_components line of (indexes_written line is b))
+settled_first : (line : ℕ) (of : DenoterPart) (is : List DenoterPart) (i : Judged Written) (values : Written → Judged TagValues) → ((b : Block) → settled_part (array_part of is) line b ≡ over_components line of (indexes_written line is b))
     → when_accepted (λ w. Accepts (settled line w)) (when_accepted (λ w. when_accepted (λ v. when_accepted (λ below. Accepts (array_over w.denoter w.nodes v below)) (settled_part (array_part of is) line w.block)) (values w)) i)
     ≡ over_components line of (when_accepted (λ w. when_accepted (λ v. when_accepted (λ r. Accepts ((w.denoter, w.nodes, v) ∷ r.0, r.1)) (indexes_written line is w.block)) (values w)) i)
 settled_first line of is (Breaks rules) values same = refl
@@ -82,21 +82,21 @@ settled_first line of is (Accepts w) values same = at (values w)
     at (Accepts v) = ap (λ s. when_accepted (λ x. Accepts (settled line x)) (when_accepted (λ below. Accepts (array_over w.denoter w.nodes v below)) s)) (same w.block) ∙ last_settled line of w.denoter w.nodes v (indexes_written line is w.block)
 
 -- what is below an index type
-pub settled_below : (line : ℕ) (of : Part) (is : List Part) (b : Block) → settled_part (array_part of is) line b ≡ over_components line of (indexes_written line is b)
+pub settled_below : (line : ℕ) (of : DenoterPart) (is : List DenoterPart) (b : Block) → settled_part (array_part of is) line b ≡ over_components line of (indexes_written line is b)
 settled_below line of [] b = alone (settled_part of line b)
 settled_below line of (i ∷ is) b = settled_first line of is (settled_part i line b) index_values (λ c. settled_below line of is c)
 
 -- the array of all index types, by the first one and the others; one without index types is its component
-abbrev pub by_first : ℕ → Part → Judged (Indexes × Block) → Judged Written
+abbrev pub by_first : ℕ → DenoterPart → Judged (Indexes × Block) → Judged Written
 by_first line of (Breaks rules) = Breaks rules
 by_first line of (Accepts ([], b)) = of.written line b
 by_first line of (Accepts (i ∷ is, b)) = when_accepted (λ w. Accepts (array_over i.0 i.1 i.2 (arrays_below line is w))) (settled_part of line b)
 
-first_over : (line : ℕ) (of : Part) (d : Denoter) (n : ℕ) (v : TagValues) (j : Judged (Indexes × Block)) → last_over line of d n v j ≡ by_first line of (when_accepted (λ r. Accepts ((d, n, v) ∷ r.0, r.1)) j)
+first_over : (line : ℕ) (of : DenoterPart) (d : Denoter) (n : ℕ) (v : TagValues) (j : Judged (Indexes × Block)) → last_over line of d n v j ≡ by_first line of (when_accepted (λ r. Accepts ((d, n, v) ∷ r.0, r.1)) j)
 first_over line of d n v (Accepts r) = refl
 first_over line of d n v (Breaks rules) = refl
 
-written_first : (line : ℕ) (of : Part) (is : List Part) (i : Judged Written) (values : Written → Judged TagValues)
+written_first : (line : ℕ) (of : DenoterPart) (is : List DenoterPart) (i : Judged Written) (values : Written → Judged TagValues)
     → when_accepted (λ w. when_accepted (λ v. when_accepted (λ below. Accepts (array_over w.denoter w.nodes v below)) (settled_part (array_part of is) line w.block)) (values w)) i
     ≡ by_first line of (when_accepted (λ w. when_accepted (λ v. when_accepted (λ r. Accepts ((w.denoter, w.nodes, v) ∷ r.0, r.1)) (indexes_written line is w.block)) (values w)) i)
 written_first line of is (Breaks rules) values = refl
@@ -109,7 +109,7 @@ written_first line of is (Accepts w) values = at (values w)
     at (Accepts v) = ap (when_accepted (λ below. Accepts (array_over w.denoter w.nodes v below))) (settled_below line of is w.block) ∙ (last_written line of w.denoter w.nodes v (indexes_written line is w.block) ∙ first_over line of w.denoter w.nodes v (indexes_written line is w.block))
 
 -- so an array is written
-array_by_first : (line : ℕ) (of : Part) (is : List Part) (b : Block) → (array_part of is).written line b ≡ by_first line of (indexes_written line is b)
+array_by_first : (line : ℕ) (of : DenoterPart) (is : List DenoterPart) (b : Block) → (array_part of is).written line b ≡ by_first line of (indexes_written line is b)
 array_by_first line of [] b = refl
 array_by_first line of (i ∷ is) b = written_first line of is (settled_part i line b) index_values
 
@@ -129,7 +129,7 @@ pub next_index : (line : ℕ) (plains : List Plain) (n : ℕ) (p : Plain) → n 
     → settled_part (plain_part p) line b ≡ Accepts (named_in new index) → index_values (named_in new index) ≡ Accepts values
     → behind (map index_of made) (indexes_written line (map plain_part (drop n plains)) b) ≡ all → behind (map index_of pushed) (indexes_written line (map plain_part (drop (n + 1) plains)) new) ≡ all
 next_index line plains n p lt is made pushed index values b new all push settles valued same =
-    let rest : List Part = map plain_part (drop (n + 1) plains) in
+    let rest : List DenoterPart = map plain_part (drop (n + 1) plains) in
     let item : IndexType = record { name = index.name; values = values; nodes = index.nodes } in
     let step : indexes_written line (map plain_part (drop n plains)) b ≡ when_accepted (λ r. Accepts (index_of item ∷ r.0, r.1)) (indexes_written line rest new) =
     ap (λ xs. indexes_written line (map plain_part xs) b) (next_item plains n p lt is)
@@ -162,19 +162,19 @@ next_below line indexes place d some within below over above made settles =
 -- ---- structures
 
 array_rolled : (at : ℕ) (is : List Plain) (of : Plain) → structure_part (structure.Array at is of) ≡ structured (array_part (plain_part of) (map plain_part is))
-array_rolled at is of = ap structure_part (sym (structure.rolls-Array at is of)) ∙ fold-roll-Structure Part Part Section ListJudged Part Part VariantJudged PartJudged at_core at_structure at_field_section at_fields at_plain at_type_denoter at_variant at_variant_part (Structure-F.Array at is of)
+array_rolled at is of = ap structure_part (sym (structure.rolls-Array at is of)) ∙ fold-roll-Structure DenoterPart DenoterPart Section ListJudged DenoterPart DenoterPart VariantJudged PartJudged at_core at_structure at_field_section at_fields at_plain at_type_denoter at_variant at_variant_part (Structure-F.Array at is of)
 
 structure_unnamed : (x : Structure-F Core Structure FieldSection Fields Plain TypeDenoter Variant VariantPart) → (structure_part (roll-Structure x)).is_name ≡ false
-structure_unnamed (Structure-F.Array at is of) = ap (λ (p : Part). p.is_name) (fold-roll-Structure Part Part Section ListJudged Part Part VariantJudged PartJudged at_core at_structure at_field_section at_fields at_plain at_type_denoter at_variant at_variant_part (Structure-F.Array at is of))
-structure_unnamed (Structure-F.Record at fields) = ap (λ (p : Part). p.is_name) (fold-roll-Structure Part Part Section ListJudged Part Part VariantJudged PartJudged at_core at_structure at_field_section at_fields at_plain at_type_denoter at_variant at_variant_part (Structure-F.Record at fields))
-structure_unnamed (Structure-F.Set at base) = ap (λ (p : Part). p.is_name) (fold-roll-Structure Part Part Section ListJudged Part Part VariantJudged PartJudged at_core at_structure at_field_section at_fields at_plain at_type_denoter at_variant at_variant_part (Structure-F.Set at base))
+structure_unnamed (Structure-F.Array at is of) = ap (λ (p : DenoterPart). p.is_name) (fold-roll-Structure DenoterPart DenoterPart Section ListJudged DenoterPart DenoterPart VariantJudged PartJudged at_core at_structure at_field_section at_fields at_plain at_type_denoter at_variant at_variant_part (Structure-F.Array at is of))
+structure_unnamed (Structure-F.Record at fields) = ap (λ (p : DenoterPart). p.is_name) (fold-roll-Structure DenoterPart DenoterPart Section ListJudged DenoterPart DenoterPart VariantJudged PartJudged at_core at_structure at_field_section at_fields at_plain at_type_denoter at_variant at_variant_part (Structure-F.Record at fields))
+structure_unnamed (Structure-F.Set at base) = ap (λ (p : DenoterPart). p.is_name) (fold-roll-Structure DenoterPart DenoterPart Section ListJudged DenoterPart DenoterPart VariantJudged PartJudged at_core at_structure at_field_section at_fields at_plain at_type_denoter at_variant at_variant_part (Structure-F.Set at base))
 
 structures_unnamed : (s : Structure) → (structure_part s).is_name ≡ false
 structures_unnamed s = subst (λ z. (structure_part z).is_name ≡ false) (roll-out-Structure s) (structure_unnamed (out-Structure s))
 
 module _ (line : ℕ) (s : Structure) (at : ℕ) (is : List Plain) (of : Plain) (b : Block) (array : s ≡ structure.Array at is of) where
   structure_written : (structure_part s).written line b ≡ by_first line (plain_part of) (indexes_written line (map plain_part is) b)
-  structure_written = ap (λ (p : Part). p.written line b) (ap structure_part array ∙ array_rolled at is of) ∙ array_by_first line (plain_part of) (map plain_part is) b
+  structure_written = ap (λ (p : DenoterPart). p.written line b) (ap structure_part array ∙ array_rolled at is of) ∙ array_by_first line (plain_part of) (map plain_part is) b
 
   by_first_refused : (e : Refusal) (j : Judged (Indexes × Block)) → Refuses e j → Refuses e (by_first line (plain_part of) j)
   by_first_refused NoMemory j h = tt
@@ -217,18 +217,18 @@ module _ (line : ℕ) (s : Structure) (at : ℕ) (is : List Plain) (of : Plain) 
 
 -- ---- a part that is no name
 
-pub other_settled : (p : Part) (line : ℕ) (b : Block) (w : Written) → p.is_name ≡ false → p.written line b ≡ Accepts w → settled_part p line b ≡ Accepts (settled line w)
+pub other_settled : (p : DenoterPart) (line : ℕ) (b : Block) (w : Written) → p.is_name ≡ false → p.written line b ≡ Accepts w → settled_part p line b ≡ Accepts (settled line w)
 other_settled p line b w other writes = ap (λ n. when_accepted (λ v. Accepts (if n then v else settled line v)) (p.written line b)) other ∙ ap (when_accepted (λ v. Accepts (settled line v))) writes
 
 -- what is no name is none for its part
 core_unnamed : (x : Core-F Core Structure FieldSection Fields Plain TypeDenoter Variant VariantPart) → ((at : ℕ) (name : QualifiedName) (tuple : List Expression) → roll-Core x ≡ core.Named at name tuple → ⊥) → (core_part (roll-Core x)).is_name ≡ false
 core_unnamed (Core-F.Named at name tuple) other = absurd (other at name tuple (core.rolls-Named at name tuple))
-core_unnamed (Core-F.Range at low high) other = ap (λ (p : Part). p.is_name) (fold-roll-Core Part Part Section ListJudged Part Part VariantJudged PartJudged at_core at_structure at_field_section at_fields at_plain at_type_denoter at_variant at_variant_part (Core-F.Range at low high))
-core_unnamed (Core-F.Enumeration at names) other = ap (λ (p : Part). p.is_name) (fold-roll-Core Part Part Section ListJudged Part Part VariantJudged PartJudged at_core at_structure at_field_section at_fields at_plain at_type_denoter at_variant at_variant_part (Core-F.Enumeration at names))
-core_unnamed (Core-F.Pointer at name) other = ap (λ (p : Part). p.is_name) (fold-roll-Core Part Part Section ListJudged Part Part VariantJudged PartJudged at_core at_structure at_field_section at_fields at_plain at_type_denoter at_variant at_variant_part (Core-F.Pointer at name))
-core_unnamed (Core-F.Structured at packed structure) other = ap (λ (p : Part). p.is_name) (fold-roll-Core Part Part Section ListJudged Part Part VariantJudged PartJudged at_core at_structure at_field_section at_fields at_plain at_type_denoter at_variant at_variant_part (Core-F.Structured at packed structure)) ∙ structures_unnamed structure
-core_unnamed (Core-F.Restricted at name) other = ap (λ (p : Part). p.is_name) (fold-roll-Core Part Part Section ListJudged Part Part VariantJudged PartJudged at_core at_structure at_field_section at_fields at_plain at_type_denoter at_variant at_variant_part (Core-F.Restricted at name))
-core_unnamed (Core-F.TypeOf at name) other = ap (λ (p : Part). p.is_name) (fold-roll-Core Part Part Section ListJudged Part Part VariantJudged PartJudged at_core at_structure at_field_section at_fields at_plain at_type_denoter at_variant at_variant_part (Core-F.TypeOf at name))
+core_unnamed (Core-F.Range at low high) other = ap (λ (p : DenoterPart). p.is_name) (fold-roll-Core DenoterPart DenoterPart Section ListJudged DenoterPart DenoterPart VariantJudged PartJudged at_core at_structure at_field_section at_fields at_plain at_type_denoter at_variant at_variant_part (Core-F.Range at low high))
+core_unnamed (Core-F.Enumeration at names) other = ap (λ (p : DenoterPart). p.is_name) (fold-roll-Core DenoterPart DenoterPart Section ListJudged DenoterPart DenoterPart VariantJudged PartJudged at_core at_structure at_field_section at_fields at_plain at_type_denoter at_variant at_variant_part (Core-F.Enumeration at names))
+core_unnamed (Core-F.Pointer at name) other = ap (λ (p : DenoterPart). p.is_name) (fold-roll-Core DenoterPart DenoterPart Section ListJudged DenoterPart DenoterPart VariantJudged PartJudged at_core at_structure at_field_section at_fields at_plain at_type_denoter at_variant at_variant_part (Core-F.Pointer at name))
+core_unnamed (Core-F.Structured at packed structure) other = ap (λ (p : DenoterPart). p.is_name) (fold-roll-Core DenoterPart DenoterPart Section ListJudged DenoterPart DenoterPart VariantJudged PartJudged at_core at_structure at_field_section at_fields at_plain at_type_denoter at_variant at_variant_part (Core-F.Structured at packed structure)) ∙ structures_unnamed structure
+core_unnamed (Core-F.Restricted at name) other = ap (λ (p : DenoterPart). p.is_name) (fold-roll-Core DenoterPart DenoterPart Section ListJudged DenoterPart DenoterPart VariantJudged PartJudged at_core at_structure at_field_section at_fields at_plain at_type_denoter at_variant at_variant_part (Core-F.Restricted at name))
+core_unnamed (Core-F.TypeOf at name) other = ap (λ (p : DenoterPart). p.is_name) (fold-roll-Core DenoterPart DenoterPart Section ListJudged DenoterPart DenoterPart VariantJudged PartJudged at_core at_structure at_field_section at_fields at_plain at_type_denoter at_variant at_variant_part (Core-F.TypeOf at name))
 
 pub unnamed : (c : Core) → ((at : ℕ) (name : QualifiedName) (tuple : List Expression) → c ≡ core.Named at name tuple → ⊥) → (core_part c).is_name ≡ false
 unnamed c other =

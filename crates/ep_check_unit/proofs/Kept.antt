@@ -5,9 +5,9 @@ use Rattle.ep_tree.specs.declared.declaration.ConstantDefinition.{ConstantDefini
 use Rattle.ep_tree.specs.declared.declaration.TypeDefinition.{TypeDefinition}
 use Rattle.ep_tree.specs.declared.declaration.VariableDeclaration.{VariableDeclaration}
 use Rattle.ep_tree.specs.declared.declaration.RoutineHeading.TheVariants as heading
-use Rattle.ep_tree.specs.declared.routine.Part.TheFolds.{fold-roll-Part, fold-roll-Routine, fold-roll-RoutineBody, ind-Part}
-use Rattle.ep_tree.specs.declared.routine.Part.TheOpen.{Part-F, Routine-F, RoutineBody-F}
-use Rattle.ep_tree.specs.declared.routine.Part.{Part, map-Part, roll-Part}
+use Rattle.ep_tree.specs.declared.routine.BlockPart.TheFolds.{fold-roll-BlockPart, fold-roll-Routine, fold-roll-RoutineBody, ind-BlockPart}
+use Rattle.ep_tree.specs.declared.routine.BlockPart.TheOpen.{BlockPart-F, Routine-F, RoutineBody-F}
+use Rattle.ep_tree.specs.declared.routine.BlockPart.{BlockPart, map-BlockPart, roll-BlockPart}
 use Rattle.ep_tree.specs.declared.routine.Routine.{Routine, map-Routine, roll-Routine}
 use Rattle.ep_tree.specs.declared.routine.RoutineBody.{RoutineBody, map-RoutineBody, roll-RoutineBody}
 use Rattle.ep_tree.specs.declared.routine.RoutineStart.{RoutineStart}
@@ -50,7 +50,7 @@ use Rattle.ep_unit_rules.specs.InitialStates.{may_begin}
 use Rattle.ep_unit_rules.specs.Records.{fields_named}
 use Rattle.ep_unit_rules.specs.Types.{common_host, index_host, ordered}
 use Rattle.ep_unit_rules.specs.Variants.{Tag, all_fields}
-use Rattle.ep_check_unit.specs.Declarations.{constant_fitting, unless_large, Fielded, Gathered, Labelled, ListJudged, Listed, Part as DenoterPart, PartJudged as VariantsJudged, Section, VariantJudged, completing_added, completing_written, field_of, labels_noted, list_ended, list_written, record_over, selection_of, tag_written, unless_left_out, variant_added, variant_list, variant_listing, variant_part_written, variant_written, variants_after, variants_written, none_gathered, section_written, sections_written, set_on, set_over, unless_wide, all_variables_declared, and_then, array_over, at_line, constant_definition, constant_entered, begun, begun_with, constants_declared, denoter_part, fitting_state, with_initial_state, declaration_ended, declared_type, entered, enumerated, enumeration, index_values, next_enumeration, noted, range, scopes_of, settled, settled_part, settled_type, Standing, Stands, Falls, subrange, type_definition, type_definitions, type_entered, type_meant, type_named, type_written, unused, variable_declaration, variable_entered, variables_declared, variables_entered, with_constant, with_name, with_type, is_outermost, with_own_variable, with_unit_variable, with_variable, own_thing, Written}
+use Rattle.ep_check_unit.specs.Declarations.{constant_fitting, unless_large, Fielded, Gathered, Labelled, ListJudged, Listed, DenoterPart, PartJudged as VariantsJudged, Section, VariantJudged, completing_added, completing_written, field_of, labels_noted, list_ended, list_written, record_over, selection_of, tag_written, unless_left_out, variant_added, variant_list, variant_listing, variant_part_written, variant_written, variants_after, variants_written, none_gathered, section_written, sections_written, set_on, set_over, unless_wide, all_variables_declared, and_then, array_over, at_line, constant_definition, constant_entered, begun, begun_with, constants_declared, denoter_part, fitting_state, with_initial_state, declaration_ended, declared_type, entered, enumerated, enumeration, index_values, next_enumeration, noted, range, scopes_of, settled, settled_part, settled_type, Standing, Stands, Falls, subrange, type_definition, type_definitions, type_entered, type_meant, type_named, type_written, unused, variable_declaration, variable_entered, variables_declared, variables_entered, with_constant, with_name, with_type, is_outermost, with_own_variable, with_unit_variable, with_variable, own_thing, Written}
 use Rattle.ep_unit_rules.specs.Functions.{in_block, result_name, routine_declaration, same_result}
 use Rattle.ep_check_unit.specs.Functions.{if_given, is_assigned, is_in_view, is_named, own_name_entered, result_entered, row_gives}
 use Rattle.ep_unit_rules.specs.Formals.{is_repeated}
@@ -422,7 +422,7 @@ module _ (n : List ℕ) where
 
   -- ---- all parts, with those inside of them
 
-  abbrev IsPartKept : Part → Type 0
+  abbrev IsPartKept : BlockPart → Type 0
   IsPartKept p = Keeps (part_judged p).declares
 
   abbrev IsBodyKept : RoutineBody → Type 0
@@ -432,7 +432,7 @@ module _ (n : List ℕ) where
   IsRoutineKept r = Keeps (routine_judged r).declares
 
   abbrev KeptPart : Type 0
-  KeptPart = (p : Part) × IsPartKept p
+  KeptPart = (p : BlockPart) × IsPartKept p
 
   abbrev KeptBody : Type 0
   KeptBody = (body : RoutineBody) × IsBodyKept body
@@ -441,34 +441,34 @@ module _ (n : List ℕ) where
   KeptRoutine = (r : Routine) × IsRoutineKept r
 
   -- layers of such parts, without what holds of them
-  abbrev part_layer : Part-F KeptPart KeptBody KeptRoutine → Part-F Part RoutineBody Routine
-  part_layer = map-Part KeptPart KeptBody KeptRoutine Part RoutineBody Routine (λ p. p.0) (λ body. body.0) (λ r. r.0)
+  abbrev part_layer : BlockPart-F KeptPart KeptBody KeptRoutine → BlockPart-F BlockPart RoutineBody Routine
+  part_layer = map-BlockPart KeptPart KeptBody KeptRoutine BlockPart RoutineBody Routine (λ p. p.0) (λ body. body.0) (λ r. r.0)
 
-  abbrev body_layer : RoutineBody-F KeptPart KeptBody KeptRoutine → RoutineBody-F Part RoutineBody Routine
-  body_layer = map-RoutineBody KeptPart KeptBody KeptRoutine Part RoutineBody Routine (λ p. p.0) (λ body. body.0) (λ r. r.0)
+  abbrev body_layer : RoutineBody-F KeptPart KeptBody KeptRoutine → RoutineBody-F BlockPart RoutineBody Routine
+  body_layer = map-RoutineBody KeptPart KeptBody KeptRoutine BlockPart RoutineBody Routine (λ p. p.0) (λ body. body.0) (λ r. r.0)
 
-  abbrev routine_layer : Routine-F KeptPart KeptBody KeptRoutine → Routine-F Part RoutineBody Routine
-  routine_layer = map-Routine KeptPart KeptBody KeptRoutine Part RoutineBody Routine (λ p. p.0) (λ body. body.0) (λ r. r.0)
+  abbrev routine_layer : Routine-F KeptPart KeptBody KeptRoutine → Routine-F BlockPart RoutineBody Routine
+  routine_layer = map-Routine KeptPart KeptBody KeptRoutine BlockPart RoutineBody Routine (λ p. p.0) (λ body. body.0) (λ r. r.0)
 
-  rolled-part : (x : Part-F Part RoutineBody Routine) → Keeps (of_part (map-Part Part RoutineBody Routine PartJudged BodyJudged PartJudged part_judged routine_body_judged routine_judged x)).declares → IsPartKept (roll-Part x)
-  rolled-part x h b i = subst (λ (p : PartJudged). Remains (p.declares b)) (sym (fold-roll-Part PartJudged BodyJudged PartJudged of_part of_body of_routine x)) (h b i)
+  rolled-part : (x : BlockPart-F BlockPart RoutineBody Routine) → Keeps (of_part (map-BlockPart BlockPart RoutineBody Routine PartJudged BodyJudged PartJudged part_judged routine_body_judged routine_judged x)).declares → IsPartKept (roll-BlockPart x)
+  rolled-part x h b i = subst (λ (p : PartJudged). Remains (p.declares b)) (sym (fold-roll-BlockPart PartJudged BodyJudged PartJudged of_part of_body of_routine x)) (h b i)
 
-  rolled-body : (x : RoutineBody-F Part RoutineBody Routine)
-      → ((line : ℕ) (s : RoutineStart) → Keeps ((of_body (map-RoutineBody Part RoutineBody Routine PartJudged BodyJudged PartJudged part_judged routine_body_judged routine_judged x)).declares line s)) → IsBodyKept (roll-RoutineBody x)
+  rolled-body : (x : RoutineBody-F BlockPart RoutineBody Routine)
+      → ((line : ℕ) (s : RoutineStart) → Keeps ((of_body (map-RoutineBody BlockPart RoutineBody Routine PartJudged BodyJudged PartJudged part_judged routine_body_judged routine_judged x)).declares line s)) → IsBodyKept (roll-RoutineBody x)
   rolled-body x h line s b i = subst (λ (body : BodyJudged). Remains (body.declares line s b)) (sym (fold-roll-RoutineBody PartJudged BodyJudged PartJudged of_part of_body of_routine x)) (h line s b i)
 
-  rolled-routine : (x : Routine-F Part RoutineBody Routine) → IsBodyKept x.body → IsRoutineKept (roll-Routine x)
+  rolled-routine : (x : Routine-F BlockPart RoutineBody Routine) → IsBodyKept x.body → IsRoutineKept (roll-Routine x)
   rolled-routine x h b i = subst (λ (r : PartJudged). Remains (r.declares b)) (sym (fold-roll-Routine PartJudged BodyJudged PartJudged of_part of_body of_routine x)) (h x.line x.start b i)
 
   inner_parts-kept : (ps : List KeptPart) → Keeps (all_declared (map part_judged (map (λ p. p.0) ps)))
   inner_parts-kept [] b i = i
   inner_parts-kept (p ∷ ps) b i = then-kept (all_declared (map part_judged (map (λ q. q.0) ps))) ((part_judged p.0).declares b) (p.1 b i) (λ c j. inner_parts-kept ps c j)
 
-  part-step : (y : Part-F KeptPart KeptBody KeptRoutine) → IsPartKept (roll-Part (part_layer y))
-  part-step (Part-F.Constants c) = rolled-part (Part-F.Constants c) (λ b i. constants-kept c.definitions b i)
-  part-step (Part-F.Types t) = rolled-part (Part-F.Types t) (λ b i. line-kept t.line (type_definitions t.line t.definitions b) (type_definitions-kept t.line t.definitions b i))
-  part-step (Part-F.Variables v) = rolled-part (Part-F.Variables v) (λ b i. variables-kept v.declarations b i)
-  part-step (Part-F.Routine r) = rolled-part (Part-F.Routine r.0) r.1
+  part-step : (y : BlockPart-F KeptPart KeptBody KeptRoutine) → IsPartKept (roll-BlockPart (part_layer y))
+  part-step (BlockPart-F.Constants c) = rolled-part (BlockPart-F.Constants c) (λ b i. constants-kept c.definitions b i)
+  part-step (BlockPart-F.Types t) = rolled-part (BlockPart-F.Types t) (λ b i. line-kept t.line (type_definitions t.line t.definitions b) (type_definitions-kept t.line t.definitions b i))
+  part-step (BlockPart-F.Variables v) = rolled-part (BlockPart-F.Variables v) (λ b i. variables-kept v.declarations b i)
+  part-step (BlockPart-F.Routine r) = rolled-part (BlockPart-F.Routine r.0) r.1
 
   body-step : (y : RoutineBody-F KeptPart KeptBody KeptRoutine) → IsBodyKept (roll-RoutineBody (body_layer y))
   body-step (RoutineBody-F.Forward at) =
@@ -478,19 +478,19 @@ module _ (n : List ℕ) where
       rolled-body (RoutineBody-F.Block at (map (λ p. p.0) ps) c)
       (λ line s b i. headed_then-kept line (block_declared line (start_name s) inner c) (start_headed false line s b) (start-kept false line s b i) (λ h j. block-kept line (start_name s) inner c (inner_parts-kept ps) h j))
 
-  part-kept : (p : Part) → IsPartKept p
+  part-kept : (p : BlockPart) → IsPartKept p
   part-kept =
-      ind-Part IsPartKept IsBodyKept IsRoutineKept
-      (λ x y e. subst (λ z. IsPartKept (roll-Part z)) e (part-step y))
+      ind-BlockPart IsPartKept IsBodyKept IsRoutineKept
+      (λ x y e. subst (λ z. IsPartKept (roll-BlockPart z)) e (part-step y))
       (λ x y e. subst (λ z. IsBodyKept (roll-RoutineBody z)) e (body-step y))
       (λ x y e. subst (λ z. IsRoutineKept (roll-Routine z)) e (rolled-routine (routine_layer y) y.body.1))
 
-  parts-kept : (ps : List Part) → Keeps (parts_declared ps)
+  parts-kept : (ps : List BlockPart) → Keeps (parts_declared ps)
   parts-kept [] b i = i
   parts-kept (p ∷ ps) b i = then-kept (parts_declared ps) ((part_judged p).declares b) (part-kept p b i) (λ c j. parts-kept ps c j)
 
   -- so the block after parts that stand is one of the same unit
-  pub parts-remain : (ps : List Part) (b c : Block) → parts_declared ps b ≡ Stands c → IsOf b → IsOf c
+  pub parts-remain : (ps : List BlockPart) (b c : Block) → parts_declared ps b ≡ Stands c → IsOf b → IsOf c
   parts-remain ps b c e i = subst Remains e (parts-kept ps b i)
 
   parameter-kept : (name : List ℕ) (f : Option StandardFile) (b : Block) → IsOf b → Fits IsOf (parameter_entered name f b)

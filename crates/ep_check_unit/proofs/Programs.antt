@@ -17,8 +17,8 @@ use Rattle.ep_stmt_rules.specs.Outcomes.{refused_at}
 use Rattle.ep_stmt_rules.specs.Statements.{Judgement, Passes, Waits, Fails, after}
 use Rattle.ep_stmt_rules.specs.declared.outcome.CheckRefusal.{CheckRefusal}
 use Rattle.ep_stmt_rules.specs.declared.outcome.CheckRefusal.TheVariants as refusal
-use Rattle.ep_stmt_rules.specs.declared.outcome.Outcome.{Outcome}
-use Rattle.ep_stmt_rules.specs.declared.outcome.Outcome.TheVariants as outcome
+use Rattle.ep_stmt_rules.specs.declared.outcome.Admission.{Admission}
+use Rattle.ep_stmt_rules.specs.declared.outcome.Admission.TheVariants as outcome
 use Rattle.ep_check_unit.specs.Answers.{RefusesItems}
 use Rattle.ep_check_unit.specs.Checks.{AnswersBuilt, AnswersMissing, IsRefusalOf, IsUnitWith}
 use Rattle.ep_check_unit.specs.Declarations.{Standing, Stands, Falls, and_then, at_line}
@@ -64,19 +64,19 @@ statements_refused p first second r e f h =
     rw (program_is p first second e f) (row_refused second (first_missing second.forwards second.bodies) second.waits (statements_judged second p.body) r h)
 
 -- a procedure that has no body
-missing_broken : (b : Block) (line : ℕ) (waits : Option ℕ) (found : Outcome (List TypedStmt))
+missing_broken : (b : Block) (line : ℕ) (waits : Option ℕ) (found : Admission (List TypedStmt))
     → IsRefusalOf (unless_missing (Some line) (after program_form (declarations_wait b waits) (passed stmts_of found))) (refusal.Broken (record { rule = rule.NO_BODY; line = line }))
 missing_broken b line None (outcome.Passes ss) = there ProgramForm line
 missing_broken b line None (outcome.Waits other) = there ProgramForm line
 missing_broken b line (Some at) (outcome.Passes ss) = there ProgramForm line
 missing_broken b line (Some at) (outcome.Waits other) = there ProgramForm line
 
-missing_first : (b : Block) (missing waits : Option ℕ) (found : Outcome (List TypedStmt)) (r : CheckRefusal) → AnswersMissing missing (Err r)
+missing_first : (b : Block) (missing waits : Option ℕ) (found : Admission (List TypedStmt)) (r : CheckRefusal) → AnswersMissing missing (Err r)
     → IsRefusalOf (unless_missing missing (after program_form (declarations_wait b waits) (passed stmts_of found))) r
 missing_first b None waits found r h = cc
 missing_first b (Some line) waits found r h = let e : r ≡ refusal.Broken (record { rule = rule.NO_BODY; line = line }) = cc in rw e (missing_broken b line waits found)
 
-pub missing_refused : (p : Program) (first second : Block) (found : Outcome (List TypedStmt)) (r : CheckRefusal) → parameters_entered p.parameters (program_block p) ≡ Accepts first → parts_declared p.parts first ≡ Stands second
+pub missing_refused : (p : Program) (first second : Block) (found : Admission (List TypedStmt)) (r : CheckRefusal) → parameters_entered p.parameters (program_block p) ≡ Accepts first → parts_declared p.parts first ≡ Stands second
     → statements_judged second p.body ≡ passed stmts_of found → AnswersMissing (first_missing second.forwards second.bodies) (Err r) → IsRefusalOf (program_judged p) r
 missing_refused p first second found r e f g h = rw (program_is p first second e f, g) (missing_first second (first_missing second.forwards second.bodies) second.waits found r h)
 
@@ -86,25 +86,25 @@ none_missing None h = refl
 none_missing (Some line) h = cc
 
 -- statements that wait, or declarations that do
-waits_first : (b : Block) (waits : Option ℕ) (found : Outcome (List TypedStmt)) (r : CheckRefusal) → AnswersBuilt waits found (Err r) → IsRefusalOf (after program_form (declarations_wait b waits) (passed stmts_of found)) r
+waits_first : (b : Block) (waits : Option ℕ) (found : Admission (List TypedStmt)) (r : CheckRefusal) → AnswersBuilt waits found (Err r) → IsRefusalOf (after program_form (declarations_wait b waits) (passed stmts_of found)) r
 waits_first b None (outcome.Passes ss) r h = cc
 waits_first b None (outcome.Waits line) r h = let e : r ≡ refusal.NotBuilt line = cc in rw e refl
 waits_first b (Some line) (outcome.Passes ss) r h = let e : r ≡ refusal.NotBuilt line = cc in rw e refl
 waits_first b (Some line) (outcome.Waits other) r h = let e : r ≡ refusal.NotBuilt line = cc in rw e refl
 
-pub waits_refused : (p : Program) (first second : Block) (found : Outcome (List TypedStmt)) (r : CheckRefusal) → parameters_entered p.parameters (program_block p) ≡ Accepts first → parts_declared p.parts first ≡ Stands second
+pub waits_refused : (p : Program) (first second : Block) (found : Admission (List TypedStmt)) (r : CheckRefusal) → parameters_entered p.parameters (program_block p) ≡ Accepts first → parts_declared p.parts first ≡ Stands second
     → statements_judged second p.body ≡ passed stmts_of found → AnswersMissing (first_missing second.forwards second.bodies) (Ok tt) → AnswersBuilt second.waits found (Err r) → IsRefusalOf (program_judged p) r
 waits_refused p first second found r e f g m h =
     rw (program_is p first second e f, none_missing (first_missing second.forwards second.bodies) m, g) (waits_first second second.waits found r h)
 
 -- a program that is accepted
-all_pass : (b : Block) (waits : Option ℕ) (found : Outcome (List TypedStmt)) (ss : List TypedStmt) → AnswersBuilt waits found (Ok ss) → after program_form (declarations_wait b waits) (passed stmts_of found) ≡ Passes (program_form b (stmts_of ss))
+all_pass : (b : Block) (waits : Option ℕ) (found : Admission (List TypedStmt)) (ss : List TypedStmt) → AnswersBuilt waits found (Ok ss) → after program_form (declarations_wait b waits) (passed stmts_of found) ≡ Passes (program_form b (stmts_of ss))
 all_pass b None (outcome.Passes all) ss h = let e : ss ≡ all = cc in rw e refl
 all_pass b None (outcome.Waits line) ss h = cc
 all_pass b (Some line) (outcome.Passes all) ss h = cc
 all_pass b (Some line) (outcome.Waits other) ss h = cc
 
-pub program_passes : (p : Program) (first second : Block) (found : Outcome (List TypedStmt)) (ss : List TypedStmt) → parameters_entered p.parameters (program_block p) ≡ Accepts first → parts_declared p.parts first ≡ Stands second
+pub program_passes : (p : Program) (first second : Block) (found : Admission (List TypedStmt)) (ss : List TypedStmt) → parameters_entered p.parameters (program_block p) ≡ Accepts first → parts_declared p.parts first ≡ Stands second
     → statements_judged second p.body ≡ passed stmts_of found → AnswersMissing (first_missing second.forwards second.bodies) (Ok tt) → AnswersBuilt second.waits found (Ok ss) → program_judged p ≡ Passes (program_form second (stmts_of ss))
 program_passes p first second found ss e f g m h =
     rw (program_is p first second e f, none_missing (first_missing second.forwards second.bodies) m, g) (all_pass second second.waits found ss h)
@@ -116,7 +116,7 @@ pub empty_is : stmt_of typed.Empty ≡ Empty
 empty_is = ap stmt_of (sym typed.rolls-Empty) ∙ fold-roll-TypedStmt Stmt Arm stmt_step arm_step layer.Empty
 
 -- its unit
-pub program_typed : (p : Program) (first second : Block) (found : Outcome (List TypedStmt)) (ss : List TypedStmt) (u : TypedUnit) → parameters_entered p.parameters (program_block p) ≡ Accepts first → parts_declared p.parts first ≡ Stands second
+pub program_typed : (p : Program) (first second : Block) (found : Admission (List TypedStmt)) (ss : List TypedStmt) (u : TypedUnit) → parameters_entered p.parameters (program_block p) ≡ Accepts first → parts_declared p.parts first ≡ Stands second
     → statements_judged second p.body ≡ passed stmts_of found → AnswersMissing (first_missing second.forwards second.bodies) (Ok tt) → AnswersBuilt second.waits found (Ok ss) → IsUnitWith second (imports_of p.parameters) ss u → IsTypedProgram p u
 program_typed p first second found ss u e f g m h w = record {
   form = program_form second (stmts_of ss);

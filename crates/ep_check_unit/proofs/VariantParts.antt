@@ -16,7 +16,7 @@ use Rattle.ep_check_unit.specs.Blocks.{Block}
 use Rattle.ep_unit_rules.specs.Records.{Field, fields_nodes, record_field}
 use Rattle.ep_unit_rules.specs.Types.{counted}
 use Rattle.ep_unit_rules.specs.Variants.{Tag, all_fields}
-use Rattle.ep_check_unit.specs.Declarations.{Fielded, Gathered, Labelled, ListJudged, Listed, Part, PartJudged, Section, VariantJudged, at_core, at_field_section, at_fields, at_plain, at_structure, at_type_denoter, at_variant, at_variant_part, completing_written, fields_judged, labels_noted, none_gathered, selection_of, tag_written, unless_left_out, variant_added, variant_judged, variant_list, variant_listing, variant_part, variant_part_written, variant_written, variants_after, variants_judged, variants_written}
+use Rattle.ep_check_unit.specs.Declarations.{Fielded, Gathered, Labelled, ListJudged, Listed, DenoterPart, PartJudged, Section, VariantJudged, at_core, at_field_section, at_fields, at_plain, at_structure, at_type_denoter, at_variant, at_variant_part, completing_written, fields_judged, labels_noted, none_gathered, selection_of, tag_written, unless_left_out, variant_added, variant_judged, variant_list, variant_listing, variant_part, variant_part_written, variant_written, variants_after, variants_judged, variants_written}
 use Rattle.ep_unit_rules.specs.declared.labels.TagValues.{TagValues}
 
 pub map_length : {X Y : Type 0} (f : X → Y) (xs : List X) → length (map f xs) ≡ length xs
@@ -27,7 +27,7 @@ map_length f (x ∷ xs) = ap suc (map_length f xs)
 
 -- a variant by its parts
 variant_is : (v : VariantTree) → variant_judged v ≡ record { labels = (out-Variant v).labels; fields = fields_judged (out-Variant v).fields }
-variant_is v = fold_out-Variant Part Part Section ListJudged Part Part VariantJudged PartJudged at_core at_structure at_field_section at_fields at_plain at_type_denoter at_variant at_variant_part v
+variant_is v = fold_out-Variant DenoterPart DenoterPart Section ListJudged DenoterPart DenoterPart VariantJudged PartJudged at_core at_structure at_field_section at_fields at_plain at_type_denoter at_variant at_variant_part v
 
 -- one more
 pub variant_taken : (line : ℕ) (t : TagValues) (v : VariantTree) (g : Gathered) (x : Labelled) (l : Listed) → labels_noted line t (out-Variant v).labels g.block g.labels ≡ Accepts x → fields_judged (out-Variant v).fields line x.block ≡ Accepts l
@@ -39,8 +39,8 @@ variant_taken line t v g x l labels fields =
 
 -- a variant part by its parts
 part_rolled : (at : ℕ) (s : VariantSelector) (vs : List VariantTree) (o : Option Fields) → variants_judged (roll-VariantPart (record { line = at; selector = s; variants = vs; otherwise = o })) ≡ variant_part_written s (map variant_judged vs) (option_map fields_judged o)
-part_rolled at s vs None = fold-roll-VariantPart Part Part Section ListJudged Part Part VariantJudged PartJudged at_core at_structure at_field_section at_fields at_plain at_type_denoter at_variant at_variant_part (record { line = at; selector = s; variants = vs; otherwise = None })
-part_rolled at s vs (Some f) = fold-roll-VariantPart Part Part Section ListJudged Part Part VariantJudged PartJudged at_core at_structure at_field_section at_fields at_plain at_type_denoter at_variant at_variant_part (record { line = at; selector = s; variants = vs; otherwise = Some f })
+part_rolled at s vs None = fold-roll-VariantPart DenoterPart DenoterPart Section ListJudged DenoterPart DenoterPart VariantJudged PartJudged at_core at_structure at_field_section at_fields at_plain at_type_denoter at_variant at_variant_part (record { line = at; selector = s; variants = vs; otherwise = None })
+part_rolled at s vs (Some f) = fold-roll-VariantPart DenoterPart DenoterPart Section ListJudged DenoterPart DenoterPart VariantJudged PartJudged at_core at_structure at_field_section at_fields at_plain at_type_denoter at_variant at_variant_part (record { line = at; selector = s; variants = vs; otherwise = Some f })
 
 part_is : (p : VariantPartTree) → variants_judged p ≡ variant_part_written (out-VariantPart p).selector (map variant_judged (out-VariantPart p).variants) (option_map fields_judged (out-VariantPart p).otherwise)
 part_is p = ap variants_judged (sym (roll-out-VariantPart p)) ∙ part_rolled (out-VariantPart p).line (out-VariantPart p).selector (out-VariantPart p).variants (out-VariantPart p).otherwise

@@ -65,7 +65,7 @@ abbrev pub written_in : Block → Written → spec.Written
 written_in b w = record { denoter = w.denoter; of = w.of; kind = w.kind; nodes = w.nodes; block = b }
 
 -- index types from left to right, each with an entry where it needs one, and the block behind them
-abbrev pub indexes_written : ℕ → List spec.Part → Block → Judged (List (Denoter × ℕ × TagValues) × Block)
+abbrev pub indexes_written : ℕ → List spec.DenoterPart → Block → Judged (List (Denoter × ℕ × TagValues) × Block)
 indexes_written line [] b = Accepts ([], b)
 indexes_written line (p ∷ ps) b =
     when_accepted

@@ -9,8 +9,8 @@ use Rattle.ep_scope.specs.declared.rule.TheConstants as rule
 use Rattle.ep_stmt_rules.specs.Statements.{Judgement, Waits, fails_at}
 use Rattle.ep_stmt_rules.specs.declared.outcome.CheckRefusal.{CheckRefusal}
 use Rattle.ep_stmt_rules.specs.declared.outcome.CheckRefusal.TheVariants as refusal
-use Rattle.ep_stmt_rules.specs.declared.outcome.Outcome.{Outcome}
-use Rattle.ep_stmt_rules.specs.declared.outcome.Outcome.TheVariants as outcome
+use Rattle.ep_stmt_rules.specs.declared.outcome.Admission.{Admission}
+use Rattle.ep_stmt_rules.specs.declared.outcome.Admission.TheVariants as outcome
 use Rattle.ep_check_unit.specs.Units.{IsTyped, BreaksAt, WaitsAt}
 use Rattle.ep_check_unit.specs.Blocks.{Block, routine_form}
 use Rattle.ep_check_unit.specs.declared.component.Checked.{Checked}
@@ -46,7 +46,7 @@ AnswersMissing None result = result ≡ Ok tt
 AnswersMissing (Some line) result = result ≡ Err (refusal.Broken (record { rule = rule.NO_BODY; line = line }))
 
 -- statements that are built, behind declarations that are
-abbrev pub AnswersBuilt : Option ℕ → Outcome (List TypedStmt) → Result (List TypedStmt) CheckRefusal → Type 0
+abbrev pub AnswersBuilt : Option ℕ → Admission (List TypedStmt) → Result (List TypedStmt) CheckRefusal → Type 0
 AnswersBuilt None (outcome.Passes ss) result = result ≡ Ok ss
 AnswersBuilt None (outcome.Waits line) result = result ≡ Err (refusal.NotBuilt line)
 AnswersBuilt (Some line) found result = result ≡ Err (refusal.NotBuilt line)

@@ -247,11 +247,11 @@ settled line w =
     }
 
 -- what a denoter comes to in an item on a line, and whether it is a name
-pub record Part : Type 0 where
+pub record DenoterPart : Type 0 where
   pub is_name : Bool
   pub written : ℕ → Block → Judged Written
 
-abbrev pub settled_part : Part → ℕ → Block → Judged Written
+abbrev pub settled_part : DenoterPart → ℕ → Block → Judged Written
 settled_part p line b = when_accepted (λ w. Accepts (if p.is_name then w else settled line w)) (p.written line b)
 
 -- the values of an index type, or of the type of a tag (ISO 10206, 6.4.3.4)
@@ -281,7 +281,7 @@ array_over index nodes v of =
     }
 
 -- an array of this index type and these components
-abbrev pub array_written : Part → Part → ℕ → Block → Judged Written
+abbrev pub array_written : DenoterPart → DenoterPart → ℕ → Block → Judged Written
 array_written index of line b =
     when_accepted
     (λ i. when_accepted
@@ -292,7 +292,7 @@ array_written index of line b =
 
 -- An array of several index types is an array of the first one, whose components are an array of the others (ISO
 -- 10206, 6.4.3.2).
-abbrev pub array_part : Part → List Part → Part
+abbrev pub array_part : DenoterPart → List DenoterPart → DenoterPart
 array_part of [] = of
 array_part of (i ∷ is) = record { is_name = false; written = array_written i (array_part of is) }
 
@@ -314,7 +314,7 @@ set_over h base =
 abbrev pub set_on : Written → Judged Written
 set_on w = when_accepted (λ h. when_accepted (λ _. Accepts (set_over h w)) (unless_wide w)) (index_host w.kind)
 
-abbrev pub set_written : Part → ℕ → Block → Judged Written
+abbrev pub set_written : DenoterPart → ℕ → Block → Judged Written
 set_written base line b = when_accepted set_on (settled_part base line b)
 
 -- fields that are written, and what has been declared with them
@@ -325,7 +325,7 @@ pub record Fielded : Type 0 where
 -- a section of fields: their names, and their type
 pub record Section : Type 0 where
   pub names : List (List ℕ)
-  pub of : Part
+  pub of : DenoterPart
 
 abbrev pub field_of : Written → List ℕ → Field
 field_of w name = record { name = name; denoter = w.denoter; of = w.of; kind = w.kind; nodes = w.nodes }
@@ -542,28 +542,28 @@ abbrev pub begun_with : ℕ → ComponentValue → Written → Judged Written
 begun_with line v w =
     when_accepted (fitting_state line w) (initial_state_judged (scopes_of w.block) (asked_by w.kind) v)
 
-abbrev pub initial_written : Part → ComponentValue → ℕ → Block → Judged Written
+abbrev pub initial_written : DenoterPart → ComponentValue → ℕ → Block → Judged Written
 initial_written p v line b = when_accepted (begun_with line v) (settled_part p line b)
 
 -- a type with the initial state that may be given to it
-abbrev pub begun : Part → Option ComponentValue → Part
+abbrev pub begun : DenoterPart → Option ComponentValue → DenoterPart
 begun p None = p
 begun p (Some v) = record { is_name = false; written = initial_written p v }
 
 -- ---- denoters, node by node
 
 -- a structure is no name
-abbrev pub structured : Part → Part
+abbrev pub structured : DenoterPart → DenoterPart
 structured p = record { is_name = false; written = p.written }
 
 -- what is not built
-abbrev pub unbuilt_part : Part
+abbrev pub unbuilt_part : DenoterPart
 unbuilt_part = record { is_name = false; written = λ line b. unbuilt }
 
 -- what the rules come to for each kind of node
 abbrev pub type_results : fold.TypeResults
 type_results =
-    record (fold.types_as Part) {
+    record (fold.types_as DenoterPart) {
       field_section = Section;
       fields = ListJudged;
       variant = VariantJudged;
@@ -582,20 +582,20 @@ at_fields f = list_written f.sections f.variants
 abbrev pub at_field_section : fold.FieldSectionOf type_results → Section
 at_field_section s = record { names = s.names; of = s.of }
 
-abbrev pub at_plain : fold.PlainOf type_results → Part
+abbrev pub at_plain : fold.PlainOf type_results → DenoterPart
 at_plain p = p.core
 
-abbrev pub at_type_denoter : fold.TypeDenoterOf type_results → Part
+abbrev pub at_type_denoter : fold.TypeDenoterOf type_results → DenoterPart
 at_type_denoter t = begun t.plain t.initial
 
 -- a structure, which is an array, a record or a set
-abbrev pub at_structure : fold.StructureOf type_results → Part
+abbrev pub at_structure : fold.StructureOf type_results → DenoterPart
 at_structure (Structure-F.Array at indexes component) = structured (array_part component indexes)
 at_structure (Structure-F.Record at fields) = record { is_name = false; written = record_written fields }
 at_structure (Structure-F.Set at base) = record { is_name = false; written = set_written base }
 
 -- a denoter
-abbrev pub at_core : fold.CoreOf type_results → Part
+abbrev pub at_core : fold.CoreOf type_results → DenoterPart
 at_core (Core-F.Named at name tuple) =
     record { is_name = true; written = λ line b. type_named name.first name.second b }
 at_core (Core-F.Range at low high) =
@@ -621,12 +621,12 @@ at_types =
       variant_part = at_variant_part;
     }
 
-abbrev pub core_part : Core → Part
+abbrev pub core_part : Core → DenoterPart
 core_part = fold.of_core at_types
 
 -- that of a structure, of fields and of a section of them, of a variant part and of a variant, and that of a plain
 -- denoter
-abbrev pub structure_part : Structure → Part
+abbrev pub structure_part : Structure → DenoterPart
 structure_part = fold.of_structure at_types
 
 abbrev pub fields_judged : Fields → ListJudged
@@ -641,11 +641,11 @@ variants_judged = fold.of_variant_part at_types
 abbrev pub variant_judged : VariantTree → VariantJudged
 variant_judged = fold.of_variant at_types
 
-abbrev pub plain_part : Plain → Part
+abbrev pub plain_part : Plain → DenoterPart
 plain_part = fold.of_plain at_types
 
 -- that of a denoter with or without an initial state
-abbrev pub denoter_part : TypeDenoter → Part
+abbrev pub denoter_part : TypeDenoter → DenoterPart
 denoter_part = fold.of_type_denoter at_types
 
 abbrev pub core_written : ℕ → Core → Block → Judged Written

@@ -9,8 +9,8 @@ use Rattle.ep_tree.specs.declared.declaration.FormalType.{FormalType}
 use Rattle.ep_tree.specs.declared.declaration.FormalType.TheVariants as formal_type
 use Rattle.ep_tree.specs.declared.declaration.RoutineHeading.{RoutineHeading}
 use Rattle.ep_tree.specs.declared.declaration.RoutineHeading.TheVariants as heading
-use Rattle.ep_tree.specs.declared.routine.Part.TheOpen.{Part-F, Routine-F, RoutineBody-F}
-use Rattle.ep_tree.specs.declared.routine.Part.{Part, fold-Part}
+use Rattle.ep_tree.specs.declared.routine.BlockPart.TheOpen.{BlockPart-F, Routine-F, RoutineBody-F}
+use Rattle.ep_tree.specs.declared.routine.BlockPart.{BlockPart, fold-BlockPart}
 use Rattle.ep_tree.specs.declared.routine.Routine.{Routine, fold-Routine}
 use Rattle.ep_tree.specs.declared.routine.RoutineBody.{RoutineBody, fold-RoutineBody}
 use Rattle.ep_tree.specs.declared.routine.RoutineStart.{RoutineStart}
@@ -343,11 +343,11 @@ block_declared line name ps c h =
 abbrev pub plain_part : (Block → Standing) → PartJudged
 plain_part declares = record { declares = declares; gives_to = λ named name. false }
 
-abbrev pub of_part : Part-F PartJudged BodyJudged PartJudged → PartJudged
-of_part (Part-F.Constants c) = plain_part (constants_declared c.definitions)
-of_part (Part-F.Types t) = plain_part (λ b. at_line t.line (type_definitions t.line t.definitions b))
-of_part (Part-F.Variables v) = plain_part (all_variables_declared v.declarations)
-of_part (Part-F.Routine r) = r
+abbrev pub of_part : BlockPart-F PartJudged BodyJudged PartJudged → PartJudged
+of_part (BlockPart-F.Constants c) = plain_part (constants_declared c.definitions)
+of_part (BlockPart-F.Types t) = plain_part (λ b. at_line t.line (type_definitions t.line t.definitions b))
+of_part (BlockPart-F.Variables v) = plain_part (all_variables_declared v.declarations)
+of_part (BlockPart-F.Routine r) = r
 
 abbrev pub of_body : RoutineBody-F PartJudged BodyJudged PartJudged → BodyJudged
 of_body (RoutineBody-F.Forward at) =
@@ -363,8 +363,8 @@ of_body (RoutineBody-F.Block at ps c) = record {
 abbrev pub of_routine : Routine-F PartJudged BodyJudged PartJudged → PartJudged
 of_routine r = record { declares = r.body.declares r.line r.start; gives_to = r.body.gives_to }
 
-abbrev pub part_judged : Part → PartJudged
-part_judged = fold-Part PartJudged BodyJudged PartJudged of_part of_body of_routine
+abbrev pub part_judged : BlockPart → PartJudged
+part_judged = fold-BlockPart PartJudged BodyJudged PartJudged of_part of_body of_routine
 
 abbrev pub routine_body_judged : RoutineBody → BodyJudged
 routine_body_judged = fold-RoutineBody PartJudged BodyJudged PartJudged of_part of_body of_routine
@@ -373,5 +373,5 @@ abbrev pub routine_judged : Routine → PartJudged
 routine_judged = fold-Routine PartJudged BodyJudged PartJudged of_part of_body of_routine
 
 -- all parts of a block, of a program or of a routine
-abbrev pub parts_declared : List Part → Block → Standing
+abbrev pub parts_declared : List BlockPart → Block → Standing
 parts_declared ps b = all_declared (map part_judged ps) b

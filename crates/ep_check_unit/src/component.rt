@@ -13,7 +13,7 @@ use crate::block::{Block, Forward};
 use ep_base::{Line, List, Name, NameRefusal, NoMemory};
 use ep_rules::Refusal;
 use ep_scope::{StandardFiles, Thing, rule};
-use ep_stmt_rules::{CheckRefusal, Outcome, refused_at};
+use ep_stmt_rules::{Admission, CheckRefusal, refused_at};
 use ep_tree::{Component, Program};
 use ep_typed::{ImportSpec, ImportSpecs, Interface, StandardFile, TypedStmts, Unit};
 use ep_unit_rules::Bodies;
@@ -105,14 +105,14 @@ fn all_there(forwards: &[Forward], bodies: &Bodies) -> Result<(), CheckRefusal>
 /// The statements of a block, where these and its declarations are built.
 fn all_built(
     waits: Option<Line>,
-    statements: Outcome<TypedStmts>,
+    statements: Admission<TypedStmts>,
 ) -> Result<TypedStmts, CheckRefusal>
     ensures { AnswersBuilt waits statements result }
 {
     match (waits, statements) {
         (Some(line), _) => Err(CheckRefusal::NotBuilt(line)),
-        (None, Outcome::Waits(line)) => Err(CheckRefusal::NotBuilt(line)),
-        (None, Outcome::Passes(statements)) => Ok(statements),
+        (None, Admission::Waits(line)) => Err(CheckRefusal::NotBuilt(line)),
+        (None, Admission::Passes(statements)) => Ok(statements),
     }
 }
 

@@ -14,9 +14,9 @@ use crate::block::Block;
 use ep_base::{Line, List, Name, NoMemory};
 use ep_rules::Refusal;
 use ep_scope::{Declaration, Protection, meaning_of, rule};
-use ep_stmt_rules::{CheckRefusal, FunctionResult, Outcome, refused_at};
+use ep_stmt_rules::{Admission, CheckRefusal, FunctionResult, refused_at};
 use ep_threats::{Callees, Entire, inner_threatens, threatens};
-use ep_tree::{Compound, Part, QualifiedName, Routine, RoutineBody};
+use ep_tree::{BlockPart, Compound, QualifiedName, Routine, RoutineBody};
 use ep_typed::{TypedStmt, TypedStmts};
 use ep_unit_rules::{
     DistinctParameters, HeadingResult, OwnResult, copied_name, has_unknown, is_that_function,
@@ -75,7 +75,7 @@ impl Block {
     }
 
     /// Whether the text of a block with these parts and statements gives the result by this name, of its own or not.
-    pub(crate) fn is_assigned(&self, name: &Name, parts: &[Part], body: &Compound) -> bool
+    pub(crate) fn is_assigned(&self, name: &Name, parts: &[BlockPart], body: &Compound) -> bool
         ensures { result ≡ spec.is_assigned (block_of self.now).own.result name.now
             (given_among (is_named (block_of self.now).own.result) name.now (map part_judged parts.now)) body.now }
     {
@@ -104,11 +104,11 @@ impl Block {
 
     /// Whether its statements, or those of a routine in it, threaten the variable that has the result. Where a routine in
     /// it waits this is not known, and they count as those that do.
-    pub(crate) fn gives_result(&self, found: &Outcome<TypedStmts>) -> Result<bool, NoMemory>
+    pub(crate) fn gives_result(&self, found: &Admission<TypedStmts>) -> Result<bool, NoMemory>
         ensures { IfOk result (λ gives. gives ≡ row_gives (block_of self.now) (passed stmts_of found.now)) }
     {
         match (self.own.result, found) {
-            (Some(own), Outcome::Passes(statements)) => {
+            (Some(own), Admission::Passes(statements)) => {
                 if self.waits.is_some() && has_unknown(own.function, self.routines.items()) {
                     return Ok(true);
                 }
@@ -170,7 +170,7 @@ fn assigned_function(level: u32, given: Option<OwnResult>) -> Option<FunctionRes
 
 /// Whether the text of statements in one of these parts gives a result by this name, of its own or not.
 #[cycle(given)]
-fn parts_give(named: bool, name: &Name, parts: &[Part]) -> bool
+fn parts_give(named: bool, name: &Name, parts: &[BlockPart]) -> bool
     ensures { result ≡ given_among named name.now (map part_judged parts.now) }
 {
     for part in parts {
@@ -183,11 +183,11 @@ fn parts_give(named: bool, name: &Name, parts: &[Part]) -> bool
 
 /// Whether that of a part does.
 #[cycle(given)]
-fn part_gives(named: bool, name: &Name, part: &Part) -> bool
+fn part_gives(named: bool, name: &Name, part: &BlockPart) -> bool
     ensures { result ≡ (part_judged part.now).gives_to named name.now }
 {
     match part {
-        Part::Routine(r) => routine_gives(named, name, r),
+        BlockPart::Routine(r) => routine_gives(named, name, r),
         _ => false,
     }
 }

@@ -17,9 +17,11 @@ use ep_base::{Line, Name, NoMemory};
 use ep_check_stmt::Context;
 use ep_rules::Refusal;
 use ep_scope::View;
-use ep_stmt_rules::{CheckRefusal, Locals, Outcome, assigns_tag, has_for, has_for_in, refused_at};
+use ep_stmt_rules::{
+    Admission, CheckRefusal, Locals, assigns_tag, has_for, has_for_in, refused_at,
+};
 use ep_threats::{RoutineTable, Routines};
-use ep_tree::{Compound, Part, Routine, RoutineBody, RoutineStart};
+use ep_tree::{BlockPart, Compound, Routine, RoutineBody, RoutineStart};
 use ep_typed::{TypedStmts, UnitVariables};
 use ep_unit_rules::{Heading, OwnVariables, number, result_name, start_name};
 use std::alloc::Global;
@@ -98,7 +100,7 @@ fn known_routines<'a>(
 impl Block {
     /// The parts of a block, in order.
     #[cycle(parts)]
-    pub(crate) fn declare(&mut self, alloc: Global, parts: &[Part]) -> Result<(), CheckRefusal>
+    pub(crate) fn declare(&mut self, alloc: Global, parts: &[BlockPart]) -> Result<(), CheckRefusal>
         requires { first_in (map part_unbuilt parts.now) ≡ None }
         ensures { AnswersStanding result (block_of self.new)
             (all_declared (map part_judged parts.now) (block_of self.old)) }
@@ -110,16 +112,16 @@ impl Block {
     }
 
     #[cycle(parts)]
-    fn declare_part(&mut self, alloc: Global, part: &Part) -> Result<(), CheckRefusal>
+    fn declare_part(&mut self, alloc: Global, part: &BlockPart) -> Result<(), CheckRefusal>
         requires { part_unbuilt part.now ≡ None }
         ensures { AnswersStanding result (block_of self.new)
             ((part_judged part.now).declares (block_of self.old)) }
     {
         match part {
-            Part::Constants(c) => self.define_constants(alloc, c.definitions.items()),
-            Part::Types(t) => self.define_type_part(alloc, t),
-            Part::Variables(v) => self.declare_all(alloc, v.declarations.items()),
-            Part::Routine(r) => self.declare_routine(alloc, r),
+            BlockPart::Constants(c) => self.define_constants(alloc, c.definitions.items()),
+            BlockPart::Types(t) => self.define_type_part(alloc, t),
+            BlockPart::Variables(v) => self.declare_all(alloc, v.declarations.items()),
+            BlockPart::Routine(r) => self.declare_routine(alloc, r),
         }
     }
 
@@ -167,7 +169,7 @@ impl Block {
         alloc: Global,
         line: Line,
         start: &RoutineStart,
-        parts: &[Part],
+        parts: &[BlockPart],
         body: &Compound,
     ) -> Result<(), CheckRefusal>
         requires start { start_unbuilt start.now ≡ None }
@@ -193,7 +195,7 @@ impl Block {
         line: Line,
         name: &Name,
         heading: Heading,
-        parts: &[Part],
+        parts: &[BlockPart],
         body: &Compound,
     ) -> Result<(), CheckRefusal>
         requires parts { first_in (map part_unbuilt parts.now) ≡ None }
@@ -234,7 +236,7 @@ impl Block {
         own: &Name,
         number: u32,
         before: OwnVariables,
-        parts: &[Part],
+        parts: &[BlockPart],
         body: &Compound,
     ) -> Result<(), CheckRefusal>
         requires parts { first_in (map part_unbuilt parts.now) ≡ None }
@@ -273,7 +275,7 @@ impl Block {
         &self,
         alloc: Global,
         body: &Compound,
-    ) -> Result<Outcome<TypedStmts>, CheckRefusal>
+    ) -> Result<Admission<TypedStmts>, CheckRefusal>
         requires { compound_unbuilt body.now ≡ None }
         ensures { AnswersRow stmts_of result
             (statements_judged (block_of self.now) body.now) }
@@ -330,17 +332,17 @@ impl Block {
         line: Line,
         number: u32,
         before: OwnVariables,
-        found: Outcome<TypedStmts>,
+        found: Admission<TypedStmts>,
     ) -> Result<(), CheckRefusal>
         ensures { AnswersStanding result (block_of self.new)
             (body_closed line number before (block_of self.old) (passed stmts_of found)) }
     {
         let own = mem::replace(&mut self.own, before);
         match found {
-            Outcome::Passes(statements) => {
+            Admission::Passes(statements) => {
                 self.set_block(line, number, own.into_variables(), statements);
             }
-            Outcome::Waits(at) => self.note(false, at),
+            Admission::Waits(at) => self.note(false, at),
         }
         self.bodies.push(number)?;
         self.scopes.close();

@@ -5,7 +5,7 @@ use Rattle.ep_meaning.specs.Steady.{Steady}
 use Rattle.ep_meaning.specs.Steps.{Computation, Gives, Ends, Cut, bind, stop}
 use Rattle.ep_meaning.specs.Steps as meaning
 use Rattle.ep_object.specs.Routines.{routine_of}
-use Rattle.ep_object.specs.Runs.{Activation, Outcome, activation, enter, entering, entering_next, outcome}
+use Rattle.ep_object.specs.Runs.{Activation, TurnOutcome, activation, enter, entering, entering_next, outcome}
 use Rattle.ep_object.specs.State.{State, Running, Stopped, Normal}
 use Rattle.ep_object.specs.declared.code.Image.{Image}
 use Rattle.ep_object.specs.declared.code.ImageRoutine.{ImageRoutine}
@@ -85,7 +85,7 @@ module _ (layout : Layout) (G : Image) (n : ℕ) where
         let is_next : activation G (l.frames.turn + 1) ≡ Some y = ap (λ m. activation G (m + 1)) turn_left ∙ is in
         let e = enters_next enters.without_calls leaves y r is_next there in
         let entered : enter G (l.frames.turn + 1) l ≡ Running 0 (record l { place = r.entry; frames = next_frames (l.frames.turn + 1) y l.frames }) = ap (λ o. entering_next G (l.frames.turn + 1) o l) is_next ∙ ap (λ o. entering (l.frames.turn + 1) y o l) there in
-        let same : record l { place = r.entry; frames = next_frames (l.frames.turn + 1) y l.frames } ≡ e.1.1.0 = one_state (sym entered ∙ (sym (ap (λ (o : Outcome). o.to) (leaves_enters leaves)) ∙ ap (λ (o : Outcome). o.to) e.1.1.1)) in
+        let same : record l { place = r.entry; frames = next_frames (l.frames.turn + 1) y l.frames } ≡ e.1.1.0 = one_state (sym entered ∙ (sym (ap (λ (o : TurnOutcome). o.to) (leaves_enters leaves)) ∙ ap (λ (o : TurnOutcome). o.to) e.1.1.1)) in
         (e.1.1.0, e.1.1.1, record { injection = e.0; memory = e.1.0; enters = e.1.1.2; at = sym (ap (λ (q : State). q.frames.turn) same) ∙ ap (λ m. m + 1) turn_left })
 
   -- ---- all of them

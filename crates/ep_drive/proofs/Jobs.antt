@@ -1,7 +1,7 @@
 -- What each job comes to says of the clauses of the top call: one row for each job.
 use Rattle.std.proofs.Common.{◌≡◌, ℕ, ◌<◌, List, ◌⊎◌, inl, inr, refl}
 use Rattle.ep_drive.specs.GoRuns.{GoPart, IsUnwritten, IsUntold, run_within}
-use Rattle.ep_drive.specs.Jobs.{Finishes, Part, Front, Means, Settles}
+use Rattle.ep_drive.specs.Jobs.{Finishes, FaultyPart, Front, Means, Settles}
 use Rattle.ep_drive.specs.Seen.{Seen, Unread, Unreported}
 use Rattle.ep_drive.specs.Statuses.{Rose}
 use Rattle.ep_drive.specs.Verdicts.{Job, Go}
@@ -21,7 +21,7 @@ job_settled (Go budget texts) answer settled before after x has = go_settled bud
 pub finish_unread : (job : Job) (answer : Status) (before after : Seen) → Finishes job answer before after → Unread before after
 finish_unread (Go budget texts) answer before after x = let r = x.stands in r.unread
 
-pub part_unread : (job : Job) (answer : Status) (before after : Seen) → Part job answer before after → Unread before after
+pub part_unread : (job : Job) (answer : Status) (before after : Seen) → FaultyPart job answer before after → Unread before after
 part_unread (Go budget texts) status.WriteFault before after x = let b = x.stands.0 in b.unread
 part_unread (Go budget texts) _ before after x = absurd x
 
@@ -32,7 +32,7 @@ front_unread (Go budget texts) before after x = let b = x.stands.0 in b.unread
 abbrev pub IsQuiet : Status → Seen → Seen → Type 0
 IsQuiet answer before after = Unreported before after ⊎ ((answer ≡ status.WriteFault) × (before.report_faults < after.report_faults))
 
-pub part_quiet : (job : Job) (answer : Status) (before after : Seen) → Part job answer before after → IsQuiet answer before after
+pub part_quiet : (job : Job) (answer : Status) (before after : Seen) → FaultyPart job answer before after → IsQuiet answer before after
 part_quiet (Go budget texts) status.WriteFault before after x = of x.stands.1 where
   of : IsUnwritten before after ⊎ IsUntold before after (run_within budget x.image) → IsQuiet status.WriteFault before after
   of (inl u) = inl u.0
@@ -49,6 +49,6 @@ rose_of before after budget texts p = of p.stands.1 where
   of (inl x) = inl x.1
   of (inr x) = inr x.rose
 
-pub part_rose : (job : Job) (answer : Status) (before after : Seen) → Part job answer before after → Rose answer before after
+pub part_rose : (job : Job) (answer : Status) (before after : Seen) → FaultyPart job answer before after → Rose answer before after
 part_rose (Go budget texts) status.WriteFault before after p = rose_of before after budget texts p
 part_rose (Go budget texts) _ before after p = absurd p

@@ -1,7 +1,7 @@
 -- What a call answers that was refused, or whose job was begun.
 use Rattle.std.proofs.Common.{◌≡◌, ℕ, List, inl, inr, Option, None, Some, MatchOption, Result, Ok, Err, IfOk, refl, sym, ap, ◌∙◌, subst}
 use Rattle.ep_drive.specs.Calls.{Answers, AnswersAs, Begins, IsStoppedAs}
-use Rattle.ep_drive.specs.Jobs.{AnswersJob, Finishes, Part, Front}
+use Rattle.ep_drive.specs.Jobs.{AnswersJob, Finishes, FaultyPart, Front}
 use Rattle.ep_drive.specs.Outcomes.{IsToldAs, whole, fault, nothing}
 use Rattle.ep_drive.specs.Refusals.{Refusal, Usage, Missing, TooLong, InSource, status_of, source_status, report_of}
 use Rattle.ep_drive.specs.Seen.{Seen, Untouched}
@@ -44,10 +44,10 @@ module _ (words : List (List ℕ)) (job : Job) (before after : Seen) (v : HasVer
   begins : (P : Job → Type 0) → P job → Begins words before.files P
   begins P p = record { job = job; verdict = v; holds = p }
 
-  faulted : (answer : Status) → kind_of answer ≡ Faulted → Part job answer before after → IsStoppedAs answer words before after
-  faulted status.WriteFault e p = inr (begins (λ j. Part j status.WriteFault before after) p)
-  faulted status.FileFault e p = inr (begins (λ j. Part j status.FileFault before after) p)
-  faulted status.ReadFault e p = begins (λ j. Part j status.ReadFault before after) p
+  faulted : (answer : Status) → kind_of answer ≡ Faulted → FaultyPart job answer before after → IsStoppedAs answer words before after
+  faulted status.WriteFault e p = inr (begins (λ j. FaultyPart j status.WriteFault before after) p)
+  faulted status.FileFault e p = inr (begins (λ j. FaultyPart j status.FileFault before after) p)
+  faulted status.ReadFault e p = begins (λ j. FaultyPart j status.ReadFault before after) p
   faulted _ e p = absurd cc
 
   starved : (answer : Status) → kind_of answer ≡ Starved → Front job before after → IsStoppedAs answer words before after

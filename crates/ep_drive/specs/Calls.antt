@@ -1,7 +1,7 @@
 -- What holds of every call of the top function, whatever the command.
 use Rattle.std.specs.Prelude.{◌≡◌, ℕ, ◌<◌, ◌⊎◌, List, Option}
 use Rattle.ep_outside.specs.Known.{Directory, Appends, AppendsFront}
-use Rattle.ep_drive.specs.Jobs.{Finishes, Part, Front, Means, Settles}
+use Rattle.ep_drive.specs.Jobs.{Finishes, FaultyPart, Front, Means, Settles}
 use Rattle.ep_drive.specs.Refusals.{Refusal, status_of, report_of}
 use Rattle.ep_drive.specs.Seen.{Seen, Untouched, Unread, Unreported, NoneFell}
 use Rattle.ep_drive.specs.Statuses.{StatusKind, Finished, Refused, Faulted, Starved, kind_of, IsStop, Rose}
@@ -43,11 +43,11 @@ IsNothing before after = Untouched before after × Unreported before after
 abbrev pub IsStoppedAs : Status → List (List ℕ) → Seen → Seen → Type 0
 IsStoppedAs status.WriteFault words before after =
     Refuses words before.files (λ refusal. IsCutOff before after refusal)
-    ⊎ Begins words before.files (λ job. Part job status.WriteFault before after)
+    ⊎ Begins words before.files (λ job. FaultyPart job status.WriteFault before after)
 IsStoppedAs status.FileFault words before after =
-    IsNothing before after ⊎ Begins words before.files (λ job. Part job status.FileFault before after)
+    IsNothing before after ⊎ Begins words before.files (λ job. FaultyPart job status.FileFault before after)
 IsStoppedAs status.ReadFault words before after =
-    Begins words before.files (λ job. Part job status.ReadFault before after)
+    Begins words before.files (λ job. FaultyPart job status.ReadFault before after)
 IsStoppedAs status.NoMemory words before after =
     IsNothing before after ⊎ Begins words before.files (λ job. Front job before after)
 IsStoppedAs _ words before after = ⊥

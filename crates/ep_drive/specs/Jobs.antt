@@ -10,8 +10,8 @@ abbrev pub Finishes : Job → Status → Seen → Seen → Type 0
 Finishes (Go budget texts) answer before after = GoFinishes budget texts answer before after
 
 -- what may have been done of the job with a fault, by its status
-abbrev pub Part : Job → Status → Seen → Seen → Type 0
-Part (Go budget texts) answer before after = GoPart budget texts answer before after
+abbrev pub FaultyPart : Job → Status → Seen → Seen → Type 0
+FaultyPart (Go budget texts) answer before after = GoPart budget texts answer before after
 
 -- what may have been done of the job where memory is wanting
 abbrev pub Front : Job → Seen → Seen → Type 0
@@ -29,5 +29,5 @@ Settles (Go budget texts) answer = GoSettles budget texts answer
 abbrev pub AnswersJob : StatusKind → Job → Status → Seen → Seen → Type 0
 AnswersJob Finished job answer before after = Finishes job answer before after
 AnswersJob Refused job answer before after = ⊥
-AnswersJob Faulted job answer before after = Part job answer before after
+AnswersJob Faulted job answer before after = FaultyPart job answer before after
 AnswersJob Starved job answer before after = Front job before after

@@ -33,7 +33,7 @@ same_bytes : (a b : List ℕ) → bytes_eq a b ≡ true → a ≡ b
 same_bytes a b e = (bytes_eq-Decides a b).0 e
 
 -- a structured type has one kind
-structured_kind : (k : valid.Kind) (t : TypeValue) → IsStructured t → IsTypeOfKind k t → k ≡ valid.Structured t
+structured_kind : (k : valid.ValueKind) (t : TypeValue) → IsStructured t → IsTypeOfKind k t → k ≡ valid.Structured t
 structured_kind (valid.Structured u) t s p = ap valid.Structured p.0
 structured_kind (valid.Ordinal h) (type.Array low high of) s p = absurd p
 structured_kind (valid.Ordinal h) (type.Record ts) s p = absurd p
@@ -52,9 +52,9 @@ structured_kind (valid.Set h) (type.Initial of start) s p = absurd s
 module _ (declared : Declarations) where
   -- a component of the type value is given the expression; an array or a record is one of the type value
   abbrev IsGivenFor : TypeValue → Expr → Type 0
-  IsGivenFor of x = (k : valid.Kind) × IsExpr declared k x × ((u : TypeValue) → k ≡ valid.Structured u → (u ≡ of) × IsStructured u)
+  IsGivenFor of x = (k : valid.ValueKind) × IsExpr declared k x × ((u : TypeValue) → k ≡ valid.Structured u → (u ≡ of) × IsStructured u)
 
-  of_its_kind : (k : valid.Kind) (of : TypeValue) (x : Expr) → IsTypeOfKind k of → IsExpr declared k x → IsGivenFor of x
+  of_its_kind : (k : valid.ValueKind) (of : TypeValue) (x : Expr) → IsTypeOfKind k of → IsExpr declared k x → IsGivenFor of x
   of_its_kind k of x t e = (k, e, λ u is. subst (λ j. IsTypeOfKind j of) is t)
 
   -- the component of a record to which the steps lead is
@@ -76,7 +76,7 @@ module _ (declared : Declarations) where
       later None true rest f = subst (IsGivenFor of) (same_Some y x f) (of_its_kind es.0.3.0 of y es.0.3.1 es.0.3.2)
       later None false rest f = cc
 
-  field-given : (ts : ComponentTypes) (own : List ℕ) (y : Expr) → ((k : valid.Kind) × ((of : TypeValue) × LeadTo ts own of × IsTypeOfKind k of) × IsExpr declared k y) → (steps : List ℕ) → bytes_eq own steps ≡ true → IsGivenAt ts steps y
+  field-given : (ts : ComponentTypes) (own : List ℕ) (y : Expr) → ((k : valid.ValueKind) × ((of : TypeValue) × LeadTo ts own of × IsTypeOfKind k of) × IsExpr declared k y) → (steps : List ℕ) → bytes_eq own steps ≡ true → IsGivenAt ts steps y
   field-given ts own y f steps same = (f.1.0, subst (λ s. LeadTo ts s f.1.0) (same_bytes own steps same) f.1.1, of_its_kind f.0 f.1.0 y f.1.2 f.2)
 
   of_field-given : (ts : ComponentTypes) (es : Elements) (steps : List ℕ) (x : Expr) → AreElements declared (type.Record ts) es → value_of_field es steps ≡ Some x → IsGivenAt ts steps x
@@ -92,7 +92,7 @@ module _ (declared : Declarations) where
       chosen false same rest f = rest f
 
   -- a second field is of the type of the first one, where that is structured
-  same-given : (ts : ComponentTypes) (from to : List ℕ) (x : Expr) → ((k : valid.Kind) × ((of : TypeValue) × LeadTo ts from of × IsTypeOfKind k of) × ((of : TypeValue) × LeadTo ts to of × IsTypeOfKind k of)) → IsGivenAt ts from x → IsGivenAt ts to x
+  same-given : (ts : ComponentTypes) (from to : List ℕ) (x : Expr) → ((k : valid.ValueKind) × ((of : TypeValue) × LeadTo ts from of × IsTypeOfKind k of) × ((of : TypeValue) × LeadTo ts to of × IsTypeOfKind k of)) → IsGivenAt ts from x → IsGivenAt ts to x
   same-given ts from to x s g = (
     s.2.0,
     s.2.1,

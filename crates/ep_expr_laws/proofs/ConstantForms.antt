@@ -88,10 +88,10 @@ module _ (declared : Declarations) (types : TypeValues) (scopes : List Region) (
   known-judged k depth Errs f = tt
 
   -- a text is of the kind of texts alone, and what is written out is of structured kinds
-  no_text : (k : valid.Kind) (x : Expr) (bytes : List ℕ) → (k ≡ valid.Bytes → ⊥) → IsExpr declared k x → x ≡ Text bytes → ⊥
+  no_text : (k : valid.ValueKind) (x : Expr) (bytes : List ℕ) → (k ≡ valid.Bytes → ⊥) → IsExpr declared k x → x ≡ Text bytes → ⊥
   no_text k x bytes other v e = other (subst (IsExpr declared k) e v)
 
-  none_written : (k : valid.Kind) (x : Expr) → ((t : TypeValue) → k ≡ valid.Structured t → ⊥) → IsExpr declared k x → IsWrittenOut x → ⊥
+  none_written : (k : valid.ValueKind) (x : Expr) → ((t : TypeValue) → k ≡ valid.Structured t → ⊥) → IsExpr declared k x → IsWrittenOut x → ⊥
   none_written k x other v w =
       let s = subst (IsExpr declared k) w.2 v in
       other _ s.1

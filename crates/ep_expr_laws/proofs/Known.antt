@@ -113,30 +113,30 @@ short_folded-known P operation Errs Errs x f g e = cc
 -- ---- kinds of what is known
 
 -- what is known is of this kind; no text and no structured value is known
-abbrev pub OfKind : valid.Kind → KnownValue → Type 0
+abbrev pub OfKind : valid.ValueKind → KnownValue → Type 0
 OfKind (valid.Ordinal h) (known_value.Number z) = IsTrue (is_of_host h z)
 OfKind (valid.Set h) (known_value.Members ms) = IsSetOver h ms
 OfKind _ _ = ⊥
 
-number-of_kind : (h : Host) (k : valid.Kind) (z : ℤ) (x : KnownValue) → k ≡ valid.Ordinal h → IsTrue (is_of_host h z) → Known (known_value.Number z) ≡ Known x → OfKind k x
+number-of_kind : (h : Host) (k : valid.ValueKind) (z : ℤ) (x : KnownValue) → k ≡ valid.Ordinal h → IsTrue (is_of_host h z) → Known (known_value.Number z) ≡ Known x → OfKind k x
 number-of_kind h k z x is p e =
     let same : known_value.Number z ≡ x = cc in
     subst (λ t. OfKind t x) (sym is) (subst (OfKind (valid.Ordinal h)) same p)
 
-set-of_kind : (h : Host) (k : valid.Kind) (ms : List ℕ) (x : KnownValue) → k ≡ valid.Set h → IsSetOver h ms → Known (known_value.Members ms) ≡ Known x → OfKind k x
+set-of_kind : (h : Host) (k : valid.ValueKind) (ms : List ℕ) (x : KnownValue) → k ≡ valid.Set h → IsSetOver h ms → Known (known_value.Members ms) ≡ Known x → OfKind k x
 set-of_kind h k ms x is p e =
     let same : known_value.Members ms ≡ x = cc in
     subst (λ t. OfKind t x) (sym is) (subst (OfKind (valid.Set h)) same p)
 
 -- the number of what is of an ordinal kind, and the set of what is of a set kind
-number-of_host : (h : Host) (k : valid.Kind) (x : KnownValue) → k ≡ valid.Ordinal h → OfKind k x → IsTrue (is_of_host h (number_in x))
+number-of_host : (h : Host) (k : valid.ValueKind) (x : KnownValue) → k ≡ valid.Ordinal h → OfKind k x → IsTrue (is_of_host h (number_in x))
 number-of_host h k x is p = within x (subst (λ t. OfKind t x) is p)
   where
     within : (y : KnownValue) → OfKind (valid.Ordinal h) y → IsTrue (is_of_host h (number_in y))
     within (known_value.Number z) q = q
     within (known_value.Members ms) q = absurd q
 
-members-over : (h : Host) (k : valid.Kind) (x : KnownValue) → k ≡ valid.Set h → OfKind k x → IsSetOver h (members_in x)
+members-over : (h : Host) (k : valid.ValueKind) (x : KnownValue) → k ≡ valid.Set h → OfKind k x → IsSetOver h (members_in x)
 members-over h k x is p = within x (subst (λ t. OfKind t x) is p)
   where
     within : (y : KnownValue) → OfKind (valid.Set h) y → IsSetOver h (members_in y)
@@ -144,7 +144,7 @@ members-over h k x is p = within x (subst (λ t. OfKind t x) is p)
     within (known_value.Members ms) q = q
 
 -- an answer is of the kind where its number is
-answer-of_kind : (h : Host) (k : valid.Kind) (a : Answer) (x : KnownValue) → k ≡ valid.Ordinal h → ((z : ℤ) → IsAnswer a z → IsTrue (is_of_host h z)) → answered a ≡ Known x → OfKind k x
+answer-of_kind : (h : Host) (k : valid.ValueKind) (a : Answer) (x : KnownValue) → k ≡ valid.Ordinal h → ((z : ℤ) → IsAnswer a z → IsTrue (is_of_host h z)) → answered a ≡ Known x → OfKind k x
 answer-of_kind h k (Number w) x is f e = by_test (is_integer w) refl e
   where
     by_test : (b : Bool) → is_integer w ≡ b → (if b then Known (known_value.Number w) else Errs) ≡ Known x → OfKind k x
@@ -153,7 +153,7 @@ answer-of_kind h k (Number w) x is f e = by_test (is_integer w) refl e
 answer-of_kind h k (Fault error) x is f e = cc
 
 -- an operation of a known number
-one-of_kind : (operation : Unary) (k m : valid.Kind) (y x : KnownValue) → IsUnary operation k m → OfKind k y → answered (unary_answer operation (number_in y)) ≡ Known x → OfKind m x
+one-of_kind : (operation : Unary) (k m : valid.ValueKind) (y x : KnownValue) → IsUnary operation k m → OfKind k y → answered (unary_answer operation (number_in y)) ≡ Known x → OfKind m x
 one-of_kind unary.Same k m y x u p e = answer-of_kind host.Integer m (unary_answer unary.Same (number_in y)) x u.1 (λ z a. a.whole) e
 one-of_kind unary.Negate k m y x u p e = answer-of_kind host.Integer m (unary_answer unary.Negate (number_in y)) x u.1 (λ z a. a.whole) e
 one-of_kind unary.Not k m y x u p e = answer-of_kind host.Boolean m (unary_answer unary.Not (number_in y)) x u.1 (λ z a. same_number host.Boolean (pos 1 -ℤ number_in y) z (not_boolean (number_in y) (number-of_host host.Boolean k y u.0 p)) a.number) e
@@ -163,7 +163,7 @@ one-of_kind unary.Odd k m y x u p e = answer-of_kind host.Boolean m (unary_answe
 one-of_kind unary.Character k m y x u p e = answer-of_kind host.Char m (unary_answer unary.Character (number_in y)) x u.1 (λ z a. bounded-number host.Char _ _ (number_in y) z refl refl a.number) e
 
 -- an operation of two
-two-of_kind : (operation : Binary) (k l m : valid.Kind) (v w : ℤ) (x : KnownValue) → IsBinary operation k l m → answered (binary_answer operation v w) ≡ Known x → OfKind m x
+two-of_kind : (operation : Binary) (k l m : valid.ValueKind) (v w : ℤ) (x : KnownValue) → IsBinary operation k l m → answered (binary_answer operation v w) ≡ Known x → OfKind m x
 two-of_kind binary.Add k l m v w x u e = answer-of_kind host.Integer m (binary_answer binary.Add v w) x u.2 (λ z a. a.whole) e
 two-of_kind binary.Subtract k l m v w x u e = answer-of_kind host.Integer m (binary_answer binary.Subtract v w) x u.2 (λ z a. a.whole) e
 two-of_kind binary.Multiply k l m v w x u e = answer-of_kind host.Integer m (binary_answer binary.Multiply v w) x u.2 (λ z a. a.whole) e
@@ -178,13 +178,13 @@ two-of_kind binary.Greater k l m v w x u e = answer-of_kind host.Boolean m (bina
 two-of_kind binary.AtMost k l m v w x u e = answer-of_kind host.Boolean m (binary_answer binary.AtMost v w) x u.1 (λ z a. same_number host.Boolean _ z (ordinal_boolean _) a.number) e
 two-of_kind binary.AtLeast k l m v w x u e = answer-of_kind host.Boolean m (binary_answer binary.AtLeast v w) x u.1 (λ z a. same_number host.Boolean _ z (ordinal_boolean _) a.number) e
 
-step-of_kind : (down : Bool) (low high : ℤ) (h : Host) (k : valid.Kind) (v n : ℤ) (x : KnownValue) → k ≡ valid.Ordinal h → low ≡ least h → high ≡ greatest h → answered (step_answer down low high v n) ≡ Known x → OfKind k x
+step-of_kind : (down : Bool) (low high : ℤ) (h : Host) (k : valid.ValueKind) (v n : ℤ) (x : KnownValue) → k ≡ valid.Ordinal h → low ≡ least h → high ≡ greatest h → answered (step_answer down low high v n) ≡ Known x → OfKind k x
 step-of_kind true low high h k v n x is l g e = answer-of_kind h k (step_answer true low high v n) x is (λ z a. bounded-number h low high _ z l g a.number) e
 step-of_kind false low high h k v n x is l g e = answer-of_kind h k (step_answer false low high v n) x is (λ z a. bounded-number h low high _ z l g a.number) e
 
 -- ---- operations on sets
 
-on_sets-of_kind : (operation : SetOperation) (k l m : valid.Kind) (y z x : KnownValue) → IsOnSets operation k l m → OfKind k y → OfKind l z → as_known (set_answer operation (result_of y) (result_of z)) ≡ Known x → OfKind m x
+on_sets-of_kind : (operation : SetOperation) (k l m : valid.ValueKind) (y z x : KnownValue) → IsOnSets operation k l m → OfKind k y → OfKind l z → as_known (set_answer operation (result_of y) (result_of z)) ≡ Known x → OfKind m x
 on_sets-of_kind on_sets.Union k l m y z x u p q e = set-of_kind u.0 m _ x u.3 (combined-over u.0 on_sets.Union _ _ (members-over u.0 k y u.1 p) (members-over u.0 l z u.2 q)) e
 on_sets-of_kind on_sets.Difference k l m y z x u p q e = set-of_kind u.0 m _ x u.3 (combined-over u.0 on_sets.Difference _ _ (members-over u.0 k y u.1 p) (members-over u.0 l z u.2 q)) e
 on_sets-of_kind on_sets.Intersection k l m y z x u p q e = set-of_kind u.0 m _ x u.3 (combined-over u.0 on_sets.Intersection _ _ (members-over u.0 k y u.1 p) (members-over u.0 l z u.2 q)) e
@@ -215,7 +215,7 @@ joined-known h found d f g x e =
 module _ (declared : Declarations) where
   mutual
     -- what is known of a valid form is of the form's kind
-    pub known-of_kind : (e : Expr) (k : valid.Kind) (x : KnownValue) → IsExpr declared k e → folded e ≡ Known x → OfKind k x
+    pub known-of_kind : (e : Expr) (k : valid.ValueKind) (x : KnownValue) → IsExpr declared k e → folded e ≡ Known x → OfKind k x
     known-of_kind (Constant z) k x v f = number-of_kind v.0 k z x v.1 v.2 f
     known-of_kind (Text bytes) k x v f = cc
     known-of_kind (Read place) k x v f = cc

@@ -44,7 +44,7 @@ use Rattle.ep_expr_laws.proofs.SetForms.{IsCombining, IsRelating, card-form, com
 use Rattle.ep_check_expr.proofs.public.Rows.{and_first, and_second}
 
 -- the kind of a typed tree
-abbrev of_host : Host → valid.Kind
+abbrev of_host : Host → valid.ValueKind
 of_host h = valid.Ordinal (typed_host h)
 
 module _ (declared : Declarations) (types : TypeValues) (structures : List StructuredType) where

@@ -5,7 +5,7 @@ use Rattle.ep_typed.specs.Trees as tree
 use Rattle.ep_typed.specs.Trees.{AtField, AtRanges, Constant, Elements, Expr, Named, SameField, SetConstant, next_element, no_element}
 use Rattle.ep_values.specs.TypeValues as type
 use Rattle.ep_values.specs.TypeValues.{TypeValue, bare_of}
-use Rattle.ep_meaning.specs.Valid.{AreElements, AreStartsFor, Declarations, IsDenoter, IsExpr, IsStartFor, IsStructured, IsTypeOfKind, Kind, Ordinal, Set, Structured, field_given, none_given, ranges_given, same_given, set_start, structured_start, word_start}
+use Rattle.ep_meaning.specs.Valid.{AreElements, AreStartsFor, Declarations, IsDenoter, IsExpr, IsStartFor, IsStructured, IsTypeOfKind, ValueKind, Ordinal, Set, Structured, field_given, none_given, ranges_given, same_given, set_start, structured_start, word_start}
 use Rattle.ep_typed.specs.declared.unit.UnitType.{UnitType}
 
 module _ (declared : Declarations) where
@@ -20,7 +20,7 @@ module _ (declared : Declarations) where
 
   mutual
     -- in whatever type it begins
-    start-expr : (t : TypeValue) (x : Expr) → IsStartFor list t x → (k : Kind) × IsTypeOfKind k t × IsExpr declared k x
+    start-expr : (t : TypeValue) (x : Expr) → IsStartFor list t x → (k : ValueKind) × IsTypeOfKind k t × IsExpr declared k x
     start-expr t x (word_start low high h w of is) = (Ordinal h, of, (h, refl, is))
     start-expr t x (set_start low high h ms base set between) = (Set h, base, (h, refl, set, between))
     start-expr t x (structured_start of u es found typed is given) =

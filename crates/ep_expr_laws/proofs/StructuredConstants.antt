@@ -106,7 +106,7 @@ module _ (list : List UnitType) where
   given-first t (Some x) xs p q = p (elements (map element_of xs)) q
 
   -- a value that is known
-  known-starts : (k : valid.Kind) (t : TypeValue) (y : KnownValue) → OfKind k y → IsTypeOfKind k t → IsStartFor list t (constant_expr (value_known y))
+  known-starts : (k : valid.ValueKind) (t : TypeValue) (y : KnownValue) → OfKind k y → IsTypeOfKind k t → IsStartFor list t (constant_expr (value_known y))
   known-starts (valid.Ordinal h) (type.Ordinal low high) (known_value.Number z) p s = valid.word_start low high h z s p
   known-starts (valid.Ordinal h) type.Text (known_value.Number z) p s = absurd s
   known-starts (valid.Ordinal h) (type.Array low high of) (known_value.Number z) p s = absurd s
@@ -126,7 +126,7 @@ module _ (list : List UnitType) where
   known-starts (valid.Structured u) t (known_value.Members ms) p s = absurd p
 
   -- what is known of a form
-  folded-starts : (k : valid.Kind) (t : TypeValue) (r : Folded) (v : ConstantValue) → ((y : KnownValue) → r ≡ Known y → OfKind k y) → known_constancy r ≡ Ok v → IsTypeOfKind k t → IsStartFor list t (constant_expr (value_in v))
+  folded-starts : (k : valid.ValueKind) (t : TypeValue) (r : Folded) (v : ConstantValue) → ((y : KnownValue) → r ≡ Known y → OfKind k y) → known_constancy r ≡ Ok v → IsTypeOfKind k t → IsStartFor list t (constant_expr (value_in v))
   folded-starts k t (Known y) v p e s = subst (λ w. IsStartFor list t (constant_expr (value_in w))) (same_Ok (constant.Known y) v e) (known-starts k t y (p y refl) s)
   folded-starts k t Varies v p e s = cc
   folded-starts k t Errs v p e s = cc
@@ -194,7 +194,7 @@ module _ (declared : Declarations) (types : TypeValues) (scopes : List Region) (
 
   mutual
     -- a valid form that is constant may be the initial state of each type of its kind
-    pub constancy-starts : (x : Expr) (k : valid.Kind) (t : TypeValue) (v : ConstantValue) → IsExpr declared k x → constancy scopes x ≡ Ok v → IsTypeOfKind k t → IsStartFor list t (constant_expr (value_in v))
+    pub constancy-starts : (x : Expr) (k : valid.ValueKind) (t : TypeValue) (v : ConstantValue) → IsExpr declared k x → constancy scopes x ≡ Ok v → IsTypeOfKind k t → IsStartFor list t (constant_expr (value_in v))
     constancy-starts (tree.Structured n es) k t v f e s =
         let p = of_one-constant (λ xs. constant.Structured n xs) (elements_constancy scopes (array_in (structure_in scopes n)) es) v e in
         let is : (bare_of f.0.type_value ≡ t) × IsStructured (bare_of f.0.type_value) = subst (λ j. IsTypeOfKind j t) f.1 s in

@@ -69,7 +69,7 @@ module _ (declared : Declarations) (types : TypeValues) (structures : List Struc
 
   -- a value that a component of the type may be given
   abbrev IsGiven : TypeValue → Expr → Type 0
-  IsGiven of x = (k : valid.Kind) × IsTypeOfKind k of × IsExpr declared k x
+  IsGiven of x = (k : valid.ValueKind) × IsTypeOfKind k of × IsExpr declared k x
 
   given-component : (k : Kind) (of : TypeValue) → IsValueOfKind types k of → (v : Typed) → Form v → Satisfies (IfForm (IsGiven of)) (component_given k v)
   given-component (kind.Ordinal h) of has v f = given-fits declared types structures (IsGiven of) (λ x. x) h (λ x q. (valid.Ordinal (typed_host h), has.1, q)) v.kind v.form f
@@ -277,7 +277,7 @@ module _ (declared : Declarations) (types : TypeValues) (structures : List Struc
         (λ x h. with_field-fits r place v.depth (option_map (first_form (field_steps f)) x) p (first-element f c x h))
 
     -- components of one kind
-    same_component : (k l : Kind) (t u : TypeValue) → is_same_kind k l ≡ true → IsValueOfKind types k t → IsValueOfKind types l u → (j : valid.Kind) × IsTypeOfKind j t × IsTypeOfKind j u
+    same_component : (k l : Kind) (t u : TypeValue) → is_same_kind k l ≡ true → IsValueOfKind types k t → IsValueOfKind types l u → (j : valid.ValueKind) × IsTypeOfKind j t × IsTypeOfKind j u
     same_component (kind.Ordinal h) (kind.Ordinal g) t u e p q = (valid.Ordinal (typed_host h), p.1, subst (λ x. IsTypeOf x u) (host_same h g e) q.1)
     same_component (kind.Structured m) (kind.Structured n) t u e p q = (valid.Structured t, (refl, p.1), (one-value types m n t u (same_number m n e) p q, p.1))
     same_component (kind.Set h) (kind.Set g) t u e p q = (valid.Set (typed_host h), p.1, subst (λ x. IsSetOf x u) (host_same h g e) q.1)

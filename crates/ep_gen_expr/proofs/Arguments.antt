@@ -25,7 +25,7 @@ use Rattle.ep_meaning.specs.Meaning.{argument, arguments}
 use Rattle.ep_meaning.specs.Results.{weight_of}
 use Rattle.ep_meaning.specs.Steps.{give, bind}
 use Rattle.ep_typed.specs.Trees.{Place, Expr, Actual, Evaluated, Accessed, Actuals, no_actual, next_actual}
-use Rattle.ep_meaning.specs.Valid.{Declarations, Kind, IsExpr, IsVariableOf, IsGiven}
+use Rattle.ep_meaning.specs.Valid.{Declarations, ValueKind, IsExpr, IsVariableOf, IsGiven}
 use Rattle.ep_typed.specs.declared.interface.Formal.{Formal}
 use Rattle.ep_typed.specs.declared.interface.FormalMode.{FormalMode}
 use Rattle.ep_typed.specs.declared.interface.FormalMode.TheVariants as mode
@@ -81,7 +81,7 @@ module _ (layout : Layout) (G : Image) (untouched : Slots) (Here : Facts) (p : P
 
 module _ {layout : Layout} {G : Image} {untouched : Slots} {Here : Facts} (p : Placement) (call : Handler) (steady_call : IsSteadyHandler call) (g : ℕ) (unit : List ℕ) (n : ℕ) where
   -- a value
-  pub value_follows : (k : Kind) (x : Expr) (line at : ℕ) (is : List Instr) → IsFollowed layout G untouched Here p call g unit n k x line at is
+  pub value_follows : (k : ValueKind) (x : Expr) (line at : ℕ) (is : List Instr) → IsFollowed layout G untouched Here p call g unit n k x line at is
       → IsArgumentFollowed layout G untouched Here p call g unit n (ByValue k) (Evaluated x) line at is
   value_follows k x line at is follows injection memory below d enough home =
       inside_bind {First = OnTop k below} {e = λ r. d + 8 + weight_of r} (λ r. steady_give (Value r)) (follows injection memory below d enough home) (λ r longer after pushed grown routine top.

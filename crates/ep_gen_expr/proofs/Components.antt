@@ -27,7 +27,7 @@ use Rattle.ep_meaning.specs.Steady.{IsSteadyHandler}
 use Rattle.ep_meaning.specs.Steps.{Component, component}
 use Rattle.ep_values.specs.TypeValues as type
 use Rattle.ep_values.specs.TypeValues.{ComponentTypes, TypeValue, type_among}
-use Rattle.ep_meaning.specs.Valid.{IsTypeOfKind, Kind, LeadTo}
+use Rattle.ep_meaning.specs.Valid.{IsTypeOfKind, ValueKind, LeadTo}
 use Rattle.ep_values.specs.declared.run_error.TheConstants as run_error
 
 module _ {layout : Layout} {G : Image} {untouched : Slots} {Here : Facts} (call : Handler) (g : ℕ) (unit : List ℕ) (line n : ℕ) where
@@ -45,7 +45,7 @@ module _ {layout : Layout} {G : Image} {untouched : Slots} {Here : Facts} (call 
       follows_paid {v = 0} {w = 0} {d1 = d} (not_left-here memory.frames) refl z.does (omega arith) (omega arith) (omega arith) (follows_give (component a k) (omega arith) (landed z))))
 
   -- `Load` of a variable of a type whose values are of the kind
-  pub loaded_follows : (place : ℕ) (kind : Kind) (t : TypeValue) → IsTypeOfKind kind t → slice_get G.instructions place ≡ Some (bare line op.LOAD)
+  pub loaded_follows : (place : ℕ) (kind : ValueKind) (t : TypeValue) → IsTypeOfKind kind t → slice_get G.instructions place ≡ Some (bare line op.LOAD)
       → (injection : Injection) (memory : MachineMemory) (below : List Operand) (a : Component) (q : PlaceOf) (d : ℕ) → 1 ≤ d → unit_in G memory.frames ≡ unit
       → IsSpot injection memory.types a q → IsLike memory.types q.type_number t
       → Fragment layout G Here n (point injection memory place (operand.Place q ∷ below)) (read call g unit line a) (place + 1) (λ r. Inside untouched injection memory (OnTop kind below r)) d (λ r. d + 8 + weight_of r)

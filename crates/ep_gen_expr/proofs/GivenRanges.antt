@@ -58,7 +58,7 @@ use Rattle.ep_meaning.specs.Steps as meaning
 use Rattle.ep_typed.specs.Trees.{AtIndexes, Designator, Designators, Expr, Range, Single, next_member, no_member}
 use Rattle.ep_values.specs.TypeValues.{TypeValue}
 use Rattle.ep_values.specs.TypeValues as type
-use Rattle.ep_meaning.specs.Valid.{Declarations, IsTypeOfKind, Kind, Ordinal}
+use Rattle.ep_meaning.specs.Valid.{Declarations, IsTypeOfKind, ValueKind, Ordinal}
 use Rattle.ep_values.specs.declared.run_error.TheConstants as run_error
 use Rattle.ep_typed.specs.declared.tree.CaseRange.{CaseRange}
 use Rattle.std.proofs.lemmas.Option.{cond_some}
@@ -133,7 +133,7 @@ module _ (declared : Declarations) (layout : Layout) (G : Image) (untouched : Sl
     (room : p.instructions.before + p.instructions.own ≤ length G.instructions)
     (swap : SwapStands G ps unit (declared.first_private unit)) (swap_referred : IsSwapReferred declared unit references)
     (arrays : ArrayRoutinesStand G ps unit (declared.first_private unit)) (arrays_referred : AreArraysReferred declared unit references)
-    (low high : ℤ) (small : IsTrue (is_integer low)) (large : IsTrue (is_integer high)) (of : TypeValue) (k : Kind) (of_kind : IsTypeOfKind k of) where
+    (low high : ℤ) (small : IsTrue (is_integer low)) (large : IsTrue (is_integer high)) (of : TypeValue) (k : ValueKind) (of_kind : IsTypeOfKind k of) where
   abbrev pub array : TypeValue
   array = type.Array low high of
 

@@ -15,7 +15,7 @@ use Rattle.ep_simulation.proofs.public.rows.Rows.{RowAnswers, push_pushes, neg_a
 use Rattle.ep_simulation.proofs.public.rows.TextRows.{drop_drops, dup_pushes}
 use Rattle.ep_meaning.specs.Calls.{Handler}
 use Rattle.ep_values.specs.Operations.{Number, last_char, unary_answer}
-use Rattle.ep_meaning.specs.Valid.{Kind, Ordinal, IsUnary}
+use Rattle.ep_meaning.specs.Valid.{ValueKind, Ordinal, IsUnary}
 use Rattle.ep_values.specs.declared.operations.Unary.{Unary}
 use Rattle.ep_values.specs.declared.operations.Unary.TheVariants as unary
 use Rattle.ep_typed.specs.Hosts.{Host, is_of_host}
@@ -37,7 +37,7 @@ module _ (layout : Layout) (G : Image) (untouched : Slots) (Here : Facts) (ps : 
       → Evaluates layout G untouched Here n injection memory (p.instructions.before + at) (Word z ∷ below) (answering call g unit line (unary_answer operation z)) (p.instructions.before + (at + length (one_code line operation))) (Ordinal result) below (d + 8) (d + 8)
 
   -- the same where the kinds of the operand and the result are those
-  pub record UnaryFollows (n at : ℕ) (operation : Unary) (operand_kind result_kind : Kind) : Type 0 where
+  pub record UnaryFollows (n at : ℕ) (operation : Unary) (operand_kind result_kind : ValueKind) : Type 0 where
     pub operand : Host
     pub result : Host
     pub operand_is : operand_kind ≡ Ordinal operand
@@ -72,7 +72,7 @@ module _ (layout : Layout) (G : Image) (untouched : Slots) (Here : Facts) (ps : 
       (row_waits {d1 = d + 6} (push_pushes G (place + 1) line (Word (pos 0) ∷ Word z ∷ below) (pos last_char) (instr_at G (omega arith) stands.1.0)) (omega arith)
       (answer_follows call g unit line n (place + 1 + 1) (Word (pos last_char) ∷ Word (pos 0) ∷ Word z ∷ below) below (unary_answer unary.Character z) (check_answers G (place + 1 + 1) line below run_error.SUCCESSOR z (pos 0) (pos last_char) refl (instr_at G (omega arith) stands.1.1.0)) host.Char (λ w is. within_answer host.Char run_error.SUCCESSOR z w is) injection memory (d + 6) (d + 8) unit_is (omega arith) (omega arith))))
 
-  pub unary_follows : (n at : ℕ) (operation : Unary) (operand_kind result_kind : Kind)
+  pub unary_follows : (n at : ℕ) (operation : Unary) (operand_kind result_kind : ValueKind)
       → IsUnary operation operand_kind result_kind → CodeStands G ps p references at (one_code line operation)
       → UnaryFollows n at operation operand_kind result_kind
   unary_follows n at unary.Same operand_kind result_kind (k, r) stands =

@@ -33,7 +33,7 @@ use Rattle.ep_meaning.specs.Steady.{IsSteadyHandler}
 use Rattle.ep_meaning.specs.Steps.{bind, give, spend}
 use Rattle.ep_typed.specs.Trees.{Expr, SetOf, OnSets, Card, Designator, Single, Range, Designators, no_member, next_member}
 use Rattle.ep_meaning.specs.Valid as kind
-use Rattle.ep_meaning.specs.Valid.{Kind, Ordinal, IsCombination, IsSetComparison, IsMembership, IsOnSets}
+use Rattle.ep_meaning.specs.Valid.{ValueKind, Ordinal, IsCombination, IsSetComparison, IsMembership, IsOnSets}
 use Rattle.ep_values.specs.declared.operations.SetOperation.{SetOperation}
 use Rattle.ep_values.specs.declared.operations.SetOperation.TheVariants as set
 use Rattle.ep_meaning.proofs.public.Steady.{steady_bind, steady_collected, steady_eval, steady_fetch, steady_give, steady_spend}
@@ -65,7 +65,7 @@ card_integer n le = grind (arith, nat_tests)
 
 module _ (G : Image) (place : ℕ) (below : List Operand) (injection : Injection) (memory : MachineMemory) (x y : Result) (xo yo : Operand) where
   -- the instruction leaves the value of this result in place of the two operands
-  record Leaves (k : Kind) (r : Result) : Type 0 where
+  record Leaves (k : ValueKind) (r : Result) : Type 0 where
     left : Operand
     pushes : RowPushes G place (yo ∷ xo ∷ below) 0 (left ∷ below)
     value : IsValueOf injection memory k r left
@@ -75,7 +75,7 @@ module _ (G : Image) (place : ℕ) (below : List Operand) (injection : Injection
       subst (λ o. RowPushes G place (yo ∷ o ∷ below) 0 (left ∷ below)) (sym ex) (subst (λ o. RowPushes G place (o ∷ xs ∷ below) 0 (left ∷ below)) (sym ey) row)
 
   -- a set of two
-  combination : {left right k : Kind} (answer : List ℕ → List ℕ → List ℕ) → ((ms ns : List ℕ) → IsSet (answer ms ns))
+  combination : {left right k : ValueKind} (answer : List ℕ → List ℕ → List ℕ) → ((ms ns : List ℕ) → IsSet (answer ms ns))
       → ((ms ns : List ℕ) → RowPushes G place (Set ns ∷ Set ms ∷ below) 0 (Set (answer ms ns) ∷ below))
       → IsCombination left right k → IsValueOf injection memory left x xo → IsValueOf injection memory right y yo
       → Leaves k (result.Members (answer (members_of x) (members_of y)))
@@ -91,7 +91,7 @@ module _ (G : Image) (place : ℕ) (below : List Operand) (injection : Injection
       }
 
   -- whether two compare so
-  comparison : {left right k : Kind} (answer : List ℕ → List ℕ → Bool)
+  comparison : {left right k : ValueKind} (answer : List ℕ → List ℕ → Bool)
       → ((ms ns : List ℕ) → RowPushes G place (Set ns ∷ Set ms ∷ below) 0 (Word (ordinal_of (answer ms ns)) ∷ below))
       → IsSetComparison left right k → IsValueOf injection memory left x xo → IsValueOf injection memory right y yo
       → Leaves k (result.Number (ordinal_of (answer (members_of x) (members_of y))))
@@ -107,7 +107,7 @@ module _ (G : Image) (place : ℕ) (below : List Operand) (injection : Injection
       }
 
   -- whether a value is a member
-  membership : {left right k : Kind}
+  membership : {left right k : ValueKind}
       → ((z : ℤ) (ns : List ℕ) → RowPushes G place (Set ns ∷ Word z ∷ below) 0 (Word (ordinal_of (is_member z ns)) ∷ below))
       → IsMembership left right k → IsValueOf injection memory left x xo → IsValueOf injection memory right y yo
       → Leaves k (result.Number (ordinal_of (is_member (number_of x) (members_of y))))
@@ -123,7 +123,7 @@ module _ (G : Image) (place : ℕ) (below : List Operand) (injection : Injection
       }
 
   -- each operation by its instruction
-  operates : (ps : List Placement) (p : Placement) (references : List Reference) (line : ℕ) (operation : SetOperation) (left right k : Kind) → IsOnSets operation left right k
+  operates : (ps : List Placement) (p : Placement) (references : List Reference) (line : ℕ) (operation : SetOperation) (left right k : ValueKind) → IsOnSets operation left right k
       → slice_get G.instructions place ≡ Some (placed ps p references (set_code line operation))
       → IsValueOf injection memory left x xo → IsValueOf injection memory right y yo → Leaves k (set_answer operation x y)
   operates ps p references line set.Union left right k kinds has vx vy = combination union (λ ms ns. members_set _) (λ ms ns. union_pushes G place line below ms ns has) kinds vx vy
@@ -154,7 +154,7 @@ module _ (layout : Layout) (G : Image) (untouched : Slots) (Here : Facts) (p : P
 
 module _ {layout : Layout} {G : Image} {untouched : Slots} {Here : Facts} (ps : List Placement) (p : Placement) (references : List Reference) (call : Handler) (steady_call : IsSteadyHandler call) (g : ℕ) (unit : List ℕ) (line n : ℕ) where
   -- an operation of two operands of which the right one at least is a set
-  pub on_sets_follows : (operation : SetOperation) (x y : Expr) (k l kind : Kind) → IsOnSets operation k l kind → (at : ℕ) (xs ys : List Instr)
+  pub on_sets_follows : (operation : SetOperation) (x y : Expr) (k l kind : ValueKind) → IsOnSets operation k l kind → (at : ℕ) (xs ys : List Instr)
       → IsFollowed layout G untouched Here p call g unit n k x line at xs → IsFollowed layout G untouched Here p call g unit n l y line (at + length xs) ys
       → CodeStands G ps p references (at + length xs + length ys) (set_code line operation ∷ [])
       → IsFollowed layout G untouched Here p call g unit n kind (OnSets operation x y) line at (xs ++ (ys ++ set_code line operation ∷ []))

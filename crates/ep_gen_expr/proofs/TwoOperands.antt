@@ -13,7 +13,7 @@ use Rattle.ep_simulation.proofs.public.following.Fragments.{fragment_to}
 use Rattle.ep_simulation.proofs.public.rows.Rows.{RowAnswers, add_answers, sub_answers, mul_answers, div_answers, mod_answers, and_answers, or_answers, equal_answers, unequal_answers, less_answers, greater_answers, at_most_answers, at_least_answers}
 use Rattle.ep_meaning.specs.Calls.{Handler}
 use Rattle.ep_values.specs.Operations.{Number, is_same, is_true, ordinal_of, binary_answer}
-use Rattle.ep_meaning.specs.Valid.{Kind, Ordinal, IsArithmetic, IsLogical, IsComparison, IsBinary}
+use Rattle.ep_meaning.specs.Valid.{ValueKind, Ordinal, IsArithmetic, IsLogical, IsComparison, IsBinary}
 use Rattle.ep_values.specs.declared.operations.Binary.{Binary}
 use Rattle.ep_values.specs.declared.operations.Binary.TheVariants as binary
 use Rattle.ep_typed.specs.Hosts.{Host, is_of_host}
@@ -32,7 +32,7 @@ module _ (layout : Layout) (G : Image) (untouched : Slots) (Here : Facts) (ps : 
       → Evaluates layout G untouched Here n injection memory (p.instructions.before + at) (Word y ∷ Word x ∷ below) (answering call g unit line (binary_answer operation x y)) (p.instructions.before + (at + 1)) (Ordinal result) below (d + 16) (d + 8)
 
   -- the same where the kinds of the operands and the result are those
-  pub record BinaryFollows (n at : ℕ) (operation : Binary) (left right result_kind : Kind) : Type 0 where
+  pub record BinaryFollows (n at : ℕ) (operation : Binary) (left right result_kind : ValueKind) : Type 0 where
     pub operand : Host
     pub result : Host
     pub left_is : left ≡ Ordinal operand
@@ -56,25 +56,25 @@ module _ (layout : Layout) (G : Image) (untouched : Slots) (Here : Facts) (ps : 
   operates n at operation operand result row answers x y of_x of_y injection memory below d unit_is =
       fragment_to (omega arith) (answer_follows call g unit line n (p.instructions.before + at) (Word y ∷ Word x ∷ below) below (binary_answer operation x y) (row x y below of_x of_y) result (λ w is. answers x y w of_x of_y is) injection memory (d + 16) (d + 8) unit_is (omega arith) (omega arith))
 
-  arithmetic : (n at : ℕ) (operation : Binary) (left right result : Kind) → IsArithmetic left right result
+  arithmetic : (n at : ℕ) (operation : Binary) (left right result : ValueKind) → IsArithmetic left right result
       → Rows at operation host.Integer → Answers operation host.Integer host.Integer
       → BinaryFollows n at operation left right result
   arithmetic n at operation left right result (l, r, e) row answers =
       record { operand = host.Integer; result = host.Integer; left_is = l; right_is = r; result_is = e; follows = operates n at operation host.Integer host.Integer row answers }
 
-  logical : (n at : ℕ) (operation : Binary) (left right result : Kind) → IsLogical left right result
+  logical : (n at : ℕ) (operation : Binary) (left right result : ValueKind) → IsLogical left right result
       → Rows at operation host.Boolean → Answers operation host.Boolean host.Boolean
       → BinaryFollows n at operation left right result
   logical n at operation left right result (l, r, e) row answers =
       record { operand = host.Boolean; result = host.Boolean; left_is = l; right_is = r; result_is = e; follows = operates n at operation host.Boolean host.Boolean row answers }
 
-  comparison : (n at : ℕ) (operation : Binary) (left right result : Kind) → IsComparison left right result
+  comparison : (n at : ℕ) (operation : Binary) (left right result : ValueKind) → IsComparison left right result
       → ((h : Host) → Rows at operation h) → ((h : Host) → Answers operation h host.Boolean)
       → BinaryFollows n at operation left right result
   comparison n at operation left right result (k, e) row answers =
       record { operand = k.0; result = host.Boolean; left_is = k.1; right_is = k.2; result_is = e; follows = operates n at operation k.0 host.Boolean (row k.0) (answers k.0) }
 
-  pub binary_follows : (n at : ℕ) (operation : Binary) (left right result : Kind)
+  pub binary_follows : (n at : ℕ) (operation : Binary) (left right result : ValueKind)
       → IsBinary operation left right result → CodeStands G ps p references at (two_code line operation ∷ [])
       → BinaryFollows n at operation left right result
   binary_follows n at binary.Add left right result kinds stands =

@@ -27,7 +27,7 @@ use Rattle.ep_meaning.specs.Steps as meaning
 use Rattle.ep_typed.specs.Trees.{Expr, FieldValue, IndexedValue}
 use Rattle.ep_values.specs.TypeValues as type
 use Rattle.ep_values.specs.TypeValues.{ComponentTypes, TypeValue, type_among}
-use Rattle.ep_meaning.specs.Valid.{IsTypeOfKind, Kind, Ordinal, Structured}
+use Rattle.ep_meaning.specs.Valid.{IsTypeOfKind, ValueKind, Ordinal, Structured}
 use Rattle.ep_meaning.proofs.public.Steady.{steady_bind, steady_eval, steady_fetch, steady_give, steady_spend}
 use Rattle.ep_gen_code.specs.Instructions.{bare, instr}
 use Rattle.ep_gen_expr.proofs.public.Answering.{Evaluates, IsFollowed}
@@ -44,7 +44,7 @@ module _ (call : Handler) (g : ℕ) (unit : List ℕ) (line : ℕ) (r : Result) 
 module _ {layout : Layout} {G : Image} {untouched : Slots} {Here : Facts} (ps : List Placement) (p : Placement) (references : List Reference) (call : Handler) (steady_call : IsSteadyHandler call) (g : ℕ) (unit : List ℕ) (line n : ℕ) where
   -- The instruction that takes a component of a value, with the step of the form. It spends the words of the value, which the
   -- credit pays that the value left.
-  taken_follows : (place : ℕ) (operands below : List Operand) (kind : Kind) (r : Result) (k : ℕ) (injection : Injection) (memory : MachineMemory) (d more : ℕ)
+  taken_follows : (place : ℕ) (operands below : List Operand) (kind : ValueKind) (r : Result) (k : ℕ) (injection : Injection) (memory : MachineMemory) (d more : ℕ)
       → ((s : meaning.State) → Matches layout G injection s memory → Here injection s memory → ReadsResult layout G Here (standing place operands memory s.trace) (weight_of r) run_error.UNDEFINED_VALUE unit line (place + 1) (λ x. Inside untouched injection memory (OnTop kind below x)) s (part_of r k))
       → d + 8 + weight_of r ≤ more
       → Evaluates layout G untouched Here n injection memory place operands (part call g unit line r k) (place + 1) kind below more (d + 8)
@@ -52,7 +52,7 @@ module _ {layout : Layout} {G : Image} {untouched : Slots} {Here : Facts} (ps : 
       fragment_less {n = suc n} (omega arith) (record { by = λ s matches here. follows_read {e = λ x. d + 8 + weight_of x} (point injection memory place operands) (λ s. part_of r k) s (reads s matches here) (omega (arith, enough)) (λ x. omega (arith, enough)) })
 
   -- `Field`, where the record is on top
-  pub field_taken : (place : ℕ) (below : List Operand) (kind : Kind) (ts : ComponentTypes) (r : Result) (o : Operand) (k : ℕ) (of : TypeValue) → type_among ts k ≡ Some of → IsTypeOfKind kind of
+  pub field_taken : (place : ℕ) (below : List Operand) (kind : ValueKind) (ts : ComponentTypes) (r : Result) (o : Operand) (k : ℕ) (of : TypeValue) → type_among ts k ≡ Some of → IsTypeOfKind kind of
       → slice_get G.instructions place ≡ Some (instr op.FIELD (pos k) 0 line)
       → (injection : Injection) (memory : MachineMemory) → IsStructure (type.Record ts) r injection memory o → (d : ℕ) → unit_in G memory.frames ≡ unit
       → Evaluates layout G untouched Here n injection memory place (o ∷ below) (part call g unit line r k) (place + 1) kind below (d + 8 + weight_of r) (d + 8)
@@ -64,7 +64,7 @@ module _ {layout : Layout} {G : Image} {untouched : Slots} {Here : Facts} (ps : 
       (omega arith)
 
   -- the component of a record that a function gives, by the record and `Field`
-  pub field_value_follows : (kind : Kind) (ts : ComponentTypes) (k : ℕ) (of : TypeValue) → type_among ts k ≡ Some of → IsTypeOfKind kind of → (x : Expr) (at : ℕ) (xs : List Instr)
+  pub field_value_follows : (kind : ValueKind) (ts : ComponentTypes) (k : ℕ) (of : TypeValue) → type_among ts k ≡ Some of → IsTypeOfKind kind of → (x : Expr) (at : ℕ) (xs : List Instr)
       → IsFollowed layout G untouched Here p call g unit n (Structured (type.Record ts)) x line at xs
       → CodeStands G ps p references (at + length xs) (instr op.FIELD (pos k) 0 line ∷ [])
       → IsFollowed layout G untouched Here p call g unit n kind (FieldValue x k) line at (xs ++ instr op.FIELD (pos k) 0 line ∷ [])
@@ -76,7 +76,7 @@ module _ {layout : Layout} {G : Image} {untouched : Slots} {Here : Facts} (ps : 
       (fragment_to (omega (arith, length-append xs (instr op.FIELD (pos k) 0 line ∷ []))) (field_taken middle below kind ts a top.operand k of among of_kind has.0 longer after top.holds d (unit_in-same G routine ∙ unit_is))))
 
   -- `Index`, where the array and the index are on top
-  element_taken : (place : ℕ) (below : List Operand) (kind : Kind) (low high : ℤ) (of : TypeValue) (r : Result) (o : Operand) (z : ℤ) → IsTypeOfKind kind of
+  element_taken : (place : ℕ) (below : List Operand) (kind : ValueKind) (low high : ℤ) (of : TypeValue) (r : Result) (o : Operand) (z : ℤ) → IsTypeOfKind kind of
       → slice_get G.instructions place ≡ Some (instr op.INDEX (pos 0) 0 line)
       → (injection : Injection) (memory : MachineMemory) → IsStructure (type.Array low high of) r injection memory o → (d : ℕ) → unit_in G memory.frames ≡ unit
       → Evaluates layout G untouched Here n injection memory place (operand.Word z ∷ o ∷ below) (part_indexed call g unit line r z) (place + 1) kind below (d + 8 + weight_of r + 8) (d + 8)
@@ -95,7 +95,7 @@ module _ {layout : Layout} {G : Image} {untouched : Slots} {Here : Facts} (ps : 
       (omega arith))
 
   -- the component at an index of an array that a function gives, by the array, the index and `Index`
-  pub indexed_value_follows : (kind : Kind) (h : Host) (low high : ℤ) (of : TypeValue) → IsTypeOfKind kind of → (x y : Expr) (at : ℕ) (xs ys : List Instr)
+  pub indexed_value_follows : (kind : ValueKind) (h : Host) (low high : ℤ) (of : TypeValue) → IsTypeOfKind kind of → (x y : Expr) (at : ℕ) (xs ys : List Instr)
       → IsFollowed layout G untouched Here p call g unit n (Structured (type.Array low high of)) x line at xs
       → IsFollowed layout G untouched Here p call g unit n (Ordinal h) y line (at + length xs) ys
       → CodeStands G ps p references (at + length xs + length ys) (bare line op.INDEX ∷ [])

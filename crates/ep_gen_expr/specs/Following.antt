@@ -24,7 +24,7 @@ use Rattle.ep_meaning.specs.Results.{weight_of}
 use Rattle.ep_meaning.specs.Steps.{State, Computation}
 use Rattle.ep_typed.specs.Selections.{variant_number}
 use Rattle.ep_typed.specs.Trees.{Place, Variable, Own, Standard, Indexed, Field, Variant, Expr}
-use Rattle.ep_meaning.specs.Valid.{Declarations, Kind, IsExpr, IsPlaceWhere, variables_up}
+use Rattle.ep_meaning.specs.Valid.{Declarations, ValueKind, IsExpr, IsPlaceWhere, variables_up}
 use Rattle.ep_typed.specs.declared.unit.UnitVariable.{UnitVariable}
 use Rattle.ep_values.specs.TypeValues.{ComponentTypes, TypeValue, Ordinal, Array, Record, no_component, next_component}
 use Rattle.ep_values.specs.TypeValues.{type_among}
@@ -99,7 +99,7 @@ ExpressionsAreFollowed =
     (declared : Declarations) (layout : Layout) (G : Image) (ps : List Placement) (p : Placement)
     (texts : List (List ℕ)) (references : List Reference)
     → Scene declared layout G ps p texts
-    → (call : Handler) → IsSteadyHandler call → (turns : ℕ) (unit : List ℕ) (kind : Kind) (x : Expr)
+    → (call : Handler) → IsSteadyHandler call → (turns : ℕ) (unit : List ℕ) (kind : ValueKind) (x : Expr)
     → IsExpr declared kind x
     → (line at : ℕ) (code : List Instr) → IsExprCode texts references line at x code
     → CodeStands G ps p references at code → at ▸ code < p.instructions.own

@@ -43,12 +43,12 @@ use Rattle.ep_typed.specs.Trees.{AtField, AtRanges, Elements, Expr, Named, SameF
 use Rattle.ep_typed.specs.Trees as tree
 use Rattle.ep_values.specs.TypeValues.{Start, TypeValue, bare_of, size_of}
 use Rattle.ep_values.specs.TypeValues as type
-use Rattle.ep_meaning.specs.Valid.{AreStartsFor, Declarations, IsStartFor, IsStructured, IsTyped, IsTypeOfKind, Kind, Ordinal, Structured, field_given, none_given, ranges_given, same_given, set_start, structured_start, word_start}
+use Rattle.ep_meaning.specs.Valid.{AreStartsFor, Declarations, IsStartFor, IsStructured, IsTyped, IsTypeOfKind, ValueKind, Ordinal, Structured, field_given, none_given, ranges_given, same_given, set_start, structured_start, word_start}
 use Rattle.ep_meaning.specs.Valid as kind
 use Rattle.ep_typed.specs.declared.unit.UnitType.{UnitType}
 
 -- the kind of a constant that may be the initial state of a type
-abbrev start_kind : (types : List UnitType) (t : TypeValue) (v : Expr) → IsStartFor types t v → (k : Kind) × IsTypeOfKind k t
+abbrev start_kind : (types : List UnitType) (t : TypeValue) (v : Expr) → IsStartFor types t v → (k : ValueKind) × IsTypeOfKind k t
 start_kind types t v (word_start low high h w bounds of_host) = (Ordinal h, bounds)
 start_kind types t v (set_start low high h ms base is_set between) = (kind.Set h, base)
 start_kind types t v (structured_start of t2 es found typed structured parts) = (Structured t2, (refl, structured))

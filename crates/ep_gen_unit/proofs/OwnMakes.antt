@@ -52,7 +52,7 @@ use Rattle.ep_meaning.proofs.public.Steady.{grows_made_own, steady_bind, steady_
 use Rattle.ep_meaning.specs.Meaning.{elaborate, make_own, make_all_own, initialized, takes_by, takes_all}
 use Rattle.ep_meaning.specs.Steps.{Component, Computation, bind, spend, change, with_own_bound, counted, made_own, allocate_own}
 use Rattle.ep_values.specs.TypeValues.{size_of}
-use Rattle.ep_meaning.specs.Valid.{variables_up, Declarations, IsOfKind, IsTypeOfKind, Kind, IsTypeValue, IsDenoter}
+use Rattle.ep_meaning.specs.Valid.{variables_up, Declarations, IsOfKind, IsTypeOfKind, ValueKind, IsTypeValue, IsDenoter}
 use Rattle.ep_typed.specs.Routines.{formal_variable}
 use Rattle.ep_meaning.specs.Valid as kind
 use Rattle.ep_typed.specs.Viewed.{denoter_of}
@@ -68,7 +68,7 @@ MovesOwn declared layout G untouched first start p n unit at to c =
     → Fragment layout G (InActivation declared untouched first start) n (point injection memory (p.instructions.before + at) below) c (p.instructions.before + to) (λ a. StillBare memory below) d (λ a. d)
 
 -- a value has at most as much weight as a variable of its type has words
-value_fits : (injection : Injection) (memory : MachineMemory) (k : Kind) (t : TypeValue) (r : Result) (o : Operand) → IsTypeOfKind k (bare_of t) → IsValueOf injection memory k r o → weight_of r ≤ size_of t
+value_fits : (injection : Injection) (memory : MachineMemory) (k : ValueKind) (t : TypeValue) (r : Result) (o : Operand) → IsTypeOfKind k (bare_of t) → IsValueOf injection memory k r o → weight_of r ≤ size_of t
 value_fits injection memory (kind.Ordinal h) t r o of_kind (z, r_is, of_host, o_is) = let none : weight_of r ≡ 0 = ap weight_of r_is in omega (arith, none)
 value_fits injection memory kind.Bytes t r o of_kind v = absurd of_kind
 value_fits injection memory (kind.Set h) t r o of_kind (ms, r_is, is_set, o_is) = let none : weight_of r ≡ 0 = ap weight_of r_is in omega (arith, none)
@@ -184,7 +184,7 @@ module _ (declared : Declarations) (layout : Layout) (G : Image) (untouched : Sl
         (its.type_value, types_are_instances declared.routine_types (denoter_of f.denoter) its.type_value its.has_type, typed_bare declared.routine_types (denoter_of f.denoter) its.type_value its.typed ∙ sym is)
 
     -- a value formal takes a value of its kind
-    value_moves : (kind : Kind) (r : Result) (o : Operand) → IsOfKind kind declared.routine_types (denoter_of f.denoter)
+    value_moves : (kind : ValueKind) (r : Result) (o : Operand) → IsOfKind kind declared.routine_types (denoter_of f.denoter)
         → CodeStands G ps p references at (value_code line number f)
         → (injection : Injection) (memory : MachineMemory) (below : List Operand) (d : ℕ) → least_credit ≤ d → unit_in G memory.frames ≡ unit
         → argument_at (arguments_in memory.frames.calls) number ≡ Some o → suc number ≤ length (arguments_in memory.frames.calls) → IsValueOf injection memory kind r o

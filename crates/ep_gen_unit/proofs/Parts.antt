@@ -23,7 +23,7 @@ use Rattle.ep_meaning.specs.Meaning.{place, eval, arguments}
 use Rattle.ep_meaning.specs.Results.{weight_of}
 use Rattle.ep_meaning.specs.Steps.{Computation, bind}
 use Rattle.ep_typed.specs.Trees.{Callee, Place, Expr, Actuals}
-use Rattle.ep_meaning.specs.Valid.{IsDeclaredUp, Declarations, Kind, IsExpr, IsTypeOf, AreGiven}
+use Rattle.ep_meaning.specs.Valid.{IsDeclaredUp, Declarations, ValueKind, IsExpr, IsTypeOf, AreGiven}
 use Rattle.ep_typed.specs.Hosts.{Host}
 use Rattle.ep_typed.specs.declared.interface.RoutineEntry.{RoutineEntry}
 use Rattle.ep_values.specs.TypeValues.{TypeValue}
@@ -63,7 +63,7 @@ module _ (declared : Declarations) (layout : Layout) (G : Image) (untouched : Sl
   -- the machine follows expressions
   abbrev pub ExpressionsFollow : Type 0
   ExpressionsFollow =
-      (kind : Kind) (x : Expr) → IsExpr declared kind x → (line at : ℕ) (code : List Instr) → IsExprCode texts references line at x code → CodeStands G ps p references at code → at + length code < p.instructions.own
+      (kind : ValueKind) (x : Expr) → IsExpr declared kind x → (line at : ℕ) (code : List Instr) → IsExprCode texts references line at x code → CodeStands G ps p references at code → at + length code < p.instructions.own
       → (injection : Injection) (memory : MachineMemory) (below : List Operand) (d : ℕ) → least_credit ≤ d → unit_in G memory.frames ≡ unit
       → Fragment layout G Here n (point injection memory (p.instructions.before + at) below) (eval call n unit line x) (p.instructions.before + (at + length code)) (λ r. Inside untouched injection memory (OnTop kind below r)) d (λ r. d + 8 + weight_of r)
 

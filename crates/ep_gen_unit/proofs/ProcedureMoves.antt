@@ -22,18 +22,18 @@ use Rattle.ep_meaning.specs.Meaning.{exec}
 use Rattle.ep_values.specs.Printing.{Result}
 use Rattle.ep_meaning.specs.Steps.{give, spend}
 use Rattle.ep_typed.specs.Trees.{Callee, Actuals, Procedure}
-use Rattle.ep_meaning.specs.Valid.{Declarations, Kind, IsStmt}
+use Rattle.ep_meaning.specs.Valid.{Declarations, ValueKind, IsStmt}
 use Rattle.ep_typed.specs.declared.interface.RoutineResult.{RoutineResult}
 use Rattle.ep_typed.specs.declared.unit.UnitType.{UnitType}
 
 -- a procedure gives nothing
-no_kinds : (types : List UnitType) (result : Option RoutineResult) (ks : List Kind) → result ≡ None → AreResults types result ks → ks ≡ []
+no_kinds : (types : List UnitType) (result : Option RoutineResult) (ks : List ValueKind) → result ≡ None → AreResults types result ks → ks ≡ []
 no_kinds types None [] e h = refl
 no_kinds types None (k ∷ ks) e h = absurd h
 no_kinds types (Some r) ks e h = cc
 
 -- so nothing is on top of the operands below
-no_results : (below operands : List Operand) (ks : List Kind) (rs : List Result) (injection : Injection) (memory : MachineMemory)
+no_results : (below operands : List Operand) (ks : List ValueKind) (rs : List Result) (injection : Injection) (memory : MachineMemory)
     → ks ≡ [] → ResultsOnTop ks below rs injection memory operands → operands ≡ below
 no_results below operands [] [] injection memory e h = h
 no_results below operands [] (r ∷ rs) injection memory e h = absurd h

@@ -66,7 +66,7 @@ use Rattle.ep_simulation.proofs.public.rows.OwnRows.{StillBare}
 use Rattle.ep_meaning.specs.Steps as meaning
 use Rattle.ep_typed.specs.Trees.{Callee, Denoter}
 use Rattle.ep_meaning.specs.Valid as kind
-use Rattle.ep_meaning.specs.Valid.{Declarations, IsOfKind, IsSetOf, IsStructured, Kind, in_block, levels_of, around_in, variables_in, variables_at, variables_up, IsResult, IsDenoter, IsFormal, IsFormalBy, IsValid, IsRoutine, IsVariable, own}
+use Rattle.ep_meaning.specs.Valid.{Declarations, IsOfKind, IsSetOf, IsStructured, ValueKind, in_block, levels_of, around_in, variables_in, variables_at, variables_up, IsResult, IsDenoter, IsFormal, IsFormalBy, IsValid, IsRoutine, IsVariable, own}
 use Rattle.ep_typed.specs.Routines.{formal_variable, variables_of, heading_of}
 use Rattle.ep_meaning.specs.Steady.{Steady, IsSteadyHandler}
 use Rattle.ep_typed.specs.Viewed.{denoter_of, stmt_of}
@@ -174,7 +174,7 @@ module _ (u : TypedUnit) (o : Object) (is : IsUnitCode u o) (valid : IsValid u) 
       (first.0 ∷ rest.0, (first.1, rest.1), ap suc rest.2)
 
   -- the kinds of what a routine gives
-  abbrev kinds_of : (y : Option RoutineResult) → IsResult u.types y → (ks : List Kind) × AreResults u.types y ks
+  abbrev kinds_of : (y : Option RoutineResult) → IsResult u.types y → (ks : List ValueKind) × AreResults u.types y ks
   kinds_of None valid = ([], tt)
   kinds_of (Some y) valid = (valid.kind ∷ [], valid.of_kind)
 
@@ -333,7 +333,7 @@ module _ (u : TypedUnit) (o : Object) (is : IsUnitCode u o) (valid : IsValid u) 
     makes_code = make_all_code (length formals) (made_variables r)
 
     -- the results that it gives
-    abbrev results : List Kind
+    abbrev results : List ValueKind
     results = (kinds_of r.result its.result).0
 
     -- the credit that the making of the result leaves for giving it
@@ -342,7 +342,7 @@ module _ (u : TypedUnit) (o : Object) (is : IsUnitCode u o) (valid : IsValid u) 
     spare (Some y) valid_result = 3 * size_of (valid_result.denoter).type_value
 
     -- where a routine with this result leaves its call, from where its block ends
-    record Ends (y : Option RoutineResult) (ks : List Kind) (more : ℕ) : Type 1 where
+    record Ends (y : Option RoutineResult) (ks : List ValueKind) (more : ℕ) : Type 1 where
       place : ℕ
       instruction : Instr
       stands_there : slice_get G.instructions place ≡ Some instruction
@@ -418,7 +418,7 @@ module _ (u : TypedUnit) (o : Object) (is : IsUnitCode u o) (valid : IsValid u) 
               (result_of_name y) (result_is y is_some) (has_bare_type u.types (result_of_name y) (type.Set low high) (ap (option_map bare_of) d.has_type ∙ ap Some is)) longer after below 63 (omega arith) home);
         }
 
-    function_ends : (y : RoutineResult) (k : Kind) → IsOfKind k u.types (denoter_of y.denoter) → (d : IsDenoter u.types (denoter_of y.denoter)) → r.result ≡ Some y → (w : Option Host) → host_of u.types (denoter_of y.denoter) ≡ w
+    function_ends : (y : RoutineResult) (k : ValueKind) → IsOfKind k u.types (denoter_of y.denoter) → (d : IsDenoter u.types (denoter_of y.denoter)) → r.result ≡ Some y → (w : Option Host) → host_of u.types (denoter_of y.denoter) ≡ w
         → CodeStands G ps p o.references end (function_end w line_of (length formals) end) → end + length (function_end w line_of (length formals) end) ≤ p.instructions.own → Ends (Some y) (k ∷ []) (3 * size_of d.type_value)
     function_ends y (kind.Ordinal h) of_kind d is_some None has end_stands room_for = absurd (let e : ◌≡◌ {A = Option Host} None (Some h) = sym has ∙ of_kind in cc)
     function_ends y (kind.Ordinal h) of_kind d is_some (Some i) has end_stands room_for = ordinal_ends y h of_kind d is_some end_stands (omega (arith, room_for))

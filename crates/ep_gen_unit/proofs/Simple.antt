@@ -33,7 +33,7 @@ use Rattle.ep_meaning.specs.Results.{misfit, suits, value_of, weight_of}
 use Rattle.ep_values.specs.Printing.{Result}
 use Rattle.ep_meaning.specs.Steps.{Component, assigned, type_at}
 use Rattle.ep_typed.specs.Trees.{Place, Expr, Empty, Halt}
-use Rattle.ep_meaning.specs.Valid.{Declarations, IsExpr, IsOfKind, IsPlaceWhere, IsTypeOfKind, Kind}
+use Rattle.ep_meaning.specs.Valid.{Declarations, IsExpr, IsOfKind, IsPlaceWhere, IsTypeOfKind, ValueKind}
 use Rattle.ep_values.specs.TypeValues.{TypeValue}
 use Rattle.ep_object.specs.declared.op.TheConstants as op
 
@@ -48,7 +48,7 @@ module _ {layout : Layout} {G : Image} {untouched : Slots} {Here : Facts} (lasts
       fragment_stop {weight = 0} (λ s matches. outcome_at G (bare line op.HALT) (p.instructions.before + at) below memory s.trace stands.0) (omega arith)
 
   -- `Store`, where the variable's place and the value are on top
-  pub store_moves : (k : Kind) (t : TypeValue) (r : Result) (o : Operand) (a : Component) (q : PlaceOf) → MayTake k t → (line at : ℕ) → CodeStands G ps p references at (bare line op.STORE ∷ []) → (injection : Injection) (memory : MachineMemory) → IsValueOf injection memory k r o → (below : List Operand) (d : ℕ) → least_credit ≤ d → unit_in G memory.frames ≡ unit → IsSpot injection memory.types a q → IsLike memory.types q.type_number t
+  pub store_moves : (k : ValueKind) (t : TypeValue) (r : Result) (o : Operand) (a : Component) (q : PlaceOf) → MayTake k t → (line at : ℕ) → CodeStands G ps p references at (bare line op.STORE ∷ []) → (injection : Injection) (memory : MachineMemory) → IsValueOf injection memory k r o → (below : List Operand) (d : ℕ) → least_credit ≤ d → unit_in G memory.frames ≡ unit → IsSpot injection memory.types a q → IsLike memory.types q.type_number t
       → Fragment layout G Here n (point injection memory (p.instructions.before + at) (o ∷ operand.Place q ∷ below)) (assign call n unit line a r) (p.instructions.before + at + 1) (λ b. Inside untouched injection memory (Bare below b)) (d + weight_of r) (λ b. d)
   store_moves k t r o a q takes line at stands injection memory value below d enough home spot described =
       fragment_less {n = suc n} (omega arith) (fragment_using {n = suc n} {e = λ b. d} a.allocation
@@ -61,7 +61,7 @@ module _ {layout : Layout} {G : Image} {untouched : Slots} {Here : Facts} (lasts
 
   module _ {declared : Declarations} (scene : Scene declared layout G ps p texts) (expressions : ExpressionsFollow declared layout G untouched Here ps p texts references call n unit) (places : PlacesFollow declared layout G untouched Here ps p texts references call n unit) where
     -- an assignment to a variable of a kind, of a value of a kind that it may take
-    assign_to : (line at : ℕ) (q : Place) (to k : Kind) (v : IsKindPlace declared q to) → MayTake k v.type_value → (x : Expr) (pcode xcode : List Instr) → IsExpr declared k x → IsPlaceCode texts references line at q pcode → IsExprCode texts references line (at + length pcode) x xcode → at + length pcode + length xcode < p.instructions.own
+    assign_to : (line at : ℕ) (q : Place) (to k : ValueKind) (v : IsKindPlace declared q to) → MayTake k v.type_value → (x : Expr) (pcode xcode : List Instr) → IsExpr declared k x → IsPlaceCode texts references line at q pcode → IsExprCode texts references line (at + length pcode) x xcode → at + length pcode + length xcode < p.instructions.own
         → CodeStands G ps p references at pcode → CodeStands G ps p references (at + length pcode) xcode → CodeStands G ps p references (at + length pcode + length xcode) (bare line op.STORE ∷ []) → Moves layout G untouched Here ps p texts references call n unit at (at + length pcode + length xcode + 1) (assigns call n unit line q x)
     assign_to line at q to k v takes x pcode xcode valid place_code expr_code inside at_place at_expr at_store injection memory below d enough home =
         fragment_bind_place {type = v.type_value} {e = λ a. d + 8} (λ a. steady_bind (steady_eval call steady_call n unit line x) (λ r. steady_assign call steady_call n unit line a r)) (places q v.valid v.type_value v.has_type line at pcode place_code at_place (omega (arith, inside)) injection memory below d (omega arith) home) (λ a place_here longer after grown routine spot described.
@@ -73,7 +73,7 @@ module _ {layout : Layout} {G : Image} {untouched : Slots} {Here : Facts} (lasts
         (describes-grown place_here.type_number v.type_value grown2 described))))))
 
     -- wherever the code of an assignment stands
-    pub assigned_moves : (line at : ℕ) (q : Place) (to k : Kind) → ((t : TypeValue) → IsTypeOfKind to t → MayTake k t) → (x : Expr) (is : List Instr) → IsPlaceWhere declared (IsOfKind to) q → IsExpr declared k x → IsAssignCode texts references line at q x is → at + length is < p.instructions.own → CodeStands G ps p references at is
+    pub assigned_moves : (line at : ℕ) (q : Place) (to k : ValueKind) → ((t : TypeValue) → IsTypeOfKind to t → MayTake k t) → (x : Expr) (is : List Instr) → IsPlaceWhere declared (IsOfKind to) q → IsExpr declared k x → IsAssignCode texts references line at q x is → at + length is < p.instructions.own → CodeStands G ps p references at is
         → Moves layout G untouched Here ps p texts references call n unit at (at + length is) (assigns call n unit line q x)
     assigned_moves line at q to k takes x is is_place valid code inside stands =
         let pcode : List Instr = code.0 in

@@ -5,18 +5,18 @@ use crate::expressions::component_value;
 use crate::statements::compound;
 use crate::types::denoter;
 use ep_tree::{
-    Constants, DiscriminantSection, FormalSection, FormalType, Part, Routine, RoutineBody,
+    BlockPart, Constants, DiscriminantSection, FormalSection, FormalType, Routine, RoutineBody,
     RoutineHeading, RoutineStart, Types, Variables,
 };
 
 #[cycle(routine)]
-pub fn parts(all: &[Part], out: &mut Dump) {
+pub fn parts(all: &[BlockPart], out: &mut Dump) {
     for part in all {
         match part {
-            Part::Constants(c) => constants(c, out),
-            Part::Types(t) => types(t, out),
-            Part::Variables(v) => variables(v, out),
-            Part::Routine(r) => routine(r, out),
+            BlockPart::Constants(c) => constants(c, out),
+            BlockPart::Types(t) => types(t, out),
+            BlockPart::Variables(v) => variables(v, out),
+            BlockPart::Routine(r) => routine(r, out),
         }
     }
 }

@@ -5,7 +5,7 @@ use Rattle.ep_token.specs.declared.token.Token.{Token}
 use Rattle.ep_grammar.specs.declared.stop.Stop.{Stop}
 use Rattle.ep_grammar.specs.Classes.{Class, has, class_of, End}
 use Rattle.ep_grammar.specs.Descriptions.{Step, More}
-use Rattle.ep_grammar.specs.Reading.{Outcome, Parser, and_then, go_on, steps}
+use Rattle.ep_grammar.specs.Reading.{ReadOutcome, Parser, and_then, go_on, steps}
 use Rattle.ep_grammar.proofs.public.Outcomes.{took, stopped, never_stops}
 use Rattle.ep_grammar.proofs.Classed.{out_front, out_end}
 use Rattle.ep_grammar.proofs.Complete.{if_true, if_false}
@@ -28,15 +28,15 @@ stopped_same {A} {e} {f} {b} {c} h =
     let q : (e, b) ≡ (f, c) = cc in
     (ap (λ (w : Stop × List Token). w.0) q, ap (λ (w : Stop × List Token). w.1) q)
 
-pub bind_stop : {A B : Type 0} {e : Stop} {b : List Token} (o : Outcome A) (f : A → Parser B) → and_then o f ≡ stopped e b → (o ≡ stopped e b) ⊎ ((x : A) × (m : List Token) × (o ≡ took x m) × (f x m ≡ stopped e b))
+pub bind_stop : {A B : Type 0} {e : Stop} {b : List Token} (o : ReadOutcome A) (f : A → Parser B) → and_then o f ≡ stopped e b → (o ≡ stopped e b) ⊎ ((x : A) × (m : List Token) × (o ≡ took x m) × (f x m ≡ stopped e b))
 bind_stop (Ok p) f h = inr (p.0, p.1, refl, h)
 bind_stop (Err p) f h = let q = stopped_same h in inl (ap (λ e. stopped e p.1) q.0 ∙ ap (stopped _) q.1)
 
-pub map_stop : {A B : Type 0} (o : Outcome A) (f : A → B) {e : Stop} {b : List Token} → and_then o (λ x k. took (f x) k) ≡ stopped e b → o ≡ stopped e b
+pub map_stop : {A B : Type 0} (o : ReadOutcome A) (f : A → B) {e : Stop} {b : List Token} → and_then o (λ x k. took (f x) k) ≡ stopped e b → o ≡ stopped e b
 map_stop o f h = elim (bind_stop o (λ x k. took (f x) k) h) [ inl w ↦ w | inr w ↦ never_stops w.3 ]
 
 -- the one of two that stopped
-pub which : {A : Type 0} (v : Bool) (p q : Outcome A) {e : Stop} {b : List Token} → (if v then p else q) ≡ stopped e b → ((v ≡ true) × (p ≡ stopped e b)) ⊎ ((v ≡ false) × (q ≡ stopped e b))
+pub which : {A : Type 0} (v : Bool) (p q : ReadOutcome A) {e : Stop} {b : List Token} → (if v then p else q) ≡ stopped e b → ((v ≡ true) × (p ≡ stopped e b)) ⊎ ((v ≡ false) × (q ≡ stopped e b))
 which true p q h = inl (refl, h)
 which false p q h = inr (refl, h)
 

@@ -5,7 +5,7 @@ use Rattle.ep_token.specs.declared.token.Token.{Token}
 use Rattle.ep_grammar.specs.declared.stop.Stop.{Stop}
 use Rattle.ep_grammar.specs.Classes.{Class, has, class_of, class_of_kind, End}
 use Rattle.ep_grammar.specs.Descriptions.{Nonterminal, Step, More, Last, AlwaysOne, always_first, always_second, Syntax, give, token, line, inside, apply, either, switch, row, deeper, shaped}
-use Rattle.ep_grammar.specs.Reading.{Outcome, Parser, and_then, taken, peek, go_on, steps, Inside, read_inside, within, by_shape, refused, read}
+use Rattle.ep_grammar.specs.Reading.{ReadOutcome, Parser, and_then, taken, peek, go_on, steps, Inside, read_inside, within, by_shape, refused, read}
 use Rattle.ep_grammar.specs.Rules.{rule, inside_at, read_components}
 use Rattle.ep_grammar.specs.Units.{components}
 use Rattle.ep_grammar.proofs.public.Outcomes.{took, stopped, never_stops}
@@ -135,7 +135,7 @@ module _ {A B : Type 0} (cs ds : List Class) (p : Parser (Step A B)) (r : B) (v 
 -- ---- every description
 
 -- where nothing was taken, everything is left
-passes_rest : {X : Type 0} (v : Bool) (o : Outcome X) (a : List Token) → Passes v o a → rest_of o ≡ a
+passes_rest : {X : Type 0} (v : Bool) (o : ReadOutcome X) (a : List Token) → Passes v o a → rest_of o ≡ a
 passes_rest true o a h = ap rest_of h.1
 passes_rest false o a h = ap rest_of h
 

@@ -7,7 +7,7 @@ use Rattle.ep_token.specs.declared.token.Token.{Token}
 use Rattle.ep_grammar.specs.Classes.{Class, classes, has, class_of, line_of}
 use Rattle.ep_grammar.specs.Descriptions.{Nonterminal, Node, Step, More, Last, AlwaysOne, Syntax, give, token, line, inside, apply, either, switch, row, deeper, shaped}
 use Rattle.ep_grammar.specs.Derived.{Family, Steps, no_step, last_step, one_step, derives}
-use Rattle.ep_grammar.specs.Reading.{Outcome, Parser, and_then, taken, read_token, go_on, steps, Inside, read_inside, within, by_shape, refused, read}
+use Rattle.ep_grammar.specs.Reading.{ReadOutcome, Parser, and_then, taken, read_token, go_on, steps, Inside, read_inside, within, by_shape, refused, read}
 use Rattle.ep_grammar.proofs.public.Outcomes.{took}
 use Rattle.ep_grammar.proofs.Classed.{disjoint, true_false, by_cases, apart, also, in_front, in_end, out_front, out_end, out_both}
 use Rattle.ep_grammar.proofs.Static.{both, any, only_if, nullable, nullable_inside, first, first_inside, after, after_inside, needs, Good, Alike, both_case}
@@ -143,7 +143,7 @@ within_some (Some e) cs q a h = refl
 both_took : {A : Type 0} (x y : A) (a b : List Token) → a ≡ b → x ≡ y → took y a ≡ took x b
 both_took x y a b p q = ap (took y) p ∙ ap (λ w. took w b) (sym q)
 
-then_took : {A B : Type 0} (o : Outcome A) (f : A → Parser B) (x : A) (m : List Token) (y : B) (b : List Token) → o ≡ took x m → f x m ≡ took y b → and_then o f ≡ took y b
+then_took : {A B : Type 0} (o : ReadOutcome A) (f : A → Parser B) (x : A) (m : List Token) (y : B) (b : List Token) → o ≡ took x m → f x m ≡ took y b → and_then o f ≡ took y b
 then_took o f x m y b h k = ap (λ z. and_then z f) h ∙ k
 
 shape_between : (xs cs ys zs : List Class) (v : Bool) (m b : List Token) → disjoint cs ys ≡ true → disjoint xs (cs ++ ys) ≡ true → has (zs ++ only_if v (xs ++ cs)) (class_of b) ≡ false → Begun ys v m b → (has xs (class_of m) ≡ false) × (has cs (class_of m) ≡ false)

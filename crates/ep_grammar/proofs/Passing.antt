@@ -6,7 +6,7 @@ use Rattle.ep_grammar.specs.declared.stop.Stop.TheVariants.{Syntax}
 use Rattle.ep_grammar.specs.Classes.{Class, Sort, classes, has, class_of, line_of, meaning}
 use Rattle.ep_grammar.specs.Descriptions.{Nonterminal, Node, Step, give, token, line, inside, apply, either, switch, row, deeper, shaped}
 use Rattle.ep_grammar.specs.Descriptions as d
-use Rattle.ep_grammar.specs.Reading.{Outcome, Parser, and_then, taken, read_token, steps, Inside, read_inside, cause, within, by_shape, refused, read}
+use Rattle.ep_grammar.specs.Reading.{ReadOutcome, Parser, and_then, taken, read_token, steps, Inside, read_inside, cause, within, by_shape, refused, read}
 use Rattle.ep_grammar.specs.Rules.{rule, inside_at}
 use Rattle.ep_grammar.proofs.public.Outcomes.{took, stopped}
 use Rattle.ep_grammar.proofs.Classed.{within_list, not_also, out_front, out_end}
@@ -16,7 +16,7 @@ use Rattle.ep_grammar.proofs.Sorts.{there, sort_class}
 use Rattle.ep_grammar.proofs.Complete.{if_false}
 
 -- nothing is taken, or the token is refused
-abbrev pub Passes : {X : Type 0} → Bool → Outcome X → List Token → Type 0
+abbrev pub Passes : {X : Type 0} → Bool → ReadOutcome X → List Token → Type 0
 Passes true o a = (x : _) × (o ≡ took x a)
 Passes false o a = o ≡ stopped Syntax a
 
@@ -37,7 +37,7 @@ pub any_false : (v : Bool) → any v false ≡ true → v ≡ true
 any_false true h = refl
 any_false false h = absurd (cc)
 
-passes_as : {X : Type 0} (v w : Bool) (o o' : Outcome X) (a : List Token) → v ≡ w → o ≡ o' → Passes w o' a → Passes v o a
+passes_as : {X : Type 0} (v w : Bool) (o o' : ReadOutcome X) (a : List Token) → v ≡ w → o ≡ o' → Passes w o' a → Passes v o a
 passes_as v w o o' a e f h = subst (λ z. Passes z o a) (sym e) (subst (λ z. Passes w z a) (sym f) h)
 
 nothing_there : {X : Type 0} (o : Option X) (a : List Token) → there o ≡ false → taken o a ≡ stopped Syntax a
@@ -49,12 +49,12 @@ passes_token s [] h = refl
 passes_token s (t ∷ a) h = nothing_there (meaning s t.kind) (t ∷ a) (sort_class s t.kind ∙ h)
 
 -- one after the other
-passes_then : {A B : Type 0} (v w : Bool) (o : Outcome A) (g : A → Parser B) (a : List Token) → Passes v o a → (v ≡ true → (x : A) → Passes w (g x a) a) → Passes (both v w) (and_then o g) a
+passes_then : {A B : Type 0} (v w : Bool) (o : ReadOutcome A) (g : A → Parser B) (a : List Token) → Passes v o a → (v ≡ true → (x : A) → Passes w (g x a) a) → Passes (both v w) (and_then o g) a
 passes_then true w o g a h k = subst (λ z. Passes w (and_then z g) a) (sym h.1) (k refl h.0)
 passes_then false w o g a h k = ap (λ z. and_then z g) h
 
 -- the second takes nothing
-passes_on : {A B : Type 0} (v : Bool) (o : Outcome A) (g : A → Parser B) (a : List Token) → Passes v o a → ((x : A) → (y : B) × (g x a ≡ took y a)) → Passes v (and_then o g) a
+passes_on : {A B : Type 0} (v : Bool) (o : ReadOutcome A) (g : A → Parser B) (a : List Token) → Passes v o a → ((x : A) → (y : B) × (g x a ≡ took y a)) → Passes v (and_then o g) a
 passes_on true o g a h k = ((k h.0).0, ap (λ z. and_then z g) h.1 ∙ (k h.0).1)
 passes_on false o g a h k = ap (λ z. and_then z g) h
 
@@ -63,7 +63,7 @@ unfolding steps
 no_steps cs p r zero found a h = refl
 no_steps cs p r (suc n) found a h = if_false (has cs (class_of a)) _ (took (found, r) a) (took (found, r) a) h refl
 
-passes_row : {A B : Type 0} (v : Bool) (xs ys cs : List Class) (o : Outcome (List A)) (p : Parser (Step A B)) (r : B) (a : List Token) → within_list cs ys ≡ true → has (xs ++ only_if v ys) (class_of a) ≡ false → Passes v o a → Passes v (and_then o (λ found j. steps cs p r (length j) found j)) a
+passes_row : {A B : Type 0} (v : Bool) (xs ys cs : List Class) (o : ReadOutcome (List A)) (p : Parser (Step A B)) (r : B) (a : List Token) → within_list cs ys ≡ true → has (xs ++ only_if v ys) (class_of a) ≡ false → Passes v o a → Passes v (and_then o (λ found j. steps cs p r (length j) found j)) a
 passes_row true xs ys cs o p r a w h k = passes_on true o (λ found j. steps cs p r (length j) found j) a k (λ found. ((found, r), no_steps cs p r (length a) found a (not_also cs ys (class_of a) w (out_end xs ys (class_of a) h))))
 passes_row false xs ys cs o p r a w h k = ap (λ z. and_then z (λ found j. steps cs p r (length j) found j)) k
 

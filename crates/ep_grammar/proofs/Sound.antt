@@ -7,7 +7,7 @@ use Rattle.ep_token.specs.declared.token.Token.{Token}
 use Rattle.ep_grammar.specs.Classes.{Class, Sort, carried, has, class_of, after_first, meaning}
 use Rattle.ep_grammar.specs.Descriptions.{Nonterminal, Node, Step, More, Last, AlwaysOne, Syntax, give, token, line, inside, apply, either, switch, row, deeper, shaped}
 use Rattle.ep_grammar.specs.Derived.{Family, Steps, no_step, last_step, one_step, derives}
-use Rattle.ep_grammar.specs.Reading.{Outcome, Parser, and_then, taken, read_token, go_on, steps, Inside, read_inside, within, by_shape, refused, read}
+use Rattle.ep_grammar.specs.Reading.{ReadOutcome, Parser, and_then, taken, read_token, go_on, steps, Inside, read_inside, within, by_shape, refused, read}
 use Rattle.ep_grammar.proofs.public.Outcomes.{took, never, bind_ok, same_took}
 
 taken_ok : {A : Type 0} (o : Option A) (i : List Token) (x : A) (b : List Token) → taken o i ≡ took x b → (o ≡ Some x) × (after_first i ≡ b)
@@ -19,7 +19,7 @@ token_ok s [] x b h = never h
 token_ok s (t ∷ ts) x b h = let q = taken_ok (meaning s t.kind) (t ∷ ts) x b h in (t, ap (λ w. t ∷ w) q.1, q.0)
 
 -- the one of two that was read
-pub chosen : {A : Type 0} (v : Bool) (p q : Outcome A) {x : A} {b : List Token} → (if v then p else q) ≡ took x b → ((v ≡ true) × (p ≡ took x b)) ⊎ ((v ≡ false) × (q ≡ took x b))
+pub chosen : {A : Type 0} (v : Bool) (p q : ReadOutcome A) {x : A} {b : List Token} → (if v then p else q) ≡ took x b → ((v ≡ true) × (p ≡ took x b)) ⊎ ((v ≡ false) × (q ≡ took x b))
 chosen true p q h = inl (refl, h)
 chosen false p q h = inr (refl, h)
 

@@ -13,13 +13,13 @@ use Rattle.ep_tree.specs.declared.declaration.VariableDeclaration.{VariableDecla
 use Rattle.ep_tree.specs.declared.declaration.RoutineHeading.{RoutineHeading}
 use Rattle.ep_tree.specs.declared.declaration.FormalSection.{FormalSection}
 use Rattle.ep_tree.specs.declared.declaration.FormalType.{FormalType}
-use Rattle.ep_tree.specs.declared.routine.Part.{Part}
+use Rattle.ep_tree.specs.declared.routine.BlockPart.{BlockPart}
 use Rattle.ep_tree.specs.declared.routine.Routine.{Routine}
 use Rattle.ep_tree.specs.declared.routine.RoutineStart.{RoutineStart}
 use Rattle.ep_tree.specs.declared.routine.RoutineBody.{RoutineBody}
 use Rattle.ep_tree.specs.declared.declaration.RoutineHeading.TheVariants as heading_is
 use Rattle.ep_tree.specs.declared.declaration.FormalType.TheVariants as formal_is
-use Rattle.ep_tree.specs.declared.routine.Part.TheVariants as part_is
+use Rattle.ep_tree.specs.declared.routine.BlockPart.TheVariants as part_is
 use Rattle.ep_tree.specs.declared.routine.RoutineStart.TheVariants as start_is
 use Rattle.ep_tree.specs.declared.routine.RoutineBody.TheVariants as body_is
 use Rattle.ep_grammar.specs.Classes.{Class, Word, Symbol, Forward}
@@ -152,17 +152,17 @@ abbrev pub of_block : List Class
 of_block =
     Word word.CONST ∷ Word word.TYPE ∷ Word word.VAR ∷ Word word.PROCEDURE ∷ Word word.FUNCTION ∷ Word word.BEGIN ∷ []
 
-unfoldable pub routine_part : Syntax Part
+unfoldable pub routine_part : Syntax BlockPart
 routine_part = deeper (Word word.PROCEDURE ∷ Word word.FUNCTION ∷ []) (give part_is.Routine & inside routines)
 
-unfoldable pub part : Syntax Part
+unfoldable pub part : Syntax BlockPart
 part =
     either (on_word word.CONST) (give part_is.Constants & constants) (
     either (on_word word.TYPE) (give part_is.Types & types) (
     either (on_word word.VAR) (give part_is.Variables & variables) routine_part))
 
 -- `parts = { consts | types | vars | rdecl }`
-unfoldable pub parts : Syntax (List Part)
+unfoldable pub parts : Syntax (List BlockPart)
 parts = many of_parts part
 
 unfoldable pub forward_body : Syntax RoutineBody

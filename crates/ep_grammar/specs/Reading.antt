@@ -9,13 +9,13 @@ use Rattle.ep_grammar.specs.Descriptions.{Nonterminal, Node, Step, More, Last, S
 use Rattle.ep_grammar.specs.Descriptions.{apply, either, switch, row, deeper, shaped}
 
 -- what was read and the tokens that are left, or the cause and the tokens from the refused one on
-abbrev pub Outcome : Type 0 → Type 0
-Outcome A = Result (A × List Token) (Stop × List Token)
+abbrev pub ReadOutcome : Type 0 → Type 0
+ReadOutcome A = Result (A × List Token) (Stop × List Token)
 
 abbrev pub Parser : Type 0 → Type 0
-Parser A = List Token → Outcome A
+Parser A = List Token → ReadOutcome A
 
-abbrev pub and_then : {A B : Type 0} → Outcome A → (A → Parser B) → Outcome B
+abbrev pub and_then : {A B : Type 0} → ReadOutcome A → (A → Parser B) → ReadOutcome B
 and_then (Ok p) f = f p.0 p.1
 and_then (Err e) f = Err e
 
@@ -84,16 +84,16 @@ read e (shaped s f cs t g u o) =
     else by_shape (g y) (read e u) refused j)
 
 -- what a function that parses ensures: the outcome, unless memory is wanting
-abbrev pub Reads : {A : Type 0} → Outcome A → Result A Stop → List Token → Type 0
+abbrev pub Reads : {A : Type 0} → ReadOutcome A → Result A Stop → List Token → Type 0
 Reads outcome (Ok a) new = outcome ≡ Ok (a, new)
 Reads outcome (Err e) new = e ≢ stop.NoMemory → outcome ≡ Err (e, new)
 
 -- the same outcome with another meaning
-abbrev pub applied : {A B : Type 0} → (A → B) → Outcome A → Outcome B
+abbrev pub applied : {A B : Type 0} → (A → B) → ReadOutcome A → ReadOutcome B
 applied g o = and_then o (λ x k. Ok (g x, k))
 
 -- what a function that parses a list ensures, which adds it to another
-abbrev pub ReadsOnto : {A : Type 0} → List A → Outcome (List A) → Result (List A) Stop → List Token → Type 0
+abbrev pub ReadsOnto : {A : Type 0} → List A → ReadOutcome (List A) → Result (List A) Stop → List Token → Type 0
 ReadsOnto before outcome (Ok all) new = (more : List _) × (outcome ≡ Ok (more, new)) × (all ≡ before ++ more)
 ReadsOnto before outcome (Err e) new = e ≢ stop.NoMemory → outcome ≡ Err (e, new)
 
@@ -103,7 +103,7 @@ turns cs step r n found = λ i. and_then (steps cs step r n found i) (λ p k. Ok
 
 -- the same for a list with what follows it, of which a node is made
 abbrev pub ReadsInto :
-    {A B X : Type 0} → (List A → B → X) → List A → Outcome (List A × B) → Result X Stop → List Token → Type 0
+    {A B X : Type 0} → (List A → B → X) → List A → ReadOutcome (List A × B) → Result X Stop → List Token → Type 0
 ReadsInto node before outcome (Ok x) new =
     (more : List _ × _) × (outcome ≡ Ok (more, new)) × (x ≡ node (before ++ more.0) more.1)
 ReadsInto node before outcome (Err e) new = e ≢ stop.NoMemory → outcome ≡ Err (e, new)

@@ -1,7 +1,7 @@
 -- The nesting of the nodes of statements and routines by that of their parts: an equation for each node.
 use Rattle.std.proofs.Common.{◌≡◌, ℕ, suc, max, List, Option, Some, None, sym, ap, ◌∙◌}
 use Rattle.ep_tree.specs.declared.statement.Statement.TheFolds.{fold-roll-Statement, fold-roll-Arm, fold-roll-Compound, fold-roll-Otherwise}
-use Rattle.ep_tree.specs.declared.routine.Part.TheFolds.{fold-roll-Part, fold-roll-RoutineBody, fold-roll-Routine}
+use Rattle.ep_tree.specs.declared.routine.BlockPart.TheFolds.{fold-roll-BlockPart, fold-roll-RoutineBody, fold-roll-Routine}
 use Rattle.ep_tree.specs.declared.operator.Direction.{Direction}
 use Rattle.ep_tree.specs.declared.expression.Access.{Access}
 use Rattle.ep_tree.specs.declared.expression.Expression.{Expression}
@@ -15,8 +15,8 @@ use Rattle.ep_tree.specs.declared.statement.Otherwise.{Otherwise}
 use Rattle.ep_tree.specs.declared.declaration.Constants.{Constants}
 use Rattle.ep_tree.specs.declared.declaration.Types.{Types}
 use Rattle.ep_tree.specs.declared.declaration.Variables.{Variables}
-use Rattle.ep_tree.specs.declared.routine.Part.{Part}
-use Rattle.ep_tree.specs.declared.routine.Part.TheVariants as part_is
+use Rattle.ep_tree.specs.declared.routine.BlockPart.{BlockPart}
+use Rattle.ep_tree.specs.declared.routine.BlockPart.TheVariants as part_is
 use Rattle.ep_tree.specs.declared.routine.Routine.{Routine}
 use Rattle.ep_tree.specs.declared.routine.RoutineBody.{RoutineBody}
 use Rattle.ep_tree.specs.declared.routine.RoutineBody.TheVariants as body_is
@@ -74,21 +74,21 @@ with_is at xs s = ap statement_nesting (sym (statement_is.rolls-With at xs s)) �
 -- ---- routines
 
 pub constants_part_is : (c : Constants) → part_nesting (part_is.Constants c) ≡ constants_nesting c
-constants_part_is c = ap part_nesting (sym (part_is.rolls-Constants c)) ∙ simp fold-roll-Part
+constants_part_is c = ap part_nesting (sym (part_is.rolls-Constants c)) ∙ simp fold-roll-BlockPart
 
 pub types_part_is : (t : Types) → part_nesting (part_is.Types t) ≡ types_nesting t
-types_part_is t = ap part_nesting (sym (part_is.rolls-Types t)) ∙ simp fold-roll-Part
+types_part_is t = ap part_nesting (sym (part_is.rolls-Types t)) ∙ simp fold-roll-BlockPart
 
 pub variables_part_is : (v : Variables) → part_nesting (part_is.Variables v) ≡ variables_nesting v
-variables_part_is v = ap part_nesting (sym (part_is.rolls-Variables v)) ∙ simp fold-roll-Part
+variables_part_is v = ap part_nesting (sym (part_is.rolls-Variables v)) ∙ simp fold-roll-BlockPart
 
 pub routine_part_is : (r : Routine) → part_nesting (part_is.Routine r) ≡ routine_nesting r
-routine_part_is r = ap part_nesting (sym (part_is.rolls-Routine r)) ∙ simp fold-roll-Part
+routine_part_is r = ap part_nesting (sym (part_is.rolls-Routine r)) ∙ simp fold-roll-BlockPart
 
 pub forward_is : (at : ℕ) → routine_body_nesting (body_is.Forward at) ≡ 0
 forward_is at = ap routine_body_nesting (sym (body_is.rolls-Forward at)) ∙ simp fold-roll-RoutineBody
 
-pub block_body_is : (at : ℕ) (ps : List Part) (c : Compound) → routine_body_nesting (body_is.Block at ps c) ≡ max (most part_nesting ps) (compound_nesting c)
+pub block_body_is : (at : ℕ) (ps : List BlockPart) (c : Compound) → routine_body_nesting (body_is.Block at ps c) ≡ max (most part_nesting ps) (compound_nesting c)
 block_body_is at ps c = ap routine_body_nesting (sym (body_is.rolls-Block at ps c)) ∙ simp fold-roll-RoutineBody
 
 pub routine_is : (at : ℕ) (s : RoutineStart) (b : RoutineBody) → routine_nesting (routine_node at s b) ≡ suc (routine_body_nesting b)

@@ -12,7 +12,7 @@ ghost use Rattle.ep_machine.specs.Outputs.{OnNoMemory, IsRefusal, UnlessDone, Is
 use crate::step::Outward;
 use ep_frames::Stack;
 use ep_memory::{Cell, Memory};
-use ep_object::{Kind, OUTPUT_SEGMENT, Place, TypeEntry};
+use ep_object::{OUTPUT_SEGMENT, Place, TypeEntry, TypeKind};
 use ep_outside::{Sink, WriteAnswer};
 use ep_rows::control::spend;
 use ep_rows::{Step, segments};
@@ -37,12 +37,12 @@ fn is_text(types: &[TypeEntry], type_number: u32) -> Option<bool>
 {
     match types.get(type_number as usize) {
         Some(entry) => match &entry.kind {
-            Kind::Text => Some(true),
-            Kind::Ord(_, _) => Some(false),
-            Kind::Pointer => Some(false),
-            Kind::Array(_, _, _) => Some(false),
-            Kind::Record(_) => Some(false),
-            Kind::Set(_, _) => Some(false),
+            TypeKind::Text => Some(true),
+            TypeKind::Ord(_, _) => Some(false),
+            TypeKind::Pointer => Some(false),
+            TypeKind::Array(_, _, _) => Some(false),
+            TypeKind::Record(_) => Some(false),
+            TypeKind::Set(_, _) => Some(false),
         },
         None => None,
     }

@@ -10,7 +10,7 @@ use crate::state::{Configuration, Environment};
 use ep_base::List;
 use ep_frames::{Calls, Stack};
 use ep_memory::{Memory, UNDEFINED};
-use ep_object::{ImageUnit, Kind, Place, TEXT_TYPE, TypeEntry};
+use ep_object::{ImageUnit, Place, TEXT_TYPE, TypeEntry, TypeKind};
 use ep_rows::TypeTable;
 use std::alloc::{AllocError, Global};
 
@@ -26,7 +26,7 @@ fn frames(alloc: Global, units: &[ImageUnit]) -> Result<Vec<List<Option<Place>>>
     Ok(frames)
 }
 
-fn entry(kind: Kind) -> TypeEntry
+fn entry(kind: TypeKind) -> TypeEntry
     ensures { result ≡ plain kind 1 }
 {
     TypeEntry {
@@ -42,11 +42,11 @@ fn types(alloc: Global) -> Result<TypeTable, AllocError>
     ensures { IfOk result (λ types. types ≡ first_types) }
 {
     let mut types = TypeTable::new(alloc);
-    types.add(entry(Kind::Ord(-i64::MAX, i64::MAX)))?;
-    types.add(entry(Kind::Ord(0, 255)))?;
-    types.add(entry(Kind::Ord(0, 1)))?;
-    types.add(entry(Kind::Text))?;
-    types.add(entry(Kind::Pointer))?;
+    types.add(entry(TypeKind::Ord(-i64::MAX, i64::MAX)))?;
+    types.add(entry(TypeKind::Ord(0, 255)))?;
+    types.add(entry(TypeKind::Ord(0, 1)))?;
+    types.add(entry(TypeKind::Text))?;
+    types.add(entry(TypeKind::Pointer))?;
     Ok(types)
 }
 

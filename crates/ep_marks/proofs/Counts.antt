@@ -5,7 +5,7 @@ use Rattle.ep_token.specs.declared.token.Token.{Token}
 use Rattle.ep_grammar.specs.Classes.{Class, has, class_of, after_first}
 use Rattle.ep_grammar.specs.Descriptions.{Nonterminal, Step, More, Last, Syntax, give, token, line, inside, apply}
 use Rattle.ep_grammar.specs.Descriptions.{either, switch, row, deeper, shaped}
-use Rattle.ep_grammar.specs.Reading.{Inside, Outcome, Parser, and_then, taken, peek, steps, go_on, read_inside, by_shape, refused, read}
+use Rattle.ep_grammar.specs.Reading.{Inside, ReadOutcome, Parser, and_then, taken, peek, steps, go_on, read_inside, by_shape, refused, read}
 use Rattle.ep_grammar.specs.Reading.{within as level_within}
 use Rattle.ep_grammar.proofs.public.Outcomes.{took, never, bind_ok, same_took}
 use Rattle.ep_marks.specs.Styles.{Style, plain, within, part, choice, rows, level, shapes, starts, indents, given, fits}
@@ -116,12 +116,12 @@ read-shrinks e h (shaped s f cs t g u o) i x j is =
 abbrev pub Marked : {A : Type 0} → Parser A → (List Token → List Mark) → Type 0
 Marked {A} p m = (i : List Token) (x : A) (j : List Token) → p i ≡ took x j → length (m i) + length j ≡ length i
 
-unmarked-count : {A : Type 0} (o : Outcome A) (i : List Token) (x : A) (j : List Token) → o ≡ took x j → length j ≤ length i → length (unmarked o i) + length j ≡ length i
+unmarked-count : {A : Type 0} (o : ReadOutcome A) (i : List Token) (x : A) (j : List Token) → o ≡ took x j → length j ≤ length i → length (unmarked o i) + length j ≡ length i
 unmarked-count o i x j e h =
     let n : length (unmarked o i) ≡ length i - length j = ap (λ r. length (unmarked r i)) e ∙ length-replicate (length i - length j) no_mark in
     omega arith
 
-and-count : {A : Type 0} (first : List Mark) (o : Outcome A) (f : A → List Token → List Mark) (x : A) (j : List Token) → o ≡ took x j → length (first ++ and_marks o f) ≡ length first + length (f x j)
+and-count : {A : Type 0} (first : List Mark) (o : ReadOutcome A) (f : A → List Token → List Mark) (x : A) (j : List Token) → o ≡ took x j → length (first ++ and_marks o f) ≡ length first + length (f x j)
 and-count first o f x j e = length-append first (and_marks o f) ∙ ap (λ r. length first + length (and_marks r f)) e
 
 if-marked : {A : Type 0} (cs : List Class) (p q : Parser A) (m n : List Token → List Mark) → Marked p m → Marked q n → Marked (λ i. cond (has cs (class_of i)) (p i) (q i)) (λ i. cond (has cs (class_of i)) (m i) (n i))

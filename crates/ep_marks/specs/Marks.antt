@@ -6,7 +6,7 @@ use Rattle.ep_token.specs.declared.token.Token.{Token}
 use Rattle.ep_grammar.specs.Classes.{Class, has, class_of}
 use Rattle.ep_grammar.specs.Descriptions.{Nonterminal, Step, More, Last, Syntax, inside, apply}
 use Rattle.ep_grammar.specs.Descriptions.{either, switch, row, deeper, shaped}
-use Rattle.ep_grammar.specs.Reading.{Inside, Outcome, Parser, read}
+use Rattle.ep_grammar.specs.Reading.{Inside, ReadOutcome, Parser, read}
 pub use Rattle.ep_marks.specs.declared.mark.Mark.{Mark}
 use Rattle.ep_marks.specs.Styles.{Style, within, part, choice, rows, level, shapes, starts, indents, given}
 
@@ -28,12 +28,12 @@ abbrev pub Family : Type 0
 Family = Bool → Nonterminal → List Token → List Mark
 
 -- no mark for each token that is read
-abbrev pub unmarked : {A : Type 0} → Outcome A → List Token → List Mark
+abbrev pub unmarked : {A : Type 0} → ReadOutcome A → List Token → List Mark
 unmarked (Ok p) i = replicate (length i - length p.1) no_mark
 unmarked (Err e) i = []
 
 -- the marks of what follows
-abbrev pub and_marks : {A : Type 0} → Outcome A → (A → List Token → List Mark) → List Mark
+abbrev pub and_marks : {A : Type 0} → ReadOutcome A → (A → List Token → List Mark) → List Mark
 and_marks (Ok p) f = f p.0 p.1
 and_marks (Err e) f = []
 

@@ -55,11 +55,11 @@ use Rattle.ep_typed.specs.declared.unit.Unit.{Unit as TypedUnit}
 -- What an expression is: of an ordinal type with this host, a text, of an array or record type without initial states,
 -- or a
 -- set over this host.
-pub data Kind : Type 0 where
-  Ordinal : (host : Host) → Kind
-  Bytes : Kind
-  Structured : (type_value : TypeValue) → Kind
-  Set : (host : Host) → Kind
+pub data ValueKind : Type 0 where
+  Ordinal : (host : Host) → ValueKind
+  Bytes : ValueKind
+  Structured : (type_value : TypeValue) → ValueKind
+  Set : (host : Host) → ValueKind
 
 -- the type value is that of an array or a record, and no initial state is given to it
 abbrev pub IsStructured : TypeValue → Type 0
@@ -71,7 +71,7 @@ IsStructured (type.Set low high) = ⊥
 IsStructured (type.Initial of start) = ⊥
 
 -- under a list of types a value of the denoter's type is of the kind
-abbrev pub IsOfKind : Kind → List UnitType → Denoter → Type 0
+abbrev pub IsOfKind : ValueKind → List UnitType → Denoter → Type 0
 IsOfKind (Ordinal h) types d = host_of types d ≡ Some h
 IsOfKind Bytes types d = ⊥
 IsOfKind (Structured t) types d = (bare_type_of types d ≡ Some t) × IsStructured t
@@ -98,7 +98,7 @@ IsSetOf h (type.Set low high) = IsBaseOf h low high
 IsSetOf h _ = ⊥
 
 -- values of the type value, which has no initial states, are of the kind
-abbrev pub IsTypeOfKind : Kind → TypeValue → Type 0
+abbrev pub IsTypeOfKind : ValueKind → TypeValue → Type 0
 IsTypeOfKind (Ordinal h) t = IsTypeOf h t
 IsTypeOfKind Bytes t = ⊥
 IsTypeOfKind (Structured u) t = (u ≡ t) × IsStructured u
@@ -117,7 +117,7 @@ LeadTo ts (k ∷ j ∷ more) of =
     (us : ComponentTypes) × (type_among ts k ≡ Some (type.Record us)) × LeadTo us (j ∷ more) of
 
 -- they lead to one whose values are of the kind
-abbrev pub LeadToKind : ComponentTypes → List ℕ → Kind → Type 0
+abbrev pub LeadToKind : ComponentTypes → List ℕ → ValueKind → Type 0
 LeadToKind ts steps kind = (of : TypeValue) × LeadTo ts steps of × IsTypeOfKind kind of
 
 -- a routine by its number, with its variables, and the first number of those that no code makes
@@ -183,7 +183,7 @@ pub record IsCallee (declared : Declarations) (callee : Callee) (r : RoutineEntr
 
 -- the kinds of an operation's operand and result; a value of which the number is taken is of a host whose numbers are
 -- integers
-abbrev pub IsUnary : Unary → Kind → Kind → Type 0
+abbrev pub IsUnary : Unary → ValueKind → ValueKind → Type 0
 IsUnary unary.Same operand result =
     ((h : Host) × (operand ≡ Ordinal h) × IsTrue (int_le (greatest h) (greatest host.Integer)))
     × (result ≡ Ordinal host.Integer)
@@ -195,21 +195,21 @@ IsUnary unary.Odd operand result = (operand ≡ Ordinal host.Integer) × (result
 IsUnary unary.Character operand result = (operand ≡ Ordinal host.Integer) × (result ≡ Ordinal host.Char)
 
 -- arithmetic takes and gives integers
-abbrev pub IsArithmetic : Kind → Kind → Kind → Type 0
+abbrev pub IsArithmetic : ValueKind → ValueKind → ValueKind → Type 0
 IsArithmetic left right result =
     (left ≡ Ordinal host.Integer) × (right ≡ Ordinal host.Integer) × (result ≡ Ordinal host.Integer)
 
 -- logic takes and gives Booleans
-abbrev pub IsLogical : Kind → Kind → Kind → Type 0
+abbrev pub IsLogical : ValueKind → ValueKind → ValueKind → Type 0
 IsLogical left right result =
     (left ≡ Ordinal host.Boolean) × (right ≡ Ordinal host.Boolean) × (result ≡ Ordinal host.Boolean)
 
 -- a comparison takes two values of one host
-abbrev pub IsComparison : Kind → Kind → Kind → Type 0
+abbrev pub IsComparison : ValueKind → ValueKind → ValueKind → Type 0
 IsComparison left right result =
     ((h : Host) × (left ≡ Ordinal h) × (right ≡ Ordinal h)) × (result ≡ Ordinal host.Boolean)
 
-abbrev pub IsBinary : Binary → Kind → Kind → Kind → Type 0
+abbrev pub IsBinary : Binary → ValueKind → ValueKind → ValueKind → Type 0
 IsBinary binary.Add = IsArithmetic
 IsBinary binary.Subtract = IsArithmetic
 IsBinary binary.Multiply = IsArithmetic
@@ -225,18 +225,18 @@ IsBinary binary.AtMost = IsComparison
 IsBinary binary.AtLeast = IsComparison
 
 -- an operation makes a set of two over one host
-abbrev pub IsCombination : Kind → Kind → Kind → Type 0
+abbrev pub IsCombination : ValueKind → ValueKind → ValueKind → Type 0
 IsCombination left right result = (h : Host) × (left ≡ Set h) × (right ≡ Set h) × (result ≡ Set h)
 
 -- a comparison of sets takes two over one host
-abbrev pub IsSetComparison : Kind → Kind → Kind → Type 0
+abbrev pub IsSetComparison : ValueKind → ValueKind → ValueKind → Type 0
 IsSetComparison left right result = ((h : Host) × (left ≡ Set h) × (right ≡ Set h)) × (result ≡ Ordinal host.Boolean)
 
 -- a value is looked for in a set over its host
-abbrev pub IsMembership : Kind → Kind → Kind → Type 0
+abbrev pub IsMembership : ValueKind → ValueKind → ValueKind → Type 0
 IsMembership left right result = ((h : Host) × (left ≡ Ordinal h) × (right ≡ Set h)) × (result ≡ Ordinal host.Boolean)
 
-abbrev pub IsOnSets : SetOperation → Kind → Kind → Kind → Type 0
+abbrev pub IsOnSets : SetOperation → ValueKind → ValueKind → ValueKind → Type 0
 IsOnSets set_operation.Union = IsCombination
 IsOnSets set_operation.Difference = IsCombination
 IsOnSets set_operation.Intersection = IsCombination
@@ -248,7 +248,7 @@ IsOnSets set_operation.Superset = IsSetComparison
 IsOnSets set_operation.In = IsMembership
 
 -- the kind of what is printed so
-abbrev pub printed_kind : Print → Kind
+abbrev pub printed_kind : Print → ValueKind
 printed_kind print.Integer = Ordinal host.Integer
 printed_kind print.Char = Ordinal host.Char
 printed_kind print.Boolean = Ordinal host.Boolean
@@ -259,7 +259,7 @@ abbrev pub IsProcedure : RoutineEntry → Type 0
 IsProcedure r = r.result ≡ None
 
 -- the heading of a function whose result is of this kind, in a unit with these types
-pub record IsFunction (types : List UnitType) (kind : Kind) (r : RoutineEntry) : Type 0 where
+pub record IsFunction (types : List UnitType) (kind : ValueKind) (r : RoutineEntry) : Type 0 where
   pub result : RoutineResult
   pub has_result : r.result ≡ Some result
   pub has_kind : IsOfKind kind types (denoter_of result.denoter)
@@ -344,7 +344,7 @@ mutual
         → LeadTo ts steps of
         → IsStartFor types of x → AreStartsFor types (type.Record ts) more
         → AreStartsFor types (type.Record ts) (next_element (AtField steps x) more)
-    same_given : (ts : ComponentTypes) (from to : List ℕ) (k : Kind) (more : Elements) → LeadToKind ts from k
+    same_given : (ts : ComponentTypes) (from to : List ℕ) (k : ValueKind) (more : Elements) → LeadToKind ts from k
         → LeadToKind ts to k
         → AreStartsFor types (type.Record ts) more
         → AreStartsFor types (type.Record ts) (next_element (SameField from to) more)
@@ -407,12 +407,12 @@ module _ (declared : Declarations) where
         p
 
     -- an expression of this kind
-    pub IsExpr : Kind → Expr → Type 0
+    pub IsExpr : ValueKind → Expr → Type 0
     IsExpr kind (Constant z) = (h : Host) × (kind ≡ Ordinal h) × IsTrue (is_of_host h z)
     IsExpr kind (Text bytes) = kind ≡ Bytes
     IsExpr kind (Read p) = IsPlaceWhere (IsOfKind kind) p
-    IsExpr kind (One operation x) = (k : Kind) × IsUnary operation k kind × IsExpr k x
-    IsExpr kind (Two operation x y) = (k l : Kind) × IsBinary operation k l kind × IsExpr k x × IsExpr l y
+    IsExpr kind (One operation x) = (k : ValueKind) × IsUnary operation k kind × IsExpr k x
+    IsExpr kind (Two operation x y) = (k l : ValueKind) × IsBinary operation k l kind × IsExpr k x × IsExpr l y
     IsExpr kind (Short operation x y) =
         (kind ≡ Ordinal host.Boolean) × IsExpr (Ordinal host.Boolean) x × IsExpr (Ordinal host.Boolean) y
     IsExpr kind (Step down low high x y) =
@@ -427,7 +427,7 @@ module _ (declared : Declarations) where
     IsExpr kind (SetConstant ms) =
         (h : Host) × (kind ≡ Set h) × IsSet ms × IsTrue (are_between (least h) (greatest h) ms)
     IsExpr kind (SetOf ds) = (h : Host) × (kind ≡ Set h) × AreDesignators h ds
-    IsExpr kind (OnSets operation x y) = (k l : Kind) × IsOnSets operation k l kind × IsExpr k x × IsExpr l y
+    IsExpr kind (OnSets operation x y) = (k l : ValueKind) × IsOnSets operation k l kind × IsExpr k x × IsExpr l y
     IsExpr kind (Card x) = (h : Host) × (kind ≡ Ordinal host.Integer) × IsExpr (Set h) x
     -- a structured value of an array or record type of the unit in whose code it stands
     IsExpr kind (tree.Structured of es) =
@@ -448,15 +448,15 @@ module _ (declared : Declarations) where
     pub IsElement : TypeValue → Element → Type 0
     IsElement (type.Array low high of) (AtIndex x y) =
         ((h : Host) × IsTypeOf h (type.Ordinal low high) × IsExpr (Ordinal h) x)
-        × ((k : Kind) × IsTypeOfKind k of × IsExpr k y)
-    IsElement (type.Record ts) (AtField steps x) = (k : Kind) × LeadToKind ts steps k × IsExpr k x
-    IsElement (type.Record ts) (SameField from to) = (k : Kind) × LeadToKind ts from k × LeadToKind ts to k
+        × ((k : ValueKind) × IsTypeOfKind k of × IsExpr k y)
+    IsElement (type.Record ts) (AtField steps x) = (k : ValueKind) × LeadToKind ts steps k × IsExpr k x
+    IsElement (type.Record ts) (SameField from to) = (k : ValueKind) × LeadToKind ts from k × LeadToKind ts to k
     IsElement (type.Array low high of) (AtRanges ranges x) =
         ((h : Host) × IsTypeOf h (type.Ordinal low high)) × HasRange ranges × All (IsRangeWithin low high) ranges
-        × ((k : Kind) × IsTypeOfKind k of × IsExpr k x)
+        × ((k : ValueKind) × IsTypeOfKind k of × IsExpr k x)
     IsElement (type.Array low high of) (AtIndexes ds x) =
         ((h : Host) × IsTypeOf h (type.Ordinal low high) × AreDesignators h ds)
-        × ((k : Kind) × IsTypeOfKind k of × IsExpr k x)
+        × ((k : ValueKind) × IsTypeOfKind k of × IsExpr k x)
     IsElement t e = ⊥
 
     pub AreElements : TypeValue → Elements → Type 0
@@ -476,9 +476,9 @@ module _ (declared : Declarations) where
     -- kind,
     -- and for a variable parameter a variable of its type.
     pub IsGiven : List UnitType → FormalMode → Formal → Actual → Type 0
-    IsGiven types mode.Value f (Evaluated x) = (k : Kind) × IsOfKind k types (denoter_of f.denoter) × IsExpr k x
+    IsGiven types mode.Value f (Evaluated x) = (k : ValueKind) × IsOfKind k types (denoter_of f.denoter) × IsExpr k x
     IsGiven types mode.ProtectedValue f (Evaluated x) =
-        (k : Kind) × IsOfKind k types (denoter_of f.denoter) × IsExpr k x
+        (k : ValueKind) × IsOfKind k types (denoter_of f.denoter) × IsExpr k x
     IsGiven types mode.Variable f (Accessed p) =
         (t : TypeValue) × (bare_type_of types (denoter_of f.denoter) ≡ Some t)
         × IsPlaceWhere (λ list d. bare_type_of list d ≡ Some t) p
@@ -560,7 +560,7 @@ module _ (declared : Declarations) where
     pub IsStmt : Stmt → Type 0
     IsStmt Empty = ⊤
     IsStmt (Compound ss) = AreStmts ss
-    IsStmt (Assign line p x) = (k : Kind) × IsPlaceWhere (IsOfKind k) p × IsExpr k x
+    IsStmt (Assign line p x) = (k : ValueKind) × IsPlaceWhere (IsOfKind k) p × IsExpr k x
     IsStmt (AssignTag line c p s x) = (h : Host) × IsTagging h c p s × IsExpr (Ordinal h) x
     IsStmt (If line x a b) = IsExpr (Ordinal host.Boolean) x × IsStmt a × IsStmt b
     IsStmt (While line x s) = IsExpr (Ordinal host.Boolean) x × IsStmt s
@@ -614,7 +614,7 @@ pub record IsOrdinal (types : List UnitType) (d : Denoter) : Type 0 where
 
 -- under a list of types the denoter is of a kind that values have
 pub record HasKind (types : List UnitType) (d : Denoter) : Type 0 where
-  pub kind : Kind
+  pub kind : ValueKind
   pub of_kind : IsOfKind kind types d
   pub denoter : IsDenoter types d
 

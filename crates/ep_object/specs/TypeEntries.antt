@@ -9,8 +9,8 @@ use Rattle.std.specs.Cmp.{IsEquivalence, decided, on_equiv}
 use Rattle.std.specs.Hash as fed
 use Rattle.std.specs.Hash.{HashWrites, same_Alike, on_Alike}
 use Rattle.ep_object.specs.Types.{same_bare, same_begin, same_entry, same_kind, same_parts, same_word, same_words}
-use Rattle.ep_object.specs.declared.state.Kind.{Kind}
-use Rattle.ep_object.specs.declared.state.Kind.TheVariants.{Ord, Pointer, Text, Array, Record, Set}
+use Rattle.ep_object.specs.declared.state.TypeKind.{TypeKind}
+use Rattle.ep_object.specs.declared.state.TypeKind.TheVariants.{Ord, Pointer, Text, Array, Record, Set}
 use Rattle.ep_object.specs.declared.state.RecordPart.{RecordPart}
 use Rattle.ep_object.specs.declared.state.TypeEntry.{TypeEntry}
 use Rattle.ep_values.specs.TypeValues.{same_bounds}
@@ -23,7 +23,7 @@ parts_writes [] = []
 parts_writes (p ∷ ps) = fed.u32 p.type_number ++ parts_writes ps
 
 -- nearly all by which kinds differ
-abbrev pub kind_writes : Kind → HashWrites
+abbrev pub kind_writes : TypeKind → HashWrites
 kind_writes (Ord lo hi) = fed.i64 lo ++ fed.i64 hi
 kind_writes Pointer = fed.u8 0
 kind_writes Text = fed.u8 1
@@ -79,7 +79,7 @@ parts_are (p ∷ ps) (q ∷ qs) t =
     λ i. record { type_number = number i; offset = offset i } ∷ rest i
 
 -- kinds that are told to be the same are
-pub kinds_are : (k l : Kind) → IsTrue (same_kind k l) → k ≡ l
+pub kinds_are : (k l : TypeKind) → IsTrue (same_kind k l) → k ≡ l
 kinds_are (Ord lo hi) (Ord l h) t = let e = bounds_are l h lo hi t in λ i. Ord (e.0 i) (e.1 i)
 kinds_are (Ord lo hi) Pointer t = cc
 kinds_are (Ord lo hi) Text t = cc
@@ -141,7 +141,7 @@ parts-refl (p ∷ ps) =
     (count-refl p.offset))
     (parts-refl ps)
 
-pub kind-refl : (k : Kind) → IsTrue (same_kind k k)
+pub kind-refl : (k : TypeKind) → IsTrue (same_kind k k)
 kind-refl (Ord lo hi) = bounds-refl lo hi
 kind-refl Pointer = refl
 kind-refl Text = refl
@@ -192,7 +192,7 @@ bare-refl (Some b) = count-refl b
 
 -- what a type has besides its size, which follows
 pub record Told : Type 0 where
-  pub kind : Kind
+  pub kind : TypeKind
   pub start : Option (List ℤ)
   pub bare : Option ℕ
 

@@ -24,6 +24,6 @@ pub use code::{
 };
 pub use laws::laws_of_runs;
 pub use state::{
-    FIRST_LIVE_WORDS, FrameNumber, INPUT_SEGMENT, Kind, OUTPUT_SEGMENT, Place, RecordPart,
-    RecordParts, SET_MEMBERS, SET_WORDS, Segment, TEXT_TYPE, TypeEntry, WORD_MEMBERS,
+    FIRST_LIVE_WORDS, FrameNumber, INPUT_SEGMENT, OUTPUT_SEGMENT, Place, RecordPart, RecordParts,
+    SET_MEMBERS, SET_WORDS, Segment, TEXT_TYPE, TypeEntry, TypeKind, WORD_MEMBERS,
 };

@@ -67,7 +67,7 @@ pub type RecordParts = List<RecordPart>;
 
 /// What kind of type it is.
 #[derive(Drop)]
-pub enum Kind {
+pub enum TypeKind {
     /// An ordinal type with its bounds.
     Ord(i64, i64),
     /// A pointer type.
@@ -86,7 +86,7 @@ pub enum Kind {
 #[derive(Drop)]
 pub struct TypeEntry {
     /// Its kind.
-    pub kind: Kind,
+    pub kind: TypeKind,
     /// How many words a variable of the type takes.
     pub size: u32,
     /// The words that a variable of the type begins with, where the type has an initial state, or

@@ -5,7 +5,7 @@ ghost use Rattle.ep_object.specs.TypeEntries.{begin_writes, kind_writes, parts_w
 ghost use Rattle.ep_object.specs.Types.{same_bare as is_same_bare, same_begin as is_same_begin, same_kind as is_same, same_parts as are_same, same_words as are_same_words};
 
 use crate::code::Words;
-use crate::state::{Kind, RecordPart, TypeEntry};
+use crate::state::{RecordPart, TypeEntry, TypeKind};
 use std::hash::{Hash, Hasher};
 
 /// Whether components have the same types at the same places, one for one.
@@ -27,16 +27,19 @@ fn same_parts(parts: &[RecordPart], others: &[RecordPart]) -> bool
 }
 
 /// Whether two kinds are the same.
-fn same_kind(a: &Kind, b: &Kind) -> bool
+fn same_kind(a: &TypeKind, b: &TypeKind) -> bool
     ensures { result ≡ is_same a.now b.now }
 {
     match (a, b) {
-        (Kind::Ord(lo, hi), Kind::Ord(l, h)) => lo == l && hi == h,
-        (Kind::Pointer, Kind::Pointer) => true,
-        (Kind::Text, Kind::Text) => true,
-        (Kind::Array(lo, hi, c), Kind::Array(l, h, d)) => lo == l && hi == h && c == d,
-        (Kind::Set(lo, hi), Kind::Set(l, h)) => lo == l && hi == h,
-        (Kind::Record(parts), Kind::Record(others)) => same_parts(parts.items(), others.items()),
+        (TypeKind::Ord(lo, hi), TypeKind::Ord(l, h)) => lo == l && hi == h,
+        (TypeKind::Pointer, TypeKind::Pointer) => true,
+        (TypeKind::Text, TypeKind::Text) => true,
+        (TypeKind::Array(lo, hi, c), TypeKind::Array(l, h, d)) => lo == l && hi == h && c == d,
+        (TypeKind::Set(lo, hi), TypeKind::Set(l, h)) => lo == l && hi == h,
+        (TypeKind::Record(parts), TypeKind::Record(others)) => same_parts(
+            parts.items(),
+            others.items(),
+        ),
         _ => false,
     }
 }
@@ -107,23 +110,23 @@ fn hash_parts<H: Hasher>(parts: &[RecordPart], state: &mut H)
 }
 
 /// And nearly all by which kinds differ.
-fn hash_kind<H: Hasher>(kind: &Kind, state: &mut H)
+fn hash_kind<H: Hasher>(kind: &TypeKind, state: &mut H)
     ensures { state.new ≡ fold H.write state.old (kind_writes kind.now) }
 {
     match kind {
-        Kind::Ord(lo, hi) => {
+        TypeKind::Ord(lo, hi) => {
             state.write_i64(*lo);
             state.write_i64(*hi);
         }
-        Kind::Pointer => state.write_u8(0),
-        Kind::Text => state.write_u8(1),
-        Kind::Array(lo, hi, component) => {
+        TypeKind::Pointer => state.write_u8(0),
+        TypeKind::Text => state.write_u8(1),
+        TypeKind::Array(lo, hi, component) => {
             state.write_i64(*lo);
             state.write_i64(*hi);
             state.write_u32(*component);
         }
-        Kind::Record(parts) => hash_parts(parts.items(), state),
-        Kind::Set(lo, hi) => {
+        TypeKind::Record(parts) => hash_parts(parts.items(), state),
+        TypeKind::Set(lo, hi) => {
             state.write_u8(2);
             state.write_i64(*lo);
             state.write_i64(*hi);

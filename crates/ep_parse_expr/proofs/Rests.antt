@@ -19,7 +19,7 @@ use Rattle.ep_grammar.specs.declared.stop.Stop.TheVariants as stop
 use Rattle.ep_grammar.specs.Classes.{Symbol, class_of, exactly, line_of, same}
 use Rattle.ep_grammar.specs.Descriptions.{component_values}
 use Rattle.ep_grammar.specs.Expressions.{Called, Rest, bracket_labels, component_value, element, field_of, index_tail, inner_labels, inner_values_end, inner_values_rest, label_of, labels, labels_start, more_elements_of, otherwise_of, second_of, value_labels, values_rest_of, structured, structured_tail, values_from, values_tail}
-use Rattle.ep_grammar.specs.Reading.{Inside, Outcome, Parser, and_then, applied, read, read_inside, read_token}
+use Rattle.ep_grammar.specs.Reading.{Inside, ReadOutcome, Parser, and_then, applied, read, read_inside, read_token}
 use Rattle.ep_grammar.specs.Rules.{inside_at, inside_with}
 use Rattle.ep_reader.proofs.public.Outcomes.{applied_err, applied_ok}
 use Rattle.ep_parse_expr.specs.Called.{ReadsRest, RestIs, factor_with, last_field, name_in}
@@ -35,7 +35,7 @@ field_last None = refl
 field_last (Some p) = refl
 
 -- a factor of its name and what follows it
-pub rest_factor : (second : Option (ℕ × List ℕ)) (o : Outcome Called) (selectors : List Selector) (values : Option Values) (at : ℕ) (name : List ℕ) (new : List Token) → RestIs (field_of second) o selectors values new → applied (λ r. r at name second) o ≡ Ok (factor_with at name selectors values, new)
+pub rest_factor : (second : Option (ℕ × List ℕ)) (o : ReadOutcome Called) (selectors : List Selector) (values : Option Values) (at : ℕ) (name : List ℕ) (new : List Token) → RestIs (field_of second) o selectors values new → applied (λ r. r at name second) o ≡ Ok (factor_with at name selectors values, new)
 rest_factor second o selectors None at name new h =
     ap (applied (λ (r : Called). r at name second)) h.1 ∙ ap (λ w. Ok (factor_is.Access (access_node at name w), new)) (sym h.2)
 rest_factor second o selectors (Some values) at name new h =
@@ -48,15 +48,15 @@ labels_inside k i = refl
 
 -- ---- what follows the labels of the first element
 
-after_value : {V R X Y : Type 0} (f : V → R → X) (h : X → Y) (o : Outcome V) (q : Parser R) → and_then (and_then o (λ v k. Ok ((λ r. h (f v r)), k))) (λ (g : R → Y) j. and_then (q j) (λ r k. Ok (g r, k))) ≡ applied h (and_then (and_then o (λ v k. Ok (f v, k))) (λ (g : R → X) j. and_then (q j) (λ r k. Ok (g r, k))))
+after_value : {V R X Y : Type 0} (f : V → R → X) (h : X → Y) (o : ReadOutcome V) (q : Parser R) → and_then (and_then o (λ v k. Ok ((λ r. h (f v r)), k))) (λ (g : R → Y) j. and_then (q j) (λ r k. Ok (g r, k))) ≡ applied h (and_then (and_then o (λ v k. Ok (f v, k))) (λ (g : R → X) j. and_then (q j) (λ r k. Ok (g r, k))))
 after_value {V} {R} {X} {Y} f h (Ok p) q = go (q p.1)
   where
-    go : (o : Outcome R) → and_then o (λ r k. Ok (h (f p.0 r), k)) ≡ applied h (and_then o (λ r k. Ok (f p.0 r, k)))
+    go : (o : ReadOutcome R) → and_then o (λ r k. Ok (h (f p.0 r), k)) ≡ applied h (and_then o (λ r k. Ok (f p.0 r, k)))
     go (Ok w) = refl
     go (Err e) = refl
 after_value f h (Err e) q = refl
 
-after_colon : {U V R X Y : Type 0} (f : V → R → X) (h : X → Y) (o : Outcome U) (p : Parser V) (q : Parser R) → and_then (and_then (and_then o (λ u k. Ok ((λ v r. h (f v r)), k))) (λ (g : V → R → Y) j. and_then (p j) (λ v k. Ok (g v, k)))) (λ (g : R → Y) j. and_then (q j) (λ r k. Ok (g r, k))) ≡ applied h (and_then (and_then (and_then o (λ u k. Ok (f, k))) (λ (g : V → R → X) j. and_then (p j) (λ v k. Ok (g v, k)))) (λ (g : R → X) j. and_then (q j) (λ r k. Ok (g r, k))))
+after_colon : {U V R X Y : Type 0} (f : V → R → X) (h : X → Y) (o : ReadOutcome U) (p : Parser V) (q : Parser R) → and_then (and_then (and_then o (λ u k. Ok ((λ v r. h (f v r)), k))) (λ (g : V → R → Y) j. and_then (p j) (λ v k. Ok (g v, k)))) (λ (g : R → Y) j. and_then (q j) (λ r k. Ok (g r, k))) ≡ applied h (and_then (and_then (and_then o (λ u k. Ok (f, k))) (λ (g : V → R → X) j. and_then (p j) (λ v k. Ok (g v, k)))) (λ (g : R → X) j. and_then (q j) (λ r k. Ok (g r, k))))
 after_colon f h (Ok w) p q = after_value f h (p w.1) q
 after_colon f h (Err e) p q = refl
 
@@ -118,7 +118,7 @@ pub bracket_refused : (k at_bracket : ℕ) (i : List Token) {j : List Token} {q 
 unfolding bracket_labels labels_start
 bracket_refused k at_bracket i h = rw (labels_inside k i ∙ h) refl
 
-twice : {C Z : Type 0} (o : Outcome (C → ℕ → Z)) (c : C) (at : ℕ) → applied (λ (h : ℕ → Z). h at) (and_then o (λ h k. Ok (h c, k))) ≡ applied (λ r. r c at) o
+twice : {C Z : Type 0} (o : ReadOutcome (C → ℕ → Z)) (c : C) (at : ℕ) → applied (λ (h : ℕ → Z). h at) (and_then o (λ h k. Ok (h c, k))) ≡ applied (λ r. r c at) o
 twice (Ok p) c at = refl
 twice (Err p) c at = refl
 
@@ -146,6 +146,6 @@ unfolding bracket_labels labels_start
 bracket_indexes k at_bracket i {j} {ls} {es} l c n = rw (labels_inside k i ∙ l, ← c, n) (twice (read (inside_with k) index_tail j) es at_bracket)
 
 -- a refusal is handed on
-pub handed_rest : (before : List Selector) (o : Outcome Called) (r : Result (List Selector × Option Values) Stop) (new : List Token) (q : Stop) → IsErrAnd r (λ e. e ≡ q) → (q ≢ stop.NoMemory → o ≡ Err (q, new)) → ReadsRest before o r new
+pub handed_rest : (before : List Selector) (o : ReadOutcome Called) (r : Result (List Selector × Option Values) Stop) (new : List Token) (q : Stop) → IsErrAnd r (λ e. e ≡ q) → (q ≢ stop.NoMemory → o ≡ Err (q, new)) → ReadsRest before o r new
 handed_rest before o (Ok rest) new q h f = absurd h
-handed_rest before o (Err e) new q h f = λ n. f (λ m. n (h ∙ m)) ∙ ap (λ w. (let x : Outcome Called = Err (w, new) in x)) (sym h)
+handed_rest before o (Err e) new q h f = λ n. f (λ m. n (h ∙ m)) ∙ ap (λ w. (let x : ReadOutcome Called = Err (w, new) in x)) (sym h)

@@ -10,7 +10,7 @@ use Rattle.ep_tree.specs.Nodes.{access_node, qualified_node}
 use Rattle.ep_grammar.specs.declared.stop.Stop.{Stop}
 use Rattle.ep_grammar.specs.declared.stop.Stop.TheVariants as stop
 use Rattle.ep_grammar.specs.Expressions.{Called, accessed, structured}
-use Rattle.ep_grammar.specs.Reading.{Outcome}
+use Rattle.ep_grammar.specs.Reading.{ReadOutcome}
 
 -- the name that a selector of a field takes
 abbrev pub name_in : Selector → Option (List ℕ)
@@ -30,13 +30,13 @@ factor_with at name selectors (Some values) =
     factor_is.Structured at (qualified_node at name (last_field selectors)) values
 
 -- the selectors begin with those that were there before, and a structured value has no more
-abbrev pub RestIs : List Selector → Outcome Called → List Selector → Option Values → List Token → Type 0
+abbrev pub RestIs : List Selector → ReadOutcome Called → List Selector → Option Values → List Token → Type 0
 RestIs before outcome selectors None new =
     (more : List Selector) × (outcome ≡ Ok (accessed more, new)) × (selectors ≡ before ++ more)
 RestIs before outcome selectors (Some values) new = (outcome ≡ Ok (structured values 0, new)) × (selectors ≡ before)
 
 -- what a function that reads this ensures
 abbrev pub ReadsRest :
-    List Selector → Outcome Called → Result (List Selector × Option Values) Stop → List Token → Type 0
+    List Selector → ReadOutcome Called → Result (List Selector × Option Values) Stop → List Token → Type 0
 ReadsRest before outcome (Ok rest) new = RestIs before outcome rest.0 rest.1 new
 ReadsRest before outcome (Err e) new = e ≢ stop.NoMemory → outcome ≡ Err (e, new)

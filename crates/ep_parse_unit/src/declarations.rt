@@ -19,8 +19,8 @@ use ep_parse_type::{names, type_denoter};
 use ep_reader::{Reader, level, many, one_or_more, separated};
 use ep_token::{symbol, word};
 use ep_tree::{
-    ConstantDefinition, Constants, DiscriminantSection, FormalSection, FormalType, Part, Routine,
-    RoutineBody, RoutineHeading, RoutineStart, TypeDefinition, Types, VariableDeclaration,
+    BlockPart, ConstantDefinition, Constants, DiscriminantSection, FormalSection, FormalType,
+    Routine, RoutineBody, RoutineHeading, RoutineStart, TypeDefinition, Types, VariableDeclaration,
     Variables,
 };
 use std::alloc::Global;
@@ -407,45 +407,49 @@ fn inner_routine(alloc: Global, reader: &mut Reader<'_>, room: u32) -> Result<Ro
 /// `rdecl` as a part.
 #[cycle(routine)]
 #[tactic(auto, unfolding(ep_grammar::specs::Declarations::routine_part))]
-fn routine_part(alloc: Global, reader: &mut Reader<'_>, room: u32) -> Result<Part, Stop>
+fn routine_part(alloc: Global, reader: &mut Reader<'_>, room: u32) -> Result<BlockPart, Stop>
     ensures { Reads (read (inside_at room) routine_part reader.old) result reader.new }
 {
     let _inner = level(room, reader.begins_routine())?;
     let routine = inner_routine(alloc, reader, room)?;
-    Ok(Part::Routine(routine))
+    Ok(BlockPart::Routine(routine))
 }
 
 /// `consts | types | vars | rdecl`
 #[cycle(routine)]
 #[tactic(auto, unfolding(ep_grammar::specs::Declarations::part))]
-fn part(alloc: Global, reader: &mut Reader<'_>, room: u32) -> Result<Part, Stop>
+fn part(alloc: Global, reader: &mut Reader<'_>, room: u32) -> Result<BlockPart, Stop>
     ensures { Reads (read (inside_at room) part reader.old) result reader.new }
 {
     if reader.sees_word(word::CONST) {
         let constants = constants(alloc, reader, room)?;
-        return Ok(Part::Constants(constants));
+        return Ok(BlockPart::Constants(constants));
     }
     if reader.sees_word(word::TYPE) {
         let types = types(alloc, reader, room)?;
-        return Ok(Part::Types(types));
+        return Ok(BlockPart::Types(types));
     }
     if reader.sees_word(word::VAR) {
         let variables = variables(alloc, reader, room)?;
-        return Ok(Part::Variables(variables));
+        return Ok(BlockPart::Variables(variables));
     }
     routine_part(alloc, reader, room)
 }
 
 /// `parts = { consts | types | vars | rdecl }`
 #[cycle(routine)]
-pub(crate) fn parts(alloc: Global, reader: &mut Reader<'_>, room: u32) -> Result<List<Part>, Stop>
+pub(crate) fn parts(
+    alloc: Global,
+    reader: &mut Reader<'_>,
+    room: u32,
+) -> Result<List<BlockPart>, Stop>
     ensures { Reads (read (inside_at room) parts reader.old) result reader.new }
 {
     let none = List::new(alloc);
     many(
         reader,
         none,
-        |reader: &mut Reader<'_>| -> Result<Option<Part>, Stop>
+        |reader: &mut Reader<'_>| -> Result<Option<BlockPart>, Stop>
             ensures { Reads (read (inside_at room) (optional of_parts part) reader.entry.now) result reader.exit.now }
         {
             if !reader.begins_part() {

@@ -7,7 +7,7 @@ use Rattle.ep_token.specs.declared.token.Token.{Token}
 use Rattle.ep_grammar.specs.declared.stop.Stop.{Stop}
 use Rattle.ep_grammar.specs.Classes.{Class, Symbol, exactly, same, has, class_of}
 use Rattle.ep_grammar.specs.Descriptions.{Step, More, Last}
-use Rattle.ep_grammar.specs.Reading.{Outcome, Parser, Reads, and_then, read_token, steps, turns}
+use Rattle.ep_grammar.specs.Reading.{ReadOutcome, Parser, Reads, and_then, read_token, steps, turns}
 use Rattle.ep_reader.specs.Rows.{ReadsBy, optional_by, item_by, item_after_by, item_or_end_by, row_by}
 use Rattle.ep_reader.proofs.public.Outcomes.{one_class}
 use Rattle.ep_reader.proofs.public.Turning.{Turning}
@@ -18,7 +18,7 @@ called_reads h e = h _ _ _ (record { shown = _; shows = refl; left = _; met = e;
 
 -- ---- an item where one begins
 
-some_there : {A : Type 0} (b : Bool) (o : Outcome A) (i j : List Token) (x : A) → (if b then and_then o (λ x k. Ok (Some x, k)) else Ok (None, i)) ≡ Ok (Some x, j) → (b ≡ true) × (o ≡ Ok (x, j))
+some_there : {A : Type 0} (b : Bool) (o : ReadOutcome A) (i j : List Token) (x : A) → (if b then and_then o (λ x k. Ok (Some x, k)) else Ok (None, i)) ≡ Ok (Some x, j) → (b ≡ true) × (o ≡ Ok (x, j))
 some_there {A} true (Ok p) i j x h =
     let q : (Some p.0, p.1) ≡ (Some x, j) = cc in
     let one : Some p.0 ≡ Some x = ap (λ (w : Option A × List Token). w.0) q in
@@ -32,7 +32,7 @@ some_there {A} false o i j x h =
     let never : none ≡ Some x = ap (λ (w : Option A × List Token). w.0) q in
     absurd (cc)
 
-none_there : {A : Type 0} (b : Bool) (o : Outcome A) (i j : List Token) → (if b then and_then o (λ x k. Ok (Some x, k)) else Ok (None, i)) ≡ Ok (None, j) → (b ≡ false) × (i ≡ j)
+none_there : {A : Type 0} (b : Bool) (o : ReadOutcome A) (i j : List Token) → (if b then and_then o (λ x k. Ok (Some x, k)) else Ok (None, i)) ≡ Ok (None, j) → (b ≡ false) × (i ≡ j)
 none_there {A} true (Ok p) i j h =
     let none : Option A = None in
     let q : (Some p.0, p.1) ≡ (none, j) = cc in
@@ -44,9 +44,9 @@ none_there {A} false o i j h =
     let q : (none, i) ≡ (none, j) = cc in
     (refl, ap (λ (w : Option A × List Token). w.1) q)
 
-refused_there : {A : Type 0} (b : Bool) (o : Outcome A) (i j : List Token) (e : Stop) → (if b then and_then o (λ x k. Ok (Some x, k)) else Ok (None, i)) ≡ Err (e, j) → (b ≡ true) × (o ≡ Err (e, j))
+refused_there : {A : Type 0} (b : Bool) (o : ReadOutcome A) (i j : List Token) (e : Stop) → (if b then and_then o (λ x k. Ok (Some x, k)) else Ok (None, i)) ≡ Err (e, j) → (b ≡ true) × (o ≡ Err (e, j))
 refused_there true (Ok p) i j e h = absurd (cc)
-refused_there {A} true (Err d) i j e h = let q : d ≡ (e, j) = cc in (refl, ap (λ w. (let o : Outcome A = Err w in o)) q)
+refused_there {A} true (Err d) i j e h = let q : d ≡ (e, j) = cc in (refl, ap (λ w. (let o : ReadOutcome A = Err w in o)) q)
 refused_there false o i j e h = absurd (cc)
 
 module _ {A : Type 0} (cs : List Class) (p : Parser A) (i : List Token) {j : List Token} where
@@ -72,7 +72,7 @@ pub first_found : {A : Type 0} (cs : List Class) (step : Parser (Step A (Unit {0
 first_found {A} cs step p i {j} {x} {last} {none} {found} h f g l =
     let grown : x ∷ [] ≡ found = sym (g ∙ ap (λ w. w ++ x ∷ []) f) in
     record {
-      is = ap (λ (w : Outcome A). and_then (and_then (and_then w (λ x k. Ok (x ∷ [], k))) (λ found j. steps cs step (tt {0}) (length j) found j)) (λ w k. Ok (w.0, k))) h
+      is = ap (λ (w : ReadOutcome A). and_then (and_then (and_then w (λ x k. Ok (x ∷ [], k))) (λ found j. steps cs step (tt {0}) (length j) found j)) (λ w k. Ok (w.0, k))) h
           ∙ ap (λ m. turns cs step (tt {0}) m (x ∷ []) j) (all_left last (length j) l)
           ∙ ap (λ w. turns cs step (tt {0}) (last - 0) w j) grown;
     }

@@ -6,7 +6,7 @@ use Rattle.ep_object.specs.Effects.{Breaks, light}
 use Rattle.ep_object.specs.Operands.{Operand, Word, Place, Text, Value, Set}
 use Rattle.ep_object.specs.Parts.{element_of, part_at, value_element}
 use Rattle.ep_object.specs.State.{TypeTable}
-use Rattle.ep_object.specs.declared.state.Kind.TheVariants.{Array}
+use Rattle.ep_object.specs.declared.state.TypeKind.TheVariants.{Array}
 use Rattle.ep_object.specs.declared.state.TypeEntry.{TypeEntry}
 use Rattle.ep_values.specs.Bounds.{component_at}
 

@@ -6,7 +6,7 @@ use Rattle.ep_object.specs.Effects.{Continues}
 use Rattle.ep_object.specs.Operands.{Operand, word_on_place, Place as PlaceOf}
 use Rattle.ep_object.specs.Places.{index_row, component_of}
 use Rattle.ep_object.specs.State.{Segments, TypeTable}
-use Rattle.ep_object.specs.declared.state.Kind.TheVariants.{Array}
+use Rattle.ep_object.specs.declared.state.TypeKind.TheVariants.{Array}
 use Rattle.ep_object.specs.declared.state.Place.{Place}
 use Rattle.ep_object.specs.declared.state.Segment.{Segment}
 use Rattle.ep_object.specs.declared.state.TypeEntry.{TypeEntry}

@@ -11,15 +11,15 @@ use Rattle.ep_object.specs.Operands.{Operand, Word, Place, Text, Value, Set, wor
 use Rattle.ep_object.specs.Places.{is_within, is_word_kind, kind_of, load_by, load_of, load_row, set_loaded, store_by, store_of, store_row, words_at}
 use Rattle.ep_object.specs.Sets.{set_size}
 use Rattle.ep_object.specs.State.{Segments, TypeTable, bare_number}
-use Rattle.ep_object.specs.declared.state.Kind.{Kind}
-use Rattle.ep_object.specs.declared.state.Kind.TheVariants as kind
+use Rattle.ep_object.specs.declared.state.TypeKind.{TypeKind}
+use Rattle.ep_object.specs.declared.state.TypeKind.TheVariants as kind
 use Rattle.ep_object.specs.declared.state.Place.{Place as PlaceOf}
 use Rattle.ep_object.specs.declared.state.Segment.{Segment}
 use Rattle.ep_object.specs.declared.state.TypeEntry.{TypeEntry}
 use Rattle.ep_rows.specs.Values.{set_stored_at, set_stored_by, word_stored}
 
 -- a variable of one word gives it in one tick
-pub word_loads : (k : Kind) (size n : ℕ) (segments : Segments) (p : PlaceOf) (st : List Operand) → is_word_kind k ≡ true → load_by k size n segments p st ≡ light (load_of segments p st)
+pub word_loads : (k : TypeKind) (size n : ℕ) (segments : Segments) (p : PlaceOf) (st : List Operand) → is_word_kind k ≡ true → load_by k size n segments p st ≡ light (load_of segments p st)
 word_loads (kind.Ord lo hi) size n segments p st h = refl
 word_loads kind.Pointer size n segments p st h = refl
 word_loads kind.Text size n segments p st h = cc
@@ -28,7 +28,7 @@ word_loads (kind.Record ps) size n segments p st h = cc
 word_loads (kind.Set lo hi) size n segments p st h = cc
 
 -- so does one that takes it
-stored_by_kind : (k : Kind) (bare : ℕ) (segments : Segments) (w : ℤ) (p : PlaceOf) (st : List Operand) → store_by k bare (Word w) segments p st ≡ light (provided (is_word_kind k) (store_of k segments p w st))
+stored_by_kind : (k : TypeKind) (bare : ℕ) (segments : Segments) (w : ℤ) (p : PlaceOf) (st : List Operand) → store_by k bare (Word w) segments p st ≡ light (provided (is_word_kind k) (store_of k segments p w st))
 stored_by_kind (kind.Ord lo hi) bare segments w p st = refl
 stored_by_kind kind.Pointer bare segments w p st = refl
 stored_by_kind kind.Text bare segments w p st = refl
@@ -54,7 +54,7 @@ word_stores types segments w (Value n ws ∷ st) = refl
 word_stores types segments w (Set ms ∷ st) = refl
 
 -- and one that takes a set
-set_by_kind : (k : Kind) (bare : ℕ) (segments : Segments) (ms : List ℕ) (p : PlaceOf) (st : List Operand) → store_by k bare (Set ms) segments p st ≡ light (set_stored_by k segments ms p st)
+set_by_kind : (k : TypeKind) (bare : ℕ) (segments : Segments) (ms : List ℕ) (p : PlaceOf) (st : List Operand) → store_by k bare (Set ms) segments p st ≡ light (set_stored_by k segments ms p st)
 set_by_kind (kind.Ord lo hi) bare segments ms p st = refl
 set_by_kind kind.Pointer bare segments ms p st = refl
 set_by_kind kind.Text bare segments ms p st = refl
@@ -80,7 +80,7 @@ set_stores types segments ms (Value n ws ∷ st) = refl
 set_stores types segments ms (Set ns ∷ st) = refl
 
 -- a variable that has a word takes one that it may have
-module _ (kind : Kind) (m : Store) (p : PlaceOf) (w x : ℤ) (st : List Operand) (there : cell.Word x ≡ cell_in (segment_at m p.segment) p.offset) (within : is_within kind w ≡ true) where
+module _ (kind : TypeKind) (m : Store) (p : PlaceOf) (w x : ℤ) (st : List Operand) (there : cell.Word x ≡ cell_in (segment_at m p.segment) p.offset) (within : is_within kind w ≡ true) where
   pub word_put : store_of kind m.segments p w st ≡ Continues (st, (with_word_at p.segment p.offset w m).segments)
   word_put = by_segment (slice_get m.segments p.segment) refl
     where

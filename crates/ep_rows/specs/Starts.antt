@@ -7,7 +7,7 @@ use Rattle.ep_object.specs.Operands.{Operand, one_on_word}
 use Rattle.ep_object.specs.Operands as operand
 use Rattle.ep_object.specs.State.{TypeTable}
 use Rattle.ep_object.specs.Types.{init_row, words_for}
-use Rattle.ep_object.specs.declared.state.Kind.{Kind}
+use Rattle.ep_object.specs.declared.state.TypeKind.{TypeKind}
 use Rattle.ep_rows.specs.Parts.{typing}
 use Rattle.ep_rows.specs.declared.starts.Given.{Given}
 use Rattle.ep_rows.specs.declared.starts.Given.TheVariants as given
@@ -31,7 +31,7 @@ AreWords ws (Err NoMemory) = Unit {0}
 AreWords ws (Err step) = ⊥
 
 -- the words are those with which a variable of the kind begins, or it tells why there are none
-abbrev pub AreWordsFor : Kind → Operand → Result (List ℤ) Step → Type 0
+abbrev pub AreWordsFor : TypeKind → Operand → Result (List ℤ) Step → Type 0
 AreWordsFor k x (Ok words) = (bare : ℕ) → words_for k bare x ≡ Continues words
 AreWordsFor k x (Err (Error n)) = (bare : ℕ) → words_for k bare x ≡ Fails n
 AreWordsFor k x (Err Broken) = (bare : ℕ) → words_for k bare x ≡ Breaks

@@ -4,8 +4,8 @@ use Rattle.ep_object.specs.Effects.{Effect, Breaks, having, provided}
 use Rattle.ep_object.specs.Operands.{Operand, place}
 use Rattle.ep_object.specs.Places.{is_word_kind, kind_of, store_of, store_set, words_stored}
 use Rattle.ep_object.specs.State.{Segments, TypeTable}
-use Rattle.ep_object.specs.declared.state.Kind.{Kind}
-use Rattle.ep_object.specs.declared.state.Kind.TheVariants as kind
+use Rattle.ep_object.specs.declared.state.TypeKind.{TypeKind}
+use Rattle.ep_object.specs.declared.state.TypeKind.TheVariants as kind
 use Rattle.ep_object.specs.declared.state.Place.{Place}
 use Rattle.ep_object.specs.declared.state.Segment.{Segment}
 
@@ -17,7 +17,7 @@ word_stored types segments w st =
     (λ kind. provided (is_word_kind kind) (store_of kind segments p.0 w p.1)))
 
 -- a variable of the kind takes a set
-abbrev pub set_stored_by : Kind → Segments → List ℕ → Place → List Operand → Effect (List Operand × Segments)
+abbrev pub set_stored_by : TypeKind → Segments → List ℕ → Place → List Operand → Effect (List Operand × Segments)
 set_stored_by (kind.Set lo hi) segments ms p st = store_set lo hi ms segments p st
 set_stored_by _ segments ms p st = Breaks
 
@@ -27,7 +27,7 @@ set_stored_at types segments ms st =
     having (place st) (λ p. having (kind_of types p.0.type_number) (λ k. set_stored_by k segments ms p.0 p.1))
 
 -- whether variables of the kind have any number of words, which are loaded and stored at once
-abbrev pub has_many_words : Kind → Bool
+abbrev pub has_many_words : TypeKind → Bool
 has_many_words (kind.Ord lo hi) = false
 has_many_words kind.Pointer = false
 has_many_words kind.Text = false

@@ -19,7 +19,7 @@ use crate::values::words_at;
 use crate::{members, places, sets, words};
 use ep_frames::{Members, Stack};
 use ep_memory::{Memory, UNDEFINED};
-use ep_object::{Kind, TypeEntry};
+use ep_object::{TypeEntry, TypeKind};
 use ep_values::run_error;
 
 /// What a component holds of the value that it is taken out of.
@@ -62,10 +62,10 @@ fn part_of(words: &[i64], offset: usize, type_number: u32, types: &[TypeEntry]) 
     let entry = types.get(type_number as usize)?;
     let value = words_at(words, offset, entry.size as usize)?;
     let content = match &entry.kind {
-        Kind::Text => return None,
-        Kind::Ord(_, _) | Kind::Pointer => Content::Word(value.first().copied()),
-        Kind::Array(_, _, _) | Kind::Record(_) => Content::Words(entry.size),
-        Kind::Set(_, _) => Content::Set(value.first().copied(), members::read(value)),
+        TypeKind::Text => return None,
+        TypeKind::Ord(_, _) | TypeKind::Pointer => Content::Word(value.first().copied()),
+        TypeKind::Array(_, _, _) | TypeKind::Record(_) => Content::Words(entry.size),
+        TypeKind::Set(_, _) => Content::Set(value.first().copied(), members::read(value)),
     };
     Some(Found {
         type_number: bare_number(type_number, entry.bare),
@@ -81,7 +81,7 @@ fn field_found(number: usize, types: &[TypeEntry], whole: u32, words: &[i64]) ->
     ensures there { IfSome result (λ f. IsThere words.now f.offset f.content) }
 {
     let entry = types.get(whole as usize)?;
-    let Kind::Record(parts) = &entry.kind else {
+    let TypeKind::Record(parts) = &entry.kind else {
         return None;
     };
     let found = parts.items().get(number)?;
@@ -107,7 +107,7 @@ fn element_found(index: i64, types: &[TypeEntry], array: u32, words: &[i64]) -> 
     let Some(entry) = types.get(array as usize) else {
         return AtIndex::Broken;
     };
-    let Kind::Array(lo, hi, type_number) = entry.kind else {
+    let TypeKind::Array(lo, hi, type_number) = entry.kind else {
         return AtIndex::Broken;
     };
     let Some(component) = types.get(type_number as usize) else {

@@ -14,7 +14,7 @@ use crate::types::{bare_number, entry_of, intern_over, plain};
 use ep_base::{List, NoMemory};
 use ep_frames::Stack;
 use ep_memory::{Memory, UNDEFINED};
-use ep_object::{Kind, RecordPart, RecordParts, TypeEntry, Words, limit};
+use ep_object::{RecordPart, RecordParts, TypeEntry, TypeKind, Words, limit};
 use ep_values::run_error;
 use std::alloc::{AllocError, Global};
 
@@ -221,7 +221,7 @@ fn record_whole(
     let parts = parts_of_all(alloc, types, numbers)?;
     let start = record_start(alloc, types, numbers)?;
     Ok(TypeEntry {
-        kind: Kind::Record(parts),
+        kind: TypeKind::Record(parts),
         size,
         start,
         bare: None,
@@ -242,7 +242,7 @@ fn record_bare(
         return Ok(None);
     }
     let parts = bare_parts(alloc, types, numbers)?;
-    Ok(Some(plain(Kind::Record(parts), size)))
+    Ok(Some(plain(TypeKind::Record(parts), size)))
 }
 
 /// The record type with components of so many types, which stand on top, the lowest one first.

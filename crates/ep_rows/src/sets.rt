@@ -20,7 +20,7 @@ use crate::{members, segments, words};
 use ep_decode::{Combination, Inclusion};
 use ep_frames::{Members, Stack};
 use ep_memory::{Memory, Stored, UNDEFINED};
-use ep_object::{Kind, Place, SET_MEMBERS, SET_WORDS, TypeEntry};
+use ep_object::{Place, SET_MEMBERS, SET_WORDS, TypeEntry, TypeKind};
 use ep_values::run_error;
 
 /// One more set.
@@ -234,7 +234,7 @@ fn value_at(p: Place, types: &[TypeEntry], memory: &Memory) -> Option<Members>
     let Some(entry) = types.get(p.type_number as usize) else {
         return None;
     };
-    let Kind::Set(_, _) = entry.kind else {
+    let TypeKind::Set(_, _) = entry.kind else {
         return None;
     };
     let Some(words) = memory.words_of(p.segment) else {
@@ -267,7 +267,7 @@ pub(crate) fn load_at(types: &[TypeEntry], memory: &Memory, stack: &mut Stack) -
     let Some(entry) = types.get(p.type_number as usize) else {
         return Step::Rare;
     };
-    let Kind::Set(_, _) = entry.kind else {
+    let TypeKind::Set(_, _) = entry.kind else {
         return Step::Rare;
     };
     stack.pop();
@@ -322,7 +322,7 @@ pub(crate) fn store(
     let Some(entry) = types.get(p.type_number as usize) else {
         return Step::Broken;
     };
-    let Kind::Set(lo, hi) = entry.kind else {
+    let TypeKind::Set(lo, hi) = entry.kind else {
         return Step::Broken;
     };
     put(lo, hi, p, set, memory)

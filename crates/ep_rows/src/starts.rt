@@ -19,7 +19,7 @@ use crate::{members, words};
 use ep_base::{List, NoMemory};
 use ep_frames::{Members, Stack};
 use ep_memory::Memory;
-use ep_object::{Kind, TypeEntry, Words};
+use ep_object::{TypeEntry, TypeKind, Words};
 use ep_values::run_error;
 use std::alloc::Global;
 
@@ -77,18 +77,18 @@ fn listed(alloc: Global, words: &[i64]) -> Result<Words, Step>
 }
 
 /// The words with which a variable of the kind begins.
-fn words_for(alloc: Global, kind: &Kind, given: Given) -> Result<Words, Step>
+fn words_for(alloc: Global, kind: &TypeKind, given: Given) -> Result<Words, Step>
     ensures { AreWordsFor kind.now (given_of given) result }
 {
     match (kind, given) {
-        (Kind::Ord(lo, hi), Given::Word(w)) => {
+        (TypeKind::Ord(lo, hi), Given::Word(w)) => {
             if w < *lo || *hi < w {
                 return Err(Step::Error(run_error::OUTSIDE_TYPE));
             }
             listed(alloc, &[w])
         }
-        (Kind::Pointer, Given::Word(w)) => listed(alloc, &[w]),
-        (Kind::Set(lo, hi), Given::Set(set)) => {
+        (TypeKind::Pointer, Given::Word(w)) => listed(alloc, &[w]),
+        (TypeKind::Set(lo, hi), Given::Set(set)) => {
             if !members::is_between(*lo, *hi, set) {
                 return Err(Step::Error(run_error::SET_MEMBER));
             }
@@ -99,16 +99,16 @@ fn words_for(alloc: Global, kind: &Kind, given: Given) -> Result<Words, Step>
 }
 
 /// A kind once more, if there is memory.
-fn copied(alloc: Global, kind: &Kind) -> Result<Kind, NoMemory>
+fn copied(alloc: Global, kind: &TypeKind) -> Result<TypeKind, NoMemory>
     ensures { IfOk result (λ k. k ≡ kind.now) }
 {
     match kind {
-        Kind::Ord(lo, hi) => Ok(Kind::Ord(*lo, *hi)),
-        Kind::Pointer => Ok(Kind::Pointer),
-        Kind::Text => Ok(Kind::Text),
-        Kind::Array(lo, hi, component) => Ok(Kind::Array(*lo, *hi, *component)),
-        Kind::Record(parts) => Ok(Kind::Record(List::from_slice(alloc, parts.items())?)),
-        Kind::Set(lo, hi) => Ok(Kind::Set(*lo, *hi)),
+        TypeKind::Ord(lo, hi) => Ok(TypeKind::Ord(*lo, *hi)),
+        TypeKind::Pointer => Ok(TypeKind::Pointer),
+        TypeKind::Text => Ok(TypeKind::Text),
+        TypeKind::Array(lo, hi, component) => Ok(TypeKind::Array(*lo, *hi, *component)),
+        TypeKind::Record(parts) => Ok(TypeKind::Record(List::from_slice(alloc, parts.items())?)),
+        TypeKind::Set(lo, hi) => Ok(TypeKind::Set(*lo, *hi)),
     }
 }
 

@@ -14,22 +14,22 @@ use crate::{bounds, places, sets, words};
 use ep_base::{List, NoMemory};
 use ep_frames::Stack;
 use ep_memory::Memory;
-use ep_object::{Kind, SET_WORDS, TypeEntry, Words, limit};
+use ep_object::{SET_WORDS, TypeEntry, TypeKind, Words, limit};
 use ep_values::run_error;
 use std::alloc::Global;
 
 /// How many words a new type of this kind counts.
-fn words_of_kind(kind: &Kind) -> u64
+fn words_of_kind(kind: &TypeKind) -> u64
     ensures words { result ≡ words_of kind.now }
     ensures small { result < 2 ^ 62 }
 {
     match kind {
-        Kind::Ord(_, _) => 1,
-        Kind::Pointer => 1,
-        Kind::Text => 1,
-        Kind::Set(_, _) => 1,
-        Kind::Array(_, _, _) => 2,
-        Kind::Record(parts) => parts.items().len() as u64 + 1,
+        TypeKind::Ord(_, _) => 1,
+        TypeKind::Pointer => 1,
+        TypeKind::Text => 1,
+        TypeKind::Set(_, _) => 1,
+        TypeKind::Array(_, _, _) => 2,
+        TypeKind::Record(parts) => parts.items().len() as u64 + 1,
     }
 }
 
@@ -169,7 +169,7 @@ pub(crate) fn intern_over(
 }
 
 /// A type of this kind and size in which no initial state is given.
-pub(crate) fn plain(kind: Kind, size: u32) -> TypeEntry
+pub(crate) fn plain(kind: TypeKind, size: u32) -> TypeEntry
     ensures { result ≡ plain_of kind size }
 {
     TypeEntry {
@@ -194,7 +194,7 @@ pub(crate) fn bare_number(number: u32, bare: Option<u32>) -> u32
 fn ordinal_entry(lo: i64, hi: i64) -> TypeEntry
     ensures { result ≡ ordinal lo hi }
 {
-    plain(Kind::Ord(lo, hi), 1)
+    plain(TypeKind::Ord(lo, hi), 1)
 }
 
 /// The number that the ordinal type with two bounds has, or a new one.
@@ -261,11 +261,11 @@ pub(crate) fn entry_of(types: &[TypeEntry], w: i64) -> Option<(usize, &TypeEntry
 }
 
 /// The bounds of an ordinal type.
-fn bounds_of(kind: &Kind) -> Option<(i64, i64)>
+fn bounds_of(kind: &TypeKind) -> Option<(i64, i64)>
     ensures { result ≡ kind_bounds kind.now }
 {
     match kind {
-        Kind::Ord(lo, hi) => Some((*lo, *hi)),
+        TypeKind::Ord(lo, hi) => Some((*lo, *hi)),
         _ => None,
     }
 }
@@ -274,7 +274,7 @@ fn bounds_of(kind: &Kind) -> Option<(i64, i64)>
 fn set_entry(lo: i64, hi: i64) -> TypeEntry
     ensures { result ≡ set_type lo hi }
 {
-    plain(Kind::Set(lo, hi), SET_WORDS)
+    plain(TypeKind::Set(lo, hi), SET_WORDS)
 }
 
 /// The set type whose base type has the number on top.
@@ -331,7 +331,7 @@ fn array_bare(lo: i64, hi: i64, size: u32, bare: Option<u32>) -> Option<TypeEntr
 {
     match bare {
         None => None,
-        Some(component) => Some(plain(Kind::Array(lo, hi, component), size)),
+        Some(component) => Some(plain(TypeKind::Array(lo, hi, component), size)),
     }
 }
 
@@ -348,7 +348,7 @@ fn array_whole(
 {
     let start = array_start(alloc, lo, hi, &component.start)?;
     Ok(TypeEntry {
-        kind: Kind::Array(lo, hi, number),
+        kind: TypeKind::Array(lo, hi, number),
         size,
         start,
         bare: None,

@@ -19,16 +19,16 @@ use crate::types::bare_number;
 use crate::{segments, sets};
 use ep_frames::Stack;
 use ep_memory::{Memory, Stored};
-use ep_object::{Kind, Place, TypeEntry};
+use ep_object::{Place, TypeEntry, TypeKind};
 use ep_values::run_error;
 
 /// Whether variables of the kind have any number of words.
-pub(crate) fn is_structured(kind: &Kind) -> bool
+pub(crate) fn is_structured(kind: &TypeKind) -> bool
     ensures { result ≡ has_many_words kind.now }
 {
     match kind {
-        Kind::Array(_, _, _) | Kind::Record(_) => true,
-        Kind::Ord(_, _) | Kind::Pointer | Kind::Text | Kind::Set(_, _) => false,
+        TypeKind::Array(_, _, _) | TypeKind::Record(_) => true,
+        TypeKind::Ord(_, _) | TypeKind::Pointer | TypeKind::Text | TypeKind::Set(_, _) => false,
     }
 }
 
@@ -119,16 +119,16 @@ fn load_typed(
         memory.now.segments p st) result ticks.old ticks.new stack.old stack.new }
 {
     match &entry.kind {
-        Kind::Text => Step::Broken,
-        Kind::Ord(_, _) | Kind::Pointer => {
+        TypeKind::Text => Step::Broken,
+        TypeKind::Ord(_, _) | TypeKind::Pointer => {
             stack.pop();
             load_word(p, memory, stack)
         }
-        Kind::Set(_, _) => {
+        TypeKind::Set(_, _) => {
             stack.pop();
             sets::load(p, memory, stack)
         }
-        Kind::Array(_, _, _) | Kind::Record(_) => {
+        TypeKind::Array(_, _, _) | TypeKind::Record(_) => {
             let bare = bare_number(p.type_number, entry.bare);
             load_value(limit, ticks, p, entry.size, bare, memory, stack)
         }

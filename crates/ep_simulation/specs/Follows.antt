@@ -8,7 +8,7 @@ use Rattle.ep_meaning.specs.Steps.{Component, Outcome, Gives, Ends, Cut, Computa
 use Rattle.ep_values.specs.Values.{Value as ValueOf}
 use Rattle.ep_meaning.specs.Steps as meaning
 use Rattle.ep_meaning.specs.Valid as kind
-use Rattle.ep_meaning.specs.Valid.{Kind}
+use Rattle.ep_meaning.specs.Valid.{ValueKind}
 use Rattle.ep_typed.specs.Hosts.{Host, is_of_host}
 use Rattle.ep_values.specs.TypeValues.{TypeValue, bare_of, size_of}
 use Rattle.ep_simulation.specs.Layouts.{Layout}
@@ -270,7 +270,7 @@ pub record SetOnTop (below : List Operand) (r : Result) (injection : Injection) 
   pub is : operands ≡ Set members ∷ below
 
 -- a result of the kind on top
-abbrev pub OnTop : Kind → List Operand → Result → Operands
+abbrev pub OnTop : ValueKind → List Operand → Result → Operands
 OnTop (kind.Ordinal host) below r = NumberOnTop host below r
 OnTop kind.Bytes below r = TextOnTop below r
 OnTop (kind.Structured type) below r = StructureOnTop type below r

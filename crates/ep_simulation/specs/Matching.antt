@@ -28,8 +28,8 @@ use Rattle.ep_object.specs.State.{Frames, Segments, TypeTable, State, bare_numbe
 use Rattle.ep_object.specs.Types.{ordinal_entry, array_entry, record_entry, set_entry}
 use Rattle.ep_object.specs.declared.code.Image.{Image}
 use Rattle.ep_object.specs.declared.code.ImageUnit.{ImageUnit}
-use Rattle.ep_object.specs.declared.state.Kind.{Kind}
-use Rattle.ep_object.specs.declared.state.Kind.TheVariants as kind
+use Rattle.ep_object.specs.declared.state.TypeKind.{TypeKind}
+use Rattle.ep_object.specs.declared.state.TypeKind.TheVariants as kind
 use Rattle.ep_object.specs.declared.state.Place.{Place}
 use Rattle.ep_object.specs.declared.state.RecordPart.{RecordPart}
 use Rattle.ep_object.specs.declared.state.Segment.{Segment}
@@ -108,8 +108,8 @@ abbrev mutual
 -- A type of the table that is of such a kind describes the type value: it has its size, begins with its initial state,
 -- and tells
 -- its bare form, which is another type exactly where an initial state is given to it or in it.
-pub record IsEntry (types : TypeTable) (n : ℕ) (t : TypeValue) (IsKind : Kind → Type 0) : Type 0 where
-  pub kind : Kind
+pub record IsEntry (types : TypeTable) (n : ℕ) (t : TypeValue) (IsKind : TypeKind → Type 0) : Type 0 where
+  pub kind : TypeKind
   pub bare : Option ℕ
   pub stands : slice_get types n ≡ Some (record { kind = kind; size = size_of t; start = words_kept t; bare = bare })
   pub is_kind : IsKind kind
@@ -118,7 +118,7 @@ pub record IsEntry (types : TypeTable) (n : ℕ) (t : TypeValue) (IsKind : Kind 
 
 abbrev mutual
   -- the kind of the type value, whose components have types that describe them, each with its own initial state
-  pub IsKindOf : TypeTable → TypeValue → Kind → Type 0
+  pub IsKindOf : TypeTable → TypeValue → TypeKind → Type 0
   IsKindOf types (type.Ordinal low high) k = k ≡ kind.Ord low high
   IsKindOf types type.Text k = k ≡ kind.Text
   IsKindOf types (type.Array low high of) k =
@@ -145,22 +145,22 @@ abbrev pub IsLike : TypeTable → ℕ → TypeValue → Type 0
 IsLike types n t = (u : TypeValue) × (bare_of u ≡ t) × Describes types n u
 
 -- a component of a type: how many words are before it, and its type
-pub record Part : Type 0 where
+pub record TypePart : Type 0 where
   pub offset : ℕ
   pub type_value : TypeValue
 
-abbrev pub part_behind : ℕ → Option Part → Option Part
+abbrev pub part_behind : ℕ → Option TypePart → Option TypePart
 part_behind n None = None
 part_behind n (Some p) = Some (record p { offset = n + p.offset })
 
 -- the component of this number, of which the first one is behind so many words
-abbrev pub part_among : ℕ → ComponentTypes → ℕ → Option Part
+abbrev pub part_among : ℕ → ComponentTypes → ℕ → Option TypePart
 part_among before type.no_component k = None
 part_among before (type.next_component t ts) zero = Some (record { offset = before; type_value = t })
 part_among before (type.next_component t ts) (suc k) = part_among (before + size_of t) ts k
 
 -- the component of this number, where the type has one
-abbrev pub part_of : TypeValue → ℕ → Option Part
+abbrev pub part_of : TypeValue → ℕ → Option TypePart
 part_of (type.Ordinal low high) k = None
 part_of type.Text k = None
 part_of (type.Array low high of) k =
@@ -170,13 +170,13 @@ part_of (type.Set low high) k = None
 part_of (type.Initial of start) k = part_of of k
 
 -- the part at a path, of a part that begins behind so many words
-abbrev pub part_along : Option Part → List ℕ → Option Part
+abbrev pub part_along : Option TypePart → List ℕ → Option TypePart
 part_along part [] = part
 part_along None (k ∷ path) = None
 part_along (Some p) (k ∷ path) = part_along (part_behind p.offset (part_of p.type_value k)) path
 
 -- all of a type
-abbrev pub all_of : TypeValue → Part
+abbrev pub all_of : TypeValue → TypePart
 all_of t = record { offset = 0; type_value = t }
 
 -- words by number
@@ -340,7 +340,7 @@ HaveSize types before (p ∷ ps) size =
     × HaveSize types (before + e.size) ps size
 
 -- the size that a type of this kind has
-abbrev pub HasSize : TypeTable → Kind → ℕ → Type 0
+abbrev pub HasSize : TypeTable → TypeKind → ℕ → Type 0
 HasSize types (kind.Ord low high) size = size ≡ 1
 HasSize types kind.Pointer size = size ≡ 1
 HasSize types kind.Text size = size ≡ 1

@@ -37,13 +37,13 @@ use Rattle.ep_meaning.specs.Steps.{Outcome, Gives, Ends, Cut, Computation, state
 use Rattle.ep_meaning.specs.Steps as meaning
 use Rattle.ep_meaning.specs.Valid as kind
 use Rattle.ep_typed.specs.Trees.{Named}
-use Rattle.ep_meaning.specs.Valid.{Declarations, IsOfKind, IsTyped, Kind, Level}
+use Rattle.ep_meaning.specs.Valid.{Declarations, IsOfKind, IsTyped, ValueKind, Level}
 use Rattle.ep_typed.specs.declared.interface.RoutineEntry.{RoutineEntry}
 use Rattle.ep_typed.specs.declared.interface.RoutineResult.{RoutineResult}
 
 -- how a formal parameter takes its argument: a value of a kind, or a variable of a type, but for initial states
 pub data Passing : Type 0 where
-  ByValue : (kind : Kind) → Passing
+  ByValue : (kind : ValueKind) → Passing
   ByReference : (type : TypeValue) → Passing
 
 -- this formal parameter of a unit with these types does so
@@ -62,7 +62,7 @@ ArePassed types (f ∷ fs) [] = ⊥
 ArePassed types (f ∷ fs) (p ∷ ps) = IsPassed types f.mode f p × ArePassed types fs ps
 
 -- an operand is the value of a result of the kind
-abbrev pub IsValueOf : Injection → MachineMemory → Kind → Result → Operand → Type 0
+abbrev pub IsValueOf : Injection → MachineMemory → ValueKind → Result → Operand → Type 0
 IsValueOf injection memory (kind.Ordinal host) r o =
     (z : ℤ) × (r ≡ Number z) × IsTrue (is_of_host host z) × (o ≡ Word z)
 IsValueOf injection memory kind.Bytes r o = (bytes : List ℕ) × (r ≡ Bytes bytes) × (o ≡ Text bytes)
@@ -87,7 +87,7 @@ AreArguments injection memory (f ∷ fs) (x ∷ xs) below operands =
     (o : Operand) × IsArgument injection memory f x o × AreArguments injection memory fs xs (o ∷ below) operands
 
 -- Results of these kinds lie on the operands below, the first lowest. A procedure has none, and a function has one.
-abbrev pub ResultsOnTop : List Kind → List Operand → List Result → Operands
+abbrev pub ResultsOnTop : List ValueKind → List Operand → List Result → Operands
 ResultsOnTop [] below [] injection memory operands = operands ≡ below
 ResultsOnTop [] below (r ∷ rs) injection memory operands = ⊥
 ResultsOnTop (k ∷ ks) below [] injection memory operands = ⊥
@@ -125,7 +125,7 @@ pub record CallsAt (G : Image) (place routine levels line : ℕ) : Type 0 where
 -- where the results are on the operands below. The allocations that the routine made have ended then on both sides, if
 -- they do at all, and what the caller knows of its own activation holds as before. No credit is there before.
 pub record Promises (layout : Layout) (G : Image) (routine n : ℕ) (types : List UnitType) (around : List Level)
-    (formals : List Passing) (results : List Kind) (called : Called) : Type 0 where
+    (formals : List Passing) (results : List ValueKind) (called : Called) : Type 0 where
   pub by : (place levels line : ℕ) → CallsAt G place routine levels line
       → (injection : Injection) (begun : meaning.State) (memory : MachineMemory)
       → IsCallable types levels around injection begun.calls memory
@@ -137,7 +137,7 @@ pub record Promises (layout : Layout) (G : Image) (routine n : ℕ) (types : Lis
 
 -- The kinds of what a routine of a unit with these types gives: a procedure gives nothing, and a function one value of
 -- the kind of its result (ISO 10206, 6.7.2).
-abbrev pub AreResults : List UnitType → Option RoutineResult → List Kind → Type 0
+abbrev pub AreResults : List UnitType → Option RoutineResult → List ValueKind → Type 0
 AreResults types None [] = ⊤
 AreResults types None (k ∷ ks) = ⊥
 AreResults types (Some r) [] = ⊥
@@ -151,7 +151,7 @@ pub record RoutineKeeps (layout : Layout) (G : Image) (ps : List Placement) (cal
   pub routine : ℕ
   pub formals : List Passing
   pub passed : ArePassed types r.formals formals
-  pub results : List Kind
+  pub results : List ValueKind
   pub given : AreResults types r.result results
   pub placed : (i : Instr)
       → placed_call ps (Some (record { unit = unit; number = number })) i ≡ record i { a = pos routine }
@@ -401,7 +401,7 @@ CallComesTo layout G injection begun memory Then to k steps (Cut s) = StaysAfter
 abbrev pub CallsAnswer : Type 0
 CallsAnswer =
     (layout : Layout) (G : Image) (routine n : ℕ) (types : List UnitType) (around : List Level)
-    → (formals : List Passing) (results : List Kind) (called : Called)
+    → (formals : List Passing) (results : List ValueKind) (called : Called)
     → Promises layout G routine n types around formals results called
     → (place levels line : ℕ) → CallsAt G place routine levels line
     → (injection : Injection) (memory : MachineMemory) (below operands : List Operand)

@@ -6,7 +6,7 @@ use Rattle.ep_values.specs.Events.{Trace}
 use Rattle.ep_values.specs.Printing.{Result}
 use Rattle.ep_meaning.specs.Steps.{Outcome, Gives, Ends, Cut, Computation, spend, state_of}
 use Rattle.ep_meaning.specs.Steps as meaning
-use Rattle.ep_meaning.specs.Valid.{Kind}
+use Rattle.ep_meaning.specs.Valid.{ValueKind}
 use Rattle.ep_object.specs.Effects.{Returns, light}
 use Rattle.ep_simulation.specs.Follows.{end_of, Follows, GivesUp, Since, Lands, Operands, Bare, OnTop, IsNotLeft}
 use Rattle.ep_simulation.specs.Follows.{Inside}
@@ -139,7 +139,7 @@ ProceduresAnswer =
 -- the same of a computation that gives a result of a kind
 abbrev pub FunctionsAnswer : Type 0
 FunctionsAnswer =
-    (layout : Layout) (G : Image) (unit routine n : ℕ) (kind : Kind) (c : Computation Result)
+    (layout : Layout) (G : Image) (unit routine n : ℕ) (kind : ValueKind) (c : Computation Result)
     → Simulates layout G unit routine n c (OnTop kind)
     → (injection : Injection) (memory : MachineMemory) (below : List Operand) (s : meaning.State) (k : State)
     → Enters layout G unit routine injection memory below s k

@@ -26,8 +26,8 @@ use Rattle.ep_stmt_rules.specs.declared.loops.ForHead.{ForHead}
 use Rattle.ep_stmt_rules.specs.declared.members.MemberHead.{MemberHead}
 use Rattle.ep_stmt_rules.specs.declared.outcome.CheckRefusal.{CheckRefusal}
 use Rattle.ep_stmt_rules.specs.declared.outcome.CheckRefusal.TheVariants as refusal
-use Rattle.ep_stmt_rules.specs.declared.outcome.Outcome.{Outcome}
-use Rattle.ep_stmt_rules.specs.declared.outcome.Outcome.TheVariants as outcome
+use Rattle.ep_stmt_rules.specs.declared.outcome.Admission.{Admission}
+use Rattle.ep_stmt_rules.specs.declared.outcome.Admission.TheVariants as outcome
 use Rattle.ep_stmt_rules.specs.declared.statements.FunctionResult.{FunctionResult}
 use Rattle.ep_stmt_rules.specs.declared.statements.Locals.{Locals}
 use Rattle.ep_stmt_rules.specs.declared.statements.Locals.TheVariants as locals
@@ -46,7 +46,7 @@ AnswersLabels (Ok done) new judged = judged ≡ Accepts new
 AnswersLabels (Err refusal) new judged = Refuses refusal judged
 
 -- what items come to that break no rule
-abbrev pub passed : {T A : Type 0} → (T → A) → Outcome T → Judgement A
+abbrev pub passed : {T A : Type 0} → (T → A) → Admission T → Judgement A
 passed view (outcome.Passes t) = Passes (view t)
 passed view (outcome.Waits line) = Waits line
 
@@ -57,7 +57,7 @@ RefusesRow (refusal.NotBuilt line) row = ⊥
 RefusesRow refusal.NoMemory row = ⊤
 
 -- what a row of items comes to, exactly where it breaks no rule, or a refusal
-abbrev pub AnswersRow : {T A : Type 0} → (T → A) → Result (Outcome T) CheckRefusal → Judgement A → Type 0
+abbrev pub AnswersRow : {T A : Type 0} → (T → A) → Result (Admission T) CheckRefusal → Judgement A → Type 0
 AnswersRow view (Ok found) row = row ≡ passed view found
 AnswersRow view (Err r) row = RefusesRow r row
 

@@ -12,7 +12,7 @@ ghost use Rattle.ep_stmt_rules.specs.Cases as spec;
 ghost use Rattle.ep_stmt_rules.specs.Cases.{added, arms_taken, end_judged, fitting, label_taken, labels_taken, own_ranges, range_judged, ranges_formed, ranging, selector_judged};
 ghost use Rattle.ep_stmt_rules.specs.Statements.{Judgement, Passes, after, at_item, case_row, formed};
 
-use crate::outcome::Outcome;
+use crate::outcome::Admission;
 use crate::statements::Row;
 use ep_base::{Boxed, Line};
 use ep_check_expr::{ConstantForm, label_value, typed_expression};
@@ -257,12 +257,12 @@ pub fn arm_form(
         → AnswersRow arm_of result (after (λ a b. (a, b)) x y) }
 {
     match (ranges?, body?) {
-        (Outcome::Passes(ranges), Outcome::Passes(body)) => {
+        (Admission::Passes(ranges), Admission::Passes(body)) => {
             let form = Boxed::new(alloc, CaseArm { ranges, body })?;
-            Ok(Outcome::Passes(form))
+            Ok(Admission::Passes(form))
         }
-        (Outcome::Waits(first), _) => Ok(Outcome::Waits(first)),
-        (_, Outcome::Waits(first)) => Ok(Outcome::Waits(first)),
+        (Admission::Waits(first), _) => Ok(Admission::Waits(first)),
+        (_, Admission::Waits(first)) => Ok(Admission::Waits(first)),
     }
 }
 
@@ -270,7 +270,7 @@ pub fn arm_form(
 pub fn no_otherwise() -> Row<Option<TypedStmts>>
     ensures { AnswersRow other_of result (Passes tree.no_other) }
 {
-    Ok(Outcome::Passes(None))
+    Ok(Admission::Passes(None))
 }
 
 /// The statements of `otherwise`.
@@ -279,8 +279,8 @@ pub fn otherwise_form(statements: Row<TypedStmts>) -> Row<Option<TypedStmts>>
         → AnswersRow other_of result (formed tree.otherwise_do x) }
 {
     match statements? {
-        Outcome::Passes(all) => Ok(Outcome::Passes(Some(all))),
-        Outcome::Waits(line) => Ok(Outcome::Waits(line)),
+        Admission::Passes(all) => Ok(Admission::Passes(Some(all))),
+        Admission::Waits(line) => Ok(Admission::Waits(line)),
     }
 }
 
@@ -297,12 +297,12 @@ pub fn case_form(
         → AnswersRow other_of other y → AnswersRow stmt_of result (case_row line j x y) }
 {
     match (selector?, arms?, other?) {
-        (Outcome::Passes(form), Outcome::Passes(arms), Outcome::Passes(other)) => {
+        (Admission::Passes(form), Admission::Passes(arms), Admission::Passes(other)) => {
             let form = Boxed::new(alloc, TypedStmt::Case(line, form, arms, other))?;
-            Ok(Outcome::Passes(form))
+            Ok(Admission::Passes(form))
         }
-        (Outcome::Waits(first), _, _) => Ok(Outcome::Waits(first)),
-        (_, Outcome::Waits(first), _) => Ok(Outcome::Waits(first)),
-        (_, _, Outcome::Waits(first)) => Ok(Outcome::Waits(first)),
+        (Admission::Waits(first), _, _) => Ok(Admission::Waits(first)),
+        (_, Admission::Waits(first), _) => Ok(Admission::Waits(first)),
+        (_, _, Admission::Waits(first)) => Ok(Admission::Waits(first)),
     }
 }

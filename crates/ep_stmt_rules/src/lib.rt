@@ -32,7 +32,7 @@ pub use loops::{
 };
 pub use members::{MemberHead, for_in_form, member_head, unless_member_threatens};
 pub use numbering::{behind_arm, behind_arms, behind_statement, behind_then};
-pub use outcome::{CheckRefusal, Outcome, item_at, refused_at};
+pub use outcome::{Admission, CheckRefusal, item_at, refused_at};
 pub use records::{Opened, RecordNamed, named_record, unless_places_threaten, with_form};
 pub use statements::{
     FunctionResult, Locals, Row, assigned, call_arguments, component_rule, compound_form, if_form,

@@ -19,7 +19,7 @@ ghost use Rattle.ep_threats.specs.RoutineForms.{routine_form};
 ghost use Rattle.ep_stmt_rules.specs.Statements as spec;
 ghost use Rattle.ep_stmt_rules.specs.Statements.{Judgement, bound_judged, bounds_judged, control_named, declared_control, declares_own, declares_variable, expr_threat, for_control, for_head, for_row, head_threat, initial_variable, last_variable, stmt_threat, unless_threatening};
 
-use crate::outcome::Outcome;
+use crate::outcome::Admission;
 use crate::statements::{Locals, Row};
 use ep_base::{Boxed, Line, List, Name, NoMemory};
 use ep_check_expr::typed_expression;
@@ -275,12 +275,12 @@ pub fn for_form(
         → AnswersRow stmt_of body y → AnswersRow stmt_of result (for_row line x y) }
 {
     match (head?, body?) {
-        (Outcome::Passes(head), Outcome::Passes(body)) => {
+        (Admission::Passes(head), Admission::Passes(body)) => {
             let form = Boxed::new(alloc, head.into_statement(line, body))?;
-            Ok(Outcome::Passes(form))
+            Ok(Admission::Passes(form))
         }
-        (Outcome::Waits(first), _) => Ok(Outcome::Waits(first)),
-        (_, Outcome::Waits(first)) => Ok(Outcome::Waits(first)),
+        (Admission::Waits(first), _) => Ok(Admission::Waits(first)),
+        (_, Admission::Waits(first)) => Ok(Admission::Waits(first)),
     }
 }
 

@@ -17,7 +17,7 @@ ghost use Rattle.ep_stmt_rules.specs.Statements as spec;
 ghost use Rattle.ep_stmt_rules.specs.Statements.{Judgement, for_in_row, member_control, member_threat, members_judged, block_variable, set_judged, unless_threatening};
 
 use crate::loops::Counted;
-use crate::outcome::Outcome;
+use crate::outcome::Admission;
 use crate::statements::{Locals, Row};
 use ep_base::{Boxed, Line, NoMemory};
 use ep_check_expr::typed_expression;
@@ -93,12 +93,12 @@ pub fn for_in_form(
         → AnswersRow stmt_of body y → AnswersRow stmt_of result (for_in_row line x y) }
 {
     match (head?, body?) {
-        (Outcome::Passes(head), Outcome::Passes(body)) => {
+        (Admission::Passes(head), Admission::Passes(body)) => {
             let form = Boxed::new(alloc, head.into_statement(line, body))?;
-            Ok(Outcome::Passes(form))
+            Ok(Admission::Passes(form))
         }
-        (Outcome::Waits(first), _) => Ok(Outcome::Waits(first)),
-        (_, Outcome::Waits(first)) => Ok(Outcome::Waits(first)),
+        (Admission::Waits(first), _) => Ok(Admission::Waits(first)),
+        (_, Admission::Waits(first)) => Ok(Admission::Waits(first)),
     }
 }
 

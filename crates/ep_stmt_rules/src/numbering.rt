@@ -10,7 +10,7 @@ ghost use Rattle.ep_stmt_rules.specs.Answers.{AnswersRow, arms_of, numbered, pas
 ghost use Rattle.ep_stmt_rules.specs.Statements as spec;
 ghost use Rattle.ep_stmt_rules.specs.Statements.{Judgement};
 
-use crate::outcome::{CheckRefusal, Outcome};
+use crate::outcome::{Admission, CheckRefusal};
 use crate::statements::Row;
 use ep_base::{Boxed, NoMemory};
 use ep_typed::{CaseArm, CaseArms, TypedStmt, with_count, with_count_in};
@@ -31,37 +31,37 @@ fn behind(withs: u32, count: usize) -> Result<u32, NoMemory>
 
 /// The number behind a statement.
 #[tactic(auto, using(crate::proofs::Behind::behind_passes))]
-pub fn behind_statement(withs: u32, found: &Outcome<Boxed<TypedStmt>>) -> Result<u32, NoMemory>
+pub fn behind_statement(withs: u32, found: &Admission<Boxed<TypedStmt>>) -> Result<u32, NoMemory>
     ensures { (c : spec.Context) → IfOk result (λ next.
         numbered c next ≡ spec.behind with_variables (numbered c withs) (passed stmt_of found.now)) }
 {
     match found {
-        Outcome::Passes(form) => behind(withs, with_count(form.get())),
-        Outcome::Waits(_) => Ok(withs),
+        Admission::Passes(form) => behind(withs, with_count(form.get())),
+        Admission::Waits(_) => Ok(withs),
     }
 }
 
 /// The number behind an arm of a `case`.
 #[tactic(auto, using(crate::proofs::Behind::behind_passes))]
-pub fn behind_arm(withs: u32, found: &Outcome<Boxed<CaseArm>>) -> Result<u32, NoMemory>
+pub fn behind_arm(withs: u32, found: &Admission<Boxed<CaseArm>>) -> Result<u32, NoMemory>
     ensures { (c : spec.Context) → IfOk result (λ next. numbered c next
         ≡ spec.behind (λ (a : tree.Arm). with_variables a.1) (numbered c withs) (passed arm_of found.now)) }
 {
     match found {
-        Outcome::Passes(form) => behind(withs, with_count(form.get().body.get())),
-        Outcome::Waits(_) => Ok(withs),
+        Admission::Passes(form) => behind(withs, with_count(form.get().body.get())),
+        Admission::Waits(_) => Ok(withs),
     }
 }
 
 /// The number behind all arms of a `case`.
 #[tactic(auto, using(crate::proofs::Behind::behind_passes))]
-fn behind_all(withs: u32, found: &Outcome<CaseArms>) -> Result<u32, NoMemory>
+fn behind_all(withs: u32, found: &Admission<CaseArms>) -> Result<u32, NoMemory>
     ensures { (c : spec.Context) → IfOk result (λ next.
         numbered c next ≡ spec.behind with_variables_in (numbered c withs) (passed arms_of found.now)) }
 {
     match found {
-        Outcome::Passes(all) => behind(withs, with_count_in(all.items())),
-        Outcome::Waits(_) => Ok(withs),
+        Admission::Passes(all) => behind(withs, with_count_in(all.items())),
+        Admission::Waits(_) => Ok(withs),
     }
 }
 

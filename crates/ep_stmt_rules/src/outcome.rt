@@ -30,7 +30,7 @@ impl From<AllocError> for CheckRefusal {
 
 /// What items come to that break no rule: their form, or the line of the first one that is not built.
 #[derive(Drop)]
-pub enum Outcome<T> {
+pub enum Admission<T> {
     /// Their form.
     Passes(T),
     /// The line of the first one that is not built.
@@ -48,12 +48,15 @@ pub fn refused_at(line: Line, refusal: Refusal) -> CheckRefusal
 }
 
 /// One item on this line.
-pub fn item_at<T>(line: Line, form: Result<Option<T>, Refusal>) -> Result<Outcome<T>, CheckRefusal>
+pub fn item_at<T>(
+    line: Line,
+    form: Result<Option<T>, Refusal>,
+) -> Result<Admission<T>, CheckRefusal>
     ensures { result ≡ item_at line form }
 {
     match form {
-        Ok(Some(form)) => Ok(Outcome::Passes(form)),
-        Ok(None) => Ok(Outcome::Waits(line)),
+        Ok(Some(form)) => Ok(Admission::Passes(form)),
+        Ok(None) => Ok(Admission::Waits(line)),
         Err(refusal) => Err(refused_at(line, refusal)),
     }
 }

@@ -18,7 +18,7 @@ ghost use Rattle.ep_stmt_rules.specs.Statements as spec;
 ghost use Rattle.ep_stmt_rules.specs.Statements.{Judgement, after, block_variable, heads_threat, one_opened, record_accessed, unless_threatening};
 
 use crate::members;
-use crate::outcome::Outcome;
+use crate::outcome::Admission;
 use crate::statements::{Locals, Row};
 use ep_base::{Boxed, Line, List, NoMemory};
 use ep_check_expr::typed_access;
@@ -223,12 +223,12 @@ pub fn with_form(
         → AnswersRow stmt_of body y → AnswersRow stmt_of result (after (tree.with_form line) x y) }
 {
     match (heads?, body?) {
-        (Outcome::Passes(heads), Outcome::Passes(body)) => {
+        (Admission::Passes(heads), Admission::Passes(body)) => {
             let form = Boxed::new(alloc, TypedStmt::With(line, heads, body))?;
-            Ok(Outcome::Passes(form))
+            Ok(Admission::Passes(form))
         }
-        (Outcome::Waits(first), _) => Ok(Outcome::Waits(first)),
-        (_, Outcome::Waits(first)) => Ok(Outcome::Waits(first)),
+        (Admission::Waits(first), _) => Ok(Admission::Waits(first)),
+        (_, Admission::Waits(first)) => Ok(Admission::Waits(first)),
     }
 }
 

@@ -12,7 +12,7 @@ ghost use Rattle.ep_stmt_rules.specs.Answers.{AnswersForm, AnswersRow, fails_amo
 ghost use Rattle.ep_stmt_rules.specs.Statements as spec;
 ghost use Rattle.ep_stmt_rules.specs.Statements.{Judgement, after, assigned, component_rules, formed, if_judged, repeat_judged, tested};
 
-use crate::outcome::{CheckRefusal, Outcome};
+use crate::outcome::{Admission, CheckRefusal};
 use crate::tags::assignment;
 use crate::targets::Target;
 use ep_base::{Boxed, Line, Name};
@@ -77,7 +77,7 @@ pub fn tested(value: Typed) -> Result<Option<Boxed<TypedExpr>>, Refusal>
 }
 
 /// What a row of items comes to.
-pub type Row<T> = Result<Outcome<T>, CheckRefusal>;
+pub type Row<T> = Result<Admission<T>, CheckRefusal>;
 
 /// A compound statement of these.
 pub fn compound_form(alloc: Global, statements: Row<TypedStmts>) -> Row<Boxed<TypedStmt>>
@@ -85,11 +85,11 @@ pub fn compound_form(alloc: Global, statements: Row<TypedStmts>) -> Row<Boxed<Ty
         → AnswersRow stmt_of result (formed tree.Compound x) }
 {
     match statements? {
-        Outcome::Passes(all) => {
+        Admission::Passes(all) => {
             let form = Boxed::new(alloc, TypedStmt::Compound(all))?;
-            Ok(Outcome::Passes(form))
+            Ok(Admission::Passes(form))
         }
-        Outcome::Waits(line) => Ok(Outcome::Waits(line)),
+        Admission::Waits(line) => Ok(Admission::Waits(line)),
     }
 }
 
@@ -106,13 +106,13 @@ pub fn if_form(
         → AnswersRow stmt_of result (if_judged line x y z) }
 {
     match (condition?, then?, other?) {
-        (Outcome::Passes(condition), Outcome::Passes(then), Outcome::Passes(other)) => {
+        (Admission::Passes(condition), Admission::Passes(then), Admission::Passes(other)) => {
             let form = Boxed::new(alloc, TypedStmt::If(line, condition, then, other))?;
-            Ok(Outcome::Passes(form))
+            Ok(Admission::Passes(form))
         }
-        (Outcome::Waits(first), _, _) => Ok(Outcome::Waits(first)),
-        (_, Outcome::Waits(first), _) => Ok(Outcome::Waits(first)),
-        (_, _, Outcome::Waits(first)) => Ok(Outcome::Waits(first)),
+        (Admission::Waits(first), _, _) => Ok(Admission::Waits(first)),
+        (_, Admission::Waits(first), _) => Ok(Admission::Waits(first)),
+        (_, _, Admission::Waits(first)) => Ok(Admission::Waits(first)),
     }
 }
 
@@ -127,12 +127,12 @@ pub fn while_form(
         → AnswersRow stmt_of body y → AnswersRow stmt_of result (after (tree.While line) x y) }
 {
     match (condition?, body?) {
-        (Outcome::Passes(condition), Outcome::Passes(body)) => {
+        (Admission::Passes(condition), Admission::Passes(body)) => {
             let form = Boxed::new(alloc, TypedStmt::While(line, condition, body))?;
-            Ok(Outcome::Passes(form))
+            Ok(Admission::Passes(form))
         }
-        (Outcome::Waits(first), _) => Ok(Outcome::Waits(first)),
-        (_, Outcome::Waits(first)) => Ok(Outcome::Waits(first)),
+        (Admission::Waits(first), _) => Ok(Admission::Waits(first)),
+        (_, Admission::Waits(first)) => Ok(Admission::Waits(first)),
     }
 }
 
@@ -147,12 +147,12 @@ pub fn repeat_form(
         → AnswersRow stmts_of statements y → AnswersRow stmt_of result (repeat_judged line x y) }
 {
     match (condition?, statements?) {
-        (Outcome::Passes(condition), Outcome::Passes(all)) => {
+        (Admission::Passes(condition), Admission::Passes(all)) => {
             let form = Boxed::new(alloc, TypedStmt::Repeat(line, all, condition))?;
-            Ok(Outcome::Passes(form))
+            Ok(Admission::Passes(form))
         }
-        (Outcome::Waits(first), _) => Ok(Outcome::Waits(first)),
-        (_, Outcome::Waits(first)) => Ok(Outcome::Waits(first)),
+        (Admission::Waits(first), _) => Ok(Admission::Waits(first)),
+        (_, Admission::Waits(first)) => Ok(Admission::Waits(first)),
     }
 }
 

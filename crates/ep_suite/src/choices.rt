@@ -2,7 +2,7 @@
 
 use crate::texts::parsed;
 use ep_tree::{
-    Component, ComponentValue, Core, Expression, Factor, Part, Selector, Statement, Structure,
+    BlockPart, Component, ComponentValue, Core, Expression, Factor, Selector, Statement, Structure,
 };
 use std::alloc::{AllocError, Global};
 use std::test::Fail;
@@ -60,9 +60,9 @@ fn form_of_core(core: &Core) -> &'static str {
 }
 
 /// What the first type of a block is, or else its first statement.
-fn form(parts: &[Part], statements: &[Statement]) -> &'static str {
+fn form(parts: &[BlockPart], statements: &[Statement]) -> &'static str {
     match parts {
-        [Part::Types(types), ..] => match types.definitions.items() {
+        [BlockPart::Types(types), ..] => match types.definitions.items() {
             [definition, ..] => form_of_core(&definition.of.plain.get().core),
             [] => "no type",
         },

@@ -33,8 +33,8 @@ use Rattle.ep_tree.specs.declared.statement.Statement.{Statement}
 use Rattle.ep_tree.specs.declared.statement.Arm.{Arm}
 use Rattle.ep_tree.specs.declared.statement.Compound.{Compound}
 use Rattle.ep_tree.specs.declared.statement.Otherwise.{Otherwise}
-use Rattle.ep_tree.specs.declared.routine.Part.TheOpen.{Part-F, RoutineBody-F, Routine-F}
-use Rattle.ep_tree.specs.declared.routine.Part.{Part, fold-Part}
+use Rattle.ep_tree.specs.declared.routine.BlockPart.TheOpen.{BlockPart-F, RoutineBody-F, Routine-F}
+use Rattle.ep_tree.specs.declared.routine.BlockPart.{BlockPart, fold-BlockPart}
 use Rattle.ep_tree.specs.declared.routine.RoutineBody.{RoutineBody, fold-RoutineBody}
 use Rattle.ep_tree.specs.declared.routine.Routine.{Routine, fold-Routine}
 use Rattle.ep_tree.specs.declared.declaration.ConstantDefinition.{ConstantDefinition}
@@ -332,11 +332,11 @@ variable_declaration_nesting d = type_denoter_nesting d.of
 abbrev pub variables_nesting : Variables → ℕ
 variables_nesting v = most_of (map variable_declaration_nesting v.declarations)
 
-abbrev pub in_part : Part-F ℕ ℕ ℕ → ℕ
-in_part (Part-F.Constants c) = constants_nesting c
-in_part (Part-F.Types t) = types_nesting t
-in_part (Part-F.Variables v) = variables_nesting v
-in_part (Part-F.Routine r) = r
+abbrev pub in_part : BlockPart-F ℕ ℕ ℕ → ℕ
+in_part (BlockPart-F.Constants c) = constants_nesting c
+in_part (BlockPart-F.Types t) = types_nesting t
+in_part (BlockPart-F.Variables v) = variables_nesting v
+in_part (BlockPart-F.Routine r) = r
 
 abbrev pub in_routine_body : RoutineBody-F ℕ ℕ ℕ → ℕ
 in_routine_body (RoutineBody-F.Forward line) = 0
@@ -345,8 +345,8 @@ in_routine_body (RoutineBody-F.Block line parts body) = max (most_of parts) (com
 abbrev pub in_routine : Routine-F ℕ ℕ ℕ → ℕ
 in_routine r = suc r.body
 
-abbrev pub part_nesting : Part → ℕ
-part_nesting = fold-Part ℕ ℕ ℕ in_part in_routine_body in_routine
+abbrev pub part_nesting : BlockPart → ℕ
+part_nesting = fold-BlockPart ℕ ℕ ℕ in_part in_routine_body in_routine
 
 abbrev pub routine_body_nesting : RoutineBody → ℕ
 routine_body_nesting = fold-RoutineBody ℕ ℕ ℕ in_part in_routine_body in_routine

@@ -38,7 +38,7 @@ use Rattle.ep_tree.specs.declared.declaration.TypeDefinition.{TypeDefinition}
 use Rattle.ep_tree.specs.declared.declaration.Types.{Types}
 use Rattle.ep_tree.specs.declared.declaration.VariableDeclaration.{VariableDeclaration}
 use Rattle.ep_tree.specs.declared.declaration.Variables.{Variables}
-use Rattle.ep_tree.specs.declared.routine.Part.{Part}
+use Rattle.ep_tree.specs.declared.routine.BlockPart.{BlockPart}
 use Rattle.ep_tree.specs.declared.routine.Routine.{Routine, roll-Routine}
 use Rattle.ep_tree.specs.declared.routine.RoutineBody.{RoutineBody}
 use Rattle.ep_tree.specs.declared.routine.RoutineStart.{RoutineStart}
@@ -145,7 +145,7 @@ otherwise_node line statements = roll-Otherwise (record { line = line; statement
 abbrev pub routine_node : ℕ → RoutineStart → RoutineBody → Routine
 routine_node line start body = roll-Routine (record { line = line; start = start; body = body })
 
-abbrev pub program_node : ℕ → List ℕ → List (List ℕ) → List Import → List Part → Compound → Program
+abbrev pub program_node : ℕ → List ℕ → List (List ℕ) → List Import → List BlockPart → Compound → Program
 program_node line name parameters imports parts body =
     record { line = line; name = name; parameters = parameters; imports = imports; parts = parts; body = body }
 
@@ -159,7 +159,7 @@ abbrev pub heading_node : ℕ → List ℕ → List (List ℕ) → List Export �
 heading_node line name parameters exports imports parts =
     record { line = line; name = name; parameters = parameters; exports = exports; imports = imports; parts = parts }
 
-abbrev pub block_node : ℕ → List Import → List Part → Option Statement → Option Statement → Block
+abbrev pub block_node : ℕ → List Import → List BlockPart → Option Statement → Option Statement → Block
 block_node line imports parts initialization finalization =
     record {
       line = line;

@@ -1,7 +1,7 @@
 //! The components of a source text (ISO 10206, 6.11 and 6.12).
 
 use crate::declaration::{Constants, RoutineHeading, Types, Variables};
-use crate::routine::Part;
+use crate::routine::BlockPart;
 use crate::statement::{Compound, Statement};
 use ep_base::{Boxed, Line, List, Name, Names};
 
@@ -35,7 +35,7 @@ pub struct Program {
     pub name: Name,
     pub parameters: Names,
     pub imports: List<Import>,
-    pub parts: List<Part>,
+    pub parts: List<BlockPart>,
     pub body: Compound,
 }
 
@@ -137,7 +137,7 @@ impl Drop for HeadingPart {
 pub struct Block {
     pub line: Line,
     pub imports: List<Import>,
-    pub parts: List<Part>,
+    pub parts: List<BlockPart>,
     pub initialization: Option<Boxed<Statement>>,
     pub finalization: Option<Boxed<Statement>>,
 }

@@ -37,7 +37,7 @@ pub use levels::nesting;
 pub use operator::{
     AddingOperator, Direction, MultiplyingOperator, QualifiedName, RelationalOperator, Sign,
 };
-pub use routine::{Part, Routine, RoutineBody, RoutineStart};
+pub use routine::{BlockPart, Routine, RoutineBody, RoutineStart};
 pub use shape::single_labels;
 pub use statement::{Arm, Compound, Otherwise, Statement};
 pub use types::{

@@ -7,7 +7,7 @@ use ep_base::{Line, List, Name};
 /// One of `parts = { consts | types | vars | rdecl }`
 #[cycle(routine)]
 #[derive(Drop)]
-pub enum Part {
+pub enum BlockPart {
     /// `consts`
     Constants(Constants),
     /// `types`
@@ -51,5 +51,5 @@ pub enum RoutineBody {
     /// `"forward"`
     Forward(Line),
     /// `parts compound`
-    Block(Line, List<Part>, Compound),
+    Block(Line, List<BlockPart>, Compound),
 }

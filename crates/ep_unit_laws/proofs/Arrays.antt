@@ -20,7 +20,7 @@ use Rattle.ep_rules.specs.Judgements.{Accepts, when_accepted}
 use Rattle.ep_stmt_rules.proofs.public.judged.Fits.{Fits, fits_then}
 use Rattle.ep_check_unit.specs.Blocks.{Block}
 use Rattle.ep_unit_rules.specs.OrdinalTypes.{value_of}
-use Rattle.ep_check_unit.specs.Declarations.{Part, Written, array_over, array_written, index_values, settled_part}
+use Rattle.ep_check_unit.specs.Declarations.{DenoterPart, Written, array_over, array_written, index_values, settled_part}
 use Rattle.ep_unit_laws.proofs.Denoting.{Denotes, DenotesStructured, array_there, denotes_array, denotes_hosted, kind_bare, kind_more, kind_valued, kind_valid}
 use Rattle.ep_unit_laws.proofs.Holds.{HasTypeHere, Holds, HoldsElements, HoldsStructuredType, ListsKind, has_type_more, holds_more, lists_more, lists_kind_more, lists_kind_small, type_values}
 use Rattle.ep_unit_laws.proofs.Leading.{Extends, Grows, extends_before, grows_trans}
@@ -146,7 +146,7 @@ module _ (u : TypedUnit) where
     over_writes : Writes u b Over
     over_writes = record { grows = over_grows; holds = λ under ext free next x. over_wrote under ext free next x }
 
-  pub array_writes : (index of : Part) → IsKnown u index → IsKnown u of → (line : ℕ) (b : Block) → Fits (Writes u b) (array_written index of line b)
+  pub array_writes : (index of : DenoterPart) → IsKnown u index → IsKnown u of → (line : ℕ) (b : Block) → Fits (Writes u b) (array_written index of line b)
   array_writes index of i o line b =
       fits_then (Settles u b) (Writes u b) (λ w. when_accepted (λ v. when_accepted (λ below. Accepts (array_over w.denoter w.nodes v below)) (settled_part of line w.block)) (index_values w)) (settled_part index line b) (part_settles u index i line b)
       (λ w first. fits_then (λ v. IsValued w.kind (value_of w.block.types w.of) v.host v.low v.high) (Writes u b) (λ v. when_accepted (λ below. Accepts (array_over w.denoter w.nodes v below)) (settled_part of line w.block)) (index_values w) (index_valued w)

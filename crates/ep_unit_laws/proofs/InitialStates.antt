@@ -34,7 +34,7 @@ use Rattle.ep_stmt_rules.proofs.public.judged.Fits.{Fits, fits_is, fits_then}
 use Rattle.ep_check_unit.specs.Blocks.{Block}
 use Rattle.ep_unit_rules.specs.declared.own.Enclosing.{Enclosing}
 use Rattle.ep_unit_rules.specs.InitialStates.{may_begin}
-use Rattle.ep_check_unit.specs.Declarations.{Part, Written, begun_with, fitting_state, initial_written, noted, scopes_of, settled_part, with_initial_state}
+use Rattle.ep_check_unit.specs.Declarations.{DenoterPart, Written, begun_with, fitting_state, initial_written, noted, scopes_of, settled_part, with_initial_state}
 use Rattle.ep_unit_laws.proofs.Agreeing.{holds_agrees, within}
 use Rattle.ep_unit_laws.proofs.Denoting.{Denotes, DenotesKind, DenotesSet, HasBare, IsMadeWithin, kind_more}
 use Rattle.ep_unit_laws.proofs.Holds.{holds_more, lists_kind_more, named_tree, type_values}
@@ -196,7 +196,7 @@ module _ (u : TypedUnit) where
   fitting_writes sound false line b w v c s e m = tt
 
   -- a type with an initial state is written
-  pub initial_writes : InitialStatesAreSound → (p : Part) (v : ComponentValue) → IsKnown u p → (line : ℕ) (b : Block) → Fits (Writes u b) (initial_written p v line b)
+  pub initial_writes : InitialStatesAreSound → (p : DenoterPart) (v : ComponentValue) → IsKnown u p → (line : ℕ) (b : Block) → Fits (Writes u b) (initial_written p v line b)
   initial_writes sound p v known line b =
       fits_then (Settles u b) (Writes u b) (begun_with line v) (settled_part p line b) (part_settles u p known line b)
       (λ w s. fits_then (λ c. initial_state_judged (scopes_of w.block) (asked_by w.kind) v ≡ Accepts c) (Writes u b) (fitting_state line w) (initial_state_judged (scopes_of w.block) (asked_by w.kind) v) (fits_is (initial_state_judged (scopes_of w.block) (asked_by w.kind) v))

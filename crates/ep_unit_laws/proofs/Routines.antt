@@ -5,9 +5,9 @@ use Rattle.std.proofs.lemmas.List.Elements.{All-head, All-nil, All-tail}
 use Rattle.std.proofs.lemmas.Option.{slice_get-map}
 use Rattle.std.specs.Option.{option_or}
 use Rattle.std.specs.Prelude.{All, slice_set}
-use Rattle.ep_tree.specs.declared.routine.Part.TheFolds.{fold-roll-Part, fold-roll-Routine, fold-roll-RoutineBody, ind-Part}
-use Rattle.ep_tree.specs.declared.routine.Part.TheOpen.{Part-F, Routine-F, RoutineBody-F}
-use Rattle.ep_tree.specs.declared.routine.Part.{Part, map-Part, roll-Part}
+use Rattle.ep_tree.specs.declared.routine.BlockPart.TheFolds.{fold-roll-BlockPart, fold-roll-Routine, fold-roll-RoutineBody, ind-BlockPart}
+use Rattle.ep_tree.specs.declared.routine.BlockPart.TheOpen.{BlockPart-F, Routine-F, RoutineBody-F}
+use Rattle.ep_tree.specs.declared.routine.BlockPart.{BlockPart, map-BlockPart, roll-BlockPart}
 use Rattle.ep_tree.specs.declared.routine.Routine.{Routine, map-Routine, roll-Routine}
 use Rattle.ep_tree.specs.declared.routine.RoutineBody.{RoutineBody, map-RoutineBody, roll-RoutineBody}
 use Rattle.ep_tree.specs.declared.routine.RoutineStart.{RoutineStart}
@@ -496,7 +496,7 @@ module _ (u : TypedUnit) (few : length u.constants ≤ maxint) (statements : Sta
 
   -- ---- all parts, by the tree
 
-  abbrev PartLeads : Part → Type 0
+  abbrev PartLeads : BlockPart → Type 0
   PartLeads p = (b : Block) → LeadsOn u b ((part_judged p).declares b)
 
   abbrev BodyLeads : RoutineBody → Type 0
@@ -506,7 +506,7 @@ module _ (u : TypedUnit) (few : length u.constants ≤ maxint) (statements : Sta
   RoutineLeads r = (b : Block) → LeadsOn u b ((routine_judged r).declares b)
 
   abbrev LeadingPart : Type 0
-  LeadingPart = (p : Part) × PartLeads p
+  LeadingPart = (p : BlockPart) × PartLeads p
 
   abbrev LeadingBody : Type 0
   LeadingBody = (p : RoutineBody) × BodyLeads p
@@ -515,37 +515,37 @@ module _ (u : TypedUnit) (few : length u.constants ≤ maxint) (statements : Sta
   LeadingRoutine = (r : Routine) × RoutineLeads r
 
   -- parts in order
-  abbrev only : List LeadingPart → List Part
+  abbrev only : List LeadingPart → List BlockPart
   only ps = map (λ p. p.0) ps
 
   row_leads : (ps : List LeadingPart) (b : Block) → LeadsOn u b (all_declared (map part_judged (only ps)) b)
   row_leads [] b = leads_refl u b
   row_leads (p ∷ ps) b = then_leads u b (all_declared (map part_judged (only ps))) ((part_judged p.0).declares b) (p.1 b) (λ c. row_leads ps c)
 
-  abbrev part_layer : Part-F LeadingPart LeadingBody LeadingRoutine → Part-F Part RoutineBody Routine
-  part_layer = map-Part LeadingPart LeadingBody LeadingRoutine Part RoutineBody Routine (λ p. p.0) (λ p. p.0) (λ r. r.0)
+  abbrev part_layer : BlockPart-F LeadingPart LeadingBody LeadingRoutine → BlockPart-F BlockPart RoutineBody Routine
+  part_layer = map-BlockPart LeadingPart LeadingBody LeadingRoutine BlockPart RoutineBody Routine (λ p. p.0) (λ p. p.0) (λ r. r.0)
 
-  abbrev body_layer : RoutineBody-F LeadingPart LeadingBody LeadingRoutine → RoutineBody-F Part RoutineBody Routine
-  body_layer = map-RoutineBody LeadingPart LeadingBody LeadingRoutine Part RoutineBody Routine (λ p. p.0) (λ p. p.0) (λ r. r.0)
+  abbrev body_layer : RoutineBody-F LeadingPart LeadingBody LeadingRoutine → RoutineBody-F BlockPart RoutineBody Routine
+  body_layer = map-RoutineBody LeadingPart LeadingBody LeadingRoutine BlockPart RoutineBody Routine (λ p. p.0) (λ p. p.0) (λ r. r.0)
 
-  abbrev routine_layer : Routine-F LeadingPart LeadingBody LeadingRoutine → Routine-F Part RoutineBody Routine
-  routine_layer = map-Routine LeadingPart LeadingBody LeadingRoutine Part RoutineBody Routine (λ p. p.0) (λ p. p.0) (λ r. r.0)
+  abbrev routine_layer : Routine-F LeadingPart LeadingBody LeadingRoutine → Routine-F BlockPart RoutineBody Routine
+  routine_layer = map-Routine LeadingPart LeadingBody LeadingRoutine BlockPart RoutineBody Routine (λ p. p.0) (λ p. p.0) (λ r. r.0)
 
-  rolled_part : (x : Part-F Part RoutineBody Routine) → ((b : Block) → LeadsOn u b ((of_part (map-Part Part RoutineBody Routine PartJudged BodyJudged PartJudged part_judged routine_body_judged routine_judged x)).declares b)) → PartLeads (roll-Part x)
-  rolled_part x g b = subst (λ (j : PartJudged). LeadsOn u b (j.declares b)) (sym (fold-roll-Part PartJudged BodyJudged PartJudged of_part of_body of_routine x)) (g b)
+  rolled_part : (x : BlockPart-F BlockPart RoutineBody Routine) → ((b : Block) → LeadsOn u b ((of_part (map-BlockPart BlockPart RoutineBody Routine PartJudged BodyJudged PartJudged part_judged routine_body_judged routine_judged x)).declares b)) → PartLeads (roll-BlockPart x)
+  rolled_part x g b = subst (λ (j : PartJudged). LeadsOn u b (j.declares b)) (sym (fold-roll-BlockPart PartJudged BodyJudged PartJudged of_part of_body of_routine x)) (g b)
 
-  rolled_body : (x : RoutineBody-F Part RoutineBody Routine)
-      → ((line : ℕ) (s : RoutineStart) (b : Block) → LeadsOn u b ((of_body (map-RoutineBody Part RoutineBody Routine PartJudged BodyJudged PartJudged part_judged routine_body_judged routine_judged x)).declares line s b)) → BodyLeads (roll-RoutineBody x)
+  rolled_body : (x : RoutineBody-F BlockPart RoutineBody Routine)
+      → ((line : ℕ) (s : RoutineStart) (b : Block) → LeadsOn u b ((of_body (map-RoutineBody BlockPart RoutineBody Routine PartJudged BodyJudged PartJudged part_judged routine_body_judged routine_judged x)).declares line s b)) → BodyLeads (roll-RoutineBody x)
   rolled_body x g line s b = subst (λ (j : BodyJudged). LeadsOn u b (j.declares line s b)) (sym (fold-roll-RoutineBody PartJudged BodyJudged PartJudged of_part of_body of_routine x)) (g line s b)
 
-  rolled_routine : (x : Routine-F Part RoutineBody Routine) → ((b : Block) → LeadsOn u b ((routine_body_judged x.body).declares x.line x.start b)) → RoutineLeads (roll-Routine x)
+  rolled_routine : (x : Routine-F BlockPart RoutineBody Routine) → ((b : Block) → LeadsOn u b ((routine_body_judged x.body).declares x.line x.start b)) → RoutineLeads (roll-Routine x)
   rolled_routine x g b = subst (λ (j : PartJudged). LeadsOn u b (j.declares b)) (sym (fold-roll-Routine PartJudged BodyJudged PartJudged of_part of_body of_routine x)) (g b)
 
-  part_step : (y : Part-F LeadingPart LeadingBody LeadingRoutine) → PartLeads (roll-Part (part_layer y))
-  part_step (Part-F.Constants c) = rolled_part (Part-F.Constants c) (λ b. constants_lead u few bounds bound_hosts initial_states constants constant_hosts c.definitions b)
-  part_step (Part-F.Types t) = rolled_part (Part-F.Types t) (λ b. line_leads u b t.line (type_definitions t.line t.definitions b) (type_definitions-leads u few bounds bound_hosts initial_states t.line t.definitions b))
-  part_step (Part-F.Variables v) = rolled_part (Part-F.Variables v) (λ b. variables_lead u few bounds bound_hosts initial_states v.declarations b)
-  part_step (Part-F.Routine r) = rolled_part (Part-F.Routine r.0) (λ b. r.1 b)
+  part_step : (y : BlockPart-F LeadingPart LeadingBody LeadingRoutine) → PartLeads (roll-BlockPart (part_layer y))
+  part_step (BlockPart-F.Constants c) = rolled_part (BlockPart-F.Constants c) (λ b. constants_lead u few bounds bound_hosts initial_states constants constant_hosts c.definitions b)
+  part_step (BlockPart-F.Types t) = rolled_part (BlockPart-F.Types t) (λ b. line_leads u b t.line (type_definitions t.line t.definitions b) (type_definitions-leads u few bounds bound_hosts initial_states t.line t.definitions b))
+  part_step (BlockPart-F.Variables v) = rolled_part (BlockPart-F.Variables v) (λ b. variables_lead u few bounds bound_hosts initial_states v.declarations b)
+  part_step (BlockPart-F.Routine r) = rolled_part (BlockPart-F.Routine r.0) (λ b. r.1 b)
 
   body_step : (y : RoutineBody-F LeadingPart LeadingBody LeadingRoutine) → BodyLeads (roll-RoutineBody (body_layer y))
   body_step (RoutineBody-F.Forward at) =
@@ -555,13 +555,13 @@ module _ (u : TypedUnit) (few : length u.constants ≤ maxint) (statements : Sta
       rolled_body (RoutineBody-F.Block at (only ps) c)
       (λ line s b. after_heading u b line (block_declared line (start_name s) (map part_judged (only ps)) c) (start_headed false line s b) (headed_leads u false line s b) (λ h k. block_leads line b h k (start_name s) (map part_judged (only ps)) (row_leads ps) c))
 
-  part_leads : (p : Part) → PartLeads p
+  part_leads : (p : BlockPart) → PartLeads p
   part_leads =
-      ind-Part PartLeads BodyLeads RoutineLeads
-      (λ x y e. subst (λ z. PartLeads (roll-Part z)) e (part_step y))
+      ind-BlockPart PartLeads BodyLeads RoutineLeads
+      (λ x y e. subst (λ z. PartLeads (roll-BlockPart z)) e (part_step y))
       (λ x y e. subst (λ z. BodyLeads (roll-RoutineBody z)) e (body_step y))
       (λ x y e. subst (λ z. RoutineLeads (roll-Routine z)) e (rolled_routine (routine_layer y) (λ b. y.body.1 y.line y.start b)))
 
-  pub parts_lead : (ps : List Part) (b : Block) → LeadsOn u b (parts_declared ps b)
+  pub parts_lead : (ps : List BlockPart) (b : Block) → LeadsOn u b (parts_declared ps b)
   parts_lead [] b = leads_refl u b
   parts_lead (p ∷ ps) b = then_leads u b (parts_declared ps) ((part_judged p).declares b) (part_leads p b) (λ c. parts_lead ps c)

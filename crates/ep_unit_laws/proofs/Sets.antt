@@ -27,7 +27,7 @@ use Rattle.ep_check_unit.specs.Blocks.{Block}
 use Rattle.ep_unit_rules.specs.OrdinalTypes.{ordinal_value, value_of}
 use Rattle.ep_unit_rules.specs.Sets.{are_members}
 use Rattle.ep_unit_rules.specs.Types.{index_host}
-use Rattle.ep_check_unit.specs.Declarations.{Part, Written, set_on, set_over, set_written, settled_part, unless_wide}
+use Rattle.ep_check_unit.specs.Declarations.{DenoterPart, Written, set_on, set_over, set_written, settled_part, unless_wide}
 use Rattle.ep_unit_laws.proofs.Denoting.{Denotes, DenotesSet, denotes_bounds, denotes_set}
 use Rattle.ep_unit_laws.proofs.Holds.{HasTypeHere, Holds, ListsKind, holds_more, lists_kind_more, named_tree}
 use Rattle.ep_unit_laws.proofs.Leading.{Extends}
@@ -125,7 +125,7 @@ module _ (u : TypedUnit) where
   is_narrow true done e = refl
   is_narrow false done e = cc
 
-  pub set_writes : (base : Part) → IsKnown u base → (line : ℕ) (b : Block) → Fits (Writes u b) (set_written base line b)
+  pub set_writes : (base : DenoterPart) → IsKnown u base → (line : ℕ) (b : Block) → Fits (Writes u b) (set_written base line b)
   set_writes base known line b =
       fits_then (Settles u b) (Writes u b) set_on (settled_part base line b) (part_settles u base known line b)
       (λ w stands. fits_then (λ h. index_host w.kind ≡ Accepts h) (Writes u b) (λ h. when_accepted (λ _. Accepts (set_over h w)) (unless_wide w)) (index_host w.kind) (fits_is (index_host w.kind))

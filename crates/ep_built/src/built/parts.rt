@@ -10,12 +10,12 @@ use crate::built::types::type_denoter;
 use crate::built::{at_node, forms};
 use ep_base::Line;
 use ep_tree::{
-    ConstantDefinition, FormalSection, Part, Routine, RoutineBody, RoutineHeading, RoutineStart,
-    TypeDefinition, VariableDeclaration,
+    BlockPart, ConstantDefinition, FormalSection, Routine, RoutineBody, RoutineHeading,
+    RoutineStart, TypeDefinition, VariableDeclaration,
 };
 
 #[cycle(lines)]
-pub(super) fn parts(all: &[Part]) -> Option<Line>
+pub(super) fn parts(all: &[BlockPart]) -> Option<Line>
     ensures { result ≡ first_in (map part_unbuilt all.now) }
 {
     for p in all {
@@ -28,14 +28,14 @@ pub(super) fn parts(all: &[Part]) -> Option<Line>
 }
 
 #[cycle(lines)]
-fn part(p: &Part) -> Option<Line>
+fn part(p: &BlockPart) -> Option<Line>
     ensures { result ≡ part_unbuilt p.now }
 {
     match p {
-        Part::Constants(c) => constants(c.definitions.items()),
-        Part::Types(t) => types(t.definitions.items()),
-        Part::Variables(v) => variables(v.declarations.items()),
-        Part::Routine(r) => routine(r),
+        BlockPart::Constants(c) => constants(c.definitions.items()),
+        BlockPart::Types(t) => types(t.definitions.items()),
+        BlockPart::Variables(v) => variables(v.declarations.items()),
+        BlockPart::Routine(r) => routine(r),
     }
 }
 

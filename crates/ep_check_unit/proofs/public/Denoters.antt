@@ -17,29 +17,29 @@ use Rattle.ep_tree.specs.declared.types.VariantPart.{VariantPart, map-VariantPar
 use Rattle.ep_tree.specs.declared.types.VariantSelector.{VariantSelector}
 use Rattle.ep_check_expr.specs.Constants.{bound_judged}
 use Rattle.ep_rules.specs.Judgements.{both}
-use Rattle.ep_check_unit.specs.Declarations.{ListJudged, Part, PartJudged, Section, VariantJudged, array_part, array_written, at_core, at_field_section, at_fields, at_plain, at_structure, at_type_denoter, at_variant, at_variant_part, begun, core_part, denoter_part, enumeration, fields_judged, list_written, plain_part, range, record_written, scopes_of, set_written, section_part, structure_part, structured, type_named, unbuilt_part, variant_judged, variant_part_written, variants_judged}
+use Rattle.ep_check_unit.specs.Declarations.{ListJudged, DenoterPart, PartJudged, Section, VariantJudged, array_part, array_written, at_core, at_field_section, at_fields, at_plain, at_structure, at_type_denoter, at_variant, at_variant_part, begun, core_part, denoter_part, enumeration, fields_judged, list_written, plain_part, range, record_written, scopes_of, set_written, section_part, structure_part, structured, type_named, unbuilt_part, variant_judged, variant_part_written, variants_judged}
 
 -- the parts of denoters
-abbrev pub name_part : QualifiedName → Part
+abbrev pub name_part : QualifiedName → DenoterPart
 name_part name = record { is_name = true; written = λ line b. type_named name.first name.second b }
 
-abbrev pub range_part : Expression → Expression → Part
+abbrev pub range_part : Expression → Expression → DenoterPart
 range_part low high = record { is_name = false; written = λ line b. both (range line b) (bound_judged (scopes_of b) low) (bound_judged (scopes_of b) high) }
 
-abbrev pub enumeration_part : List (List ℕ) → Part
+abbrev pub enumeration_part : List (List ℕ) → DenoterPart
 enumeration_part names = record { is_name = false; written = λ line b. enumeration names b }
 
-abbrev pub over_part : Part → Part → Part
+abbrev pub over_part : DenoterPart → DenoterPart → DenoterPart
 over_part index of = record { is_name = false; written = array_written index of }
 
-abbrev pub record_part : ListJudged → Part
+abbrev pub record_part : ListJudged → DenoterPart
 record_part fields = record { is_name = false; written = record_written fields }
 
-abbrev pub set_part : Part → Part
+abbrev pub set_part : DenoterPart → DenoterPart
 set_part base = record { is_name = false; written = set_written base }
 
 -- the types of all sections have it
-abbrev pub AreKept : (Part → Type 0) → List Section → Type 0
+abbrev pub AreKept : (DenoterPart → Type 0) → List Section → Type 0
 AreKept P [] = ⊤
 AreKept P (s ∷ ss) = P s.of × AreKept P ss
 
@@ -54,20 +54,20 @@ AreVariantsKept L [] = ⊤
 AreVariantsKept L (v ∷ vs) = L v.fields × AreVariantsKept L vs
 
 -- each rule keeps it, of denoters, of lists of fields, and of variant parts
-pub record KeptByDenoters (P : Part → Type 0) (L : ListJudged → Type 0) (Q : PartJudged → Type 0) : Type 0 where
+pub record KeptByDenoters (P : DenoterPart → Type 0) (L : ListJudged → Type 0) (Q : PartJudged → Type 0) : Type 0 where
   pub names : (name : QualifiedName) → P (name_part name)
   pub ranges : (low high : Expression) → P (range_part low high)
   pub enumerations : (names : List (List ℕ)) → P (enumeration_part names)
   pub others : P unbuilt_part
-  pub arrays : (index of : Part) → P index → P of → P (over_part index of)
+  pub arrays : (index of : DenoterPart) → P index → P of → P (over_part index of)
   pub lists : (sections : List Section) (part : Option PartJudged) → AreKept P sections → IsKeptIf Q part → L (list_written sections part)
   pub variants : (s : VariantSelector) (variants : List VariantJudged) (other : Option ListJudged) → AreVariantsKept L variants → IsKeptIf L other → Q (variant_part_written s variants other)
   pub records : (fields : ListJudged) → L fields → P (record_part fields)
-  pub sets : (base : Part) → P base → P (set_part base)
-  pub structures : (p : Part) → P p → P (structured p)
-  pub initial_states : (p : Part) (v : ComponentValue) → P p → P (begun p (Some v))
+  pub sets : (base : DenoterPart) → P base → P (set_part base)
+  pub structures : (p : DenoterPart) → P p → P (structured p)
+  pub initial_states : (p : DenoterPart) (v : ComponentValue) → P p → P (begun p (Some v))
 
-module _ (P : Part → Type 0) (L : ListJudged → Type 0) (Q : PartJudged → Type 0) (kept : KeptByDenoters P L Q) where
+module _ (P : DenoterPart → Type 0) (L : ListJudged → Type 0) (Q : PartJudged → Type 0) (kept : KeptByDenoters P L Q) where
   abbrev OfCore : Core → Type 0
   OfCore c = P (core_part c)
 
@@ -153,44 +153,44 @@ module _ (P : Part → Type 0) (L : ListJudged → Type 0) (Q : PartJudged → T
   variants_kept (v ∷ vs) = (v.1, variants_kept vs)
 
   -- an array of several index types
-  arrays_kept : (of : Part) → P of → (is : List KeptPlain) → P (array_part of (map plain_part (map (λ p. p.0) is)))
+  arrays_kept : (of : DenoterPart) → P of → (is : List KeptPlain) → P (array_part of (map plain_part (map (λ p. p.0) is)))
   arrays_kept of o [] = o
   arrays_kept of o (i ∷ is) = kept.arrays (plain_part i.0) (array_part of (map plain_part (map (λ p. p.0) is))) i.1 (arrays_kept of o is)
 
   core_kept : (y : Core-F KeptCore KeptStructure KeptSection KeptFields KeptPlain KeptDenoter KeptVariant KeptVariants) → OfCore (roll-Core (core_layer y))
-  core_kept (Core-F.Named at name tuple) = subst P (sym (fold-roll-Core Part Part Section ListJudged Part Part VariantJudged PartJudged at_core at_structure at_field_section at_fields at_plain at_type_denoter at_variant at_variant_part (Core-F.Named at name tuple))) (kept.names name)
-  core_kept (Core-F.Range at low high) = subst P (sym (fold-roll-Core Part Part Section ListJudged Part Part VariantJudged PartJudged at_core at_structure at_field_section at_fields at_plain at_type_denoter at_variant at_variant_part (Core-F.Range at low high))) (kept.ranges low high)
-  core_kept (Core-F.Enumeration at names) = subst P (sym (fold-roll-Core Part Part Section ListJudged Part Part VariantJudged PartJudged at_core at_structure at_field_section at_fields at_plain at_type_denoter at_variant at_variant_part (Core-F.Enumeration at names))) (kept.enumerations names)
-  core_kept (Core-F.Pointer at name) = subst P (sym (fold-roll-Core Part Part Section ListJudged Part Part VariantJudged PartJudged at_core at_structure at_field_section at_fields at_plain at_type_denoter at_variant at_variant_part (Core-F.Pointer at name))) kept.others
-  core_kept (Core-F.Structured at packed structure) = subst P (sym (fold-roll-Core Part Part Section ListJudged Part Part VariantJudged PartJudged at_core at_structure at_field_section at_fields at_plain at_type_denoter at_variant at_variant_part (Core-F.Structured at packed structure.0))) structure.1
-  core_kept (Core-F.Restricted at name) = subst P (sym (fold-roll-Core Part Part Section ListJudged Part Part VariantJudged PartJudged at_core at_structure at_field_section at_fields at_plain at_type_denoter at_variant at_variant_part (Core-F.Restricted at name))) kept.others
-  core_kept (Core-F.TypeOf at name) = subst P (sym (fold-roll-Core Part Part Section ListJudged Part Part VariantJudged PartJudged at_core at_structure at_field_section at_fields at_plain at_type_denoter at_variant at_variant_part (Core-F.TypeOf at name))) kept.others
+  core_kept (Core-F.Named at name tuple) = subst P (sym (fold-roll-Core DenoterPart DenoterPart Section ListJudged DenoterPart DenoterPart VariantJudged PartJudged at_core at_structure at_field_section at_fields at_plain at_type_denoter at_variant at_variant_part (Core-F.Named at name tuple))) (kept.names name)
+  core_kept (Core-F.Range at low high) = subst P (sym (fold-roll-Core DenoterPart DenoterPart Section ListJudged DenoterPart DenoterPart VariantJudged PartJudged at_core at_structure at_field_section at_fields at_plain at_type_denoter at_variant at_variant_part (Core-F.Range at low high))) (kept.ranges low high)
+  core_kept (Core-F.Enumeration at names) = subst P (sym (fold-roll-Core DenoterPart DenoterPart Section ListJudged DenoterPart DenoterPart VariantJudged PartJudged at_core at_structure at_field_section at_fields at_plain at_type_denoter at_variant at_variant_part (Core-F.Enumeration at names))) (kept.enumerations names)
+  core_kept (Core-F.Pointer at name) = subst P (sym (fold-roll-Core DenoterPart DenoterPart Section ListJudged DenoterPart DenoterPart VariantJudged PartJudged at_core at_structure at_field_section at_fields at_plain at_type_denoter at_variant at_variant_part (Core-F.Pointer at name))) kept.others
+  core_kept (Core-F.Structured at packed structure) = subst P (sym (fold-roll-Core DenoterPart DenoterPart Section ListJudged DenoterPart DenoterPart VariantJudged PartJudged at_core at_structure at_field_section at_fields at_plain at_type_denoter at_variant at_variant_part (Core-F.Structured at packed structure.0))) structure.1
+  core_kept (Core-F.Restricted at name) = subst P (sym (fold-roll-Core DenoterPart DenoterPart Section ListJudged DenoterPart DenoterPart VariantJudged PartJudged at_core at_structure at_field_section at_fields at_plain at_type_denoter at_variant at_variant_part (Core-F.Restricted at name))) kept.others
+  core_kept (Core-F.TypeOf at name) = subst P (sym (fold-roll-Core DenoterPart DenoterPart Section ListJudged DenoterPart DenoterPart VariantJudged PartJudged at_core at_structure at_field_section at_fields at_plain at_type_denoter at_variant at_variant_part (Core-F.TypeOf at name))) kept.others
 
   structure_kept : (y : Structure-F KeptCore KeptStructure KeptSection KeptFields KeptPlain KeptDenoter KeptVariant KeptVariants) → OfStructure (roll-Structure (structure_layer y))
-  structure_kept (Structure-F.Array at indexes component) = subst P (sym (fold-roll-Structure Part Part Section ListJudged Part Part VariantJudged PartJudged at_core at_structure at_field_section at_fields at_plain at_type_denoter at_variant at_variant_part (Structure-F.Array at (map (λ p. p.0) indexes) component.0))) (kept.structures (array_part (plain_part component.0) (map plain_part (map (λ p. p.0) indexes))) (arrays_kept (plain_part component.0) component.1 indexes))
-  structure_kept (Structure-F.Record at fields) = subst P (sym (fold-roll-Structure Part Part Section ListJudged Part Part VariantJudged PartJudged at_core at_structure at_field_section at_fields at_plain at_type_denoter at_variant at_variant_part (Structure-F.Record at fields.0))) (kept.records (fields_judged fields.0) fields.1)
-  structure_kept (Structure-F.Set at base) = subst P (sym (fold-roll-Structure Part Part Section ListJudged Part Part VariantJudged PartJudged at_core at_structure at_field_section at_fields at_plain at_type_denoter at_variant at_variant_part (Structure-F.Set at base.0))) (kept.sets (plain_part base.0) base.1)
+  structure_kept (Structure-F.Array at indexes component) = subst P (sym (fold-roll-Structure DenoterPart DenoterPart Section ListJudged DenoterPart DenoterPart VariantJudged PartJudged at_core at_structure at_field_section at_fields at_plain at_type_denoter at_variant at_variant_part (Structure-F.Array at (map (λ p. p.0) indexes) component.0))) (kept.structures (array_part (plain_part component.0) (map plain_part (map (λ p. p.0) indexes))) (arrays_kept (plain_part component.0) component.1 indexes))
+  structure_kept (Structure-F.Record at fields) = subst P (sym (fold-roll-Structure DenoterPart DenoterPart Section ListJudged DenoterPart DenoterPart VariantJudged PartJudged at_core at_structure at_field_section at_fields at_plain at_type_denoter at_variant at_variant_part (Structure-F.Record at fields.0))) (kept.records (fields_judged fields.0) fields.1)
+  structure_kept (Structure-F.Set at base) = subst P (sym (fold-roll-Structure DenoterPart DenoterPart Section ListJudged DenoterPart DenoterPart VariantJudged PartJudged at_core at_structure at_field_section at_fields at_plain at_type_denoter at_variant at_variant_part (Structure-F.Set at base.0))) (kept.sets (plain_part base.0) base.1)
 
   section_kept : (y : FieldSection-F KeptCore KeptStructure KeptSection KeptFields KeptPlain KeptDenoter KeptVariant KeptVariants) → OfSection (roll-FieldSection (section_layer y))
-  section_kept y = subst (λ (s : Section). P s.of) (sym (fold-roll-FieldSection Part Part Section ListJudged Part Part VariantJudged PartJudged at_core at_structure at_field_section at_fields at_plain at_type_denoter at_variant at_variant_part (section_layer y))) y.of.1
+  section_kept y = subst (λ (s : Section). P s.of) (sym (fold-roll-FieldSection DenoterPart DenoterPart Section ListJudged DenoterPart DenoterPart VariantJudged PartJudged at_core at_structure at_field_section at_fields at_plain at_type_denoter at_variant at_variant_part (section_layer y))) y.of.1
 
   fields_kept : (at : ℕ) (ss : List KeptSection) (v : Option KeptVariants) → OfFields (roll-Fields (fields_layer (record { line = at; sections = ss; variants = v })))
-  fields_kept at ss None = subst L (sym (fold-roll-Fields Part Part Section ListJudged Part Part VariantJudged PartJudged at_core at_structure at_field_section at_fields at_plain at_type_denoter at_variant at_variant_part (fields_layer (record { line = at; sections = ss; variants = None })))) (kept.lists (map section_part (map (λ s. s.0) ss)) None (sections_kept ss) tt)
-  fields_kept at ss (Some v) = subst L (sym (fold-roll-Fields Part Part Section ListJudged Part Part VariantJudged PartJudged at_core at_structure at_field_section at_fields at_plain at_type_denoter at_variant at_variant_part (fields_layer (record { line = at; sections = ss; variants = Some v })))) (kept.lists (map section_part (map (λ s. s.0) ss)) (Some (variants_judged v.0)) (sections_kept ss) v.1)
+  fields_kept at ss None = subst L (sym (fold-roll-Fields DenoterPart DenoterPart Section ListJudged DenoterPart DenoterPart VariantJudged PartJudged at_core at_structure at_field_section at_fields at_plain at_type_denoter at_variant at_variant_part (fields_layer (record { line = at; sections = ss; variants = None })))) (kept.lists (map section_part (map (λ s. s.0) ss)) None (sections_kept ss) tt)
+  fields_kept at ss (Some v) = subst L (sym (fold-roll-Fields DenoterPart DenoterPart Section ListJudged DenoterPart DenoterPart VariantJudged PartJudged at_core at_structure at_field_section at_fields at_plain at_type_denoter at_variant at_variant_part (fields_layer (record { line = at; sections = ss; variants = Some v })))) (kept.lists (map section_part (map (λ s. s.0) ss)) (Some (variants_judged v.0)) (sections_kept ss) v.1)
 
   variant_kept : (y : Variant-F KeptCore KeptStructure KeptSection KeptFields KeptPlain KeptDenoter KeptVariant KeptVariants) → OfVariant (roll-Variant (variant_layer y))
-  variant_kept y = subst (λ (v : VariantJudged). L v.fields) (sym (fold-roll-Variant Part Part Section ListJudged Part Part VariantJudged PartJudged at_core at_structure at_field_section at_fields at_plain at_type_denoter at_variant at_variant_part (variant_layer y))) y.fields.1
+  variant_kept y = subst (λ (v : VariantJudged). L v.fields) (sym (fold-roll-Variant DenoterPart DenoterPart Section ListJudged DenoterPart DenoterPart VariantJudged PartJudged at_core at_structure at_field_section at_fields at_plain at_type_denoter at_variant at_variant_part (variant_layer y))) y.fields.1
 
   variant_part_kept : (at : ℕ) (s : VariantSelector) (vs : List KeptVariant) (other : Option KeptFields) → OfVariants (roll-VariantPart (variants_layer (record { line = at; selector = s; variants = vs; otherwise = other })))
-  variant_part_kept at s vs None = subst Q (sym (fold-roll-VariantPart Part Part Section ListJudged Part Part VariantJudged PartJudged at_core at_structure at_field_section at_fields at_plain at_type_denoter at_variant at_variant_part (variants_layer (record { line = at; selector = s; variants = vs; otherwise = None })))) (kept.variants s (map variant_judged (map (λ v. v.0) vs)) None (variants_kept vs) tt)
-  variant_part_kept at s vs (Some f) = subst Q (sym (fold-roll-VariantPart Part Part Section ListJudged Part Part VariantJudged PartJudged at_core at_structure at_field_section at_fields at_plain at_type_denoter at_variant at_variant_part (variants_layer (record { line = at; selector = s; variants = vs; otherwise = Some f })))) (kept.variants s (map variant_judged (map (λ v. v.0) vs)) (Some (fields_judged f.0)) (variants_kept vs) f.1)
+  variant_part_kept at s vs None = subst Q (sym (fold-roll-VariantPart DenoterPart DenoterPart Section ListJudged DenoterPart DenoterPart VariantJudged PartJudged at_core at_structure at_field_section at_fields at_plain at_type_denoter at_variant at_variant_part (variants_layer (record { line = at; selector = s; variants = vs; otherwise = None })))) (kept.variants s (map variant_judged (map (λ v. v.0) vs)) None (variants_kept vs) tt)
+  variant_part_kept at s vs (Some f) = subst Q (sym (fold-roll-VariantPart DenoterPart DenoterPart Section ListJudged DenoterPart DenoterPart VariantJudged PartJudged at_core at_structure at_field_section at_fields at_plain at_type_denoter at_variant at_variant_part (variants_layer (record { line = at; selector = s; variants = vs; otherwise = Some f })))) (kept.variants s (map variant_judged (map (λ v. v.0) vs)) (Some (fields_judged f.0)) (variants_kept vs) f.1)
 
   denoter_kept : (at : ℕ) (p : KeptPlain) (v : Option ComponentValue) → OfDenoter (roll-TypeDenoter (denoter_layer (record { line = at; plain = p; initial = v })))
-  denoter_kept at p None = subst P (sym (fold-roll-TypeDenoter Part Part Section ListJudged Part Part VariantJudged PartJudged at_core at_structure at_field_section at_fields at_plain at_type_denoter at_variant at_variant_part (denoter_layer (record { line = at; plain = p; initial = None })))) p.1
-  denoter_kept at p (Some v) = subst P (sym (fold-roll-TypeDenoter Part Part Section ListJudged Part Part VariantJudged PartJudged at_core at_structure at_field_section at_fields at_plain at_type_denoter at_variant at_variant_part (denoter_layer (record { line = at; plain = p; initial = Some v })))) (kept.initial_states (plain_part p.0) v p.1)
+  denoter_kept at p None = subst P (sym (fold-roll-TypeDenoter DenoterPart DenoterPart Section ListJudged DenoterPart DenoterPart VariantJudged PartJudged at_core at_structure at_field_section at_fields at_plain at_type_denoter at_variant at_variant_part (denoter_layer (record { line = at; plain = p; initial = None })))) p.1
+  denoter_kept at p (Some v) = subst P (sym (fold-roll-TypeDenoter DenoterPart DenoterPart Section ListJudged DenoterPart DenoterPart VariantJudged PartJudged at_core at_structure at_field_section at_fields at_plain at_type_denoter at_variant at_variant_part (denoter_layer (record { line = at; plain = p; initial = Some v })))) (kept.initial_states (plain_part p.0) v p.1)
 
   plain_kept : (y : Plain-F KeptCore KeptStructure KeptSection KeptFields KeptPlain KeptDenoter KeptVariant KeptVariants) → OfPlain (roll-Plain (plain_layer y))
-  plain_kept y = subst P (sym (fold-roll-Plain Part Part Section ListJudged Part Part VariantJudged PartJudged at_core at_structure at_field_section at_fields at_plain at_type_denoter at_variant at_variant_part (plain_layer y))) y.core.1
+  plain_kept y = subst P (sym (fold-roll-Plain DenoterPart DenoterPart Section ListJudged DenoterPart DenoterPart VariantJudged PartJudged at_core at_structure at_field_section at_fields at_plain at_type_denoter at_variant at_variant_part (plain_layer y))) y.core.1
 
   -- so it holds of all
   pub each_denoter : (c : Core) → P (core_part c)
@@ -207,12 +207,12 @@ module _ (P : Part → Type 0) (L : ListJudged → Type 0) (Q : PartJudged → T
 
   -- and of each without its initial state
   each_plain : (p : Plain) → P (plain_part p)
-  each_plain p = subst P (sym (fold_out-Plain Part Part Section ListJudged Part Part VariantJudged PartJudged at_core at_structure at_field_section at_fields at_plain at_type_denoter at_variant at_variant_part p)) (each_denoter (out-Plain p).core)
+  each_plain p = subst P (sym (fold_out-Plain DenoterPart DenoterPart Section ListJudged DenoterPart DenoterPart VariantJudged PartJudged at_core at_structure at_field_section at_fields at_plain at_type_denoter at_variant at_variant_part p)) (each_denoter (out-Plain p).core)
 
-  each_begun : (p : Part) (v : Option ComponentValue) → P p → P (begun p v)
+  each_begun : (p : DenoterPart) (v : Option ComponentValue) → P p → P (begun p v)
   each_begun p None h = h
   each_begun p (Some v) h = kept.initial_states p v h
 
   -- so it holds of all with one
   pub each_type : (t : TypeDenoter) → P (denoter_part t)
-  each_type t = subst P (sym (fold_out-TypeDenoter Part Part Section ListJudged Part Part VariantJudged PartJudged at_core at_structure at_field_section at_fields at_plain at_type_denoter at_variant at_variant_part t)) (each_begun (plain_part (out-TypeDenoter t).plain) (out-TypeDenoter t).initial (each_plain (out-TypeDenoter t).plain))
+  each_type t = subst P (sym (fold_out-TypeDenoter DenoterPart DenoterPart Section ListJudged DenoterPart DenoterPart VariantJudged PartJudged at_core at_structure at_field_section at_fields at_plain at_type_denoter at_variant at_variant_part t)) (each_begun (plain_part (out-TypeDenoter t).plain) (out-TypeDenoter t).initial (each_plain (out-TypeDenoter t).plain))

@@ -127,7 +127,7 @@ module _ (declared : Declarations) (types : TypeValues) (structures : List Struc
   IsTaken kind.File x = ⊥
 
   -- where it is of the kinds of its type value
-  taken-value : (k : Kind) (t : TypeValue) (x : Expr) → IsValueOfKind types k t → AreHeld types structures → ((w : valid.Kind) → IsTypeOfKind w t → IsExpr declared w x) → IsTaken k x
+  taken-value : (k : Kind) (t : TypeValue) (x : Expr) → IsValueOfKind types k t → AreHeld types structures → ((w : valid.ValueKind) → IsTypeOfKind w t → IsExpr declared w x) → IsTaken k x
   taken-value (kind.Ordinal h) t x v held is = (v.0, is (valid.Ordinal (typed_host h)) v.1)
   taken-value (kind.Structured m) t x v held is = ((t, v, is (valid.Structured t) (refl, v.1)), held)
   taken-value (kind.Set h) t x v held is = (v.0, is (valid.Set (typed_host h)) v.1)

@@ -21,20 +21,20 @@ use Rattle.ep_values.specs.Operations.{Answer, Number}
 use Rattle.ep_values.specs.Printing.{Result}
 use Rattle.ep_values.specs.Printing as result
 use Rattle.ep_meaning.specs.Steps.{Computation, give, bind, spend}
-use Rattle.ep_meaning.specs.Valid.{Kind, Ordinal}
+use Rattle.ep_meaning.specs.Valid.{ValueKind, Ordinal}
 use Rattle.ep_typed.specs.Hosts.{Host, is_of_host}
 use Rattle.ep_values.specs.TypeValues.{TypeValue}
 
 -- The machine follows a computation of a result from one place of the code to another, where the result is on top of
 -- the operands; the credit is so many before, and after it so many and the weight of the result.
 abbrev pub Evaluates : Layout → Image → Slots → Facts → ℕ → Injection → MachineMemory → ℕ → List Operand
-    → Computation Result → ℕ → Kind → List Operand → ℕ → ℕ → Type 0
+    → Computation Result → ℕ → ValueKind → List Operand → ℕ → ℕ → Type 0
 Evaluates layout G untouched Here n injection memory from operands c to kind below before after =
     Fragment layout G Here n (point injection memory from operands) c to (λ r. Inside untouched injection memory (OnTop kind below r)) before (λ r. after + weight_of r)
 
 -- From each memory of a routine of the unit, the machine follows the expression through this code, which begins at this
 -- place of the object, with a credit that rises by 8.
-abbrev pub IsFollowed : Layout → Image → Slots → Facts → Placement → Handler → ℕ → List ℕ → ℕ → Kind → Expr → ℕ → ℕ → List Instr → Type 0
+abbrev pub IsFollowed : Layout → Image → Slots → Facts → Placement → Handler → ℕ → List ℕ → ℕ → ValueKind → Expr → ℕ → ℕ → List Instr → Type 0
 IsFollowed layout G untouched Here p call g unit n kind x line at code =
     (injection : Injection) (memory : MachineMemory) (below : List Operand) (d : ℕ) → least_credit ≤ d → unit_in G memory.frames ≡ unit → Evaluates layout G untouched Here n injection memory (p.instructions.before + at) below (eval call g unit line x) (p.instructions.before + (at + length code)) kind below d (d + 8)
 

@@ -33,7 +33,7 @@ use Rattle.ep_meaning.specs.Results.{weight_of}
 use Rattle.ep_values.specs.Printing.{Result}
 use Rattle.ep_meaning.specs.Steps.{Computation, bind, give, spend}
 use Rattle.ep_typed.specs.Trees.{Callee, Function, Actuals}
-use Rattle.ep_meaning.specs.Valid.{Declarations, IsOfKind, Kind, IsDeclaredUp, IsFunction}
+use Rattle.ep_meaning.specs.Valid.{Declarations, IsOfKind, ValueKind, IsDeclaredUp, IsFunction}
 use Rattle.ep_typed.specs.Viewed.{denoter_of}
 use Rattle.ep_typed.specs.declared.interface.RoutineEntry.{RoutineEntry}
 use Rattle.ep_typed.specs.declared.interface.RoutineResult.{RoutineResult}
@@ -42,7 +42,7 @@ use Rattle.ep_typed.specs.declared.unit.UnitType.{UnitType}
 -- ---- what a function gives
 
 -- the results of a function are one value of its kind
-one_kind : (types : List UnitType) (kind : Kind) (o : Option RoutineResult) (r : RoutineResult) (ks : List Kind) → o ≡ Some r → IsOfKind kind types (denoter_of r.denoter) → AreResults types o ks → ks ≡ kind ∷ []
+one_kind : (types : List UnitType) (kind : ValueKind) (o : Option RoutineResult) (r : RoutineResult) (ks : List ValueKind) → o ≡ Some r → IsOfKind kind types (denoter_of r.denoter) → AreResults types o ks → ks ≡ kind ∷ []
 one_kind types kind None r ks is has are = cc
 one_kind types kind (Some q) r [] is has are = absurd are
 one_kind types kind (Some q) r (k ∷ l ∷ ks) is has are = absurd are
@@ -50,13 +50,13 @@ one_kind types kind (Some q) r (k ∷ []) is has are =
     ap (λ x. x ∷ []) (kinds_are_one types (denoter_of r.denoter) k kind (subst (λ x. IsOfKind k types (denoter_of x.denoter)) (same_Some q r is) are) has)
 
 -- one value of a kind that lies on the operands below
-record GivesValue (k : Kind) (below operands : List Operand) (rs : List Result) (injection : Injection) (memory : MachineMemory) : Type 0 where
+record GivesValue (k : ValueKind) (below operands : List Operand) (rs : List Result) (injection : Injection) (memory : MachineMemory) : Type 0 where
   result : Result
   gives : rs ≡ result ∷ []
   top : OnTop k below result injection memory operands
 
 -- what lies there as the results of a function
-gives_value : (k : Kind) (below operands : List Operand) (rs : List Result) (injection : Injection) (memory : MachineMemory) → ResultsOnTop (k ∷ []) below rs injection memory operands → GivesValue k below operands rs injection memory
+gives_value : (k : ValueKind) (below operands : List Operand) (rs : List Result) (injection : Injection) (memory : MachineMemory) → ResultsOnTop (k ∷ []) below rs injection memory operands → GivesValue k below operands rs injection memory
 gives_value k below operands [] injection memory top = absurd top
 gives_value k below operands (r ∷ s ∷ rs) injection memory (o, value, more) = absurd more
 gives_value k below operands (r ∷ []) injection memory (o, value, is) =
@@ -120,7 +120,7 @@ module _ {layout : Layout} {G : Image} {untouched : Slots} {Here : Facts} (ps : 
         (λ rs last final pushed grown2 routine2 top. behind rs last final pushed (grown_trans grown grown2) (same_routine-trans routine routine2) top))
 
     -- a function designator
-    pub function_follows : (kind : Kind) (line at : ℕ) (callee : Callee) (k : ℕ) (given : Actuals) (xs : List Instr) (r : RoutineEntry) (keeps : RoutineKeeps layout G ps call n (declared.types callee.unit) (declared.around callee.unit callee.number) callee.unit callee.number r) → IsFunction (declared.types callee.unit) kind r
+    pub function_follows : (kind : ValueKind) (line at : ℕ) (callee : Callee) (k : ℕ) (given : Actuals) (xs : List Instr) (r : RoutineEntry) (keeps : RoutineKeeps layout G ps call n (declared.types callee.unit) (declared.around callee.unit callee.number) callee.unit callee.number r) → IsFunction (declared.types callee.unit) kind r
         → AreArgumentsFollowed layout G untouched Here p call g unit n keeps.formals given line at xs → IsDeclaredUp declared callee callee.levels → slice_get references k ≡ Some (reference callee.unit callee.number)
         → CodeStands G ps p references at (xs ++ instr op.CALL (pos k) callee.levels line ∷ instr op.JUMP (pos (at + length xs + 2)) 0 line ∷ []) → at + length xs + 2 < p.instructions.own
         → IsFollowed layout G untouched Here p call g unit n kind (Function callee given) line at (xs ++ instr op.CALL (pos k) callee.levels line ∷ instr op.JUMP (pos (at + length xs + 2)) 0 line ∷ [])

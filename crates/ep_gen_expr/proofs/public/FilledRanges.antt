@@ -51,7 +51,7 @@ use Rattle.ep_meaning.specs.Steps as meaning
 use Rattle.ep_typed.specs.Trees.{AtRanges, Expr}
 use Rattle.ep_values.specs.TypeValues.{TypeValue}
 use Rattle.ep_values.specs.TypeValues as type
-use Rattle.ep_meaning.specs.Valid.{Declarations, IsRangeWithin, IsTypeOfKind, Kind}
+use Rattle.ep_meaning.specs.Valid.{Declarations, IsRangeWithin, IsTypeOfKind, ValueKind}
 use Rattle.ep_values.specs.declared.run_error.TheConstants as run_error
 use Rattle.ep_typed.specs.declared.tree.CaseRange.{CaseRange}
 
@@ -63,7 +63,7 @@ holds_grown {injection = injection} {longer = longer} {s = s} {t = t} {memory = 
 
 module _ (declared : Declarations) (layout : Layout) (G : Image) (untouched : Slots) (Here : Facts) (lasts : Lasts untouched Here) (ps : List Placement) (p : Placement) (references : List Reference) (call : Handler) (steady_call : IsSteadyHandler call) (g : ℕ) (unit : List ℕ) (line n : ℕ)
     (fill : FillStands G ps unit (declared.first_private unit)) (fill_referred : IsFillReferred declared unit references)
-    (low high : ℤ) (small : IsTrue (is_integer low)) (large : IsTrue (is_integer high)) (of : TypeValue) (k : Kind) (of_kind : IsTypeOfKind k of) where
+    (low high : ℤ) (small : IsTrue (is_integer low)) (large : IsTrue (is_integer high)) (of : TypeValue) (k : ValueKind) (of_kind : IsTypeOfKind k of) where
   -- The components with the indexes of ranges get the value of the one with an index that has it.
   ranges_follow : (from : ℤ) (f : ℕ) → component_at low high from ≡ Some f → (a : Component) (q : PlaceOf) (rest : List Operand) (r : Result) → suits (Some of) r ≡ true → given_by (Some of) (value_of r) ≡ Some r
       → (at : ℕ) (ranges : List CaseRange) → All (IsRangeWithin low high) ranges → CodeStands G ps p references at (ranges_code line from ranges)

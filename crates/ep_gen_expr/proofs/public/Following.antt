@@ -40,7 +40,7 @@ use Rattle.ep_typed.specs.Selections.{variant_number}
 use Rattle.ep_meaning.specs.Steps as meaning
 use Rattle.ep_typed.specs.Trees as tree
 use Rattle.ep_typed.specs.Trees.{Element, AtIndex, AtField, SameField, AtRanges, AtIndexes, Elements, no_element, next_element, Callee, Place, Variable, Own, Standard, Indexed, Field, Variant, Expr, Constant, Text, Read, One, Two, Short, Step, Function, IndexedValue, FieldValue, VariantValue, SetConstant, SetOf, OnSets, Card, Designator, Single, Range, Designators, no_member, next_member, Actual, Evaluated, Accessed, Actuals, no_actual, next_actual}
-use Rattle.ep_meaning.specs.Valid.{Declarations, Kind, Ordinal, Bytes, Structured, Set, IsUnary, IsBinary, IsTypeOfKind, IsExpr, IsElement, AreElements, AreDesignators, AreGiven, IsDesignator, IsDeclaredUp, Level, variables_at, variables_up, tag_type}
+use Rattle.ep_meaning.specs.Valid.{Declarations, ValueKind, Ordinal, Bytes, Structured, Set, IsUnary, IsBinary, IsTypeOfKind, IsExpr, IsElement, AreElements, AreDesignators, AreGiven, IsDesignator, IsDeclaredUp, Level, variables_at, variables_up, tag_type}
 use Rattle.ep_typed.specs.declared.interface.Formal.{Formal}
 use Rattle.ep_typed.specs.declared.interface.RoutineEntry.{RoutineEntry}
 use Rattle.ep_typed.specs.declared.unit.UnitType.{UnitType}
@@ -179,14 +179,14 @@ module _ {declared : Declarations} {layout : Layout} {G : Image} {untouched : Sl
       (selected_follows call g unit line n (p.instructions.before + (at + length xs)) ts k t is has.0 longer after below a b (d + 8) (omega arith) (unit_in-same G routine ∙ unit_is) spot described))
 
   -- the value of a variable, by its place and `Load`
-  read_follows : (n : ℕ) (kind : Kind) (t : TypeValue) → IsTypeOfKind kind t → (q : Place) (line at : ℕ) (xs : List Instr) → IsPlaceFollowed layout G untouched Here p call g unit n t q line at xs → CodeStands G ps p references (at + length xs) (bare line op.LOAD ∷ []) → IsFollowed layout G untouched Here p call g unit n kind (Read q) line at (xs ++ bare line op.LOAD ∷ [])
+  read_follows : (n : ℕ) (kind : ValueKind) (t : TypeValue) → IsTypeOfKind kind t → (q : Place) (line at : ℕ) (xs : List Instr) → IsPlaceFollowed layout G untouched Here p call g unit n t q line at xs → CodeStands G ps p references (at + length xs) (bare line op.LOAD ∷ []) → IsFollowed layout G untouched Here p call g unit n kind (Read q) line at (xs ++ bare line op.LOAD ∷ [])
   read_follows n kind t of_kind q line at xs follows has injection memory below d le unit_is =
       fragment_bind_place (steady_read call steady_call g unit line) (follows injection memory below d le unit_is) (λ a q longer after grown routine spot described.
       fragment_to (omega (arith, length-append xs (bare line op.LOAD ∷ [])))
       (fragment_credit {d = d + 8} (omega arith) (λ r. omega arith) (loaded_follows call g unit line n (p.instructions.before + (at + length xs)) kind t of_kind has.0 longer after below a q (d + 8) (omega arith) (unit_in-same G routine ∙ unit_is) spot described)))
 
   -- an operation with one operand
-  one_follows : (n : ℕ) (operation : Unary) (x : Expr) (k kind : Kind) → IsUnary operation k kind → (line at : ℕ) (xs : List Instr) → IsFollowed layout G untouched Here p call g unit n k x line at xs → CodeStands G ps p references at (xs ++ one_code line operation) → IsFollowed layout G untouched Here p call g unit n kind (One operation x) line at (xs ++ one_code line operation)
+  one_follows : (n : ℕ) (operation : Unary) (x : Expr) (k kind : ValueKind) → IsUnary operation k kind → (line at : ℕ) (xs : List Instr) → IsFollowed layout G untouched Here p call g unit n k x line at xs → CodeStands G ps p references at (xs ++ one_code line operation) → IsFollowed layout G untouched Here p call g unit n kind (One operation x) line at (xs ++ one_code line operation)
   one_follows n operation x k kind kinds line at xs first stands injection memory below d le unit_is =
       let o : UnaryFollows layout G untouched Here ps p references call g unit line n (at + length xs) operation k kind = unary_follows layout G untouched Here ps p references call g unit line n (at + length xs) operation k kind kinds (code_back G ps p references at xs (one_code line operation) stands) in
       let end : ℕ = p.instructions.before + (at + length (xs ++ one_code line operation)) in
@@ -196,7 +196,7 @@ module _ {declared : Declarations} {layout : Layout} {G : Image} {untouched : Sl
       (λ z longer after of_host grown routine. fragment_to (omega (arith, length-append xs (one_code line operation))) (o.follows z of_host longer after below d (unit_in-same G routine ∙ unit_is))))
 
   -- an operation with two operands
-  two_follows : (n : ℕ) (operation : Binary) (x y : Expr) (k l kind : Kind) → IsBinary operation k l kind → (line at : ℕ) (xs ys : List Instr) → IsFollowed layout G untouched Here p call g unit n k x line at xs → IsFollowed layout G untouched Here p call g unit n l y line (at + length xs) ys → CodeStands G ps p references (at + length xs + length ys) (two_code line operation ∷ []) → IsFollowed layout G untouched Here p call g unit n kind (Two operation x y) line at (xs ++ (ys ++ two_code line operation ∷ []))
+  two_follows : (n : ℕ) (operation : Binary) (x y : Expr) (k l kind : ValueKind) → IsBinary operation k l kind → (line at : ℕ) (xs ys : List Instr) → IsFollowed layout G untouched Here p call g unit n k x line at xs → IsFollowed layout G untouched Here p call g unit n l y line (at + length xs) ys → CodeStands G ps p references (at + length xs + length ys) (two_code line operation ∷ []) → IsFollowed layout G untouched Here p call g unit n kind (Two operation x y) line at (xs ++ (ys ++ two_code line operation ∷ []))
   two_follows n operation x y k l kind kinds line at xs ys first second stands injection memory below d le unit_is =
       let middle : ℕ = p.instructions.before + (at + length xs) in
       let last : ℕ = p.instructions.before + (at + length xs + length ys) in
@@ -218,7 +218,7 @@ module _ {declared : Declarations} {layout : Layout} {G : Image} {untouched : Sl
       fragment_to (omega (arith, length-append xs (ys ++ step_code line down low high), length-append ys (step_code line down low high))) (step_follows layout G untouched Here ps p references call g unit line n (at + length xs + length ys) h down low high is_low is_high stands z w of_w v2 m2 below d (unit_in-same G routine2 ∙ (unit_in-same G routine1 ∙ unit_is)))))
 
   -- of a kind and a code that are those
-  followed_as : (n : ℕ) (kind kind2 : Kind) (x : Expr) (line at : ℕ) (code code2 : List Instr) → kind ≡ kind2 → code ≡ code2 → IsFollowed layout G untouched Here p call g unit n kind2 x line at code2 → IsFollowed layout G untouched Here p call g unit n kind x line at code
+  followed_as : (n : ℕ) (kind kind2 : ValueKind) (x : Expr) (line at : ℕ) (code code2 : List Instr) → kind ≡ kind2 → code ≡ code2 → IsFollowed layout G untouched Here p call g unit n kind2 x line at code2 → IsFollowed layout G untouched Here p call g unit n kind x line at code
   followed_as n kind kind2 x line at code code2 e f h =
       subst (λ k. IsFollowed layout G untouched Here p call g unit n k x line at code) (sym e) (subst (λ c. IsFollowed layout G untouched Here p call g unit n kind2 x line at c) (sym f) h)
 
@@ -287,7 +287,7 @@ module _ {declared : Declarations} {layout : Layout} {G : Image} {untouched : Sl
             (code_back G ps p references at xs rest all) (omega (arith, ends, inside)))
 
         -- What the machine does from the code of an expression follows the meaning of the expression.
-        pub expression_follows : (kind : Kind) (x : Expr) → IsExpr declared kind x → (line at : ℕ) (code : List Instr) → IsExprCode texts references line at x code → CodeStands G ps p references at code → at + length code < p.instructions.own → (injection : Injection) (memory : MachineMemory) (below : List Operand) (d : ℕ) → least_credit ≤ d → unit_in G memory.frames ≡ unit → Fragment layout G Here n (point injection memory (p.instructions.before + at) below) (eval call g unit line x) (p.instructions.before + (at + length code)) (λ r. Inside untouched injection memory (OnTop kind below r)) d (λ r. d + 8 + weight_of r)
+        pub expression_follows : (kind : ValueKind) (x : Expr) → IsExpr declared kind x → (line at : ℕ) (code : List Instr) → IsExprCode texts references line at x code → CodeStands G ps p references at code → at + length code < p.instructions.own → (injection : Injection) (memory : MachineMemory) (below : List Operand) (d : ℕ) → least_credit ≤ d → unit_in G memory.frames ≡ unit → Fragment layout G Here n (point injection memory (p.instructions.before + at) below) (eval call g unit line x) (p.instructions.before + (at + length code)) (λ r. Inside untouched injection memory (OnTop kind below r)) d (λ r. d + 8 + weight_of r)
         expression_follows kind (Constant z) (h, is_kind, of_host) line at code is stands inside =
             followed_as n kind (Ordinal h) (Constant z) line at code (push line z ∷ []) is_kind is (λ injection memory below d le unit_is.
             fragment_post (λ r longer after pushed i. record { grown = i.grown; routine = i.routine; operands_are = record { number = z; is_number = (i.operands_are).0; of_host = of_host; is = (i.operands_are).1 } })
@@ -477,7 +477,7 @@ module _ {declared : Declarations} {layout : Layout} {G : Image} {untouched : Sl
             (same_field_follows declared layout G untouched Here lasts ps p references call steady_call g unit line n swap swap_referred ts from to k source goal at (subst (λ c. CodeStands G ps p references at c) is stands))
 
         -- The indexes of ranges, in order.
-        ranges_follow : SwapStands G ps unit (declared.first_private unit) → (arrays : ArrayRoutinesStand G ps unit (declared.first_private unit)) → (low high : ℤ) → IsTrue (is_integer low) → IsTrue (is_integer high) → (of : TypeValue) (k : Kind) → IsTypeOfKind k of
+        ranges_follow : SwapStands G ps unit (declared.first_private unit) → (arrays : ArrayRoutinesStand G ps unit (declared.first_private unit)) → (low high : ℤ) → IsTrue (is_integer low) → IsTrue (is_integer high) → (of : TypeValue) (k : ValueKind) → IsTypeOfKind k of
             → (h : Host) (ds : Designators) → AreDesignators declared h ds → (line at : ℕ) (is : List Instr) → AreIndexesCode texts references line at ds is → CodeStands G ps p references at is → at + length is < p.instructions.own
             → AreRangesFollowed layout G untouched Here p call g unit line n low high of ds at is
         ranges_follow swap arrays low high small large of k of_kind h no_member are line at is code stands inside = code
@@ -492,7 +492,7 @@ module _ {declared : Declarations} {layout : Layout} {G : Image} {untouched : Sl
             )
 
         -- The indexes of one.
-        span_follows : SwapStands G ps unit (declared.first_private unit) → (arrays : ArrayRoutinesStand G ps unit (declared.first_private unit)) → (low high : ℤ) → IsTrue (is_integer low) → IsTrue (is_integer high) → (of : TypeValue) (k : Kind) → IsTypeOfKind k of
+        span_follows : SwapStands G ps unit (declared.first_private unit) → (arrays : ArrayRoutinesStand G ps unit (declared.first_private unit)) → (low high : ℤ) → IsTrue (is_integer low) → IsTrue (is_integer high) → (of : TypeValue) (k : ValueKind) → IsTypeOfKind k of
             → (h : Host) (d : Designator) → IsDesignator declared h d → (line at : ℕ) (is : List Instr) → IsRangeCode texts references line at d is → CodeStands G ps p references at is → at + length is < p.instructions.own
             → IsRangeFollowed layout G untouched Here p call g unit line n low high of d at is
         span_follows swap arrays low high small large of k of_kind h (Single x) is_x line at code (xs, x_code, is) stands inside =

@@ -15,7 +15,7 @@ use Rattle.ep_typed.specs.Trees.{Denoter, Denoters, Place, Variable, Own, Standa
 use Rattle.ep_values.specs.TypeValues.{ComponentTypes, TypeValue, bare_each, bare_of, type_among}
 use Rattle.ep_values.specs.TypeValues as type
 use Rattle.ep_typed.specs.Selections.{variant_number}
-use Rattle.ep_meaning.specs.Valid.{Declarations, AreTyped, none_typed, next_typed, IsOfKind, IsSelection, Kind, Ordinal, IsTyped, IsTypeOf, IsTypeOfKind, IsExpr, IsPlaceWhere, IsVariableOf}
+use Rattle.ep_meaning.specs.Valid.{Declarations, AreTyped, none_typed, next_typed, IsOfKind, IsSelection, ValueKind, Ordinal, IsTyped, IsTypeOf, IsTypeOfKind, IsExpr, IsPlaceWhere, IsVariableOf}
 use Rattle.ep_typed.specs.Viewed.{denoter_of}
 use Rattle.ep_typed.specs.declared.tree.Selection.{Selection}
 use Rattle.ep_typed.specs.declared.unit.UnitType.{UnitType}
@@ -62,7 +62,7 @@ pub record IsTypedPlace (declared : Declarations) (Holds : List UnitType → Den
   pub typed : IsTyped types denoter type_value
 
 -- the type value of a place, whose values are of the kind
-pub record IsKindPlace (declared : Declarations) (q : Place) (k : Kind) : Type 0 where
+pub record IsKindPlace (declared : Declarations) (q : Place) (k : ValueKind) : Type 0 where
   pub valid : IsValidPlace declared q
   pub type_value : TypeValue
   pub has_type : HasPlaceType declared q type_value
@@ -201,7 +201,7 @@ module _ (declared : Declarations) (types_valid : HaveValidTypes declared) (own_
       }
 
   -- a place whose values are of a kind has a type value of the kind
-  pub kind_place : (k : Kind) (q : Place) → IsPlaceWhere declared (IsOfKind k) q → IsKindPlace declared q k
+  pub kind_place : (k : ValueKind) (q : Place) → IsPlaceWhere declared (IsOfKind k) q → IsKindPlace declared q k
   kind_place k q is =
       let v = typed_place (IsOfKind k) q is in
       record { valid = v.valid; type_value = bare_of v.type_value; has_type = v.has_type; of_kind = typed_of_kind v.types v.denoter v.type_value k v.typed v.holds }

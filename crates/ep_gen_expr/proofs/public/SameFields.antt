@@ -39,7 +39,7 @@ use Rattle.ep_meaning.specs.Steps.{Component, Computation, bind, change}
 use Rattle.ep_typed.specs.Trees.{SameField}
 use Rattle.ep_values.specs.TypeValues.{ComponentTypes, TypeValue}
 use Rattle.ep_values.specs.TypeValues as type
-use Rattle.ep_meaning.specs.Valid.{Declarations, IsTypeOfKind, Kind, LeadToKind}
+use Rattle.ep_meaning.specs.Valid.{Declarations, IsTypeOfKind, ValueKind, LeadToKind}
 
 module _ (declared : Declarations) (layout : Layout) (G : Image) (untouched : Slots) (Here : Facts) (lasts : Lasts untouched Here) (ps : List Placement) (p : Placement) (references : List Reference) (call : Handler) (steady_call : IsSteadyHandler call) (g : ℕ) (unit : List ℕ) (line n : ℕ)
     (swap : SwapStands G ps unit (declared.first_private unit)) (swap_referred : IsSwapReferred declared unit references) where
@@ -55,7 +55,7 @@ module _ (declared : Declarations) (layout : Layout) (G : Image) (untouched : Sl
       }
 
   -- `Load` and `Store`, where the places of the two components are on top
-  copied_follows : (at : ℕ) (k : Kind) (source goal : TypeValue) → IsTypeOfKind k source → IsTypeOfKind k goal → CodeStands G ps p references at (bare line op.LOAD ∷ bare line op.STORE ∷ [])
+  copied_follows : (at : ℕ) (k : ValueKind) (source goal : TypeValue) → IsTypeOfKind k source → IsTypeOfKind k goal → CodeStands G ps p references at (bare line op.LOAD ∷ bare line op.STORE ∷ [])
       → (injection : Injection) (memory : MachineMemory) (below : List Operand) (a b : Component) (q r : PlaceOf) (d : ℕ) → least_credit ≤ d + 8 → 1 ≤ d → unit_in G memory.frames ≡ unit
       → IsSpot injection memory.types a q → IsLike memory.types q.type_number source → IsSpot injection memory.types b r → IsLike memory.types r.type_number goal
       → Fragment layout G Here n (point injection memory (p.instructions.before + at) (operand.Place q ∷ operand.Place r ∷ below)) (bind (read call g unit line a) (given call g unit line b)) (p.instructions.before + (at + 1 + 1)) (λ u. Inside untouched injection memory (Bare below u)) d (λ u. d + 8)
@@ -68,7 +68,7 @@ module _ (declared : Declarations) (layout : Layout) (G : Image) (untouched : Sl
       (fragment_from {place = p.instructions.before + (at + 1)} (omega arith) (fragment_to (omega arith)
       (store_given layout G untouched Here lasts ps p references call steady_call g unit line n k goal x v.0 b r (may_take k goal of_goal) (at + 1) stands.1 longer after v.1 below (d + 8) enough (unit_in-same G routine ∙ home) (is_spot-grown grown spot_b) (describes-grown r.type_number goal grown described_b)))))
 
-  module _ (ts : ComponentTypes) (from to : List ℕ) (k : Kind) (source : LeadToKind ts from k) (goal : LeadToKind ts to k) (at : ℕ) (stands : CodeStands G ps p references at (same_code line from to)) where
+  module _ (ts : ComponentTypes) (from to : List ℕ) (k : ValueKind) (source : LeadToKind ts from k) (goal : LeadToKind ts to k) (at : ℕ) (stands : CodeStands G ps p references at (same_code line from to)) where
     abbrev last : List Instr
     last = bare line op.LOAD ∷ bare line op.STORE ∷ []
 

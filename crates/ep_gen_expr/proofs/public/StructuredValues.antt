@@ -37,7 +37,7 @@ use Rattle.ep_meaning.specs.Steps.{Component, assigned, bind, component, compone
 use Rattle.ep_typed.specs.Trees.{Element, Elements, AtField, AtIndex, Expr, next_element, no_element}
 use Rattle.ep_values.specs.TypeValues.{ComponentTypes, TypeValue}
 use Rattle.ep_values.specs.TypeValues as type
-use Rattle.ep_meaning.specs.Valid.{IsTypeOfKind, Kind, LeadTo, Ordinal}
+use Rattle.ep_meaning.specs.Valid.{IsTypeOfKind, ValueKind, LeadTo, Ordinal}
 use Rattle.ep_values.specs.declared.run_error.TheConstants as run_error
 
 -- what an element needs besides the least credit, for what stands before its value
@@ -61,7 +61,7 @@ module _ (layout : Layout) (G : Image) (untouched : Slots) (Here : Facts) (lasts
       → Fragment layout G Here n (point injection memory (p.instructions.before + at) (operand.Place q ∷ rest)) (gives_all call g unit line a es) (p.instructions.before + (at + length code)) (λ u. Inside untouched injection memory (Bare (operand.Place q ∷ rest) u)) d (λ u. d)
 
   -- `Store`, where the place of a component and the value are on top
-  pub store_given : (k : Kind) (t : TypeValue) (r : Result) (o : Operand) (a : Component) (q : PlaceOf) → MayTake k t → (at : ℕ) → CodeStands G ps p references at (bare line op.STORE ∷ []) → (injection : Injection) (memory : MachineMemory) → IsValueOf injection memory k r o → (below : List Operand) (d : ℕ) → least_credit ≤ d → unit_in G memory.frames ≡ unit → IsSpot injection memory.types a q → IsLike memory.types q.type_number t
+  pub store_given : (k : ValueKind) (t : TypeValue) (r : Result) (o : Operand) (a : Component) (q : PlaceOf) → MayTake k t → (at : ℕ) → CodeStands G ps p references at (bare line op.STORE ∷ []) → (injection : Injection) (memory : MachineMemory) → IsValueOf injection memory k r o → (below : List Operand) (d : ℕ) → least_credit ≤ d → unit_in G memory.frames ≡ unit → IsSpot injection memory.types a q → IsLike memory.types q.type_number t
       → Fragment layout G Here n (point injection memory (p.instructions.before + at) (o ∷ operand.Place q ∷ below)) (given call g unit line a r) (p.instructions.before + at + 1) (λ b. Inside untouched injection memory (Bare below b)) (d + weight_of r) (λ b. d)
   store_given k t r o a q takes at stands injection memory value below d enough home spot described =
       fragment_less {n = suc n} (omega arith) (fragment_using {n = suc n} {e = λ b. d} a.allocation
@@ -73,7 +73,7 @@ module _ (layout : Layout) (G : Image) (untouched : Slots) (Here : Facts) (lasts
       (omega (arith, enough)) (omega arith)))
 
   -- the value of a component whose place is on top, and `Store`
-  value_given : (k : Kind) (t : TypeValue) (x : Expr) → IsTypeOfKind k t → (at : ℕ) (xs : List Instr) → IsFollowed layout G untouched Here p call g unit n k x line at xs → CodeStands G ps p references (at + length xs) (bare line op.STORE ∷ [])
+  value_given : (k : ValueKind) (t : TypeValue) (x : Expr) → IsTypeOfKind k t → (at : ℕ) (xs : List Instr) → IsFollowed layout G untouched Here p call g unit n k x line at xs → CodeStands G ps p references (at + length xs) (bare line op.STORE ∷ [])
       → (injection : Injection) (memory : MachineMemory) (below : List Operand) (a : Component) (q : PlaceOf) (d : ℕ) → least_credit ≤ d → unit_in G memory.frames ≡ unit → IsSpot injection memory.types a q → IsLike memory.types q.type_number t
       → Fragment layout G Here n (point injection memory (p.instructions.before + at) (operand.Place q ∷ below)) (bind (eval call g unit line x) (given call g unit line a)) (p.instructions.before + (at + length xs + 1)) (λ u. Inside untouched injection memory (Bare below u)) d (λ u. d + 8)
   value_given k t x of_kind at xs follows stands injection memory below a q d enough home spot described =
@@ -83,7 +83,7 @@ module _ (layout : Layout) (G : Image) (untouched : Slots) (Here : Facts) (lasts
       (fragment_to (omega arith) (store_given k t r v.0 a q (may_take k t of_kind) (at + length xs) stands longer after v.1 below (d + 8) (omega (arith, enough)) (unit_in-same G routine ∙ home) (is_spot-grown grown spot) (describes-grown q.type_number t grown described))))
 
   -- the component of an array at an index
-  pub at_index_follows : (low high : ℤ) (of : TypeValue) (h : Host) (k : Kind) (x y : Expr) → IsTypeOfKind k of → (at : ℕ) (xs ys : List Instr)
+  pub at_index_follows : (low high : ℤ) (of : TypeValue) (h : Host) (k : ValueKind) (x y : Expr) → IsTypeOfKind k of → (at : ℕ) (xs ys : List Instr)
       → IsFollowed layout G untouched Here p call g unit n (Ordinal h) x line (at + 1) xs → IsFollowed layout G untouched Here p call g unit n k y line (at + 1 + length xs + 1) ys
       → CodeStands G ps p references at (bare line op.DUP ∷ (xs ++ bare line op.INDEX ∷ (ys ++ bare line op.STORE ∷ [])))
       → IsElementFollowed (type.Array low high of) (AtIndex x y) at (bare line op.DUP ∷ (xs ++ bare line op.INDEX ∷ (ys ++ bare line op.STORE ∷ [])))
@@ -114,7 +114,7 @@ module _ (layout : Layout) (G : Image) (untouched : Slots) (Here : Facts) (lasts
       (value_given k of y of_kind (at + 1 + length xs + 1) ys second last v2 m2 (operand.Place q ∷ rest) c top.place (d - 2) (omega (arith, enough)) (unit_in-same G routine2 ∙ home1) top.spot top.described))))))))
 
   -- the component of a record to which steps lead
-  pub at_field_follows : (ts : ComponentTypes) (of : TypeValue) (k : Kind) (steps : List ℕ) (x : Expr) → LeadTo ts steps of → IsTypeOfKind k of → (at : ℕ) (xs : List Instr)
+  pub at_field_follows : (ts : ComponentTypes) (of : TypeValue) (k : ValueKind) (steps : List ℕ) (x : Expr) → LeadTo ts steps of → IsTypeOfKind k of → (at : ℕ) (xs : List Instr)
       → IsFollowed layout G untouched Here p call g unit n k x line (at + length (reach_code line steps)) xs
       → CodeStands G ps p references at (reach_code line steps ++ (xs ++ bare line op.STORE ∷ []))
       → IsElementFollowed (type.Record ts) (AtField steps x) at (reach_code line steps ++ (xs ++ bare line op.STORE ∷ []))

@@ -6,14 +6,14 @@ use Rattle.ep_grammar.specs.declared.stop.Stop.{Stop}
 use Rattle.ep_grammar.specs.declared.stop.Stop.TheVariants.{Syntax, Nested}
 use Rattle.ep_grammar.specs.Classes.{Class, Sort, has, class_of, after_first, End}
 use Rattle.ep_grammar.specs.Descriptions.{Step, More, Last}
-use Rattle.ep_grammar.specs.Reading.{Outcome, Parser, and_then, taken, peek, read_token, go_on, steps, by_shape}
+use Rattle.ep_grammar.specs.Reading.{ReadOutcome, Parser, and_then, taken, peek, read_token, go_on, steps, by_shape}
 use Rattle.ep_grammar.proofs.public.Outcomes.{took, stopped}
 
-abbrev pub rest_of : {A : Type 0} → Outcome A → List Token
+abbrev pub rest_of : {A : Type 0} → ReadOutcome A → List Token
 rest_of (Ok p) = p.1
 rest_of (Err e) = e.1
 
-abbrev pub with_rest : {A : Type 0} → Outcome A → List Token → Outcome A
+abbrev pub with_rest : {A : Type 0} → ReadOutcome A → List Token → ReadOutcome A
 with_rest (Ok p) c = took p.0 c
 with_rest (Err e) c = stopped e.0 c
 
@@ -22,7 +22,7 @@ NotNested Nested = ⊥
 NotNested _ = Unit {0}
 
 -- under `true` any outcome, and under `false` one that is not for want of room
-abbrev pub Calm : {A : Type 0} → Bool → Outcome A → Type 0
+abbrev pub Calm : {A : Type 0} → Bool → ReadOutcome A → Type 0
 Calm true o = Unit {0}
 Calm false (Ok p) = Unit {0}
 Calm false (Err e) = NotNested e.0
@@ -98,16 +98,16 @@ like_by v d p q first l = record {
 
 -- ---- one after the other
 
-calm_first : {A B : Type 0} (v : Bool) (o : Outcome A) (g : A → Parser B) → Calm v (and_then o g) → Calm v o
+calm_first : {A B : Type 0} (v : Bool) (o : ReadOutcome A) (g : A → Parser B) → Calm v (and_then o g) → Calm v o
 calm_first true o g c = tt
 calm_first false (Ok w) g c = tt
 calm_first false (Err e) g c = c
 
-then_front : {A B : Type 0} (o : Outcome A) (g : A → Parser B) → ((x : A) (a : List Token) → (pre : List Token) × (a ≡ pre ++ rest_of (g x a))) → (pre : List Token) × (rest_of o ≡ pre ++ rest_of (and_then o g))
+then_front : {A B : Type 0} (o : ReadOutcome A) (g : A → Parser B) → ((x : A) (a : List Token) → (pre : List Token) × (a ≡ pre ++ rest_of (g x a))) → (pre : List Token) × (rest_of o ≡ pre ++ rest_of (and_then o g))
 then_front (Ok w) g f = f w.0 w.1
 then_front (Err e) g f = ([], refl)
 
-then_more : {A B : Type 0} (v : Bool) (o : Outcome A) (g h : A → Parser B) → ((x : A) → Like v (g x) (h x)) → Calm v (and_then o g) → and_then o h ≡ and_then o g
+then_more : {A B : Type 0} (v : Bool) (o : ReadOutcome A) (g h : A → Parser B) → ((x : A) → Like v (g x) (h x)) → Calm v (and_then o g) → and_then o h ≡ and_then o g
 then_more v (Ok w) g h l c = (l w.0).more w.1 c
 then_more v (Err e) g h l c = refl
 
@@ -127,7 +127,7 @@ then_at v p q g h l m pre0 (u ∷ pre) t y z x e c r d =
     let s = l.same pre0 u (pre ++ t ∷ y) (pre ++ t ∷ z) (ap rest_of e') (subst (Calm v) (sym e') c) in
     ap (λ o. and_then o h) (ap q there ∙ s ∙ ap (λ o. with_rest o (u ∷ (pre ++ t ∷ z))) e') ∙ (m x).same (u ∷ pre) t y z r d
 
-then_same : {A B : Type 0} (v : Bool) (p q : Parser A) (g h : A → Parser B) → Like v p q → ((x : A) → Like v (g x) (h x)) → (pre : List Token) (t : Token) (y z : List Token) (o : Outcome A) → p (pre ++ t ∷ y) ≡ o → rest_of (and_then o g) ≡ t ∷ y → Calm v (and_then o g) → and_then (q (pre ++ t ∷ z)) h ≡ with_rest (and_then o g) (t ∷ z)
+then_same : {A B : Type 0} (v : Bool) (p q : Parser A) (g h : A → Parser B) → Like v p q → ((x : A) → Like v (g x) (h x)) → (pre : List Token) (t : Token) (y z : List Token) (o : ReadOutcome A) → p (pre ++ t ∷ y) ≡ o → rest_of (and_then o g) ≡ t ∷ y → Calm v (and_then o g) → and_then (q (pre ++ t ∷ z)) h ≡ with_rest (and_then o g) (t ∷ z)
 then_same v p q g h l m pre t y z (Err w) e r c =
     ap (λ o. and_then o h) (l.same pre t y z (ap rest_of e ∙ r) (subst (Calm v) (sym e) (calm_first v (Err w) g c)) ∙ ap (λ o. with_rest o (t ∷ z)) e)
 then_same v p q g h l m pre t y z (Ok w) e r c =
@@ -198,7 +198,7 @@ Takes p = (a : List Token) (s : _) (b : List Token) → p a ≡ took s b → len
 
 -- turns past the tokens that are left change nothing
 module _ {A B : Type 0} (cs : List Class) (p : Parser (Step A B)) (r : B) (t : Takes p) (e : has cs End ≡ false) where
-  one_turn : (f g : List A → Parser (List A × B)) (n m : ℕ) → ((found : List A) (a : List Token) → length a ≤ n → length a ≤ m → f found a ≡ g found a) → (found : List A) (a : List Token) → length a ≤ suc n → length a ≤ suc m → (o : Outcome (Step A B)) → p a ≡ o → and_then o (go_on f found) ≡ and_then o (go_on g found)
+  one_turn : (f g : List A → Parser (List A × B)) (n m : ℕ) → ((found : List A) (a : List Token) → length a ≤ n → length a ≤ m → f found a ≡ g found a) → (found : List A) (a : List Token) → length a ≤ suc n → length a ≤ suc m → (o : ReadOutcome (Step A B)) → p a ≡ o → and_then o (go_on f found) ≡ and_then o (go_on g found)
   one_turn f g n m rec found a le le' (Err w) h = refl
   one_turn f g n m rec found a le le' (Ok w) h = on_step w.0 w.1 (t a w.0 w.1 h)
     where

@@ -4,7 +4,7 @@ use Rattle.ep_token.specs.declared.token.Token.{Token}
 use Rattle.ep_tree.specs.declared.component.Component.{Component}
 use Rattle.ep_grammar.specs.declared.stop.Stop.{Stop}
 use Rattle.ep_grammar.specs.declared.stop.Stop.TheVariants.{NoMemory, Syntax, Nested}
-use Rattle.ep_grammar.specs.Reading.{Outcome}
+use Rattle.ep_grammar.specs.Reading.{ReadOutcome}
 use Rattle.ep_grammar.specs.Rules.{Grammar, Begins, read_components}
 use Rattle.ep_grammar.specs.Refusals.{RefusedAt, SyntaxRefusedAt, NestingRefusedAt, RefusedFor, place_of}
 use Rattle.ep_grammar.specs.Units.{components}
@@ -21,7 +21,7 @@ use Rattle.ep_grammar.proofs.Ending.{beyond}
 use Rattle.ep_grammar.proofs.public.Knot.{grammar_sound, grammar_complete, one_tree_at}
 
 -- an outcome that leaves a token is none that reads a text to its end
-not_whole : (o : Outcome (List Component)) (t : Token) (z : List Token) (cs : List Component) → with_rest o (t ∷ z) ≡ took cs [] → ⊥
+not_whole : (o : ReadOutcome (List Component)) (t : Token) (z : List Token) (cs : List Component) → with_rest o (t ∷ z) ≡ took cs [] → ⊥
 not_whole (Ok p) t z cs h = absurd (let q : t ∷ z ≡ [] = (same_took h).1 in cc)
 not_whole (Err e) t z cs h = never h
 
@@ -57,7 +57,7 @@ refused_from k ts pre (t ∷ y) e h none n p =
       no_text = λ less b. refused_begins k pre t y here (subst (Begins k) (ap (take (n + 1)) e ∙ take_front pre t y n at) b);
     }
 
-refused_at : (k : ℕ) (ts : List Token) (o : Outcome (List Component)) → read_components k ts ≡ o → ((cs : List Component) → o ≡ took cs [] → ⊥) → (n : ℕ) → n ≡ length ts - length (rest_of o) → RefusedAt k ts n
+refused_at : (k : ℕ) (ts : List Token) (o : ReadOutcome (List Component)) → read_components k ts ≡ o → ((cs : List Component) → o ≡ took cs [] → ⊥) → (n : ℕ) → n ≡ length ts - length (rest_of o) → RefusedAt k ts n
 refused_at k ts o h none n p =
     let f = (components_look true k).front ts in
     refused_from k ts f.0 (rest_of o) (f.1 ∙ ap (λ w. f.0 ++ rest_of w) h) (ap rest_of h) (λ cs e. none cs (sym h ∙ e)) n p
@@ -80,7 +80,7 @@ less_refused k m ts n le f = record {
 }
 
 -- an outcome that is not for want of levels is the outcome at each number of levels
-refused_anywhere : (k : ℕ) (ts : List Token) (o : Outcome (List Component)) → read_components k ts ≡ o → Calm false o → ((cs : List Component) → o ≡ took cs [] → ⊥) → (m : ℕ) → RefusedAt m ts (place_of ts (rest_of o))
+refused_anywhere : (k : ℕ) (ts : List Token) (o : ReadOutcome (List Component)) → read_components k ts ≡ o → Calm false o → ((cs : List Component) → o ≡ took cs [] → ⊥) → (m : ℕ) → RefusedAt m ts (place_of ts (rest_of o))
 refused_anywhere k ts o h calm none m =
     less_refused m (m + k) ts (place_of ts (rest_of o)) (omega arith)
     (refused_at (m + k) ts o ((components_grow k (m + k) (omega arith)).more ts (subst (Calm false) (sym h) calm) ∙ h) none (place_of ts (rest_of o)) refl)

@@ -8,7 +8,7 @@ use Rattle.ep_typed.specs.Hosts.{Host}
 use Rattle.ep_typed.specs.Trees.{Fixed, Denoter, Required, Named, Subrange, Enumeration, Array, Record, Set, Initial}
 use Rattle.ep_values.specs.TypeValues.{TypeValue, bare_of}
 use Rattle.ep_meaning.specs.Valid as kind
-use Rattle.ep_meaning.specs.Valid.{IsOfKind, IsStructured, IsTyped, IsTypeOfKind, Kind}
+use Rattle.ep_meaning.specs.Valid.{IsOfKind, IsStructured, IsTyped, IsTypeOfKind, ValueKind}
 use Rattle.ep_typed.specs.declared.denoter.RequiredType.TheVariants as simple
 use Rattle.ep_typed.specs.declared.unit.UnitType.{UnitType}
 
@@ -85,7 +85,7 @@ module _ (types : List UnitType) where
       go (Some u) is f = let same = same_Some (bare_of u) t f in (u, is, same, subst IsStructured (sym same) structured)
 
   -- a denoter's values are of one kind
-  pub kinds_are_one : (d : Denoter) (k l : Kind) → IsOfKind k types d → IsOfKind l types d → k ≡ l
+  pub kinds_are_one : (d : Denoter) (k l : ValueKind) → IsOfKind k types d → IsOfKind l types d → k ≡ l
   kinds_are_one d (kind.Ordinal h) (kind.Ordinal i) p q = ap kind.Ordinal (same_Some h i (sym p ∙ q))
   kinds_are_one d (kind.Ordinal h) kind.Bytes p q = absurd q
   kinds_are_one d (kind.Ordinal h) (kind.Structured t) p q = (let u = with_bare d t q.0 q.1 in absurd (hosted_within (suc (length types)) d h u.0 p u.1 u.3))
@@ -103,7 +103,7 @@ module _ (types : List UnitType) where
   kinds_are_one d (kind.Structured t) (kind.Structured u) p q = ap kind.Structured (same_Some t u (sym p.0 ∙ q.0))
 
   -- and so are those of its type value, where it is valid, but for initial states
-  pub typed_of_kind : (d : Denoter) (t : TypeValue) (k : Kind) → IsTyped types d t → IsOfKind k types d → IsTypeOfKind k (bare_of t)
+  pub typed_of_kind : (d : Denoter) (t : TypeValue) (k : ValueKind) → IsTyped types d t → IsOfKind k types d → IsTypeOfKind k (bare_of t)
   typed_of_kind d t (kind.Ordinal h) typed of_kind = typed_of_host types d t h typed of_kind
   typed_of_kind d t kind.Bytes typed of_kind = of_kind
   typed_of_kind d t (kind.Set h) typed of_kind = typed_set types d t of_kind.0 h typed of_kind.1 of_kind.2

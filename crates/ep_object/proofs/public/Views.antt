@@ -4,7 +4,7 @@ use Rattle.std.specs.Fn.{iterate}
 use Rattle.ep_object.specs.Effects.{Effect, Continues, Jumps, Returns, Fails, Halts, Breaks}
 use Rattle.ep_object.specs.Laws.{settled, RunsAgree, EndsStay, EventsGrow, RunsExtend}
 use Rattle.ep_object.specs.Routines.{routine_of}
-use Rattle.ep_object.specs.Runs.{Activation, activation, entering, entering_next, enter, after, Outcome, outcome, outcome_of, Timed, timed, advance, run_to, tick, and_then, run, run_from}
+use Rattle.ep_object.specs.Runs.{Activation, activation, entering, entering_next, enter, after, TurnOutcome, outcome, outcome_of, Timed, timed, advance, run_to, tick, and_then, run, run_from}
 use Rattle.ep_object.specs.State.{State, Going, Running, Stopped, End}
 use Rattle.ep_object.specs.Table.{obey}
 use Rattle.ep_object.specs.declared.code.Image.{Image}
@@ -26,7 +26,7 @@ pub run_waits : (G : Image) (j wait : ℕ) (s : State) → wait + j ≤ (outcome
 run_waits G zero wait s h =
     let e : wait ≡ wait + 0 = omega arith in ap (λ n. Running n s) e
 run_waits G (suc j) wait s h =
-    let o : Outcome = outcome G s in
+    let o : TurnOutcome = outcome G s in
     let le : wait + suc j ≤ o.weight = h in
     let left : o.weight - wait ≡ suc (o.weight - suc wait) = omega arith in
     let e : suc wait + j ≡ wait + suc j = omega arith in
@@ -35,7 +35,7 @@ run_waits G (suc j) wait s h =
 -- and acts at its last tick
 pub run_acts : (G : Image) (s : State) → run G (suc (outcome G s).weight) 0 s ≡ (outcome G s).to
 run_acts G s =
-    let o : Outcome = outcome G s in
+    let o : TurnOutcome = outcome G s in
     let e : suc o.weight ≡ o.weight + 1 = omega arith in
     let w : run G o.weight 0 s ≡ Running (0 + o.weight) s = run_waits G o.weight 0 s (omega arith) in
     let z : 0 + o.weight ≡ o.weight = omega arith in
@@ -86,14 +86,14 @@ stopped_still G limit k ticks e trace = still G limit k (timed ticks (Stopped e 
 -- what agrees from where an instruction leads agrees from before it
 agree_if : (G : Image) (limit n ticks : ℕ) (s : State) (b : Bool) → leb (ticks + suc (outcome G s).weight) limit ≡ b → ((t : ℕ) (g : Going) → IsWhole g → t ≤ limit → limit - t ≤ n → settled limit (iterate (advance G limit) n (timed t g)) ≡ run_from G (limit - t) g) → ticks ≤ limit → limit - ticks ≤ suc n → settled limit (iterate (advance G limit) n (cond b (timed (ticks + suc (outcome G s).weight) (outcome G s).to) (timed ticks (Running 0 s)))) ≡ run G (limit - ticks) 0 s
 agree_if G limit n ticks s true h ih le fuel =
-    let o : Outcome = outcome G s in
+    let o : TurnOutcome = outcome G s in
     let fits : ticks + suc o.weight ≤ limit = search rules in
     let rest : ℕ = limit - (ticks + suc o.weight) in
     let e : limit - ticks ≡ suc o.weight + rest = omega arith in
     let after : settled limit (iterate (advance G limit) n (timed (ticks + suc o.weight) o.to)) ≡ run_from G rest o.to = ih (ticks + suc o.weight) o.to (outcome_whole G s) fits (omega arith) in
     after ∙ sym (ap (λ k. run G k 0 s) e ∙ (run_more G (suc o.weight) rest (Running 0 s) ∙ ap (run_from G rest) (run_acts G s)))
 agree_if G limit n ticks s false h ih le fuel =
-    let o : Outcome = outcome G s in
+    let o : TurnOutcome = outcome G s in
     let over : limit < ticks + suc o.weight = search rules in
     let x : Timed = timed ticks (Running 0 s) in
     let stays : advance G limit x ≡ x = rw h refl in

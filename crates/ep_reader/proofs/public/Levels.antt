@@ -5,10 +5,10 @@ use Rattle.ep_token.specs.declared.token.Token.{Token}
 use Rattle.ep_grammar.specs.declared.stop.Stop.{Stop}
 use Rattle.ep_grammar.specs.declared.stop.Stop.TheVariants.{NoMemory}
 use Rattle.ep_grammar.specs.Classes.{Class, has, class_of}
-use Rattle.ep_grammar.specs.Reading.{Outcome, Parser, Inside, Reads, cause, within}
+use Rattle.ep_grammar.specs.Reading.{ReadOutcome, Parser, Inside, Reads, cause, within}
 
 -- a level is left
-pub opened : {X : Type 0} {here : Option Inside} {e : Inside} (cs : List Class) (p : Parser X) (i : List Token) {o : Outcome X} → here ≡ Some e → p i ≡ o → within here cs p i ≡ o
+pub opened : {X : Type 0} {here : Option Inside} {e : Inside} (cs : List Class) (p : Parser X) (i : List Token) {o : ReadOutcome X} → here ≡ Some e → p i ≡ o → within here cs p i ≡ o
 opened {X} {here} {e} cs p i {o} h q = rw h q
 
 -- no level is left
@@ -18,6 +18,6 @@ unopened {X} {here} {b} {q} cs p i h g =
     rw (h.0, same) refl
 
 -- an error is handed on
-pub handed : {A : Type 0} (o : Outcome A) (r : Result A Stop) (new : List Token) (q : Stop) → IsErrAnd r (λ e. e ≡ q) → (q ≢ NoMemory → o ≡ Err (q, new)) → Reads o r new
+pub handed : {A : Type 0} (o : ReadOutcome A) (r : Result A Stop) (new : List Token) (q : Stop) → IsErrAnd r (λ e. e ≡ q) → (q ≢ NoMemory → o ≡ Err (q, new)) → Reads o r new
 handed o (Ok a) new q h f = absurd h
-handed {A} o (Err e) new q h f = λ n. f (λ m. n (h ∙ m)) ∙ ap (λ w. (let x : Outcome A = Err (w, new) in x)) (sym h)
+handed {A} o (Err e) new q h f = λ n. f (λ m. n (h ∙ m)) ∙ ap (λ w. (let x : ReadOutcome A = Err (w, new) in x)) (sym h)

@@ -5,7 +5,7 @@ use Rattle.ep_token.specs.declared.token.Token.{Token}
 use Rattle.ep_grammar.specs.declared.stop.Stop.{Stop}
 use Rattle.ep_grammar.specs.Classes.{Class, has, class_of}
 use Rattle.ep_grammar.specs.Descriptions.{Step, More, Last}
-use Rattle.ep_grammar.specs.Reading.{Outcome, Parser, Reads, ReadsOnto, and_then, applied, go_on, steps}
+use Rattle.ep_grammar.specs.Reading.{ReadOutcome, Parser, Reads, ReadsOnto, and_then, applied, go_on, steps}
 use Rattle.ep_reader.specs.Rows.{from_found}
 use Rattle.ep_reader.proofs.public.Outcomes.{applied_err, applied_ok}
 
@@ -14,7 +14,7 @@ abbrev behind : {A B : Type 0} → List A → List A × B → List A × B
 behind before w = (before ++ w.0, w.1)
 
 module _ {A B : Type 0} (cs : List Class) (step : Parser (Step A B)) (r : B) (n : ℕ) (before : List A) (ih : (found : List A) (j : List Token) → steps cs step r n (before ++ found) j ≡ applied (behind before) (steps cs step r n found j)) (found : List A) (i : List Token) where
-  turn_onto : (b : Bool) (o : Outcome (Step A B)) → (if b then and_then o (go_on (steps cs step r n) (before ++ found)) else Ok ((before ++ found, r), i)) ≡ applied (behind before) (if b then and_then o (go_on (steps cs step r n) found) else Ok ((found, r), i))
+  turn_onto : (b : Bool) (o : ReadOutcome (Step A B)) → (if b then and_then o (go_on (steps cs step r n) (before ++ found)) else Ok ((before ++ found, r), i)) ≡ applied (behind before) (if b then and_then o (go_on (steps cs step r n) found) else Ok ((found, r), i))
   turn_onto false o = refl
   turn_onto true (Err e) = refl
   turn_onto true (Ok (More x, j)) = ap (λ w. steps cs step r n w j) (append_assoc before found (x ∷ [])) ∙ ih (found ++ x ∷ []) j
@@ -25,7 +25,7 @@ unfolding steps
 steps_onto cs step r zero before found i = refl
 steps_onto cs step r (suc n) before found i = turn_onto cs step r n before (λ f j. steps_onto cs step r n before f j) found i (has cs (class_of i)) (step i)
 
-lists_onto : {A B : Type 0} (before : List A) (o : Outcome (List A × B)) → and_then (applied (behind before) o) (λ w k. Ok (w.0, k)) ≡ applied (λ w. before ++ w) (and_then o (λ w k. Ok (w.0, k)))
+lists_onto : {A B : Type 0} (before : List A) (o : ReadOutcome (List A × B)) → and_then (applied (behind before) o) (λ w k. Ok (w.0, k)) ≡ applied (λ w. before ++ w) (and_then o (λ w k. Ok (w.0, k)))
 lists_onto before (Ok p) = refl
 lists_onto before (Err e) = refl
 

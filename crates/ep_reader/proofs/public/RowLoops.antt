@@ -6,11 +6,11 @@ use Rattle.ep_grammar.specs.declared.stop.Stop.{Stop}
 use Rattle.ep_grammar.specs.declared.stop.Stop.TheVariants.{NoMemory}
 use Rattle.ep_grammar.specs.Classes.{Class, Symbol, exactly, same, has, class_of}
 use Rattle.ep_grammar.specs.Descriptions.{Step, More, Last, Syntax, give, either, apply, row, symbol, single}
-use Rattle.ep_grammar.specs.Reading.{Outcome, Parser, Inside, and_then, applied, steps, read, read_token}
+use Rattle.ep_grammar.specs.Reading.{ReadOutcome, Parser, Inside, and_then, applied, steps, read, read_token}
 use Rattle.ep_reader.proofs.public.Outcomes.{chosen, one_class, passed}
 
 -- The outcome is that of the turns from this one to the last, after the items that were found.
-pub record Turns {A B C : Type 0} (o : Outcome C) (node : List A × B → C) (e : Option Inside) (cs : List Class) (s : Syntax (Step A B)) (r : B) (last turn : ℕ) (found : List A) (i : List Token) : Type 0 where
+pub record Turns {A B C : Type 0} (o : ReadOutcome C) (node : List A × B → C) (e : Option Inside) (cs : List Class) (s : Syntax (Step A B)) (r : B) (last turn : ℕ) (found : List A) (i : List Token) : Type 0 where
   pub same : o ≡ applied node (steps cs (read e s) r (last - turn) found i)
 
 -- ---- one turn
@@ -43,7 +43,7 @@ this_turn last turn h = omega arith
 no_turn : (last turn : ℕ) → last ≤ turn → last - turn ≡ 0
 no_turn last turn h = omega arith
 
-module _ {A B C : Type 0} {o : Outcome C} {node : List A × B → C} {e : Option Inside} {cs : List Class} {s : Syntax (Step A B)} {r : B} {last turn : ℕ} {found : List A} {i : List Token} (t : Turns o node e cs s r last turn found i) where
+module _ {A B C : Type 0} {o : ReadOutcome C} {node : List A × B → C} {e : Option Inside} {cs : List Class} {s : Syntax (Step A B)} {r : B} {last turn : ℕ} {found : List A} {i : List Token} (t : Turns o node e cs s r last turn found i) where
   at_turn : turn < last → o ≡ applied node (steps cs (read e s) r (suc (last - (turn + 1))) found i)
   at_turn h = t.same ∙ ap (λ n. applied node (steps cs (read e s) r n found i)) (this_turn last turn h)
 
@@ -76,7 +76,7 @@ begun node cs step r last given found j l g =
 first_found : {A : Type 0} {none found : List A} {x : A} → none ≡ [] → found ≡ none ++ x ∷ [] → x ∷ [] ≡ found
 first_found {A} {none} {found} {x} f g = sym (g ∙ ap (λ w. w ++ x ∷ []) f)
 
-same_outcome : {A : Type 0} (o : Outcome A) → o ≡ applied (λ x. x) o
+same_outcome : {A : Type 0} (o : ReadOutcome A) → o ≡ applied (λ x. x) o
 same_outcome (Ok p) = refl
 same_outcome (Err p) = refl
 
@@ -84,7 +84,7 @@ same_outcome (Err p) = refl
 module _ {A B C : Type 0} (node : List A × B → C) (e : Option Inside) (cs : List Class) (s : Syntax A) (step : Syntax (Step A B)) (r : B) (i : List Token) {j : List Token} {x : A} {last : ℕ} {none found : List A} (h : read e s i ≡ Ok (x, j)) (f : none ≡ []) (g : found ≡ none ++ x ∷ []) (l : last ≡ length j) where
   row_begun : applied node (read e (row (apply (give single) s) cs step r) i) ≡ applied node (steps cs (read e step) r (last - 0) found j)
   row_begun =
-      ap (λ (w : Outcome A). applied node (and_then (and_then w (λ x k. Ok (single x, k))) (λ found j. steps cs (read e step) r (length j) found j))) h ∙ begun node cs (read e step) r last (x ∷ []) found j l (first_found f g)
+      ap (λ (w : ReadOutcome A). applied node (and_then (and_then w (λ x k. Ok (single x, k))) (λ found j. steps cs (read e step) r (length j) found j))) h ∙ begun node cs (read e step) r last (x ∷ []) found j l (first_found f g)
 
 -- ---- what one step answers
 
@@ -119,7 +119,7 @@ module _ {A B : Type 0} (e : Option Inside) (cs : List Class) (s : Syntax A) (b 
   end_last h = after_ok e symbols.SEMICOLON (λ x. x) (either cs (apply (give More) s) (give (Last b))) i a (passed (read e (apply (give More) s) j) (Ok (Last b, j)) (sym h))
 
 -- no symbol follows
-pub after_none : {A B C : Type 0} {o : Outcome C} {node : List A × B → C} {e : Option Inside} {n : ℕ} {s : Syntax (Step A B)} {r : B} {last turn : ℕ} {found : List A} {i : List Token} → Turns o node e (Symbol n ∷ []) s r last turn found i → turn < last → false ≡ same (class_of i) (Symbol n) → o ≡ Ok (node (found, r), i)
+pub after_none : {A B C : Type 0} {o : ReadOutcome C} {node : List A × B → C} {e : Option Inside} {n : ℕ} {s : Syntax (Step A B)} {r : B} {last turn : ℕ} {found : List A} {i : List Token} → Turns o node e (Symbol n ∷ []) s r last turn found i → turn < last → false ≡ same (class_of i) (Symbol n) → o ≡ Ok (node (found, r), i)
 after_none {A} {B} {C} {o} {node} {e} {n} {s} {r} {last} {turn} {found} {i} t h b = turn_none t h (one_class (same (class_of i) (Symbol n)) false b)
 
 -- ---- items with a semicolon between them and perhaps at the end
@@ -129,7 +129,7 @@ pub ended_begun : {A B : Type 0} {e : Option Inside} {cs : List Class} (s : Synt
 ended_begun {A} {B} {e} {cs} s {step} {r} i h f g l =
     record { same = same_outcome (read e (row (apply (give single) s) cs step r) i) ∙ row_begun (λ p. p) e cs s step r i h f g l }
 
-module _ {A B C : Type 0} {o : Outcome C} {node : List A × B → C} {e : Option Inside} {cs : List Class} {s : Syntax A} {b r : B} {last turn : ℕ} {found : List A} {i : List Token} (t : Turns o node e (Symbol symbols.SEMICOLON ∷ []) (or_end cs s b) r last turn found i) where
+module _ {A B C : Type 0} {o : ReadOutcome C} {node : List A × B → C} {e : Option Inside} {cs : List Class} {s : Syntax A} {b r : B} {last turn : ℕ} {found : List A} {i : List Token} (t : Turns o node e (Symbol symbols.SEMICOLON ∷ []) (or_end cs s b) r last turn found i) where
   pub end_more : {u : Unit {0}} {x : A} {j k : List Token} {grown : List A} → turn < last → true ≡ same (class_of i) (Symbol symbols.SEMICOLON) → read_token (exactly (Symbol symbols.SEMICOLON)) i ≡ Ok (u, j) → true ≡ has cs (class_of j) → read e s j ≡ Ok (x, k) → grown ≡ found ++ x ∷ [] → Turns o node e (Symbol symbols.SEMICOLON ∷ []) (or_end cs s b) r last (turn + 1) grown k
   end_more h m a c q g = turn_more t h (one_class (same (class_of i) (Symbol symbols.SEMICOLON)) true m) (end_ok e cs s b i a c q) g
 

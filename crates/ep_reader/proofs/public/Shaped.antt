@@ -3,11 +3,11 @@ use Rattle.std.proofs.Common.{◌≡◌, ℕ, Bool, true, false, if◌then◌els
 use Rattle.ep_token.specs.declared.token.Token.{Token}
 use Rattle.ep_grammar.specs.Classes.{Class, has, class_of, line_of}
 use Rattle.ep_grammar.specs.Descriptions.{Syntax}
-use Rattle.ep_grammar.specs.Reading.{Outcome, Parser, Inside, and_then, applied, by_shape, refused, read}
+use Rattle.ep_grammar.specs.Reading.{ReadOutcome, Parser, Inside, and_then, applied, by_shape, refused, read}
 use Rattle.ep_reader.proofs.public.Outcomes.{chosen, one_class, passed}
 
 -- two applications in turn
-twice : {C Z : Type 0} (o : Outcome (C → ℕ → Z)) (c : C) (at : ℕ) → applied (λ (h : ℕ → Z). h at) (and_then o (λ h k. Ok (h c, k))) ≡ applied (λ r. r c at) o
+twice : {C Z : Type 0} (o : ReadOutcome (C → ℕ → Z)) (c : C) (at : ℕ) → applied (λ (h : ℕ → Z). h at) (and_then o (λ h k. Ok (h c, k))) ≡ applied (λ r. r c at) o
 twice (Ok p) c at = refl
 twice (Err p) c at = refl
 
@@ -20,16 +20,16 @@ abbrev pub by_shapes : {A C D Z : Type 0} → Option Inside → Syntax A → (A 
 by_shapes {A} {C} {D} {Z} e s f cs t g u = λ i. applied (λ (r : ℕ → Z). r (line_of i)) (and_then (read e s i) (λ y j. if has cs (class_of j) then by_shape (f y) (read e t) (by_shape (g y) (read e u) refused) j else by_shape (g y) (read e u) refused j))
 
 module _ {A C D Z : Type 0} (e : Option Inside) (s : Syntax A) (f : A → Option C) (cs : List Class) (t : Syntax (C → ℕ → Z)) (g : A → Option D) (u : Syntax (D → ℕ → Z)) (i : List Token) {j : List Token} {y : A} {at : ℕ} (l : at ≡ line_of i) (h : read e s i ≡ Ok (y, j)) where
-  second_at : Outcome (ℕ → Z)
+  second_at : ReadOutcome (ℕ → Z)
   second_at = by_shape (g y) (read e u) refused j
 
-  first_at : Option C → Outcome (ℕ → Z)
+  first_at : Option C → ReadOutcome (ℕ → Z)
   first_at w = by_shape w (read e t) (by_shape (g y) (read e u) refused) j
 
   went : by_shapes e s f cs t g u i ≡ applied (λ (r : ℕ → Z). r at) (if has cs (class_of j) then first_at (f y) else second_at)
   unfolding second_at first_at
   went =
-      ap (λ (w : Outcome A). applied (λ (r : ℕ → Z). r (line_of i)) (and_then w (λ y j. if has cs (class_of j) then by_shape (f y) (read e t) (by_shape (g y) (read e u) refused) j else by_shape (g y) (read e u) refused j))) h
+      ap (λ (w : ReadOutcome A). applied (λ (r : ℕ → Z). r (line_of i)) (and_then w (λ y j. if has cs (class_of j) then by_shape (f y) (read e t) (by_shape (g y) (read e u) refused) j else by_shape (g y) (read e u) refused j))) h
       ∙ ap (λ n. applied (λ (r : ℕ → Z). r n) (if has cs (class_of j) then first_at (f y) else second_at)) (sym l)
 
   -- by the first shape

@@ -4,8 +4,8 @@ use Rattle.std.proofs.lemmas.Option.{same_Some}
 use Rattle.ep_simulation.specs.Matching.{AreBare, IsBare, HasSize, HaveSize, MatchesTypes}
 use Rattle.ep_object.specs.State.{TypeTable, text_entry}
 use Rattle.ep_object.specs.Types.{ordinal_entry, array_entry, record_entry, set_entry}
-use Rattle.ep_object.specs.declared.state.Kind.{Kind}
-use Rattle.ep_object.specs.declared.state.Kind.TheVariants as kind
+use Rattle.ep_object.specs.declared.state.TypeKind.{TypeKind}
+use Rattle.ep_object.specs.declared.state.TypeKind.TheVariants as kind
 use Rattle.ep_object.specs.declared.state.RecordPart.{RecordPart}
 use Rattle.ep_object.specs.declared.state.TypeEntry.{TypeEntry}
 use Rattle.ep_simulation.proofs.public.matching.MoreMemory.{bare-longer, each_bare-longer}
@@ -98,7 +98,7 @@ one_size_behind types before (p ∷ ps) size other a b =
     one_size_behind types (before + a.1.size) ps size other a.3 (subst (λ (e : TypeEntry). HaveSize types (before + e.size) ps other) same b.3)
 
 -- a kind has one size
-pub one_size : (types : TypeTable) (k : Kind) (size other : ℕ) → HasSize types k size → HasSize types k other → size ≡ other
+pub one_size : (types : TypeTable) (k : TypeKind) (size other : ℕ) → HasSize types k size → HasSize types k other → size ≡ other
 one_size types (kind.Ord low high) size other a b = a ∙ sym b
 one_size types kind.Pointer size other a b = a ∙ sym b
 one_size types kind.Text size other a b = a ∙ sym b
@@ -116,7 +116,7 @@ have_size-longer types longer before [] size keeps h = h
 have_size-longer types longer before (p ∷ ps) size keeps h = (h.0, h.1, keeps p.type_number h.1 h.2, have_size-longer types longer (before + h.1.size) ps size keeps h.3)
 
 -- in a longer table too
-pub has_size-longer : (types longer : TypeTable) (k : Kind) (size : ℕ)
+pub has_size-longer : (types longer : TypeTable) (k : TypeKind) (size : ℕ)
     → ((n : ℕ) (e : TypeEntry) → slice_get types n ≡ Some e → slice_get longer n ≡ Some e)
     → HasSize types k size → HasSize longer k size
 has_size-longer types longer (kind.Ord low high) size keeps h = h

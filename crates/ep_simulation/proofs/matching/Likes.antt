@@ -6,8 +6,8 @@ use Rattle.ep_simulation.specs.Matching.{AreEntries, Describes, IsBare, IsKindOf
 use Rattle.ep_object.specs.Sets.{set_size}
 use Rattle.ep_simulation.specs.Starts.{words_kept}
 use Rattle.ep_object.specs.State.{TypeTable, bare_number}
-use Rattle.ep_object.specs.declared.state.Kind.{Kind}
-use Rattle.ep_object.specs.declared.state.Kind.TheVariants as kind
+use Rattle.ep_object.specs.declared.state.TypeKind.{TypeKind}
+use Rattle.ep_object.specs.declared.state.TypeKind.TheVariants as kind
 use Rattle.ep_object.specs.declared.state.RecordPart.{RecordPart}
 use Rattle.ep_object.specs.declared.state.TypeEntry.{TypeEntry}
 use Rattle.ep_simulation.proofs.matching.Described.{bare_form, bare_one, one_bare_number}
@@ -20,7 +20,7 @@ use Rattle.ep_values.specs.TypeValues.{ComponentTypes, Start, TypeValue, bare_ea
 
 abbrev mutual
   -- the kind of a type value without initial states, whose components have types that describe them but for initial states
-  pub IsKindLike : TypeTable → TypeValue → Kind → Type 0
+  pub IsKindLike : TypeTable → TypeValue → TypeKind → Type 0
   IsKindLike types (type.Ordinal low high) k = k ≡ kind.Ord low high
   IsKindLike types type.Text k = k ≡ kind.Text
   IsKindLike types (type.Array low high of) k = (c : ℕ) × (k ≡ kind.Array low high c) × IsLike types c of
@@ -36,7 +36,7 @@ abbrev mutual
 
 mutual
   -- a kind is that of the bare form
-  pub kind_like : (types : TypeTable) (u : TypeValue) (k : Kind) → IsKindOf types u k → IsKindLike types (bare_of u) k
+  pub kind_like : (types : TypeTable) (u : TypeValue) (k : TypeKind) → IsKindOf types u k → IsKindLike types (bare_of u) k
   kind_like types (type.Ordinal low high) k h = h
   kind_like types type.Text k h = h
   kind_like types (type.Array low high of) k h = (h.0, h.1, (of, refl, h.2))
@@ -53,7 +53,7 @@ mutual
 
 -- the entry of such a type: its kind, its size, and its bare form; what it begins with is left open
 pub record LikeEntry (types : TypeTable) (n : ℕ) (t : TypeValue) : Type 0 where
-  pub kind : Kind
+  pub kind : TypeKind
   pub start : Option (List ℤ)
   pub bare : Option ℕ
   pub stands : slice_get types n ≡ Some (record { kind = kind; size = size_of t; start = start; bare = bare })
@@ -157,7 +157,7 @@ none_or a b (Some x) (Some y) types t m same p q = ap Some (one_bare_number type
 
 mutual
   -- it has one kind
-  pub one_kind : {elaborated : List TypeValue} (types : TypeTable) (t : TypeValue) (k l : Kind) → MatchesTypes elaborated types → IsKindOf types t k → IsKindOf types t l → k ≡ l
+  pub one_kind : {elaborated : List TypeValue} (types : TypeTable) (t : TypeValue) (k l : TypeKind) → MatchesTypes elaborated types → IsKindOf types t k → IsKindOf types t l → k ≡ l
   one_kind types (type.Ordinal low high) k l m a b = a ∙ sym b
   one_kind types type.Text k l m a b = a ∙ sym b
   one_kind types (type.Array low high of) k l m a b =

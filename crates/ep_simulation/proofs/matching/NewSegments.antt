@@ -5,7 +5,7 @@ use Rattle.ep_simulation.specs.Matching.{Describes, HasAt, Injection}
 use Rattle.ep_object.specs.Places.{fresh_segment}
 use Rattle.ep_simulation.specs.Starts.{AreStarts, start_words, words_kept}
 use Rattle.ep_object.specs.State.{TypeTable, size_begun}
-use Rattle.ep_object.specs.declared.state.Kind.{Kind}
+use Rattle.ep_object.specs.declared.state.TypeKind.{TypeKind}
 use Rattle.ep_object.specs.declared.state.Segment.{Segment}
 use Rattle.ep_simulation.proofs.public.matching.MoreMemory.{entry_as}
 use Rattle.ep_simulation.proofs.matching.Starting.{begun_words, starts_hold, starts_length}
@@ -19,7 +19,7 @@ new_segment number t = record { type_number = number; words = start_words t }
 
 -- the type that describes a type value has its size
 pub record HasEntry (types : TypeTable) (number : ℕ) (t : TypeValue) : Type 0 where
-  pub kind : Kind
+  pub kind : TypeKind
   pub bare : Option ℕ
   pub is : slice_get types number ≡ Some (entry_as t kind bare)
 
@@ -31,7 +31,7 @@ pub described_within : (types : TypeTable) (number : ℕ) (t : TypeValue) → De
 described_within types number t d = slice_get_within types number (entry_as t d.kind d.bare) d.stands
 
 -- what the machine makes is that segment
-pub fresh_is : (number : ℕ) (t : TypeValue) (kind : Kind) (bare : Option ℕ) → fresh_segment number (entry_as t kind bare) ≡ new_segment number t
+pub fresh_is : (number : ℕ) (t : TypeValue) (kind : TypeKind) (bare : Option ℕ) → fresh_segment number (entry_as t kind bare) ≡ new_segment number t
 fresh_is number t kind bare = ap (λ words. record { type_number = number; words = words }) (begun_words t)
 
 -- with as many words as the type value has

@@ -14,8 +14,8 @@ use Rattle.ep_object.specs.Runs.{after}
 use Rattle.ep_object.specs.State.{Segments, TypeTable, integer_entry, char_entry, boolean_entry, text_entry, pointer_entry, first_types, bare_number, plain}
 use Rattle.ep_object.specs.Types.{same_kind, same_entry, entry_number, ordinal_entry, words_of_entry, words_of_kind}
 use Rattle.ep_object.specs.TypeEntries.{Told, both, bounds_are, entry-refl, told, told_are}
-use Rattle.ep_object.specs.declared.state.Kind.{Kind}
-use Rattle.ep_object.specs.declared.state.Kind.TheVariants.{Ord}
+use Rattle.ep_object.specs.declared.state.TypeKind.{TypeKind}
+use Rattle.ep_object.specs.declared.state.TypeKind.TheVariants.{Ord}
 use Rattle.ep_object.specs.declared.state.RecordPart.{RecordPart}
 use Rattle.ep_object.specs.declared.state.TypeEntry.{TypeEntry}
 use Rattle.ep_object.proofs.public.Grows.{prefix_then}
@@ -321,7 +321,7 @@ bare_counted types before (p ∷ ps) type.no_component h = absurd h
 bare_counted types before (p ∷ ps) (type.next_component t ts) h = ap suc (bare_counted types (before + size_of t) ps ts h.2)
 
 -- the words of a type's kind, and those of its bare form
-pub kind_words : (types : TypeTable) (t : TypeValue) (k : Kind) → IsKindOf types t k → words_of_kind k ≡ 1 + parts_of t
+pub kind_words : (types : TypeTable) (t : TypeValue) (k : TypeKind) → IsKindOf types t k → words_of_kind k ≡ 1 + parts_of t
 kind_words types (type.Ordinal low high) k h = ap words_of_kind h
 kind_words types type.Text k h = ap words_of_kind h
 kind_words types (type.Array low high of) k h = ap words_of_kind h.1
@@ -349,7 +349,7 @@ nothing_found : {n : ℕ} → ◌≡◌ {A = Option ℕ} None (Some n) → ⊥
 nothing_found e = cc
 
 -- one whose entry has no number is none of them
-pub not_first : {elaborated : List TypeValue} {types : TypeTable} (t : TypeValue) (k : Kind) (bare : Option ℕ) → MatchesTypes elaborated types
+pub not_first : {elaborated : List TypeValue} {types : TypeTable} (t : TypeValue) (k : TypeKind) (bare : Option ℕ) → MatchesTypes elaborated types
     → IsKindOf types t k → is_some bare ≡ is_started t → entry_number (entry_as t k bare) types ≡ None
     → IsTrue (list_any (same_type t) meaning.first_types) → ⊥
 not_first {types = types} (type.Ordinal low high) k None m is other none t =
@@ -370,7 +370,7 @@ not_first (type.Set low high) k bare m is other none t = cc
 not_first (type.Initial of start) k bare m is other none t = cc
 
 -- and its type value was never elaborated
-pub not_known : {elaborated : List TypeValue} {types : TypeTable} (t : TypeValue) (k : Kind) (bare : Option ℕ) → MatchesTypes elaborated types
+pub not_known : {elaborated : List TypeValue} {types : TypeTable} (t : TypeValue) (k : TypeKind) (bare : Option ℕ) → MatchesTypes elaborated types
     → IsKindOf types t k → is_some bare ≡ is_started t → ((b : ℕ) → bare ≡ Some b → IsBare types b t) → entry_number (entry_as t k bare) types ≡ None
     → IsTrue (list_any (same_type t) elaborated) → ⊥
 not_known {types = types} t k bare m is other form none known =

@@ -4,7 +4,7 @@ use Rattle.std.specs.Prelude.{int_le, nat_eq}
 use Rattle.std.proofs.lemmas.Bool.Decides.{nat_tests}
 use Rattle.std.proofs.lemmas.List.{length-take-le}
 use Rattle.std.proofs.lemmas.Slice.Eq.{bytes_eq-Decides}
-use Rattle.ep_simulation.specs.Matching.{Injection, Words, SetAt, HasAt, HaveAt, Part, part_along, all_of}
+use Rattle.ep_simulation.specs.Matching.{Injection, Words, SetAt, HasAt, HaveAt, TypePart, part_along, all_of}
 use Rattle.ep_object.specs.Places.{words_at, words_replaced}
 use Rattle.ep_object.proofs.public.Elements.{slice_get-drop}
 use Rattle.ep_simulation.proofs.matching.Words.{AreSameBut, has_at-same, part_within}
@@ -177,7 +177,7 @@ module _ (words ws : List ℤ) (offset : ℕ) (within : offset + length ws ≤ l
   replaced_same t is i (inr behind) = replaced_behind i (omega (arith, behind, is))
 
 -- the words of a part are within those of all
-pub part_fits : (t : TypeValue) (path : List ℕ) (p : Part) → part_along (Some (all_of t)) path ≡ Some p → p.offset + size_of p.type_value ≤ size_of t
+pub part_fits : (t : TypeValue) (path : List ℕ) (p : TypePart) → part_along (Some (all_of t)) path ≡ Some p → p.offset + size_of p.type_value ≤ size_of t
 part_fits t path p leads = let x = part_within path t 0 p leads in omega (arith, x.1)
 
 -- ---- a type value is the same as itself

@@ -8,7 +8,7 @@ use Rattle.ep_object.specs.Operands.{Operand}
 use Rattle.ep_simulation.specs.Starts.{start_words, words_kept}
 use Rattle.ep_object.specs.State.{Segments, TypeTable, bare_number, live_limit, plain, type_limit}
 use Rattle.ep_object.specs.Types.{Typing, entry_number, interned, interned_over, numbered, numbering, numbering_as, with_entry, words_in, words_of_entry}
-use Rattle.ep_object.specs.declared.state.Kind.{Kind}
+use Rattle.ep_object.specs.declared.state.TypeKind.{TypeKind}
 use Rattle.ep_object.specs.declared.state.RecordPart.{RecordPart}
 use Rattle.ep_object.specs.declared.state.TypeEntry.{TypeEntry}
 use Rattle.ep_object.proofs.public.Grows.{is_prefix, prefix_then}
@@ -105,7 +105,7 @@ counts_met u r t v c (inr (new, few, words)) =
 -- ---- a type value is met
 
 -- how a type is made that describes a type value: the kind, and the bare form, where that is another one
-pub record IsMadeOf (types : TypeTable) (u : TypeValue) (kind : Kind) (bare : Option ℕ) : Type 0 where
+pub record IsMadeOf (types : TypeTable) (u : TypeValue) (kind : TypeKind) (bare : Option ℕ) : Type 0 where
   pub is_kind : IsKindOf types u kind
   pub other : is_some bare ≡ is_started u
   pub form : (b : ℕ) → bare ≡ Some b → IsBare types b u
@@ -137,7 +137,7 @@ parts_form types before (p ∷ ps) (type.next_component t ts) own h =
     (h.0, part_form types t p.type_number e.0 h.1, parts_form types (before + size_of t) ps ts e.1 h.2)
 
 -- a plain entry of the kind of what has no initial states is its own bare form
-own_form : (types : TypeTable) (u : TypeValue) (n : ℕ) (k : Kind) → is_started u ≡ false → IsKindOf types u k → slice_get types n ≡ Some (plain k (size_of u)) → IsBare types n u
+own_form : (types : TypeTable) (u : TypeValue) (n : ℕ) (k : TypeKind) → is_started u ≡ false → IsKindOf types u k → slice_get types n ≡ Some (plain k (size_of u)) → IsBare types n u
 own_form types (type.Ordinal low high) n k own is stands = stands ∙ ap (λ x. Some (plain x 1)) is
 own_form types type.Text n k own is stands = stands ∙ ap (λ x. Some (plain x 1)) is
 own_form types (type.Array low high of) n k own is stands =
@@ -148,7 +148,7 @@ own_form types (type.Set low high) n k own is stands = stands ∙ ap (λ x. Some
 own_form types (type.Initial of start) n k own is stands = cc
 
 -- a type that is made so describes the type value
-made_describes : (types longer : TypeTable) (u : TypeValue) (k : Kind) (bare : Option ℕ) (n : ℕ) → IsMadeOf types u k bare → IsPrefix types longer
+made_describes : (types longer : TypeTable) (u : TypeValue) (k : TypeKind) (bare : Option ℕ) (n : ℕ) → IsMadeOf types u k bare → IsPrefix types longer
     → slice_get longer n ≡ Some (entry_as u k bare) → Describes longer n u
 made_describes types longer u k bare n made p stands = record { kind = k; bare = bare; stands = stands; is_kind = is_kind; form = by_bare bare made.other made.form stands; other = made.other }
   where
@@ -161,7 +161,7 @@ made_describes types longer u k bare n made p stands = record { kind = k; bare =
         own_form longer u n k (sym e) is_kind (there ∙ ap (λ o. Some (record { kind = k; size = size_of u; start = o; bare = None })) (ap (λ b. cond b (Some (start_words u)) None) (sym e)))
 
 -- the words of its entry
-entry_words : (u : TypeValue) (k : Kind) (bare : Option ℕ) (types : TypeTable) → IsKindOf types u k → length (start_words u) ≡ size_of u → words_of_entry (entry_as u k bare) ≡ 1 + parts_of u + start_size u
+entry_words : (u : TypeValue) (k : TypeKind) (bare : Option ℕ) (types : TypeTable) → IsKindOf types u k → length (start_words u) ≡ size_of u → words_of_entry (entry_as u k bare) ≡ 1 + parts_of u + start_size u
 entry_words u k bare types is long = (λ i. kind_words types u k is i + begun i)
   where
     begun : words_in (words_kept u) ≡ start_size u
@@ -185,7 +185,7 @@ pub record IsFull (u : TypeValue) (r : Resources) (effect : Effect Typing) : Typ
   pub leads : effect ≡ Fails run_error.STORAGE_LIMIT
   pub lost : IsTrue (met u r).lost
 
-module _ (u : TypeValue) (r : Resources) (below : List Operand) (k : Kind) (long : length (start_words u) ≡ size_of u) where
+module _ (u : TypeValue) (r : Resources) (below : List Operand) (k : TypeKind) (long : length (start_words u) ≡ size_of u) where
   -- one type
   pub interns_one : (bare : Option ℕ) (t : Typing) → MatchesTypes r.types t.types → IsMadeOf t.types u k bare
       → HasSize t.types k (size_of u) → length t.types ≤ 2 * length r.types + 5 → t.live ≤ held r + 4 * r.typed

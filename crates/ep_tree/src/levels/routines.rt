@@ -9,7 +9,7 @@ use crate::declaration::{ConstantDefinition, TypeDefinition, VariableDeclaration
 use crate::levels::expressions::component_value;
 use crate::levels::statements::compound;
 use crate::levels::types::type_denoter;
-use crate::routine::{Part, Routine, RoutineBody};
+use crate::routine::{BlockPart, Routine, RoutineBody};
 
 pub(super) fn constants(all: &[ConstantDefinition]) -> u32
     ensures { result ≡ min (most_of (map constant_definition_nesting all.now)) u32.MAX }
@@ -42,7 +42,7 @@ pub(super) fn variables(all: &[VariableDeclaration]) -> u32
 }
 
 #[cycle(levels)]
-pub(super) fn parts(all: &[Part]) -> u32
+pub(super) fn parts(all: &[BlockPart]) -> u32
     ensures { result ≡ min (most_of (map part_nesting all.now)) u32.MAX }
 {
     let mut most = 0;
@@ -53,14 +53,14 @@ pub(super) fn parts(all: &[Part]) -> u32
 }
 
 #[cycle(levels)]
-fn part(p: &Part) -> u32
+fn part(p: &BlockPart) -> u32
     ensures { result ≡ min (part_nesting p.now) u32.MAX }
 {
     match p {
-        Part::Constants(c) => constants(c.definitions.items()),
-        Part::Types(t) => types(t.definitions.items()),
-        Part::Variables(v) => variables(v.declarations.items()),
-        Part::Routine(r) => routine(r),
+        BlockPart::Constants(c) => constants(c.definitions.items()),
+        BlockPart::Types(t) => types(t.definitions.items()),
+        BlockPart::Variables(v) => variables(v.declarations.items()),
+        BlockPart::Routine(r) => routine(r),
     }
 }
 

@@ -2,7 +2,7 @@ use Rattle.std.proofs.Common.{◌≡◌, Some, slice_get, rules, refl, w64, to_z
 use Rattle.ep_frames.specs.Members.{set_of}
 use Rattle.ep_object.specs.Operands.{place}
 use Rattle.ep_object.specs.Places.{store_set}
-use Rattle.ep_object.specs.declared.state.Kind.TheVariants as kinds
+use Rattle.ep_object.specs.declared.state.TypeKind.TheVariants as kinds
 use Rattle.ep_rows.proofs.Indexing.{found}
 use Rattle.ep_rows.proofs.sets.store.Goals as goal
 use Rattle.ep_rows.specs.Values.{set_stored_at}

@@ -48,7 +48,7 @@ use Rattle.ep_values.specs.Values.{Value}
 use Rattle.ep_meaning.specs.Steps as meaning
 use Rattle.ep_values.specs.TypeValues.{TypeValue, bare_of}
 use Rattle.ep_values.specs.TypeValues as type
-use Rattle.ep_meaning.specs.Valid.{IsTypeOfKind, Kind}
+use Rattle.ep_meaning.specs.Valid.{IsTypeOfKind, ValueKind}
 use Rattle.ep_meaning.specs.Valid as kind
 use Rattle.ep_values.specs.declared.run_error.TheConstants as run_error
 use Rattle.ep_typed.specs.declared.tree.CaseRange.{CaseRange}
@@ -69,7 +69,7 @@ follows_both {Within = Within} {G = G} {k = k} {s = s} c {P = P} {d = d} {e = e}
 -- ---- values
 
 -- what a variable has been given it gives
-pub gives_back : (k : Kind) (t : TypeValue) → IsTypeOfKind k t → (injection : Injection) (memory : MachineMemory) (r : Result) (o : Operand) → IsValueOf injection memory k r o → given_by (Some t) (value_of r) ≡ Some r
+pub gives_back : (k : ValueKind) (t : TypeValue) → IsTypeOfKind k t → (injection : Injection) (memory : MachineMemory) (r : Result) (o : Operand) → IsValueOf injection memory k r o → given_by (Some t) (value_of r) ≡ Some r
 gives_back (kind.Ordinal h) (type.Ordinal low high) of_kind injection memory r o (z, r_is, of_host, o_is) = rw r_is refl
 gives_back (kind.Ordinal h) type.Text of_kind injection memory r o is = absurd of_kind
 gives_back (kind.Ordinal h) (type.Array low high of) of_kind injection memory r o is = absurd of_kind
@@ -140,7 +140,7 @@ pub record FilledAt (layout : Layout) (G : Image) (v : Component) (f : ℕ) (val
   pub filled : Filled layout G v f value injection s memory t longer after
 
 module _ (layout : Layout) (G : Image) (routine : ℕ) (fill : IsFill G routine) (place line : ℕ) (calls : CallsAt G place routine 0 line)
-    (low high : ℤ) (of : TypeValue) (k : Kind) (of_kind : IsTypeOfKind k of) (v : Component) (p : PlaceOf) (from first last : ℤ) (f : ℕ) (at_from : component_at low high from ≡ Some f)
+    (low high : ℤ) (of : TypeValue) (k : ValueKind) (of_kind : IsTypeOfKind k of) (v : Component) (p : PlaceOf) (from first last : ℤ) (f : ℕ) (at_from : component_at low high from ≡ Some f)
     (r : Result) (suited : suits (Some of) r ≡ true) (gives : given_by (Some of) (value_of r) ≡ Some r)
     (injection : Injection) (memory : MachineMemory) (other : Operand) (value : IsValueOf injection memory k r other)
     (spot : IsSpot injection memory.types v p) (described : IsLike memory.types p.type_number (type.Array low high of)) (below : List Operand)

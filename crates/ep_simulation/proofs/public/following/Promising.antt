@@ -23,7 +23,7 @@ use Rattle.ep_values.specs.Printing.{Result}
 use Rattle.ep_meaning.specs.Steps.{Call, Outcome, Gives, Ends, Cut, Computation, state_of}
 use Rattle.ep_meaning.specs.Steps as meaning
 use Rattle.ep_values.specs.TypeValues.{TypeValue}
-use Rattle.ep_meaning.specs.Valid.{Kind, Level}
+use Rattle.ep_meaning.specs.Valid.{ValueKind, Level}
 use Rattle.ep_typed.specs.declared.unit.UnitType.{UnitType}
 
 -- ---- what the caller follows
@@ -73,7 +73,7 @@ lasts_own {untouched = untouched} own lasts = record { by = λ injection longer 
         }
 
 -- A caller that knows what lasts and names hidden slots alone follows the call, and knows it again behind it.
-pub call_follows : {layout : Layout} {G : Image} {untouched : Slots} {Here : Facts} {routine n : ℕ} {types : List UnitType} {around : List Level} {formals : List Passing} {results : List Kind} {called : Called}
+pub call_follows : {layout : Layout} {G : Image} {untouched : Slots} {Here : Facts} {routine n : ℕ} {types : List UnitType} {around : List Level} {formals : List Passing} {results : List ValueKind} {called : Called}
     → Promises layout G routine n types around formals results called
     → Lasts untouched Here
     → AreAmong untouched (kept_slots layout G)

@@ -42,7 +42,7 @@ use Rattle.ep_meaning.specs.Steady.{Steady}
 use Rattle.ep_meaning.specs.Steps.{Call, named_in, around_by, Resources, watched, Computation, spend, with_all_ended}
 use Rattle.ep_meaning.specs.Steps as meaning
 use Rattle.ep_values.specs.TypeValues.{TypeValue}
-use Rattle.ep_meaning.specs.Valid.{Declarations, Level, variables_up, Kind}
+use Rattle.ep_meaning.specs.Valid.{Declarations, Level, variables_up, ValueKind}
 use Rattle.ep_values.specs.declared.run_error.TheConstants as run_error
 use Rattle.ep_typed.specs.declared.unit.UnitType.{UnitType}
 
@@ -81,7 +81,7 @@ leaves G ret i st memory trace frame below has is a b frames =
     ap (λ o. outcome_of G o (at ret st memory trace)) has ∙ rw (is, a, b, frames) refl
 
 -- results lie on the operands in whatever memory has the same types
-results_anywhere : (injection : Injection) (memory later : MachineMemory) → later.types ≡ memory.types → (operands : List Operand) (ks : List Kind) (below : List Operand) (rs : List Result)
+results_anywhere : (injection : Injection) (memory later : MachineMemory) → later.types ≡ memory.types → (operands : List Operand) (ks : List ValueKind) (below : List Operand) (rs : List Result)
     → ResultsOnTop ks below rs injection memory operands → ResultsOnTop ks below rs injection later operands
 results_anywhere injection memory later same operands [] below [] h = h
 results_anywhere injection memory later same operands [] below (r ∷ rs) h = absurd h
@@ -323,7 +323,7 @@ module _ (layout : Layout) (G : Image) (routine : ℕ) (r : ImageRoutine) (there
         → (n : ℕ) (place levels line : ℕ) → CallsAt G place routine levels line
         → (parent : FrameNumber) (injection : Injection) (began : meaning.State) (memory : MachineMemory) (below : List Operand)
         → parent_by memory.frames r levels ≡ Some parent → IsCallable within.routine_types levels around injection began.calls memory
-        → (name from : List ℕ) (results : List Kind) (body : Computation (List Result)) → Steady body → (untouched : Slots)
+        → (name from : List ℕ) (results : List ValueKind) (body : Computation (List Result)) → Steady body → (untouched : Slots)
         → Fragment layout G (InActivation within untouched injection (begun_memory parent place memory)) n (point injection (begun_memory parent place memory) r.entry below) body ret (λ rs. ResultsOnTop results below rs) 63 (λ rs. 1 + credit_of rs)
         → Fragment layout G (Since untouched injection began memory) (suc n) (point injection memory place (top ++ below)) (in_call activation_words levels (activation name from line) (spend (suc weight) body)) (place + 1) (λ rs. Inside untouched injection memory (ResultsOnTop results below rs)) 0 credit_of
     routine_keeps within enough around levels_are n place levels line calls parent injection began memory below parent_is callable name from results body steady untouched inner =

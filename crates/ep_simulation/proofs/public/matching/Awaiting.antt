@@ -16,7 +16,7 @@ use Rattle.ep_meaning.specs.Meaning.{weights_of}
 use Rattle.ep_values.specs.Printing.{Result}
 use Rattle.ep_meaning.specs.Results.{weight_of}
 use Rattle.ep_meaning.specs.Valid as kind
-use Rattle.ep_meaning.specs.Valid.{Kind}
+use Rattle.ep_meaning.specs.Valid.{ValueKind}
 
 -- the arguments in the frame of the innermost call
 abbrev pub arguments_in : List Frame → List (Option Operand)
@@ -34,7 +34,7 @@ AreAwaited injection memory (f ∷ fs) (x ∷ xs) k inside =
 -- ---- what lasts
 
 -- a value is one while memory grows
-pub value-grown : {untouched : Slots} {injection longer : Injection} {memory after : MachineMemory} (k : Kind) (r : Result) (o : Operand)
+pub value-grown : {untouched : Slots} {injection longer : Injection} {memory after : MachineMemory} (k : ValueKind) (r : Result) (o : Operand)
     → Grown untouched injection memory longer after → IsValueOf injection memory k r o → IsValueOf longer after k r o
 value-grown (kind.Ordinal h) r o g v = v
 value-grown kind.Bytes r o g v = v
@@ -43,7 +43,7 @@ value-grown {memory = memory} {after = after} (kind.Structured t) r o g v =
     record { value = v.value; is_structure = v.is_structure; type_number = v.type_number; words = v.words; is = v.is; bare = v.bare; described = bare-longer memory.types after.types v.type_number t g.types v.described; sized = v.sized; holds = has_at-longer g.larger t v.value (slice_get v.words) 0 v.holds }
 
 -- and in whatever memory has the same types
-pub value_anywhere : (injection : Injection) (memory later : MachineMemory) → later.types ≡ memory.types → (k : Kind) (r : Result) (o : Operand)
+pub value_anywhere : (injection : Injection) (memory later : MachineMemory) → later.types ≡ memory.types → (k : ValueKind) (r : Result) (o : Operand)
     → IsValueOf injection memory k r o → IsValueOf injection later k r o
 value_anywhere injection memory later same (kind.Ordinal h) r o v = v
 value_anywhere injection memory later same kind.Bytes r o v = v
@@ -52,21 +52,21 @@ value_anywhere injection memory later same (kind.Structured t) r o v =
     record { value = v.value; is_structure = v.is_structure; type_number = v.type_number; words = v.words; is = v.is; bare = v.bare; described = subst (λ types. IsBare types v.type_number t) (sym same) v.described; sized = v.sized; holds = v.holds }
 
 -- it has the weight of the result
-pub value_weight : (injection : Injection) (memory : MachineMemory) (k : Kind) (r : Result) (o : Operand) → IsValueOf injection memory k r o → weight o ≡ weight_of r
+pub value_weight : (injection : Injection) (memory : MachineMemory) (k : ValueKind) (r : Result) (o : Operand) → IsValueOf injection memory k r o → weight o ≡ weight_of r
 value_weight injection memory (kind.Ordinal h) r o (z, r_is, of_host, o_is) = ap (λ x. weight x) o_is ∙ sym (ap weight_of r_is)
 value_weight injection memory kind.Bytes r o (bytes, r_is, o_is) = ap (λ x. weight x) o_is ∙ sym (ap weight_of r_is)
 value_weight injection memory (kind.Set h) r o (ms, r_is, is_set, o_is) = ap (λ x. weight x) o_is ∙ sym (ap weight_of r_is)
 value_weight injection memory (kind.Structured t) r o v = ap (λ x. weight x) v.is ∙ (v.sized ∙ sym (ap weight_of v.is_structure))
 
 -- what lies on top as a result of the kind is its value
-pub value_on_top : (k : Kind) (below : List Operand) (r : Result) (injection : Injection) (memory : MachineMemory) (operands : List Operand)
+pub value_on_top : (k : ValueKind) (below : List Operand) (r : Result) (injection : Injection) (memory : MachineMemory) (operands : List Operand)
     → OnTop k below r injection memory operands → (o : Operand) × IsValueOf injection memory k r o × (operands ≡ o ∷ below)
 value_on_top (kind.Ordinal h) below r injection memory operands top = (Word top.number, (top.number, top.is_number, top.of_host, refl), top.is)
 value_on_top kind.Bytes below r injection memory operands top = (Text top.bytes, (top.bytes, top.is_text, refl), top.is)
 value_on_top (kind.Set h) below r injection memory operands top = (Set top.members, (top.members, top.is_members, top.is_set, refl), top.is)
 value_on_top (kind.Structured t) below r injection memory operands top = (top.operand, top.holds, top.is)
 
-pub on_top : (k : Kind) (below : List Operand) (r : Result) (o : Operand) (injection : Injection) (memory : MachineMemory) (operands : List Operand)
+pub on_top : (k : ValueKind) (below : List Operand) (r : Result) (o : Operand) (injection : Injection) (memory : MachineMemory) (operands : List Operand)
     → IsValueOf injection memory k r o → operands ≡ o ∷ below → OnTop k below r injection memory operands
 on_top (kind.Ordinal h) below r o injection memory operands (z, r_is, of_host, o_is) is =
     record { number = z; is_number = r_is; of_host = of_host; is = is ∙ ap (λ x. x ∷ below) o_is }

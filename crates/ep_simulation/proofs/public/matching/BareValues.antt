@@ -1,7 +1,7 @@
 -- Words that hold a value of a type hold it as one of its bare form, and the other way.
 use Rattle.std.proofs.Common.{◌≡◌, ℕ, suc, ◌+◌, ◌*◌, List, Option, None, Some, option_map, refl, sym, ap, ◌∙◌, subst}
 use Rattle.std.proofs.lemmas.Option.{same_Some}
-use Rattle.ep_simulation.specs.Matching.{HasAt, HaveAt, Injection, Part, Words, all_of, part_along}
+use Rattle.ep_simulation.specs.Matching.{HasAt, HaveAt, Injection, TypePart, Words, all_of, part_along}
 use Rattle.ep_simulation.proofs.matching.Words.{AreSameBut, has_with}
 use Rattle.ep_meaning.proofs.public.Bares.{bare_among_values, bare_base, bare_given, bare_size, bare_twice, bare_type}
 use Rattle.ep_meaning.specs.Results.{given_by, result_of, suits}
@@ -51,7 +51,7 @@ mutual
   )
 
 -- where words are put that hold another value of a part, which is found in the bare form, all of them hold the value with that one
-pub has_with-bare : (injection : Injection) (t : TypeValue) (path : List ℕ) (value other : Value) (words later : Words) (p : Part)
+pub has_with-bare : (injection : Injection) (t : TypeValue) (path : List ℕ) (value other : Value) (words later : Words) (p : TypePart)
     → part_along (Some (all_of (bare_of t))) path ≡ Some p → AreSameBut words later p → HasAt injection t value words 0
     → HasAt injection p.type_value other later p.offset
     → HasAt injection t (value_with value path other) later 0

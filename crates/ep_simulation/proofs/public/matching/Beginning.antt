@@ -2,14 +2,14 @@
 use Rattle.std.proofs.Common.{◌≡◌, ℕ, zero, suc, ◌≤◌, List, [], ◌∷◌, length, Option, Some, None, slice_get, replicate, map, refl, sym, ap, ◌∙◌, subst, arith, option_map}
 use Rattle.std.specs.Prelude.{pos, int_le, if◌then◌else◌}
 use Rattle.ep_values.specs.Operations.{last_char}
-use Rattle.ep_object.specs.declared.state.Kind.TheVariants as kind
+use Rattle.ep_object.specs.declared.state.TypeKind.TheVariants as kind
 use Rattle.ep_simulation.specs.Layouts.{Layout}
 use Rattle.ep_simulation.specs.Matching.{MachineMemory, Injection, IsIn, IsOf, HasSize, MatchesSlot, Represents, IsRepresented, Matches, Describes}
 use Rattle.ep_object.specs.State.{Frames, TypeTable, empty_slots, first_segments, first_types, integer_entry, char_entry, boolean_entry, text_entry, pointer_entry, first_live, undefined}
 use Rattle.ep_object.specs.declared.code.Image.{Image}
 use Rattle.ep_object.specs.declared.state.Place.{Place}
-use Rattle.ep_object.specs.declared.state.Kind.{Kind}
-use Rattle.ep_object.specs.declared.state.Kind.TheVariants.{Ord, Pointer, Text, Array, Record, Set}
+use Rattle.ep_object.specs.declared.state.TypeKind.{TypeKind}
+use Rattle.ep_object.specs.declared.state.TypeKind.TheVariants.{Ord, Pointer, Text, Array, Record, Set}
 use Rattle.ep_object.specs.declared.state.TypeEntry.{TypeEntry}
 use Rattle.ep_object.proofs.public.Grows.{is_prefix}
 use Rattle.ep_meaning.specs.Steps.{Component, Allocation, Resources}
@@ -58,7 +58,7 @@ first_sized (suc (suc (suc (suc zero)))) e h = let f : pointer_entry ≡ e = cc 
 first_sized (suc (suc (suc (suc (suc n))))) e h = cc
 
 -- the place of a first type is told by its kind
-abbrev spot_kind : Kind → ℕ
+abbrev spot_kind : TypeKind → ℕ
 spot_kind (Ord low high) = if int_le high (pos 1) then 2 else (if int_le high (pos last_char) then 1 else 0)
 spot_kind Text = 3
 spot_kind Pointer = 4

@@ -13,7 +13,7 @@ use Rattle.ep_simulation.specs.Starts.{words_kept}
 use Rattle.ep_object.specs.State.{Frame, Frames, TypeTable, bare_number, text_entry}
 use Rattle.ep_object.specs.Types.{ordinal_entry, array_entry, record_entry, set_entry}
 use Rattle.ep_object.specs.declared.code.Image.{Image}
-use Rattle.ep_object.specs.declared.state.Kind.{Kind}
+use Rattle.ep_object.specs.declared.state.TypeKind.{TypeKind}
 use Rattle.ep_object.specs.declared.state.Place.{Place}
 use Rattle.ep_object.specs.declared.state.RecordPart.{RecordPart}
 use Rattle.ep_object.specs.declared.state.Segment.{Segment}
@@ -137,12 +137,12 @@ mutual
       (h.0, bare-longer types longer q.type_number t p h.1, each_bare-longer types longer (before + size_of t) qs ts p h.2)
 
 -- the entry of a type value
-abbrev pub entry_as : TypeValue → Kind → Option ℕ → TypeEntry
+abbrev pub entry_as : TypeValue → TypeKind → Option ℕ → TypeEntry
 entry_as t kind bare = record { kind = kind; size = size_of t; start = words_kept t; bare = bare }
 
 mutual
   -- a kind stays that of a type value
-  pub kind-longer : (types longer : TypeTable) (t : TypeValue) (k : Kind) → IsPrefix types longer → IsKindOf types t k → IsKindOf longer t k
+  pub kind-longer : (types longer : TypeTable) (t : TypeValue) (k : TypeKind) → IsPrefix types longer → IsKindOf types t k → IsKindOf longer t k
   kind-longer types longer (type.Ordinal low high) k p h = h
   kind-longer types longer type.Text k p h = h
   kind-longer types longer (type.Array low high of) k p h =

@@ -37,7 +37,7 @@ use Rattle.ep_values.specs.Printing.{Result}
 use Rattle.ep_meaning.specs.Results.{misfit, suits, value_of, weight_of}
 use Rattle.ep_meaning.specs.Steps.{Component, whole, Call, named_in, Allocation, Computation, spend, change, stop, own_in, own_variable, bound_own, own_bound_in, with_own_bound, newest_assigned, type_at, has_ended, ended_in, allocation_at}
 use Rattle.ep_meaning.specs.Steps as meaning
-use Rattle.ep_meaning.specs.Valid.{Declarations, IsTypeOfKind, Kind, variables_up}
+use Rattle.ep_meaning.specs.Valid.{Declarations, IsTypeOfKind, ValueKind, variables_up}
 use Rattle.ep_typed.specs.declared.unit.UnitVariable.{UnitVariable}
 use Rattle.ep_values.specs.TypeValues.{TypeValue, bare_of}
 use Rattle.ep_object.specs.declared.op.TheConstants as op
@@ -268,7 +268,7 @@ module _ (declared : Declarations) (layout : Layout) (G : Image) (untouched : Sl
           }))
 
   -- A value, by `Store` in the variable of the routine that was made last, whatever that begins with.
-  pub value_taken : (n d : ℕ) (kind : Kind) (t : TypeValue) (r : Result) (o : Operand) (number : ℕ) (p : Place) → IsTypeOfKind kind (bare_of t)
+  pub value_taken : (n d : ℕ) (kind : ValueKind) (t : TypeValue) (r : Result) (o : Operand) (number : ℕ) (p : Place) → IsTypeOfKind kind (bare_of t)
       → slice_get G.instructions (place - 1) ≡ Some (instr op.SLOT (pos k) 0 line) → 1 ≤ place
       → slice_get G.instructions place ≡ Some (instr op.ARG (pos k) 0 line) → slice_get G.instructions (place + 1) ≡ Some (instr op.STORE (pos 0) 0 line)
       → argument_at frame.arguments k ≡ Some o → IsValueOf injection memory kind r o → own_slot memory.frames k ≡ Some (Some p)

@@ -41,7 +41,7 @@ use Rattle.ep_values.specs.Values.{Value, Undefined, value_along, value_with}
 use Rattle.ep_values.specs.TypeValues.{is_within}
 use Rattle.ep_meaning.specs.Steps as meaning
 use Rattle.ep_meaning.specs.Valid as kind
-use Rattle.ep_meaning.specs.Valid.{IsSetOf, IsStructured, IsTypeOf, IsTypeOfKind, IsTypeValue, Kind}
+use Rattle.ep_meaning.specs.Valid.{IsSetOf, IsStructured, IsTypeOf, IsTypeOfKind, IsTypeValue, ValueKind}
 use Rattle.ep_typed.specs.Hosts.{Host}
 use Rattle.std.specs.Prelude.{⊤, option_map, replicate}
 use Rattle.ep_values.specs.TypeValues.{TypeValue, bare_of, same_type, size_of}
@@ -50,7 +50,7 @@ use Rattle.ep_object.specs.declared.op.TheConstants as op
 use Rattle.ep_values.specs.declared.run_error.TheConstants as run_error
 
 -- a variable of the type may take a value of the kind
-abbrev pub MayTake : Kind → TypeValue → Type 0
+abbrev pub MayTake : ValueKind → TypeValue → Type 0
 MayTake (kind.Ordinal h) (type.Ordinal low high) = ⊤
 MayTake (kind.Ordinal h) type.Text = ⊥
 MayTake (kind.Ordinal h) (type.Array low high of) = ⊥
@@ -67,7 +67,7 @@ MayTake kind.Bytes t = ⊥
 MayTake (kind.Structured u) t = (u ≡ t) × IsStructured u
 
 -- one of its own kind
-pub may_take : (k : Kind) (t : TypeValue) → IsTypeOfKind k t → MayTake k t
+pub may_take : (k : ValueKind) (t : TypeValue) → IsTypeOfKind k t → MayTake k t
 may_take (kind.Ordinal h) (type.Ordinal low high) is = tt
 may_take (kind.Ordinal h) type.Text is = absurd is
 may_take (kind.Ordinal h) (type.Array low high of) is = absurd is
@@ -384,7 +384,7 @@ module _ (layout : Layout) (G : Image) (place line : ℕ) (below : List Operand)
   -- ---- `Store` of any value
 
   -- in a variable that has ended
-  pub value_ended : (k : Kind) (t : TypeValue) (r : Result) (o : Operand) (v : Component) (p : Place) → MayTake k t
+  pub value_ended : (k : ValueKind) (t : TypeValue) (r : Result) (o : Operand) (v : Component) (p : Place) → MayTake k t
       → slice_get G.instructions place ≡ Some (instr op.STORE (pos 0) 0 line)
       → (injection : Injection) (memory : MachineMemory) → IsValueOf injection memory k r o → IsSpot injection memory.types v p
       → IsLike memory.types p.type_number t → (s : meaning.State)
@@ -413,7 +413,7 @@ module _ (layout : Layout) (G : Image) (place line : ℕ) (below : List Operand)
       rw (is.is, is.is_structure) (record { fails = fails })
 
   -- a value that the variable may have
-  pub value_does : {untouched : Slots} {Here : Facts} (k : Kind) (t : TypeValue) (r : Result) (o : Operand) (v : Component) (p : Place) → MayTake k t
+  pub value_does : {untouched : Slots} {Here : Facts} (k : ValueKind) (t : TypeValue) (r : Result) (o : Operand) (v : Component) (p : Place) → MayTake k t
       → slice_get G.instructions place ≡ Some (instr op.STORE (pos 0) 0 line)
       → (injection : Injection) (memory : MachineMemory) → IsValueOf injection memory k r o → IsSpot injection memory.types v p
       → IsLike memory.types p.type_number t → (s : meaning.State)
@@ -444,7 +444,7 @@ module _ (layout : Layout) (G : Image) (place line : ℕ) (below : List Operand)
       (structure_does u v p injection memory spot own s matches living lasts known structured has is.value is.type_number is.words is.described is.sized is.holds))
 
   -- one that it may not have
-  pub value_fails : (k : Kind) (t : TypeValue) (r : Result) (o : Operand) (v : Component) (p : Place) → MayTake k t
+  pub value_fails : (k : ValueKind) (t : TypeValue) (r : Result) (o : Operand) (v : Component) (p : Place) → MayTake k t
       → slice_get G.instructions place ≡ Some (instr op.STORE (pos 0) 0 line)
       → (injection : Injection) (memory : MachineMemory) → IsValueOf injection memory k r o → IsSpot injection memory.types v p
       → IsLike memory.types p.type_number t → (s : meaning.State)

@@ -6,7 +6,7 @@ use Rattle.std.proofs.lemmas.Option.{same_Some}
 use Rattle.ep_object.specs.Effects.{provided, Continues}
 use Rattle.ep_simulation.specs.Follows.{Facts, PlaceOnTop, Inside}
 use Rattle.ep_simulation.specs.Layouts.{Layout}
-use Rattle.ep_simulation.specs.Matching.{MachineMemory, at, Injection, Part, part_along, part_among, part_behind, all_of, IsSpot, IsLike, Represents, Matches, Slots}
+use Rattle.ep_simulation.specs.Matching.{MachineMemory, at, Injection, TypePart, part_along, part_among, part_behind, all_of, IsSpot, IsLike, Represents, Matches, Slots}
 use Rattle.ep_object.specs.Operands.{Operand}
 use Rattle.ep_object.specs.Operands as operand
 use Rattle.ep_object.specs.Places as row
@@ -33,7 +33,7 @@ use Rattle.ep_values.specs.declared.run_error.TheConstants as run_error
 
 -- a component of a type is somewhere among all
 pub record IsAmong (before : ℕ) (ts : ComponentTypes) (k : ℕ) (of : TypeValue) : Type 0 where
-  pub part : Part
+  pub part : TypePart
   pub is : part_among before ts k ≡ Some part
   pub type_is : part.type_value ≡ of
 
@@ -44,17 +44,17 @@ among_there before (type.next_component t ts) (suc k) of h =
     let x = among_there (before + size_of t) ts k of h in record { part = x.part; is = x.is; type_is = x.type_is }
 
 -- and the table has it there
-pub record IsEntered (types : TypeTable) (ps : List RecordPart) (k : ℕ) (part : Part) : Type 0 where
+pub record IsEntered (types : TypeTable) (ps : List RecordPart) (k : ℕ) (part : TypePart) : Type 0 where
   pub entered : RecordPart
   pub is : slice_get ps k ≡ Some entered
   pub offset : entered.offset ≡ part.offset
   pub described : IsLike types entered.type_number part.type_value
 
-pub part_entered : (types : TypeTable) (before : ℕ) (ps : List RecordPart) (ts : ComponentTypes) (k : ℕ) (part : Part) → AreLike types before ps ts → part_among before ts k ≡ Some part → IsEntered types ps k part
+pub part_entered : (types : TypeTable) (before : ℕ) (ps : List RecordPart) (ts : ComponentTypes) (k : ℕ) (part : TypePart) → AreLike types before ps ts → part_among before ts k ≡ Some part → IsEntered types ps k part
 part_entered types before ps type.no_component k part h is = cc
 part_entered types before [] (type.next_component t ts) k part h is = absurd h
 part_entered types before (p ∷ ps) (type.next_component t ts) zero part h is =
-    subst (λ (q : Part). IsEntered types (p ∷ ps) 0 q) (same_Some (record { offset = before; type_value = t }) part is) (record { entered = p; is = refl; offset = h.0; described = h.1 })
+    subst (λ (q : TypePart). IsEntered types (p ∷ ps) 0 q) (same_Some (record { offset = before; type_value = t }) part is) (record { entered = p; is = refl; offset = h.0; described = h.1 })
 part_entered types before (p ∷ ps) (type.next_component t ts) (suc k) part h is =
     let x = part_entered types (before + size_of t) ps ts k part h.2 is in record { entered = x.entered; is = x.is; offset = x.offset; described = x.described }
 

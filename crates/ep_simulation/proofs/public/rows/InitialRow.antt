@@ -8,7 +8,7 @@ use Rattle.ep_simulation.specs.Layouts.{Layout}
 use Rattle.ep_simulation.specs.Matching.{Describes, Injection, IsBare, Matches, MatchesTypes, MachineMemory, Slots, at}
 use Rattle.ep_object.specs.Operands.{Operand, Word, weight}
 use Rattle.ep_object.specs.Operands as operand
-use Rattle.ep_object.specs.Runs.{Outcome, after, outcome, outcome_of, unit_in}
+use Rattle.ep_object.specs.Runs.{TurnOutcome, after, outcome, outcome_of, unit_in}
 use Rattle.ep_object.specs.Sets.{IsSet, words_of_set}
 use Rattle.ep_object.specs.State.{Error, State, Stopped, TypeTable, bare_number}
 use Rattle.ep_object.specs.Table.{typing, with_typing}
@@ -16,8 +16,8 @@ use Rattle.ep_object.specs.Types.{Numbered, Typing, initial_as, words_begin, wor
 use Rattle.ep_object.specs.declared.code.Image.{Image}
 use Rattle.ep_object.specs.declared.code.Instr.{Instr}
 use Rattle.ep_object.specs.declared.op.TheConstants as op
-use Rattle.ep_object.specs.declared.state.Kind.{Kind}
-use Rattle.ep_object.specs.declared.state.Kind.TheVariants as kinds
+use Rattle.ep_object.specs.declared.state.TypeKind.{TypeKind}
+use Rattle.ep_object.specs.declared.state.TypeKind.TheVariants as kinds
 use Rattle.ep_simulation.proofs.public.following.Fragments.{FailsWith, fragment_less, fragment_stop}
 use Rattle.ep_simulation.proofs.public.following.Losing.{fragment_counted}
 use Rattle.ep_simulation.proofs.matching.Described.{bare_form, one_bare_number}
@@ -46,7 +46,7 @@ use Rattle.ep_values.specs.declared.run_error.TheConstants as run_error
 
 -- A result may be tried as the initial state of a type, whose number stands below the operand: where the type could be assigned it,
 -- the words of the operand are those of the initial state that it is, which is one of the type; else it is an error.
-pub record IsTried (types : TypeTable) (number : ℕ) (of : TypeValue) (kind : Kind) (bare : Option ℕ) (r : Result) (x : Operand) : Type 0 where
+pub record IsTried (types : TypeTable) (number : ℕ) (of : TypeValue) (kind : TypeKind) (bare : Option ℕ) (r : Result) (x : Operand) : Type 0 where
   pub start : Start
   pub is : start_from r ≡ Some start
   pub takes : suits (Some of) r ≡ true → IsStartOf of start × (words_for kind (bare_number number bare) x ≡ Continues (words_of_start start))
@@ -96,7 +96,7 @@ module _ (types : TypeTable) (number : ℕ) (of : TypeValue) where
       }
 
   -- the words that the kind of an array or a record takes of a value whose type has its bare form
-  value_takes : (t : TypeValue) (k : Kind) (own bare : ℕ) (words : List ℤ) → IsStructured t → IsKindLike types t k → own ≡ bare → words_for k bare (operand.Value own words) ≡ Continues words
+  value_takes : (t : TypeValue) (k : TypeKind) (own bare : ℕ) (words : List ℤ) → IsStructured t → IsKindLike types t k → own ≡ bare → words_for k bare (operand.Value own words) ≡ Continues words
   value_takes (type.Ordinal low high) k own bare words structured is same = absurd structured
   value_takes type.Text k own bare words structured is same = absurd structured
   value_takes (type.Set low high) k own bare words structured is same = absurd structured
@@ -156,13 +156,13 @@ module _ (layout : Layout) (G : Image) (place line : ℕ) (below : List Operand)
       k : State
       k = at place operands memory s.trace
 
-      led : Work Typing → Outcome
+      led : Work Typing → TurnOutcome
       led w = record { weight = w.weight; to = after G i k (mapped (with_typing k) w.effect) }
 
-      entry_to : Option Numbered → Outcome
+      entry_to : Option Numbered → TurnOutcome
       entry_to o = led (having_weighed o (λ n. initial_as n (weight x) (words_begin n x) below (typing k)))
 
-      words_to : Effect (List ℤ) → Outcome
+      words_to : Effect (List ℤ) → TurnOutcome
       words_to w = led (initial_as (record { number = number; entry = entry_as of d.kind d.bare }) (weight x) w below (typing k))
 
   -- It follows what gives a type its initial state: the type with that, where a variable could be assigned it, and else the error.

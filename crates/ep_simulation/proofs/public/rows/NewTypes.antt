@@ -14,14 +14,14 @@ use Rattle.ep_simulation.specs.Layouts.{Layout}
 use Rattle.ep_simulation.specs.Matching.{MachineMemory, at, Injection, AreBare, AreEntries, Describes, MatchesCounts, Matches, Slots, own_slot, Grown, HasSize, IsBare, IsKindOf, IsLike, HaveSize}
 use Rattle.ep_simulation.specs.Follows.{GivesUp, SameRoutine, Facts, Lasts, Inside, TypeOnTop}
 use Rattle.ep_object.specs.Operands.{Operand, Word, weight}
-use Rattle.ep_object.specs.Runs.{Outcome, outcome, outcome_of, after}
+use Rattle.ep_object.specs.Runs.{TurnOutcome, outcome, outcome_of, after}
 use Rattle.ep_object.specs.State.{State, TypeTable, Running, size_limit, Segments, bare_number}
 use Rattle.ep_object.specs.Types.{Numbered, Typing, and_numbered, any_bare, any_start, array_met, array_over, bare_forms, entries_of, interned_over, lowest_first, parts_behind, record_entry, record_met, record_of, record_over, record_start, repeated, starts_joined, words_behind, interned, ordinal_entry, array_entry, array_of, bounds_of, entry_in, entry_of, numbered_entry, set_entry, set_of, initial_as, words_begin, words_for}
 use Rattle.ep_values.specs.Sets.{is_ordinal}
 use Rattle.ep_object.specs.Table.{typing, with_typing}
 use Rattle.ep_object.specs.Effects.{Effect, Work, mapped, having, having_weighed, weighing, Fails, Continues}
 use Rattle.ep_object.specs.declared.code.Instr.{Instr}
-use Rattle.ep_object.specs.declared.state.Kind.TheVariants as kind
+use Rattle.ep_object.specs.declared.state.TypeKind.TheVariants as kind
 use Rattle.ep_object.specs.declared.state.TypeEntry.{TypeEntry}
 use Rattle.ep_object.proofs.public.Grows.{is_prefix}
 use Rattle.ep_simulation.proofs.public.following.Bind.{gives_up}
@@ -174,7 +174,7 @@ arr_does {untouched = untouched} {Here = Here} layout G place line below low hig
         ∙ ap (λ x. row_to (Some (record { number = index; entry = record { kind = kind.Ord low high; size = 1; start = o.0; bare = o.1 } })) x) (numbered_there memory.types component c.entry component_is.stands)
         ∙ ap (λ x. record { weight = 0; to = after G i k (mapped (with_typing k) (cond x makes (Fails run_error.STORAGE_LIMIT))) }) fits
       where
-        row_to : Option Numbered → Option Numbered → Outcome
+        row_to : Option Numbered → Option Numbered → TurnOutcome
         row_to x y = record { weight = 0; to = after G i k (mapped (with_typing k) (having x (λ n. having (bounds_of n.entry.kind) (λ b. having y (λ c. array_of b.0 b.1 c below (typing k)))))) }
 
     begins : array_over low high component size (words_kept of) ≡ entry_as (type.Array low high of) (kind.Array low high component)
@@ -223,7 +223,7 @@ set_does layout G place line below low high base from to has lasts injection mem
     k : State
     k = at place (Word (pos base) ∷ below) memory s.trace
 
-    row_to : Option Numbered → Outcome
+    row_to : Option Numbered → TurnOutcome
     row_to x = record { weight = 0; to = after G i k (mapped (with_typing k) (having x (λ n. having (bounds_of n.entry.kind) (λ b. set_of b below (typing k))))) }
 
     leads : outcome G k ≡ record { weight = 0; to = after G i k (mapped (with_typing k) (interned (set_entry low high) below (typing k))) }
@@ -338,16 +338,16 @@ rec_does {untouched = untouched} {Here = Here} layout G place line below ns ts h
         ∙ ap (λ n. sized_to n) words
         ∙ ap (λ y. record { weight = length ns; to = after G i k (mapped (with_typing k) (cond y makes (Fails run_error.STORAGE_LIMIT))) }) fits
       where
-        led : Work Typing → Outcome
+        led : Work Typing → TurnOutcome
         led w = record { weight = w.weight; to = after G i k (mapped (with_typing k) w.effect) }
 
-        sized_to : ℕ → Outcome
+        sized_to : ℕ → TurnOutcome
         sized_to n = led (weighing (length ns) (cond (leb n size_limit) (record_met x.entries n below (typing k)) (Fails run_error.STORAGE_LIMIT)))
 
-        entries_to : Option (List Numbered) → Outcome
+        entries_to : Option (List Numbered) → TurnOutcome
         entries_to o = led (having_weighed o (λ es. weighing (length ns) (record_of es below (typing k))))
 
-        row_to : Option (List ℤ × List Operand) → Outcome
+        row_to : Option (List ℤ × List Operand) → TurnOutcome
         row_to o = led (having_weighed o (λ p. having_weighed (entries_of memory.types p.0) (λ es. weighing (length ns) (record_of es p.1 (typing k)))))
 
     parts : List RecordPart
@@ -414,7 +414,7 @@ init_does {untouched = untouched} {Here = Here} layout G place line below of sta
     makes : Effect Typing
     makes = interned (entry_as (type.Initial of start) d.kind (Some (bare_number number d.bare))) below (typing k)
 
-    led : Work Typing → Outcome
+    led : Work Typing → TurnOutcome
     led w = record { weight = w.weight; to = after G i k (mapped (with_typing k) w.effect) }
 
     leads : outcome G k ≡ led (weighing (weight x + size_of of) makes)
@@ -423,8 +423,8 @@ init_does {untouched = untouched} {Here = Here} layout G place line below of sta
         ∙ (ap entry_to (numbered_there memory.types number e d.stands)
         ∙ ap words_to takes)
       where
-        entry_to : Option Numbered → Outcome
+        entry_to : Option Numbered → TurnOutcome
         entry_to o = led (having_weighed o (λ n. initial_as n (weight x) (words_begin n x) below (typing k)))
 
-        words_to : Effect (List ℤ) → Outcome
+        words_to : Effect (List ℤ) → TurnOutcome
         words_to w = led (initial_as (record { number = number; entry = e }) (weight x) w below (typing k))

@@ -5,12 +5,12 @@ use Rattle.std.specs.Prelude.{cond, int_lt, is_some}
 use Rattle.ep_object.specs.Effects.{Work}
 use Rattle.ep_simulation.specs.Follows.{Facts, Inside, IsStructure, OnTop}
 use Rattle.ep_simulation.specs.Layouts.{Layout}
-use Rattle.ep_simulation.specs.Matching.{AreBare, HasAt, Injection, IsBare, Matches, MachineMemory, OrdinalAt, SetAt, Part, Slots, at, part_among, part_of}
+use Rattle.ep_simulation.specs.Matching.{AreBare, HasAt, Injection, IsBare, Matches, MachineMemory, OrdinalAt, SetAt, TypePart, Slots, at, part_among, part_of}
 use Rattle.ep_object.specs.Operands.{Operand}
 use Rattle.ep_object.specs.Operands as operand
 use Rattle.ep_object.specs.Parts as row
 use Rattle.ep_object.specs.Sets.{set_size}
-use Rattle.ep_object.specs.Runs.{Outcome, after, outcome, unit_in}
+use Rattle.ep_object.specs.Runs.{TurnOutcome, after, outcome, unit_in}
 use Rattle.ep_object.specs.State.{Error, Running, State, Stopped, TypeTable, undefined}
 use Rattle.ep_object.specs.Table.{on_operands}
 use Rattle.ep_object.specs.WordRows.{bit}
@@ -42,12 +42,12 @@ use Rattle.ep_typed.specs.Hosts.{Host}
 use Rattle.ep_values.specs.TypeValues as type
 use Rattle.ep_values.specs.TypeValues.{ComponentTypes, TypeValue, bare_of, component_type, size_of, type_among}
 use Rattle.ep_meaning.specs.Valid as kind
-use Rattle.ep_meaning.specs.Valid.{IsStructured, IsTypeOf, IsTypeOfKind, Kind, tag_type}
+use Rattle.ep_meaning.specs.Valid.{IsStructured, IsTypeOf, IsTypeOfKind, ValueKind, tag_type}
 use Rattle.ep_object.specs.declared.op.TheConstants as op
 use Rattle.ep_values.specs.declared.run_error.TheConstants as run_error
 
 -- what an instruction comes to that does this to the operands
-abbrev pub working : Image → Instr → State → Work (List Operand) → Outcome
+abbrev pub working : Image → Instr → State → Work (List Operand) → TurnOutcome
 working G i s w = record { weight = w.weight; to = after G i s (on_operands s w.effect) }
 
 -- ---- a component whose words are found
@@ -158,7 +158,7 @@ module _ (layout : Layout) (G : Image) (i : Instr) (place : ℕ) (operands below
       })
 
   -- one of a type whose values are of the kind
-  found_left : {untouched : Slots} {Here : Facts} (k : Kind) (t : TypeValue) → IsTypeOfKind k t → bare_of t ≡ t
+  found_left : {untouched : Slots} {Here : Facts} (k : ValueKind) (t : TypeValue) → IsTypeOfKind k t → bare_of t ≡ t
       → (c : ℕ) → IsBare memory.types c t
       → (words : List ℤ) (offset : ℕ) → offset + size_of t ≤ length words → Leaves c words offset
       → (value : Value) → HasAt injection t value (slice_get words) offset
@@ -186,32 +186,32 @@ module _ (layout : Layout) (G : Image) (i : Instr) (place : ℕ) (operands below
 -- ---- a component of a value
 
 -- where a type has no initial states, neither has the type of a component
-part_bare : (t : TypeValue) (number : ℕ) (p : Part) → bare_of t ≡ t → part_of t number ≡ Some p → bare_of p.type_value ≡ p.type_value
+part_bare : (t : TypeValue) (number : ℕ) (p : TypePart) → bare_of t ≡ t → part_of t number ≡ Some p → bare_of p.type_value ≡ p.type_value
 part_bare t number p bare is =
     let component : component_type t number ≡ Some p.type_value = component_type-is t number p is in
     let same : component_type t number ≡ option_map bare_of (component_type t number) = ap (λ u. component_type u number) (sym bare) ∙ bare_component t number in
     same_Some (bare_of p.type_value) p.type_value (sym (ap (option_map bare_of) component) ∙ (sym same ∙ component))
 
 -- the table has the bare form of a component where the component is
-record IsBareThere (types : TypeTable) (ps : List RecordPart) (k : ℕ) (part : Part) : Type 0 where
+record IsBareThere (types : TypeTable) (ps : List RecordPart) (k : ℕ) (part : TypePart) : Type 0 where
   entered : RecordPart
   is : slice_get ps k ≡ Some entered
   offset : entered.offset ≡ part.offset
   form : IsBare types entered.type_number part.type_value
 
-bare_there : (types : TypeTable) (before : ℕ) (ps : List RecordPart) (ts : ComponentTypes) (k : ℕ) (part : Part) → AreBare types before ps ts → part_among before ts k ≡ Some part → IsBareThere types ps k part
+bare_there : (types : TypeTable) (before : ℕ) (ps : List RecordPart) (ts : ComponentTypes) (k : ℕ) (part : TypePart) → AreBare types before ps ts → part_among before ts k ≡ Some part → IsBareThere types ps k part
 bare_there types before ps type.no_component k part h is = cc
 bare_there types before [] (type.next_component t ts) k part h is = absurd h
 bare_there types before (p ∷ ps) (type.next_component t ts) zero part h is =
-    subst (λ (q : Part). IsBareThere types (p ∷ ps) 0 q) (same_Some (record { offset = before; type_value = t }) part is) (record { entered = p; is = refl; offset = h.0; form = h.1 })
+    subst (λ (q : TypePart). IsBareThere types (p ∷ ps) 0 q) (same_Some (record { offset = before; type_value = t }) part is) (record { entered = p; is = refl; offset = h.0; form = h.1 })
 bare_there types before (p ∷ ps) (type.next_component t ts) (suc k) part h is =
     let x = bare_there types (before + size_of t) ps ts k part h.2 is in record { entered = x.entered; is = x.is; offset = x.offset; form = x.form }
 
 -- The component of this number of the value on an operand: the machine leaves it and spends the words of the value besides,
 -- or both end with the error.
 part_left : {untouched : Slots} {Here : Facts} (layout : Layout) (G : Image) (i : Instr) (place : ℕ) (operands below : List Operand) (injection : Injection) (memory : MachineMemory)
-    → (t : TypeValue) (r : Result) (o : Operand) (v : IsStructure t r injection memory o) (number : ℕ) (p : Part) → part_of t number ≡ Some p
-    → (k : Kind) → IsTypeOfKind k p.type_value → (c : ℕ) → IsBare memory.types c p.type_value
+    → (t : TypeValue) (r : Result) (o : Operand) (v : IsStructure t r injection memory o) (number : ℕ) (p : TypePart) → part_of t number ≡ Some p
+    → (k : ValueKind) → IsTypeOfKind k p.type_value → (c : ℕ) → IsBare memory.types c p.type_value
     → ((trace : Trace) → outcome G (at place operands memory trace) ≡ working G i (at place operands memory trace) (row.part_at memory.types v.words p.offset c below))
     → (s : meaning.State) → Matches layout G injection s memory → Here injection s memory
     → ReadsResult layout G Here (at place operands memory s.trace) (weight_of r) run_error.UNDEFINED_VALUE (unit_in G memory.frames) i.line (place + 1) (λ x. Inside untouched injection memory (OnTop k below x)) s (meaning_of.part_of r number)
@@ -230,14 +230,14 @@ part_left {untouched = untouched} {Here = Here} layout G i place operands below 
 module _ (layout : Layout) (G : Image) (place line : ℕ) (below : List Operand) (injection : Injection) (memory : MachineMemory) where
   -- `Field`, of a record
   pub field_part : {untouched : Slots} {Here : Facts} (ts : ComponentTypes) (r : Result) (o : Operand) → IsStructure (type.Record ts) r injection memory o
-      → (number : ℕ) (of : TypeValue) → type_among ts number ≡ Some of → (k : Kind) → IsTypeOfKind k of
+      → (number : ℕ) (of : TypeValue) → type_among ts number ≡ Some of → (k : ValueKind) → IsTypeOfKind k of
       → slice_get G.instructions place ≡ Some (instr op.FIELD (pos number) 0 line)
       → (s : meaning.State) → Matches layout G injection s memory → Here injection s memory
       → ReadsResult layout G Here (at place (o ∷ below) memory s.trace) (weight_of r) run_error.UNDEFINED_VALUE (unit_in G memory.frames) line (place + 1) (λ x. Inside untouched injection memory (OnTop k below x)) s (meaning_of.part_of r number)
   field_part ts r o v number of among k of_kind has s matches known =
       let i : Instr = instr op.FIELD (pos number) 0 line in
       let component : IsAmong 0 ts number of = among_there 0 ts number of among in
-      let part : Part = component.part in
+      let part : TypePart = component.part in
       let parts = v.described in
       let entered : IsBareThere memory.types parts.0 number part = bare_there memory.types 0 parts.0 ts number part parts.2 component.is in
       part_left layout G i place (o ∷ below) below injection memory (type.Record ts) r o v number part component.is k (subst (IsTypeOfKind k) (sym component.type_is) of_kind) entered.entered.type_number entered.form
@@ -295,11 +295,11 @@ module _ (layout : Layout) (G : Image) (place line : ℕ) (below : List Operand)
         record { fails = index_outcome None outside s.trace ∙ ap (λ n. record { weight = n; to = Stopped (Error run_error.INDEX (unit_in G memory.frames) line) s.trace }) many }
 
     -- and where it is within them
-    pub index_part : {untouched : Slots} {Here : Facts} (number : ℕ) → component_at low high z ≡ Some number → (k : Kind) → IsTypeOfKind k of
+    pub index_part : {untouched : Slots} {Here : Facts} (number : ℕ) → component_at low high z ≡ Some number → (k : ValueKind) → IsTypeOfKind k of
         → (s : meaning.State) → Matches layout G injection s memory → Here injection s memory
         → ReadsResult layout G Here (at place (operand.Word z ∷ o ∷ below) memory s.trace) (weight_of r) run_error.UNDEFINED_VALUE (unit_in G memory.frames) line (place + 1) (λ x. Inside untouched injection memory (OnTop k below x)) s (meaning_of.part_of r number)
     index_part number is k of_kind s matches known =
-        let part : Part = record { offset = number * size_of of; type_value = of } in
+        let part : TypePart = record { offset = number * size_of of; type_value = of } in
         let less : number < count_of low high = is_within_count (count_of low high) (gap low z) number is in
         part_left layout G (instr op.INDEX (pos 0) 0 line) place (operand.Word z ∷ o ∷ below) below injection memory (type.Array low high of) r o v number part (ap (λ b. cond b (Some part) None) (less_true number (count_of low high) less)) k of_kind (v.described).0 (v.described).2
         (λ trace. index_outcome (Some number) is trace) s matches known

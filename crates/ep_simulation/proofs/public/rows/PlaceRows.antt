@@ -34,7 +34,7 @@ use Rattle.ep_values.specs.Values.{value_along, Value, Undefined, set_of, word_o
 use Rattle.ep_meaning.specs.Results.{result_of, weight_of}
 use Rattle.ep_meaning.specs.Steps as meaning
 use Rattle.ep_meaning.specs.Valid as kind
-use Rattle.ep_meaning.specs.Valid.{IsStructured, IsTypeOf, IsTypeOfKind, Kind}
+use Rattle.ep_meaning.specs.Valid.{IsStructured, IsTypeOf, IsTypeOfKind, ValueKind}
 use Rattle.ep_typed.specs.Hosts.{Host}
 use Rattle.ep_values.specs.TypeValues.{TypeValue, bare_of, size_of}
 use Rattle.ep_values.specs.TypeValues as type
@@ -145,7 +145,7 @@ module _ (layout : Layout) (G : Image) (place line : ℕ) (below : List Operand)
       )
 
   -- `Load`, of a variable that has ended
-  pub load_fails : (k : Kind) (t : TypeValue) (v : Component) (p : Place) → IsTypeOfKind k t
+  pub load_fails : (k : ValueKind) (t : TypeValue) (v : Component) (p : Place) → IsTypeOfKind k t
       → slice_get G.instructions place ≡ Some (instr op.LOAD (pos 0) 0 line)
       → (injection : Injection) (memory : MachineMemory) → IsSpot injection memory.types v p
       → IsLike memory.types p.type_number t → (s : meaning.State)
@@ -312,7 +312,7 @@ module _ (layout : Layout) (G : Image) (place line : ℕ) (below : List Operand)
           })
 
   -- of one of a type whose values are of the kind
-  pub load_reads : {untouched : Slots} {Here : Facts} (k : Kind) (t : TypeValue) (v : Component) (p : Place) → IsTypeOfKind k t
+  pub load_reads : {untouched : Slots} {Here : Facts} (k : ValueKind) (t : TypeValue) (v : Component) (p : Place) → IsTypeOfKind k t
       → slice_get G.instructions place ≡ Some (instr op.LOAD (pos 0) 0 line)
       → (injection : Injection) (memory : MachineMemory) → IsSpot injection memory.types v p
       → IsLike memory.types p.type_number t → (s : meaning.State)
@@ -445,7 +445,7 @@ module _ (layout : Layout) (G : Image) (place line : ℕ) (below : List Operand)
           leads ∙ rw (members_loaded low high ms own below many held) (ap (λ l. record { weight = 0; to = Running 0 (at (place + 1) (operand.Set l ∷ below) memory s.trace) }) same)
 
   -- Of one that gives a result of a kind, which other operands have too: an operand of it, and memory stays as it is.
-  pub value_loads : (k : Kind) (t : TypeValue) (v : Component) (p : Place) → IsTypeOfKind k t
+  pub value_loads : (k : ValueKind) (t : TypeValue) (v : Component) (p : Place) → IsTypeOfKind k t
       → slice_get G.instructions place ≡ Some (instr op.LOAD (pos 0) 0 line)
       → (injection : Injection) (memory : MachineMemory) → IsSpot injection memory.types v p
       → IsLike memory.types p.type_number t → (s : meaning.State)

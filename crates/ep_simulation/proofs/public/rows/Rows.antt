@@ -6,7 +6,7 @@ use Rattle.ep_object.specs.Control.{jump_where}
 use Rattle.ep_object.specs.Effects.{Continues, Fails, is_zero}
 use Rattle.ep_simulation.specs.Matching.{MachineMemory, at}
 use Rattle.ep_object.specs.Operands.{Operand, Word}
-use Rattle.ep_object.specs.Runs.{Outcome, outcome, outcome_of, after, enter, unit_in}
+use Rattle.ep_object.specs.Runs.{TurnOutcome, outcome, outcome_of, after, enter, unit_in}
 use Rattle.ep_object.specs.State.{Going, Running, Stopped, Halt, Error}
 use Rattle.ep_object.specs.Table.{on_operands}
 use Rattle.ep_object.specs.WordRows as rows
@@ -26,7 +26,7 @@ use Rattle.ep_object.specs.declared.op.TheConstants as op
 use Rattle.ep_values.specs.declared.run_error.TheConstants as run_error
 
 -- an outcome of one tick
-abbrev pub in_one : Going → Outcome
+abbrev pub in_one : Going → TurnOutcome
 in_one g = record { weight = 0; to = g }
 
 -- the instruction at a place is the one in hand there

@@ -10,7 +10,7 @@ use Rattle.ep_simulation.specs.Matching.{MachineMemory, at}
 use Rattle.ep_object.specs.Operands.{Operand, Word, Text, weight}
 use Rattle.ep_object.specs.Operands as operand
 use Rattle.ep_object.specs.declared.state.Place.{Place}
-use Rattle.ep_object.specs.Runs.{Outcome, outcome, unit_in}
+use Rattle.ep_object.specs.Runs.{TurnOutcome, outcome, unit_in}
 use Rattle.ep_object.specs.State.{Running, Stopped, Error}
 use Rattle.ep_object.specs.Texts as rows
 use Rattle.ep_object.specs.WordRows.{is_boolean}
@@ -43,7 +43,7 @@ RowFails G place line operands weight number =
     (memory : MachineMemory) (trace : Trace) → outcome G (at place operands memory trace) ≡ record { weight = weight; to = Stopped (Error number (unit_in G memory.frames) line) trace }
 
 -- an outcome that pushes a text
-abbrev pub text_on : ℕ → List Operand → MachineMemory → Trace → ℕ → List ℕ → Outcome
+abbrev pub text_on : ℕ → List Operand → MachineMemory → Trace → ℕ → List ℕ → TurnOutcome
 text_on place below memory trace weight bytes = record { weight = weight; to = Running 0 (at (place + 1) (Text bytes ∷ below) memory trace) }
 
 module _ (G : Image) (place line : ℕ) (below : List Operand) where
