@@ -234,7 +234,7 @@ Push 0; Make 0; Slot 0; Push 5; Store; Slot 0; Undefine; Slot 0; Load -> error 1
 Unit -1 1; Undefine -> broken at 1, tick 2
 Push 1; Undefine -> broken at 1, tick 2
 Push 2; Make 0; Slot 0; Like; Make 0; Slot 0; Push 2; Store -> error 2 at 8, tick 10
-Push 7; Like; Make 0; Slot 0; Push 9; Store; Unit -1 1; Slot 0; Load; Form; Put; Return -> '9', normal, tick 15
+Push 7; Like -> broken at 1, tick 2
 Text 0; Like -> broken at 1, tick 4
 Like -> broken at 0, tick 1";
 
@@ -275,8 +275,10 @@ Push 3; Deref -> broken at 1, tick 2
 Push 3; Dispose -> broken at 1, tick 2
 Push -1; Deref -> broken at 1, tick 2
 Push -9223372036854775807; Dispose -> broken at 1, tick 2
-Push 1; Dispose -> broken at 1, tick 2
-Push 2; Dispose -> broken at 1, tick 2
+Push 1; Dispose; Push 1; Dispose -> error 11 at 4, tick 4
+Push 1; Dispose; Push 1; Deref -> error 11 at 4, tick 4
+Push 2; Dispose; Unit -1 1; Text 0; Put -> error 11 at 5, tick 9
+Push 2; Dispose; Push 0; New; Deref; Push 7; Store; Halt -> halt, tick 9
 Text 0; Dispose -> broken at 1, tick 4
 Unit -1 1; Deref -> broken at 1, tick 2
 Deref -> broken at 0, tick 1

@@ -11,7 +11,7 @@ use crate::segments;
 use crate::step::Step;
 use ep_frames::Stack;
 use ep_memory::{Memory, UNDEFINED};
-use ep_object::{INPUT_SEGMENT, OUTPUT_SEGMENT, Place, TypeEntry};
+use ep_object::{Place, TypeEntry};
 use ep_values::run_error;
 
 /// A new variable of the type on top, in the place of which comes its number.
@@ -70,9 +70,6 @@ pub fn dispose(memory: &mut Memory, stack: &mut Stack) -> Step
     };
     if memory.type_of(number).is_none() {
         return segments::gone(number, memory);
-    }
-    if number == INPUT_SEGMENT || number == OUTPUT_SEGMENT {
-        return Step::Broken;
     }
     memory.release(number);
     Step::Next

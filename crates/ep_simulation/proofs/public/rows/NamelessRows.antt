@@ -1,5 +1,5 @@
 -- What `New`, `Deref` and `Dispose` lead to over a variable without a name, where the machine matches.
-use Rattle.std.proofs.Common.{leb, cond, not, ◌≡◌, ℕ, pos, zero, suc, ◌+◌, ◌-◌, ◌<◌, ◌⊎◌, inl, inr, Bool, true, false, List, [], ◌∷◌, length, Some, None, slice_get, slice_set, refl, sym, ap, ◌∙◌, subst, arith}
+use Rattle.std.proofs.Common.{leb, cond, ◌≡◌, ℕ, pos, zero, suc, ◌+◌, ◌-◌, ◌<◌, ◌⊎◌, inl, inr, Bool, true, false, List, [], ◌∷◌, length, Some, None, slice_get, slice_set, refl, sym, ap, ◌∙◌, subst, arith}
 use Rattle.std.specs.Prelude.{int_lt, option_map}
 use Rattle.std.proofs.lemmas.Bool.Decides.{nat_tests}
 use Rattle.std.proofs.lemmas.Bool.{lt-ltb}
@@ -10,7 +10,7 @@ use Rattle.ep_simulation.specs.Layouts.{Layout}
 use Rattle.ep_simulation.specs.Matching.{Describes, Injection, IsIn, IsOf, Mapped, Matches, MachineMemory, Slots, at}
 use Rattle.ep_object.specs.Operands.{Operand, Word}
 use Rattle.ep_object.specs.Operands as operand
-use Rattle.ep_object.specs.Pointers.{is_standard, whole as place_of_whole}
+use Rattle.ep_object.specs.Pointers.{whole as place_of_whole}
 use Rattle.ep_object.specs.Runs.{outcome, unit_in}
 use Rattle.ep_simulation.specs.Starts.{AreStarts}
 use Rattle.ep_object.specs.State.{Error, Running, Stopped, live_limit, undefined}
@@ -168,17 +168,13 @@ deref_pushes G place line below (suc segment) x has above memory trace lives =
 
 -- ---- `Dispose`
 
--- a segment that is none of a standard file
-not_standard : (segment : ℕ) → 2 < segment → not (is_standard segment) ≡ true
-not_standard segment above = grind (arith, nat_tests, above)
-
 pub dispose_outcome : (G : Image) (place line : ℕ) (below : List Operand) (segment : ℕ) (x : Segment) → slice_get G.instructions place ≡ Some (instr op.DISPOSE (pos 0) 0 line) → 2 < segment
     → (memory : MachineMemory) (trace : Trace) → slice_get memory.segments segment ≡ Some (Some x)
     → outcome G (at place (Word (pos segment) ∷ below) memory trace) ≡ in_one (Running 0 (at (place + 1) below (record memory { segments = slice_set memory.segments segment None; live = memory.live - (length x.words + 1) }) trace))
 dispose_outcome G place line below zero x has above memory trace lives = absurd (omega (arith, above))
 dispose_outcome G place line below (suc segment) x has above memory trace lives =
     let within : suc segment < length memory.segments = slice_get_within memory.segments (suc segment) (Some x) lives in
-    outcome_at G (instr op.DISPOSE (pos 0) 0 line) place (Word (pos (suc segment)) ∷ below) memory trace has ∙ rw (lt-ltb (suc segment) (length memory.segments) within, lives, not_standard (suc segment) above) refl
+    outcome_at G (instr op.DISPOSE (pos 0) 0 line) place (Word (pos (suc segment)) ∷ below) memory trace has ∙ rw (lt-ltb (suc segment) (length memory.segments) within, lives) refl
 
 -- whether room is lost by the depth plays no part in matching
 pub matches_depth : {layout : Layout} {G : Image} {injection : Injection} {s : meaning.State} {memory : MachineMemory} → Matches layout G injection s memory → Matches layout G injection (with_depth s) memory
