@@ -6,7 +6,8 @@
 //!
 //! Each file has tables of texts, a case a row, and the tests that go over them. Open instructions.rt first, which
 //! says how an instruction is written as a text; then typed_trees.rt, which has trees with their code, programs.rt,
-//! which has programs with their objects, and machine.rt, which has code with what a run of it comes to.
+//! which has programs with their objects, machine.rt, which has code with what a run of it comes to, and units.rt, which
+//! links the objects of units that name each other.
 #![tactic(auto)]
 
 #[cfg(test)]
@@ -17,3 +18,5 @@ mod machine;
 mod programs;
 #[cfg(test)]
 mod typed_trees;
+#[cfg(test)]
+mod units;

@@ -137,7 +137,12 @@ fn outcome(
 }
 
 /// What was written, the end, and the ticks, of two runs with these budgets.
-fn seen(alloc: Global, image: &Image, first: u32, second: u32) -> Result<String, AllocError> {
+pub(crate) fn seen(
+    alloc: Global,
+    image: &Image,
+    first: u32,
+    second: u32,
+) -> Result<String, AllocError> {
     let mut output = SureSink::new(alloc);
     let outcome = outcome(alloc, image, first, second, &mut output)?;
     let written = str::from_utf8(output.held()).unwrap_or("no text");

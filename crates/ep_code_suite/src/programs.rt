@@ -39,7 +39,7 @@ fn digit(alloc: Global) -> Result<UnitTypes, Unbuilt> {
 }
 
 /// A variable of this type, the only one of its declaration.
-fn variable(
+pub(crate) fn variable(
     alloc: Global,
     name: &[u8],
     line: Line,

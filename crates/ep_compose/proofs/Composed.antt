@@ -23,7 +23,8 @@ use Rattle.ep_simulation.proofs.public.Tells.{Never, tells, tells_at_end, tells_
 use Rattle.ep_simulation.proofs.public.matching.Beginning.{first_injection, first_matches, first_memory}
 use Rattle.ep_simulation.specs.Follows.{Bare, Follows}
 use Rattle.ep_simulation.specs.Implements.{Implements}
-use Rattle.ep_simulation.specs.Joined.{AreJoined, HeadingsAreKept, ObjectImplements, StandsAmong}
+use Rattle.ep_simulation.proofs.public.Joined.{slots_stand}
+use Rattle.ep_simulation.specs.Joined.{AreJoined, HeadingsAreKept, ObjectImplements, SlotsStand, StandsAmong}
 use Rattle.ep_simulation.specs.Layouts.{Layout, layout_of}
 use Rattle.ep_simulation.specs.Matching.{at as standing}
 use Rattle.ep_simulation.specs.Simulates.{Enters, Simulates}
@@ -99,11 +100,14 @@ module _ (units : List TypedUnit) (os : List Object) (joined : AreJoined units) 
     stands : StandsAt os k o
     stands = linked_stand os distinct k o (object_at k u there).1
 
-    among : StandsAmong units k u G ps stands.placement o
-    among = record { joined = joined; there = there; stands = stands.stands; distinct = linked_distinct os distinct }
+    slots : SlotsStand G ps u
+    slots = slots_stand u o G ps stands.placement stands.stands implements.name implements.slots
 
     unit_there : slice_get G.units k ≡ Some (placed_object_unit stands.placement o)
     unit_there = let its = stands.stands in subst (λ i. slice_get G.units i ≡ Some (placed_object_unit stands.placement o)) stands.unit its.unit
+
+  among : (k : ℕ) (u : TypedUnit) (there : slice_get units k ≡ Some u) → StandsAmong units k u G ps (stands k u there).placement (o k u there)
+  among k u there = let its = stands k u there in record { joined = joined; there = there; stands = its.stands; distinct = linked_distinct os distinct; slots = slots }
 
   -- ---- the headings, by induction on the steps over all units at once
 
@@ -146,7 +150,7 @@ module _ (units : List TypedUnit) (os : List Object) (joined : AreJoined units) 
     start_simulates k u there =
         let its = implements k u there in
         let s = stands k u there in
-        subst (λ i. Simulates layout G i (start_at k u there).routine n (start u) Bare) s.unit (its.start units k G ps s.placement (among k u there) n (headings_kept n))
+        subst (λ i. Simulates layout G i (start_at k u there).routine n (start u) Bare) s.unit (its.start units k G ps s.placement (among k u there) n (λ m le. headings_kept m))
 
     start_turn : (k : ℕ) (u : TypedUnit) → slice_get units k ≡ Some u → Turn layout G n k (start u)
     start_turn k u there = record { next = start_at k u there; is = start_comes k u there; simulates = start_simulates k u there; steady = steady_start_of call (steady_handler_of units n) n u }
@@ -158,7 +162,7 @@ module _ (units : List TypedUnit) (os : List Object) (joined : AreJoined units) 
         record {
           next = record { unit = k; routine = moved (s.placement).routines (o k u there).stop };
           is = ap (λ c. activation G (c + j)) (sym counted) ∙ turn_stops G j k (placed_object_unit s.placement (o k u there)) (sum ∙ sym counted) (unit_there k u there);
-          simulates = subst (λ i. Simulates layout G i (moved (s.placement).routines (o k u there).stop) n (stop u) Bare) s.unit (its.stop units k G ps s.placement (among k u there) n (headings_kept n));
+          simulates = subst (λ i. Simulates layout G i (moved (s.placement).routines (o k u there).stop) n (stop u) Bare) s.unit (its.stop units k G ps s.placement (among k u there) n (λ m le. headings_kept m));
           steady = steady_stop_of call (steady_handler_of units n) n u;
         }
 

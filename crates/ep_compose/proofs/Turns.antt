@@ -1,5 +1,5 @@
 -- The machine follows one start or stop after another.
-use Rattle.std.proofs.Common.{◌≡◌, ℕ, suc, ◌+◌, ◌≤◌, ◌⊎◌, inl, inr, List, [], ◌∷◌, Some, None, refl, sym, ap, ◌∙◌, subst, arith}
+use Rattle.std.proofs.Common.{◌≡◌, ℕ, ◌+◌, inl, inr, List, [], ◌∷◌, Some, None, sym, ap, ◌∙◌, arith}
 use Rattle.ep_meaning.proofs.public.Steady.{steady_bind, steady_stop}
 use Rattle.ep_meaning.specs.Steady.{Steady}
 use Rattle.ep_meaning.specs.Steps.{Computation, Gives, Ends, Cut, bind, stop}

@@ -15,7 +15,7 @@ use Rattle.ep_object.specs.declared.code.Object.{Object}
 use Rattle.ep_values.proofs.public.Done.{does_part-front, does_part-all, does_front-front, does_front-all}
 use Rattle.ep_values.specs.Events.{Trace, Outside, Does, DoesFront, DoesPart}
 use Rattle.ep_meaning.specs.Meaning.{meaning}
-use Rattle.ep_meaning.specs.Valid.{IsValid}
+use Rattle.ep_meaning.specs.Units.{IsValid}
 use Rattle.ep_typed.specs.declared.unit.Unit.{Unit as TypedUnit}
 use Rattle.ep_gen_unit.proofs.public.Programs.{program_tells}
 use Rattle.ep_gen_unit.specs.UnitCode.{IsUnitCode}
@@ -83,7 +83,7 @@ came_from G H budget limit from to old new answer image ticks begins traces r p 
     here P x = subst (λ K. P K budget) image (subst (λ n. P H n) ticks x)
 
 -- the image of a program's object implements the program
-pub implements : (u : TypedUnit) (o : Object) (G : Image) → IsUnitCode u o → IsValid u → G ≡ alone o → Implements G (u ∷ [])
+pub implements : (u : TypedUnit) (o : Object) (G : Image) → IsUnitCode u o → IsValid [] u → G ≡ alone o → Implements G (u ∷ [])
 implements u o G code valid is = subst (λ H. Implements H (u ∷ [])) (sym is) (program_tells u o code valid)
 
 -- a machine that has had no fault before

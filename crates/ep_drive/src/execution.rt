@@ -3,7 +3,7 @@
 ghost use Rattle.std.specs.Prelude.{◌≡◌, ◌<◌, ◌≤◌, ◌^◌, ◌∷◌, [], ℕ, List, length, IfOk, MatchResult};
 ghost use Rattle.ep_machine.specs.Answers.{OnWriteFaultEnd, outside};
 ghost use Rattle.ep_simulation.specs.Implements.{Implements};
-ghost use Rattle.ep_meaning.specs.Valid.{IsValid};
+ghost use Rattle.ep_meaning.specs.Units.{IsValid};
 ghost use Rattle.ep_typed.specs.declared.unit.Unit.{Unit as TypedUnit};
 ghost use Rattle.ep_drive.specs.Executions.{CameTo, IsImageOf};
 ghost use Rattle.ep_drive.specs.GoRuns.{run_within};
@@ -67,7 +67,7 @@ pub fn text_image(alloc: Global, text: &[u8]) -> Result<Image, SourceStop>
 
 /// An image that does what a valid program means.
 fn unit_image(alloc: Global, unit: &Unit) -> Result<Image, NoMemory>
-    requires { IsValid unit.now }
+    requires { IsValid [] unit.now }
     ensures { IfOk result (λ image. Implements image (unit.now ∷ [])) }
 {
     let object = program_code(alloc, unit)?;

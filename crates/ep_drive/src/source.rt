@@ -4,7 +4,7 @@ ghost use Rattle.std.specs.Prelude.{◌≡◌, ◌≢◌, ◌≤◌, List, [], �
 ghost use Rattle.ep_built.specs.Built.{component_unbuilt};
 ghost use Rattle.ep_check_unit.specs.Units.{IsTyped};
 ghost use Rattle.ep_typed.specs.Nodes.{unit_nodes};
-ghost use Rattle.ep_meaning.specs.Valid.{IsValid};
+ghost use Rattle.ep_meaning.specs.Units.{IsValid};
 ghost use Rattle.ep_typed.specs.declared.unit.Unit.{Unit as TypedUnit};
 ghost use Rattle.ep_drive.specs.ProgramTexts.{HasComponents, IsProgramText, components_unbuilt, node_limit, second_line};
 ghost use Rattle.ep_drive.specs.Refusals.{StopsComponent, StopsText, by_tokens, by_grammar, by_rules};
@@ -95,7 +95,7 @@ impl From<AllocError> for SourceStop {
 pub fn read_program(alloc: Global, text: &[u8]) -> Result<Unit, SourceStop>
     requires { length text.now ≤ MAX_SOURCE }
     ensures program { IfOk result (λ unit. IsProgramText text.now unit) }
-    ensures valid { IfOk result (λ unit. IsValid unit) }
+    ensures valid { IfOk result (λ unit. IsValid [] unit) }
 
     // A refusal has its cause, and the text of a program is not refused.
     ensures refused { IfErr result (StopsText text.now) }
@@ -107,7 +107,7 @@ pub fn read_program(alloc: Global, text: &[u8]) -> Result<Unit, SourceStop>
 /// The same, without what follows from it.
 fn read(alloc: Global, text: &[u8]) -> Result<Unit, SourceStop>
     requires { length text.now ≤ MAX_SOURCE }
-    ensures { MatchResult result (λ unit. IsProgramText text.now unit × IsValid unit) (StopsText text.now) }
+    ensures { MatchResult result (λ unit. IsProgramText text.now unit × IsValid [] unit) (StopsText text.now) }
 {
     let found = components_of(alloc, text)?;
     program_of(alloc, found.as_slice())
@@ -127,7 +127,7 @@ fn components_of(alloc: Global, text: &[u8]) -> Result<Vec<Component>, SourceSto
 fn program_of(alloc: Global, all: &[Component]) -> Result<Unit, SourceStop>
     requires { all.now ≢ [] }
     ensures { (text : List ℕ) → HasComponents text all.now
-        → MatchResult result (λ unit. IsProgramText text unit × IsValid unit) (StopsText text) }
+        → MatchResult result (λ unit. IsProgramText text unit × IsValid [] unit) (StopsText text) }
 {
     if let Some(line) = first_unbuilt(all) {
         return Err(SourceStop::Refused(SourceRefusal::NotBuilt(line)));
@@ -144,7 +144,7 @@ fn program_of(alloc: Global, all: &[Component]) -> Result<Unit, SourceStop>
 /// The typed program of a component, by the static rules.
 fn checked_program(alloc: Global, component: &Component) -> Result<Unit, SourceStop>
     requires { component_unbuilt component.now ≡ None }
-    ensures { MatchResult result (λ unit. IsTyped component.now unit × IsValid unit) (StopsComponent component.now) }
+    ensures { MatchResult result (λ unit. IsTyped component.now unit × IsValid [] unit) (StopsComponent component.now) }
 {
     let Some(unit) = check(alloc, component, &[])?.into_unit() else {
         unreachable!()

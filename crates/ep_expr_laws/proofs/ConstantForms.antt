@@ -76,7 +76,7 @@ IsJudgedConstant types list (Breaks rules) = ⊤
 
 module _ (declared : Declarations) (types : TypeValues) (scopes : List Region) (agrees : AgreesBy declared types (structures_of scopes) (depth_in scopes) scopes) (for : Purpose) where
   abbrev list : List UnitType
-  list = declared.routine_types
+  list = declared.types
 
   abbrev Holds : Judged ConstantForm → Type 0
   Holds = IsJudgedConstant types list

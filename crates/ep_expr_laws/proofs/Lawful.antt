@@ -154,7 +154,7 @@ values_are_sound scopes v asked t accepted declared types agrees = subst (HasFor
 constant_is_sound : (scopes : List Region) (for : Purpose) (J : Judged Typed) (c : ConstantForm) → when_accepted (as_constant scopes for) J ≡ Accepts c
     → ((declared : Declarations) (types : TypeValues) → AgreesBy declared types (structures_of scopes) (depth_in scopes) scopes → HasForm declared types scopes J) → IsSoundConstant scopes c
 constant_is_sound scopes for J c accepted form declared types agrees =
-    subst (IsJudgedConstant types declared.routine_types) accepted (as_constant-fits declared types scopes agrees for J (form declared types agrees))
+    subst (IsJudgedConstant types declared.types) accepted (as_constant-fits declared types scopes agrees for J (form declared types agrees))
 
 pub constants_are_sound : ConstantsAreSound
 constants_are_sound scopes v c accepted = constant_is_sound scopes (purpose_of (out-ComponentValue v)) (judged_value scopes v None) c accepted (λ declared types agrees. value-fits declared types scopes agrees v None)

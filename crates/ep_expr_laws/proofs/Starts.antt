@@ -2,7 +2,7 @@
 use Rattle.std.proofs.Common.{◌≡◌, ◌∙◌, ℕ, List, [], refl, sym, ap, subst}
 use Rattle.ep_meaning.proofs.public.Typed.{typed_bare}
 use Rattle.ep_typed.specs.Trees as tree
-use Rattle.ep_typed.specs.Trees.{AtField, AtRanges, Constant, Elements, Expr, Named, SameField, SetConstant, next_element, no_element}
+use Rattle.ep_typed.specs.Trees.{Elements, Expr, Named}
 use Rattle.ep_values.specs.TypeValues as type
 use Rattle.ep_values.specs.TypeValues.{TypeValue, bare_of}
 use Rattle.ep_meaning.specs.Valid.{AreElements, AreStartsFor, Declarations, IsDenoter, IsExpr, IsStartFor, IsStructured, IsTypeOfKind, ValueKind, Ordinal, Set, Structured, field_given, none_given, ranges_given, same_given, set_start, structured_start, word_start}
@@ -10,7 +10,7 @@ use Rattle.ep_typed.specs.declared.unit.UnitType.{UnitType}
 
 module _ (declared : Declarations) where
   abbrev list : List UnitType
-  list = declared.routine_types
+  list = declared.types
 
   -- a structured value is one of the type value of its type
   structured-valid : (t : TypeValue) (of : ℕ) (es : Elements) → bare_of t ≡ t → (d : IsDenoter list (Named of [])) → d.type_value ≡ t → IsStructured t → AreElements declared t es → IsExpr declared (Structured t) (tree.Structured of es)

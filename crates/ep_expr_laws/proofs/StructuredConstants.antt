@@ -7,9 +7,9 @@ use Rattle.std.specs.Prelude.{All, ⊤, int_le, option_to_list, ◌&&◌, if◌t
 use Rattle.ep_meaning.proofs.public.Typed.{typed_bare}
 use Rattle.ep_typed.specs.Hosts.{Host}
 use Rattle.ep_typed.specs.Trees as tree
-use Rattle.ep_typed.specs.Trees.{Expr, Text, AtIndex, AtField, SameField, AtRanges, AtIndexes, Elements, no_element, next_element, elements, no_member, next_member, Named}
+use Rattle.ep_typed.specs.Trees.{Expr, AtIndex, AtField, SameField, AtRanges, AtIndexes, Elements, no_element, next_element, elements, no_member, next_member, Named}
 use Rattle.ep_values.specs.TypeValues as type
-use Rattle.ep_values.specs.TypeValues.{ComponentTypes, TypeValue, bare_of}
+use Rattle.ep_values.specs.TypeValues.{TypeValue, bare_of}
 use Rattle.ep_meaning.specs.Valid as valid
 use Rattle.ep_meaning.specs.Valid.{AreElements, AreStartsFor, Declarations, HasRange, IsDenoter, IsElement, IsExpr, IsRangeWithin, IsStartFor, IsStructured, IsTyped, IsTypeOf, IsTypeOfKind}
 use Rattle.ep_typed.specs.Viewed.{constant_expr, element_of, expr_of}
@@ -173,7 +173,7 @@ indexes-within low high of o Errs rs bounds e = cc
 
 module _ (declared : Declarations) (types : TypeValues) (scopes : List Region) (agrees : AgreesBy declared types (structures_of scopes) (depth_in scopes) scopes) where
   abbrev list : List UnitType
-  list = declared.routine_types
+  list = declared.types
 
   -- the array type of a number has the bounds of its type value
   bounded : (n : ℕ) (t : TypeValue) (d : IsDenoter list (Named n [])) → bare_of d.type_value ≡ t → (o : Option Composition) → structure_in scopes n ≡ o → IsBounded (array_in o) t

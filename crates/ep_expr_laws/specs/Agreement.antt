@@ -1,6 +1,6 @@
 -- Declarations that hold what scopes declare, under which typed forms are valid.
 use Rattle.std.specs.Prelude.{◌≡◌, ℕ, pos, Bool, true, All, List, [], ◌∷◌, ◌++◌, Option, Some, None, IsTrue, int_le, ⊤}
-use Rattle.std.specs.Prelude.{ℤ, if◌then◌else◌}
+use Rattle.std.specs.Prelude.{ℤ}
 use Rattle.ep_typed.specs.Denoters.{ArrayParts, array_of, base_of, denoter_at, host_of, record_of, bare_type_of}
 use Rattle.ep_typed.specs.Hosts.{greatest, is_of_host, least}
 use Rattle.ep_typed.specs.Hosts as typed
@@ -257,9 +257,9 @@ AreHeld types structures = (list : List UnitType) × All (HoldsStructure types l
 -- value that it has without initial states, and the list holds it.
 abbrev pub IsListed : Declarations → TypeValues → StructuredType → Type 0
 IsListed declared types s =
-    (d : IsDenoter declared.routine_types (Named s.number []))
+    (d : IsDenoter declared.types (Named s.number []))
     × (types (type_name.Entry s.number) ≡ Some (bare_of d.type_value))
-    × HoldsStructure types declared.routine_types s
+    × HoldsStructure types declared.types s
 
 -- the structured types of the scopes in view
 abbrev pub structures_of : List Region → List StructuredType
@@ -375,7 +375,7 @@ module _ (declared : Declarations) (types : TypeValues) where
   abbrev pub IsProcedureOf : Callee → List FormalParameter → Type 0
   IsProcedureOf callee ps =
       (r : RoutineEntry) × IsCallee declared callee r × IsProcedure r
-      × AreParameters types (declared.types callee.unit) ps r.formals
+      × AreParameters types declared.types ps r.formals
 
 module _ (declared : Declarations) (types : TypeValues) (structures : List StructuredType) where
   -- The heading of a function whose result is of this kind, in a unit with this list of types, which holds the
@@ -393,14 +393,14 @@ module _ (declared : Declarations) (types : TypeValues) (structures : List Struc
   -- a function with these formal parameters and a result of this kind is called so
   abbrev pub IsFunctionOf : Callee → List FormalParameter → Kind → Type 0
   IsFunctionOf callee ps k =
-      (r : RoutineEntry) × IsCallee declared callee r × IsFunctionWith (declared.types callee.unit) k r
-      × AreParameters types (declared.types callee.unit) ps r.formals
+      (r : RoutineEntry) × IsCallee declared callee r × IsFunctionWith declared.types k r
+      × AreParameters types declared.types ps r.formals
 
   -- a constant is of its kind, and where that is structured, some list of types holds the structured types in view
   abbrev pub IsConstantIn : Kind → Value → Type 0
   IsConstantIn (kind.Structured n) v =
-      IsConstantOf types declared.routine_types (kind.Structured n) v × AreHeld types structures
-  IsConstantIn k v = IsConstantOf types declared.routine_types k v
+      IsConstantOf types declared.types (kind.Structured n) v × AreHeld types structures
+  IsConstantIn k v = IsConstantOf types declared.types k v
 
 -- for code that so many routines are around
 module _ (declared : Declarations) (types : TypeValues) (structures : List StructuredType) (depth : ℕ) where
@@ -481,4 +481,4 @@ abbrev pub IsSoundConstant : List Region → ConstantForm → Type 0
 IsSoundConstant scopes c =
     (declared : Declarations) (types : TypeValues)
     → AgreesBy declared types (structures_of scopes) (depth_in scopes) scopes
-    → IsConstantIf c.built types declared.routine_types c.kind c.value
+    → IsConstantIf c.built types declared.types c.kind c.value

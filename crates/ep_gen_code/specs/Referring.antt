@@ -16,27 +16,27 @@ abbrev pub AreReferred : Declarations → List ℕ → List UnitType → List Re
 AreReferred declared unit types references =
     (index : ℕ) → index < length types
     → slice_get references (type_reference index) ≡ Some (reference unit
-    (type_routine (declared.first_private unit) index))
+    (type_routine declared.first_private index))
 
 -- there is a reference to the unit's routine that leaves two operands in the other order
 abbrev pub IsSwapReferred : Declarations → List ℕ → List Reference → Type 0
 IsSwapReferred declared unit references =
-    slice_get references routine.SWAP ≡ Some (reference unit (swap_routine (declared.first_private unit)))
+    slice_get references routine.SWAP ≡ Some (reference unit (swap_routine declared.first_private))
 
 -- and one to the routine that gives the value of a component of an array to others
 abbrev pub IsFillReferred : Declarations → List ℕ → List Reference → Type 0
 IsFillReferred declared unit references =
-    slice_get references routine.FILL ≡ Some (reference unit (fill_routine (declared.first_private unit)))
+    slice_get references routine.FILL ≡ Some (reference unit (fill_routine declared.first_private))
 
 -- to the one that leaves the indexes of a range
 abbrev pub IsRangeReferred : Declarations → List ℕ → List Reference → Type 0
 IsRangeReferred declared unit references =
-    slice_get references routine.RANGE ≡ Some (reference unit (range_routine (declared.first_private unit)))
+    slice_get references routine.RANGE ≡ Some (reference unit (range_routine declared.first_private))
 
 -- to the one that leaves what components are given by
 abbrev pub IsSpreadReferred : Declarations → List ℕ → List Reference → Type 0
 IsSpreadReferred declared unit references =
-    slice_get references routine.SPREAD ≡ Some (reference unit (spread_routine (declared.first_private unit)))
+    slice_get references routine.SPREAD ≡ Some (reference unit (spread_routine declared.first_private))
 
 -- to all of those that give values to components of arrays
 pub record AreArraysReferred (declared : Declarations) (unit : List ℕ) (references : List Reference) : Type 0 where

@@ -1,5 +1,5 @@
 -- The machine follows indexes of an array that are worked out, and what the components at them are given.
-use Rattle.std.proofs.Common.{◌≡◌, ℕ, ℤ, pos, negsuc, suc, ◌+◌, ◌-◌, ◌*◌, ◌≤◌, ◌<◌, Bool, true, false, cond, leb, ltb, IsTrue, List, [], ◌∷◌, ◌++◌, length, length-append, Option, Some, None, slice_get, refl, sym, ap, ◌∙◌, subst, arith}
+use Rattle.std.proofs.Common.{◌≡◌, ℕ, ℤ, pos, negsuc, suc, ◌+◌, ◌-◌, ◌*◌, ◌≤◌, ◌<◌, Bool, true, false, leb, ltb, IsTrue, List, [], ◌∷◌, ◌++◌, length, length-append, Option, Some, None, slice_get, refl, sym, ap, ◌∙◌, subst, arith}
 use Rattle.std.proofs.lemmas.Bool.Decides.{nat_tests}
 use Rattle.std.proofs.lemmas.Option.{same_Some}
 use Rattle.std.specs.Prelude.{if◌then◌else◌, int_le}
@@ -131,8 +131,8 @@ module _ (layout : Layout) (G : Image) (untouched : Slots) (Here : Facts) (p : P
 
 module _ (declared : Declarations) (layout : Layout) (G : Image) (untouched : Slots) (Here : Facts) (lasts : Lasts untouched Here) (ps : List Placement) (p : Placement) (references : List Reference) (call : Handler) (steady_call : IsSteadyHandler call) (g : ℕ) (unit : List ℕ) (line n : ℕ)
     (room : p.instructions.before + p.instructions.own ≤ length G.instructions)
-    (swap : SwapStands G ps unit (declared.first_private unit)) (swap_referred : IsSwapReferred declared unit references)
-    (arrays : ArrayRoutinesStand G ps unit (declared.first_private unit)) (arrays_referred : AreArraysReferred declared unit references)
+    (swap : SwapStands G ps unit declared.first_private) (swap_referred : IsSwapReferred declared unit references)
+    (arrays : ArrayRoutinesStand G ps unit declared.first_private) (arrays_referred : AreArraysReferred declared unit references)
     (low high : ℤ) (small : IsTrue (is_integer low)) (large : IsTrue (is_integer high)) (of : TypeValue) (k : ValueKind) (of_kind : IsTypeOfKind k of) where
   abbrev pub array : TypeValue
   array = type.Array low high of
@@ -361,7 +361,7 @@ module _ (declared : Declarations) (layout : Layout) (G : Image) (untouched : Sl
           (follows_waits (not_left-later (still_routine routine) (not_left-here (let m = filled_at.after in m.frames))) (jump_jumps G (to_find + 1 + 1 + 1 + 1) line kept end inside_image leads_out filled_at.after t.trace)
           (follows_give tt (omega arith) (record { injection = filled_at.longer; memory = filled_at.after; operands = kept; is = refl; matches = filled.matches; here = holds_grown lasts since here; post = record { grown = grown; routine = routine; operands_are = refl } })))))
         where
-          fill : FillStands G ps unit (declared.first_private unit)
+          fill : FillStands G ps unit declared.first_private
           fill = arrays.fill
 
           between : (b left : ℕ) × (gap low from ≡ Some b) × (gap from upto ≡ Some left) × (b + left < count_of low high)

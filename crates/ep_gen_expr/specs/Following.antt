@@ -48,7 +48,7 @@ IsFollowedThrough declared layout G p unit untouched n at code c Then gain =
 -- components of an array, of a component of a record, or of a variant of one whose tag is of an ordinal type
 abbrev pub HasPlaceType : Declarations → Place → TypeValue → Type 0
 HasPlaceType declared (Variable unit k) t =
-    (v : UnitVariable) × (declared.variables unit k ≡ Some v) × HasTypeUnder (declared.types unit) v t
+    (v : UnitVariable) × (declared.variables unit k ≡ Some v) × HasTypeUnder declared.types v t
 HasPlaceType declared (Own up k) t =
     (v : UnitVariable) × (slice_get (variables_up declared up) k ≡ Some v) × HasOwnType declared v t
 HasPlaceType declared (Standard file) t = ⊥
@@ -82,7 +82,7 @@ PlacesAreFollowed =
     → p.instructions.before + p.instructions.own ≤ length G.instructions
     → (untouched : Slots) → AreAmong untouched (kept_slots layout G)
     → (n : ℕ) → CallsAreKept declared layout G ps call n
-    → unit ≡ declared.routine_unit → AreReferred declared unit declared.routine_types references
+    → unit ≡ declared.home → AreReferred declared unit declared.types references
     → IsSwapReferred declared unit references → AreArraysReferred declared unit references
     → IsFollowedThrough declared layout G p unit untouched n at code (place call turns unit line q) (PlaceOnTop t)
     (λ a. 8)
@@ -106,7 +106,7 @@ ExpressionsAreFollowed =
     → p.instructions.before + p.instructions.own ≤ length G.instructions
     → (untouched : Slots) → AreAmong untouched (kept_slots layout G)
     → (n : ℕ) → CallsAreKept declared layout G ps call n
-    → unit ≡ declared.routine_unit → AreReferred declared unit declared.routine_types references
+    → unit ≡ declared.home → AreReferred declared unit declared.types references
     → IsSwapReferred declared unit references → AreArraysReferred declared unit references
     → IsFollowedThrough declared layout G p unit untouched n at code (eval call turns unit line x) (OnTop kind)
     (λ r. 8 + weight_of r)

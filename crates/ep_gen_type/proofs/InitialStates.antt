@@ -37,7 +37,7 @@ use Rattle.ep_meaning.proofs.public.Typed.{typed_bare, typed_value}
 use Rattle.ep_meaning.specs.Meaning.{begins_where, eval}
 use Rattle.ep_values.specs.Printing.{Result}
 use Rattle.ep_meaning.specs.Results.{start_from, start_in, weight_of}
-use Rattle.ep_meaning.specs.Steps.{Computation, bind}
+use Rattle.ep_meaning.specs.Steps.{bind}
 use Rattle.ep_meaning.specs.Steps as meaning
 use Rattle.ep_typed.specs.Trees.{AtField, AtRanges, Elements, Expr, Named, SameField}
 use Rattle.ep_typed.specs.Trees as tree

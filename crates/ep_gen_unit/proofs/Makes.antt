@@ -62,8 +62,8 @@ MovesIn layout G untouched Here p n x at to c =
     → RunsInUnit G memory.frames x → unit_in G memory.frames ≡ x.name
     → Fragment layout G Here n (point injection memory (p.instructions.before + at) below) c (p.instructions.before + to) (λ a. Inside untouched injection memory (Bare below a)) d (λ a. d)
 
-module _ (declared : Declarations) (layout : Layout) (G : Image) (untouched : Slots) (Here : Facts) (lasts : Lasts untouched Here) (ps : List Placement) (p : Placement) (references : List Reference) (call : Handler) (steady_call : IsSteadyHandler call) (n : ℕ) (x : ImageUnit) (free : VariablesAreFree declared G untouched x) (distinct : HasDistinctNames G) (types_valid : HaveValidTypes declared) (laid_out : AreLaidOut declared layout) (at_home : IsHome declared x.name (declared.types x.name))
-    (among : AreAmong untouched (kept_slots layout G)) (kept : CallsAreKept declared layout G ps call n) (referred : AreReferred declared x.name (declared.types x.name) references) (swap_referred : IsSwapReferred declared x.name references) (arrays_referred : AreArraysReferred declared x.name references) where
+module _ (declared : Declarations) (layout : Layout) (G : Image) (untouched : Slots) (Here : Facts) (lasts : Lasts untouched Here) (ps : List Placement) (p : Placement) (references : List Reference) (call : Handler) (steady_call : IsSteadyHandler call) (n : ℕ) (x : ImageUnit) (free : VariablesAreFree declared G untouched x) (distinct : HasDistinctNames G) (types_valid : HaveValidTypes declared) (laid_out : AreLaidOut declared layout) (at_home : IsHome declared x.name declared.types)
+    (among : AreAmong untouched (kept_slots layout G)) (kept : CallsAreKept declared layout G ps call n) (referred : AreReferred declared x.name declared.types references) (swap_referred : IsSwapReferred declared x.name references) (arrays_referred : AreArraysReferred declared x.name references) where
   module _ (number line at : ℕ) (v : UnitVariable) (is_declared : declared.variables x.name number ≡ Some v) (within : number < x.slots) where
     -- `Make`, over the number of the type
     make_row_moves : (t : TypeValue) (type_number : ℕ) → IsTypeValue t → AreStarts t
@@ -80,7 +80,7 @@ module _ (declared : Declarations) (layout : Layout) (G : Image) (untouched : Sl
       → number < x.slots → CodeStands G ps p references at (make_code number v)
       → MovesIn layout G untouched Here p n x at (at + length (make_code number v)) (make call g x.name number v)
   one_moves g number at v is_declared within stands injection memory below d enough home named =
-      let types = declared.types x.name in
+      let types = declared.types in
       let valid : IsDenoter types (denoter_of v.denoter) = types_valid x.name number v is_declared in
       let t : TypeValue = valid.type_value in
       let code : List Instr = type_code v.line (denoter_of v.denoter) in

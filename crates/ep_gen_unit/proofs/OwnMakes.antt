@@ -86,7 +86,7 @@ still_later : {before memory : MachineMemory} {below : List Operand} → StillRu
 still_later runs longer after operands h = record { runs = still_runs-trans runs h.runs; operands_are = h.operands_are }
 
 module _ (declared : Declarations) (layout : Layout) (G : Image) (untouched : Slots) (first : Injection) (start : MachineMemory) (lasts : Lasts untouched (InActivation declared untouched first start)) (ps : List Placement) (p : Placement) (references : List Reference) (call : Handler) (steady_call : IsSteadyHandler call) (n : ℕ) (unit : List ℕ) (own_valid : HaveValidOwnTypes declared)
-    (at_home : IsHome declared unit declared.routine_types) (among : AreAmong untouched (kept_slots layout G)) (kept : CallsAreKept declared layout G ps call n) (referred : AreReferred declared unit declared.routine_types references) (swap_referred : IsSwapReferred declared unit references) (arrays_referred : AreArraysReferred declared unit references) where
+    (at_home : IsHome declared unit declared.types) (among : AreAmong untouched (kept_slots layout G)) (kept : CallsAreKept declared layout G ps call n) (referred : AreReferred declared unit declared.types references) (swap_referred : IsSwapReferred declared unit references) (arrays_referred : AreArraysReferred declared unit references) where
   module _ (number line at : ℕ) (v : UnitVariable) (is_declared : slice_get (variables_up declared 0) number ≡ Some v) where
     -- `Make`, over the number of the type
     make_row_moves : (t : TypeValue) (type_number : ℕ) → IsTypeValue t → AreStarts t
@@ -104,7 +104,7 @@ module _ (declared : Declarations) (layout : Layout) (G : Image) (untouched : Sl
       → (injection : Injection) (memory : MachineMemory) (below : List Operand) (d : ℕ) → least_credit ≤ d → unit_in G memory.frames ≡ unit
       → Fragment layout G (InActivation declared untouched first start) n (point injection memory (p.instructions.before + at) below) (make_own call g unit number v) (p.instructions.before + (at + length (make_code number v))) (λ a. StillBare memory below) d (λ a. d + 3 * size_of (own_valid 0 number v is_declared).type_value)
   sized_moves g number at v is_declared stands injection memory below d enough home =
-      let types = declared.routine_types in
+      let types = declared.types in
       let valid : IsDenoter types (denoter_of v.denoter) = own_valid 0 number v is_declared in
       let t : TypeValue = valid.type_value in
       let code : List Instr = type_code v.line (denoter_of v.denoter) in
@@ -139,7 +139,7 @@ module _ (declared : Declarations) (layout : Layout) (G : Image) (untouched : Sl
   make_all_own_moves g number at [] are_declared stands injection memory below d enough home =
       fragment_to (omega arith) (fragment_give (omega arith) (record { runs = still_routine (same_routine-refl {untouched = untouched} memory.frames); operands_are = refl }))
   make_all_own_moves g number at (v ∷ vs) are_declared stands injection memory below d enough home =
-      let types = declared.routine_types in
+      let types = declared.types in
       let parts = code_stands-parts G ps p references at (make_code number v) (make_all_code (suc number) vs) stands in
       let ends : at + length (make_code number v) + length (make_all_code (suc number) vs) ≡ at + length (make_code number v ++ make_all_code (suc number) vs) = omega (arith, length-append (make_code number v) (make_all_code (suc number) vs)) in
       let this : slice_get (variables_up declared 0) number ≡ Some v = subst (λ k. slice_get (variables_up declared 0) k ≡ Some v) (omega arith) (are_declared 0 v refl) in
@@ -151,13 +151,13 @@ module _ (declared : Declarations) (layout : Layout) (G : Image) (untouched : Sl
       )))
 
   -- The same, where the first one is of a type whose words leave a credit.
-  pub make_sized_moves : (g number at : ℕ) (v : UnitVariable) (vs : List UnitVariable) (t : TypeValue) → type_of declared.routine_types (denoter_of v.denoter) ≡ Some t
+  pub make_sized_moves : (g number at : ℕ) (v : UnitVariable) (vs : List UnitVariable) (t : TypeValue) → type_of declared.types (denoter_of v.denoter) ≡ Some t
       → ((i : ℕ) (w : UnitVariable) → slice_get (v ∷ vs) i ≡ Some w → slice_get (variables_up declared 0) (number + i) ≡ Some w)
       → CodeStands G ps p references at (make_all_code number (v ∷ vs))
       → (injection : Injection) (memory : MachineMemory) (below : List Operand) (d : ℕ) → least_credit ≤ d → unit_in G memory.frames ≡ unit
       → Fragment layout G (InActivation declared untouched first start) n (point injection memory (p.instructions.before + at) below) (make_all_own call g unit number (v ∷ vs)) (p.instructions.before + (at + length (make_all_code number (v ∷ vs)))) (λ a. StillBare memory below) d (λ a. d + 3 * size_of t)
   make_sized_moves g number at v vs t has_type are_declared stands injection memory below d enough home =
-      let types = declared.routine_types in
+      let types = declared.types in
       let parts = code_stands-parts G ps p references at (make_code number v) (make_all_code (suc number) vs) stands in
       let ends : at + length (make_code number v) + length (make_all_code (suc number) vs) ≡ at + length (make_code number v ++ make_all_code (suc number) vs) = omega (arith, length-append (make_code number v) (make_all_code (suc number) vs)) in
       let this : slice_get (variables_up declared 0) number ≡ Some v = subst (λ k. slice_get (variables_up declared 0) k ≡ Some v) (omega arith) (are_declared 0 v refl) in
@@ -174,23 +174,23 @@ module _ (declared : Declarations) (layout : Layout) (G : Image) (untouched : Sl
   -- ---- formal parameters
 
   module _ (g line number at : ℕ) (f : Formal) (is_declared : slice_get (variables_up declared 0) number ≡ Some (formal_variable line f)) where
-    its : IsDenoter declared.routine_types (denoter_of f.denoter)
+    its : IsDenoter declared.types (denoter_of f.denoter)
     its = own_valid 0 number (formal_variable line f) is_declared
 
     -- what is given of its type but for initial states
     has_its_type : (a : TypeValue) → bare_of a ≡ its.type_value → (w : UnitVariable) → slice_get (variables_up declared 0) number ≡ Some w → HasOwnType declared w (bare_of a)
     has_its_type a is w e =
         subst (λ (u : UnitVariable). HasOwnType declared u (bare_of a)) (same_Some (formal_variable line f) w (sym is_declared ∙ e))
-        (its.type_value, types_are_instances declared.routine_types (denoter_of f.denoter) its.type_value its.has_type, typed_bare declared.routine_types (denoter_of f.denoter) its.type_value its.typed ∙ sym is)
+        (its.type_value, types_are_instances declared.types (denoter_of f.denoter) its.type_value its.has_type, typed_bare declared.types (denoter_of f.denoter) its.type_value its.typed ∙ sym is)
 
     -- a value formal takes a value of its kind
-    value_moves : (kind : ValueKind) (r : Result) (o : Operand) → IsOfKind kind declared.routine_types (denoter_of f.denoter)
+    value_moves : (kind : ValueKind) (r : Result) (o : Operand) → IsOfKind kind declared.types (denoter_of f.denoter)
         → CodeStands G ps p references at (value_code line number f)
         → (injection : Injection) (memory : MachineMemory) (below : List Operand) (d : ℕ) → least_credit ≤ d → unit_in G memory.frames ≡ unit
         → argument_at (arguments_in memory.frames.calls) number ≡ Some o → suc number ≤ length (arguments_in memory.frames.calls) → IsValueOf injection memory kind r o
         → Fragment layout G (InActivation declared untouched first start) n (point injection memory (p.instructions.before + at) below) (bind (elaborate call g unit line (denoter_of f.denoter)) (λ a. bind (allocate_own number a) (λ _. initialized unit line a r))) (p.instructions.before + (at + length (value_code line number f))) (λ a. Taken untouched injection memory (without_argument number (arguments_in memory.frames.calls)) below) d (λ a. d)
     value_moves kind r o is_kind stands injection memory below d enough home there within value =
-        let types = declared.routine_types in
+        let types = declared.types in
         let t : TypeValue = its.type_value in
         let own : bare_of t ≡ t = typed_bare types (denoter_of f.denoter) t its.typed in
         let of_its_kind : IsTypeOfKind kind t = subst (IsTypeOfKind kind) own (typed_of_kind types (denoter_of f.denoter) t kind its.typed is_kind) in
@@ -230,7 +230,7 @@ module _ (declared : Declarations) (layout : Layout) (G : Image) (untouched : Sl
 
     -- a variable formal takes a variable
     reference_moves : CodeStands G ps p references at (place_taken line number)
-        → (m : Component) (t : TypeValue) (q : PlaceOf) → bare_type_of declared.routine_types (denoter_of f.denoter) ≡ Some t
+        → (m : Component) (t : TypeValue) (q : PlaceOf) → bare_type_of declared.types (denoter_of f.denoter) ≡ Some t
         → (injection : Injection) (memory : MachineMemory) (below : List Operand) (d : ℕ) → least_credit ≤ d → unit_in G memory.frames ≡ unit
         → argument_at (arguments_in memory.frames.calls) number ≡ Some (operand.Place q) → suc number ≤ length (arguments_in memory.frames.calls)
         → IsSpot injection memory.types m q → IsLike memory.types q.type_number t
@@ -239,7 +239,7 @@ module _ (declared : Declarations) (layout : Layout) (G : Image) (untouched : Sl
         by_calls memory.frames.calls refl there within
       where
         typed : (w : UnitVariable) → slice_get (variables_up declared 0) number ≡ Some w → HasOwnType declared w t
-        typed w e = subst (λ (u : UnitVariable). HasOwnType declared u t) (same_Some (formal_variable line f) w (sym is_declared ∙ e)) (has_bare_type declared.routine_types (formal_variable line f) t has_type)
+        typed w e = subst (λ (u : UnitVariable). HasOwnType declared u t) (same_Some (formal_variable line f) w (sym is_declared ∙ e)) (has_bare_type declared.types (formal_variable line f) t has_type)
 
         by_calls : (calls : List Frame) → memory.frames.calls ≡ calls → argument_at (arguments_in calls) number ≡ Some (operand.Place q) → suc number ≤ length (arguments_in calls)
             → Fragment layout G (InActivation declared untouched first start) n (point injection memory (p.instructions.before + at) below) (spend 1 (change (with_own_bound number m))) (p.instructions.before + (at + 2)) (λ a. Taken untouched injection memory (without_argument number (arguments_in memory.frames.calls)) below) d (λ a. d)
@@ -250,7 +250,7 @@ module _ (declared : Declarations) (layout : Layout) (G : Image) (untouched : Sl
             (variable_taken declared layout G untouched first start lasts (p.instructions.before + at) line number unit below injection memory c calls e home within n m d q t (formal_variable line f) stands.0 (instr_at G {other = p.instructions.before + (at + 1)} (omega arith) stands.1.0) there spot described is_declared typed (omega (arith, enough)))))
 
     -- a formal parameter takes its argument
-    take_moves : (w : FormalMode) (q : Passing) (x : Argument) → IsPassed declared.routine_types w f q
+    take_moves : (w : FormalMode) (q : Passing) (x : Argument) → IsPassed declared.types w f q
         → CodeStands G ps p references at (take_code line number w f)
         → (o : Operand) (injection : Injection) (memory : MachineMemory) (below : List Operand) (d : ℕ) → least_credit ≤ d → unit_in G memory.frames ≡ unit
         → argument_at (arguments_in memory.frames.calls) number ≡ Some o → suc number ≤ length (arguments_in memory.frames.calls) → IsArgument injection memory q x o
@@ -273,7 +273,7 @@ module _ (declared : Declarations) (layout : Layout) (G : Image) (untouched : Sl
         reference_moves stands m t q passed injection memory below d enough home (there ∙ ap Some q_is) within spot described
 
   -- the formal parameters take their arguments, from this number on
-  pub takes_all_moves : (g line number at : ℕ) (fs : List Formal) (qs : List Passing) (xs : List Argument) → ArePassed declared.routine_types fs qs
+  pub takes_all_moves : (g line number at : ℕ) (fs : List Formal) (qs : List Passing) (xs : List Argument) → ArePassed declared.types fs qs
       → ((i : ℕ) (f : Formal) → slice_get fs i ≡ Some f → slice_get (variables_up declared 0) (number + i) ≡ Some (formal_variable line f))
       → CodeStands G ps p references at (take_all_code line number fs)
       → (injection : Injection) (memory : MachineMemory) (below : List Operand) (d : ℕ) → least_credit ≤ d → unit_in G memory.frames ≡ unit
@@ -286,7 +286,7 @@ module _ (declared : Declarations) (layout : Layout) (G : Image) (untouched : Sl
   takes_all_moves g line number at (f ∷ fs) [] xs passed are_declared stands injection memory below d enough home awaited = absurd passed
   takes_all_moves g line number at (f ∷ fs) (q ∷ qs) [] passed are_declared stands injection memory below d enough home awaited = absurd awaited
   takes_all_moves g line number at (f ∷ fs) (q ∷ qs) (x ∷ xs) passed are_declared stands injection memory below d enough home (o, there, within, is, rest) =
-      let types = declared.routine_types in
+      let types = declared.types in
       let code : List Instr = take_code line number f.mode f in
       let more : List Instr = take_all_code line (suc number) fs in
       let inside : List (Option Operand) = arguments_in memory.frames.calls in

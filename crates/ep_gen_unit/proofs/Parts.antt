@@ -77,8 +77,8 @@ module _ (declared : Declarations) (layout : Layout) (G : Image) (untouched : Sl
   -- the machine follows a call of a routine with its actual parameters, and what a statement does behind it
   abbrev pub CallsFollow : Type 0
   CallsFollow =
-      (line at to : ℕ) (callee : Callee) (k : ℕ) (given : Actuals) (xs : List Instr) (r : RoutineEntry) (keeps : RoutineKeeps layout G ps call n (declared.types callee.unit) (declared.around callee.unit callee.number) callee.unit callee.number r)
-      → AreGiven declared (declared.types callee.unit) r.formals given → AreActualsCode texts references line at given xs → IsDeclaredUp declared callee callee.levels → slice_get references k ≡ Some (reference callee.unit callee.number)
+      (line at to : ℕ) (callee : Callee) (k : ℕ) (given : Actuals) (xs : List Instr) (r : RoutineEntry) (keeps : RoutineKeeps layout G ps call n declared.types (declared.around callee.unit callee.number) callee.unit callee.number r)
+      → AreGiven declared declared.types r.formals given → AreActualsCode texts references line at given xs → IsDeclaredUp declared callee callee.levels → slice_get references k ≡ Some (reference callee.unit callee.number)
       → CodeStands G ps p references at (xs ++ instr op.CALL (pos k) callee.levels line ∷ instr op.JUMP (pos (at + length xs + 2)) 0 line ∷ []) → at + length xs + 2 < p.instructions.own
       → (injection : Injection) (memory : MachineMemory) (below : List Operand) (d : ℕ) → least_credit ≤ d → unit_in G memory.frames ≡ unit
       → (rest : List Result → Computation (Unit {0})) → ((rs : List Result) → Steady (rest rs))

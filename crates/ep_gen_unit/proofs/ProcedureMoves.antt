@@ -51,7 +51,7 @@ module _ {declared : Declarations} {layout : Layout} {G : Image} {untouched : Sl
   procedure_moves calls kept line at callee k given xs valid codes named stands inside injection memory below d enough home =
       let called = valid.1 in
       let keeps = routine_kept kept callee.unit callee.number valid.0 called.there in
-      let none : keeps.results ≡ [] = no_kinds (declared.types callee.unit) (valid.0).result keeps.results valid.2 keeps.given in
+      let none : keeps.results ≡ [] = no_kinds declared.types (valid.0).result keeps.results valid.2 keeps.given in
       let behind : CodeStands G ps p references (at + length xs) (instr op.CALL (pos k) callee.levels line ∷ instr op.JUMP (pos (at + length xs + 2)) 0 line ∷ []) = code_back G ps p references at xs (instr op.CALL (pos k) callee.levels line ∷ instr op.JUMP (pos (at + length xs + 2)) 0 line ∷ []) stands in
       calls line at (p.instructions.before + (at + length xs + 2)) callee k given xs valid.0 keeps valid.3 codes called.declared_up named stands inside injection memory below d (omega (arith, enough)) home
       (λ rs. spend 1 (give tt)) (λ rs. steady_spend 1 (steady_give tt))

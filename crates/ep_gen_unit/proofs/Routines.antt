@@ -1,5 +1,5 @@
 -- The routines of a unit keep their promises, by induction on the steps: a call spends one.
-use Rattle.std.proofs.Common.{◌⊎◌, inl, inr, append-nil, ◌≡◌, ℕ, zero, suc, pos, ◌+◌, ◌≤◌, ◌<◌, Bool, true, false, if◌then◌else◌, List, [], ◌∷◌, ◌++◌, map, option_map, length, length-append, Option, Some, None, slice_get, bytes_eq, refl, sym, ap, ◌∙◌, subst, arith, ◌*◌, IsTrue}
+use Rattle.std.proofs.Common.{◌⊎◌, inl, inr, append-nil, ◌≡◌, ℕ, zero, suc, pos, ◌+◌, ◌≤◌, ◌<◌, false, if◌then◌else◌, List, [], ◌∷◌, ◌++◌, map, option_map, length, length-append, Option, Some, None, slice_get, refl, sym, ap, ◌∙◌, subst, arith, ◌*◌, IsTrue}
 use Rattle.std.proofs.lemmas.Option.{same_Some, slice_get_within, slice_get-map, get_or_from_slice_get}
 use Rattle.std.proofs.lemmas.List.{length-map}
 use Rattle.ep_gen_code.specs.Instructions.{bare}
@@ -11,7 +11,7 @@ use Rattle.ep_meaning.proofs.public.Bares.{bare_size}
 use Rattle.ep_meaning.proofs.public.Typed.{typed_of_host}
 use Rattle.ep_gen_unit.specs.StmtCode.{IsStmtCode, make_all_code, take_all_code, return_code, result_code, structure_code, function_end, end_code}
 use Rattle.ep_gen_unit.specs.UnitCode.{IsUnitCode, own_code, its_end, entry_of, plain_at}
-use Rattle.ep_gen_unit.proofs.Declared.{name_same, same_name, own_types, slice_get-either, variables_valid}
+use Rattle.ep_gen_unit.proofs.Declared.{name_same, slice_get-either, variables_valid}
 use Rattle.ep_gen_unit.proofs.OwnMakes.{make_all_own_moves, make_sized_moves, takes_all_moves}
 use Rattle.ep_gen_unit.proofs.Parts.{code_stands-parts}
 use Rattle.ep_gen_unit.proofs.Results.{result_moves, set_moves, structure_moves}
@@ -36,10 +36,10 @@ use Rattle.ep_simulation.specs.Follows.{Facts, Lasts, Since, Fragment, Inside, B
 use Rattle.ep_simulation.specs.Matching.{AreAmong, MachineMemory, Injection, Slots, kept_slots}
 use Rattle.ep_object.specs.Operands.{Operand}
 use Rattle.ep_object.specs.Placing.{Placement, CodeStands, Stands, HasDistinctNames, moved, placed_routine}
-use Rattle.ep_simulation.specs.Promises.{Passing, ByValue, ByReference, IsPassed, ArePassed, CallsAt, AreArguments, AreResults, ResultsOnTop, RoutineKeeps, CallsAreKept, credit_of}
+use Rattle.ep_simulation.specs.Promises.{Passing, ByValue, ByReference, IsPassed, ArePassed, CallsAt, AreArguments, AreResults, ResultsOnTop, RoutineKeeps, CallsAreKept, OthersAreKept, credit_of}
 use Rattle.ep_object.specs.Routines.{routine_of as routine_there_in}
 use Rattle.ep_object.specs.Runs.{unit_in}
-use Rattle.ep_simulation.specs.Scene.{AreLaidOut, Scene, HaveValidOwnTypes}
+use Rattle.ep_simulation.specs.Scene.{AreLaidOut, GivenStand, Scene, HaveValidOwnTypes}
 use Rattle.ep_object.specs.Table as table
 use Rattle.ep_object.specs.Table.{op_of}
 use Rattle.ep_object.specs.declared.code.CodeRoutine.{CodeRoutine}
@@ -66,7 +66,8 @@ use Rattle.ep_simulation.proofs.public.rows.OwnRows.{StillBare}
 use Rattle.ep_meaning.specs.Steps as meaning
 use Rattle.ep_typed.specs.Trees.{Callee, Denoter}
 use Rattle.ep_meaning.specs.Valid as kind
-use Rattle.ep_meaning.specs.Valid.{Declarations, IsOfKind, IsSetOf, IsStructured, ValueKind, in_block, levels_of, around_in, variables_in, variables_at, variables_up, IsResult, IsDenoter, IsFormal, IsFormalBy, IsValid, IsRoutine, IsVariable, own}
+use Rattle.ep_meaning.specs.Units.{in_block, levels_of, around_in, variables_in, IsResult, IsFormal, IsFormalBy, IsValid, IsRoutine, GivenUnit, declared_of, routines_given}
+use Rattle.ep_meaning.specs.Valid.{Declarations, IsOfKind, IsSetOf, IsStructured, ValueKind, variables_at, variables_up, IsDenoter}
 use Rattle.ep_typed.specs.Routines.{formal_variable, variables_of, heading_of}
 use Rattle.ep_meaning.specs.Steady.{Steady, IsSteadyHandler}
 use Rattle.ep_typed.specs.Viewed.{denoter_of, stmt_of}
@@ -81,23 +82,20 @@ use Rattle.ep_typed.specs.declared.unit.UnitRoutine.{UnitRoutine}
 use Rattle.ep_typed.specs.declared.unit.UnitVariable.{UnitVariable}
 use Rattle.ep_meaning.proofs.public.Lists.{get_behind, get_within}
 
--- a routine that a unit alone declares is one of its own
-record OwnRoutine (u : TypedUnit) (unit : List ℕ) (number : ℕ) (r : RoutineEntry) : Type 0 where
-  named : u.name ≡ unit
+-- a routine that a unit declares as its own is one of its list
+record OwnRoutine (u : TypedUnit) (number : ℕ) (r : RoutineEntry) : Type 0 where
   routine : UnitRoutine
   there : slice_get u.routines number ≡ Some routine
   heading : heading_of routine ≡ r
 
-own_routine : (u : TypedUnit) (unit : List ℕ) (number : ℕ) (r : RoutineEntry) → slice_get ((own u).routines unit) number ≡ Some r → OwnRoutine u unit number r
-own_routine u unit number r h = go (bytes_eq u.name unit) refl h
+own_routine : (given : List GivenUnit) (u : TypedUnit) (number : ℕ) (r : RoutineEntry) → slice_get ((declared_of given u).routines u.name) number ≡ Some r → OwnRoutine u number r
+own_routine given u number r h =
+    found_in (slice_get u.routines number) refl
+    (sym (slice_get-map heading_of u.routines number) ∙ (sym (ap (λ b. slice_get (if b then map heading_of u.routines else routines_given given u.name) number) (name_same u.name u.name refl)) ∙ h))
   where
-    found_in : u.name ≡ unit → (x : Option UnitRoutine) → slice_get u.routines number ≡ x → option_map heading_of x ≡ Some r → OwnRoutine u unit number r
-    found_in named None e q = cc
-    found_in named (Some x) e q = record { named = named; routine = x; there = e; heading = same_Some (heading_of x) r q }
-
-    go : (b : Bool) → bytes_eq u.name unit ≡ b → slice_get (if b then map heading_of u.routines else []) number ≡ Some r → OwnRoutine u unit number r
-    go true e q = found_in (same_name u.name unit e) (slice_get u.routines number) refl (sym (slice_get-map heading_of u.routines number) ∙ q)
-    go false e q = cc
+    found_in : (x : Option UnitRoutine) → slice_get u.routines number ≡ x → option_map heading_of x ≡ Some r → OwnRoutine u number r
+    found_in None e q = cc
+    found_in (Some x) e q = record { routine = x; there = e; heading = same_Some (heading_of x) r q }
 
 -- a routine ends with an instruction at least
 function_length : (o : Option Host) (line number at : ℕ) → 1 ≤ length (function_end o line number at)
@@ -115,7 +113,7 @@ formal_denoter mode.ProtectedValue types d valid = valid.denoter
 formal_denoter mode.Variable types d valid = valid
 formal_denoter mode.ProtectedVariable types d valid = valid
 
-module _ (u : TypedUnit) (o : Object) (is : IsUnitCode u o) (valid : IsValid u) (G : Image) (ps : List Placement) (p : Placement) (stands : Stands G ps p o) (distinct : HasDistinctNames G) (us : List TypedUnit) (among : IsAmong us u) where
+module _ (given : List GivenUnit) (u : TypedUnit) (o : Object) (is : IsUnitCode u o) (valid : IsValid given u) (G : Image) (ps : List Placement) (p : Placement) (stands : Stands G ps p o) (distinct : HasDistinctNames G) (us : List TypedUnit) (among : IsAmong us u) (given_stand : GivenStand G ps given) where
   -- where a routine of the unit stands in the image
   record Placed (number : ℕ) (r : UnitRoutine) : Type 0 where
     entry : CodeRoutine
@@ -189,7 +187,7 @@ module _ (u : TypedUnit) (o : Object) (is : IsUnitCode u o) (valid : IsValid u) 
   variables_typed : (number : ℕ) (r : UnitRoutine) → slice_get u.routines number ≡ Some r → (k : ℕ) (v : UnitVariable) → slice_get (variables_of r) k ≡ Some v → IsDenoter u.types (denoter_of v.denoter)
   variables_typed number r there k v e = either (slice_get-either (map (formal_variable r.line) r.formals) (made_variables r ++ with_variables (stmt_of r.block)) k v e)
     where
-      its : IsRoutine u number r
+      its : IsRoutine given u number r
       its = valid.routines number r there
 
       made_typed : (j : ℕ) (w : UnitVariable) → slice_get (made_variables r) j ≡ Some w → IsDenoter u.types (denoter_of w.denoter)
@@ -198,7 +196,7 @@ module _ (u : TypedUnit) (o : Object) (is : IsUnitCode u o) (valid : IsValid u) 
 
       behind_typed : (j : ℕ) (w : UnitVariable) → (slice_get (made_variables r) j ≡ Some w) ⊎ ((i : ℕ) × (slice_get (with_variables (stmt_of r.block)) i ≡ Some w)) → IsDenoter u.types (denoter_of w.denoter)
       behind_typed j w (inl q) = made_typed j w q
-      behind_typed j w (inr q) = withs_denoted (in_block u number r) u.types refl (own_types u) valid.types (stmt_of r.block) its.block q.0 w q.1
+      behind_typed j w (inr q) = withs_denoted (in_block given u number r) u.types refl valid.types (stmt_of r.block) its.block q.0 w q.1
 
       either : (slice_get (map (formal_variable r.line) r.formals) k ≡ Some v) ⊎ ((j : ℕ) × (slice_get (made_variables r ++ with_variables (stmt_of r.block)) j ≡ Some v)) → IsDenoter u.types (denoter_of v.denoter)
       either (inl at) = of_formal (slice_get r.formals k) refl (sym (slice_get-map (formal_variable r.line) r.formals k) ∙ at)
@@ -220,14 +218,14 @@ module _ (u : TypedUnit) (o : Object) (is : IsUnitCode u o) (valid : IsValid u) 
       of_routine None q is = cc
       of_routine (Some r) q is = variables_typed n r q k v is
 
-  module _ (layout : Layout) (laid : AreLaidOut (own u) layout) (m : ℕ) (kept : CallsAreKept (own u) layout G ps (handler_of us m) m) (number : ℕ) (r : UnitRoutine) (there : slice_get u.routines number ≡ Some r) where
+  module _ (layout : Layout) (laid : AreLaidOut (declared_of given u) layout) (m : ℕ) (kept : CallsAreKept (declared_of given u) layout G ps (handler_of us m) m) (number : ℕ) (r : UnitRoutine) (there : slice_get u.routines number ≡ Some r) where
     x : Placed number r
     x = placed_at number r there
 
     abbrev formals : List Formal
     formals = r.formals
 
-    its : IsRoutine u number r
+    its : IsRoutine given u number r
     its = valid.routines number r there
 
     passings : (qs : List Passing) × ArePassed u.types formals qs × (length qs ≡ length formals)
@@ -264,7 +262,7 @@ module _ (u : TypedUnit) (o : Object) (is : IsUnitCode u o) (valid : IsValid u) 
 
     -- the declarations in its block
     abbrev within : Declarations
-    within = in_block u number r
+    within = in_block given u number r
 
     enough_slots : length (variables_up within 0) ≤ image_routine.slots
     enough_slots = omega (arith, ap (λ (c : CodeRoutine). c.slots) x.plain)
@@ -291,8 +289,8 @@ module _ (u : TypedUnit) (o : Object) (is : IsUnitCode u o) (valid : IsValid u) 
 
     scene : Scene within layout G ps p o.texts
     scene =
-        let outer = scene_of u o is G ps p stands valid layout laid in
-        record { texts_stand = outer.texts_stand; variables_stand = outer.variables_stand; types_valid = outer.types_valid; own_types_valid = own_types_valid; own_types_are = own_types u; laid_out = laid }
+        let outer = scene_of u o is G ps p stands given valid given_stand layout laid in
+        record { texts_stand = outer.texts_stand; variables_stand = outer.variables_stand; types_valid = outer.types_valid; own_types_valid = own_types_valid; laid_out = laid }
 
     in_code : p.instructions.before + p.instructions.own ≤ length G.instructions
     in_code = room u o is G ps p stands
@@ -542,7 +540,7 @@ module _ (u : TypedUnit) (o : Object) (is : IsUnitCode u o) (valid : IsValid u) 
     found = among.routines number ∙ there
 
     -- the routines around it are the levels in its block but the first
-    around_is : (own u).around u.name number ≡ levels_of u.routines r.around
+    around_is : (declared_of given u).around u.name number ≡ levels_of u.routines r.around
     around_is = ap (λ b. if b then around_in u.routines (slice_get u.routines number) else []) (name_same u.name u.name refl) ∙ ap (around_in u.routines) there
 
     -- a call of it
@@ -551,7 +549,7 @@ module _ (u : TypedUnit) (o : Object) (is : IsUnitCode u o) (valid : IsValid u) 
 
     go : (place levels line : ℕ) → CallsAt G place (moved p.routines number) levels line
         → (injection : Injection) (began : meaning.State) (memory : MachineMemory)
-        → IsCallable ((own u).types u.name) levels ((own u).around u.name number) injection began.calls memory
+        → IsCallable u.types levels ((declared_of given u).around u.name number) injection began.calls memory
         → (below operands : List Operand) (arguments : List Argument)
         → AreArguments injection memory passings.0 arguments below operands
         → Fragment layout G (Since (kept_slots layout G) injection began memory) (suc m) (point injection memory place operands) ((handler_of us (suc m)).routine (unit_in G memory.frames) line (callee levels) arguments) (place + 1) (λ rs. Inside (kept_slots layout G) injection memory (ResultsOnTop results below rs)) 0 credit_of
@@ -559,67 +557,73 @@ module _ (u : TypedUnit) (o : Object) (is : IsUnitCode u o) (valid : IsValid u) 
         let hands : Handed injection memory passings.0 xs below operands = handed injection memory passings.0 xs below operands are in
         let does : Option UnitRoutine → Type 0 = λ y. Fragment layout G (Since (kept_slots layout G) injection began memory) (suc m) (point injection memory place (hands.top ++ below)) (routine_does call m (unit_in G memory.frames) line (callee levels) y xs) (place + 1) (λ rs. Inside (kept_slots layout G) injection memory (ResultsOnTop results below rs)) 0 credit_of in
         let counts = counted place (frame.Unit 0) injection memory below operands xs hands in
-        let here : IsCallable u.types levels ((own u).around u.name number) injection began.calls memory = subst (λ ts. IsCallable ts levels ((own u).around u.name number) injection began.calls memory) (own_types u) callable in
-        let parent = parent_of_call layout G (moved p.routines number) image_routine exists numbered hands.top counts (weights_of xs) hands.weigh u.types levels ((own u).around u.name number) injection began.calls memory here in
+        let parent = parent_of_call layout G (moved p.routines number) image_routine exists numbered hands.top counts (weights_of xs) hands.weigh u.types levels ((declared_of given u).around u.name number) injection began.calls memory callable in
         let keeps : does (Some r) =
-        routine_keeps layout G (moved p.routines number) image_routine exists numbered hands.top counts (weights_of xs) hands.weigh ends.place ends.instruction ends.stands_there ends.returns ends.first_field ends.second_field within enough_slots ((own u).around u.name number) (λ k. ap (λ ls. slice_get ls k) (sym around_is)) m place levels line calls parent.0 injection began memory below parent.1 here r.name (unit_in G memory.frames) results (body xs) (steady_runs_routine call steady_call m u.name r xs) (kept_slots layout G)
+        routine_keeps layout G (moved p.routines number) image_routine exists numbered hands.top counts (weights_of xs) hands.weigh ends.place ends.instruction ends.stands_there ends.returns ends.first_field ends.second_field within enough_slots ((declared_of given u).around u.name number) (λ k. ap (λ ls. slice_get ls k) (sym around_is)) m place levels line calls parent.0 injection began memory below parent.1 callable r.name (unit_in G memory.frames) results (body xs) (steady_runs_routine call steady_call m u.name r xs) (kept_slots layout G)
         (follows place parent.0 injection memory below operands xs hands) in
         let meant : does (routine_in us u.name number) = subst does (sym found) keeps in
         subst (λ st. Fragment layout G (Since (kept_slots layout G) injection began memory) (suc m) (point injection memory place st) ((handler_of us (suc m)).routine (unit_in G memory.frames) line (callee levels) xs) (place + 1) (λ rs. Inside (kept_slots layout G) injection memory (ResultsOnTop results below rs)) 0 credit_of) (sym hands.is) meant
 
     -- with one step more than the routines keep theirs
-    keeps_own : RoutineKeeps layout G ps (handler_of us (suc m)) (suc m) ((own u).types u.name) ((own u).around u.name number) u.name number (heading_of r)
+    keeps_own : RoutineKeeps layout G ps (handler_of us (suc m)) (suc m) u.types ((declared_of given u).around u.name number) u.name number (heading_of r)
     keeps_own =
         record {
           routine = moved p.routines number;
           formals = passings.0;
-          passed = subst (λ ts. ArePassed ts formals passings.0) (sym (own_types u)) passings.1;
+          passed = passings.1;
           results = results;
-          given = subst (λ ts. AreResults ts r.result results) (sym (own_types u)) (kinds_of r.result its.result).1;
+          given = (kinds_of r.result its.result).1;
           placed = call_placed u o is G ps p stands number;
           promise = record { by = λ place levels line calls injection began memory callable below operands arguments are. go place levels line calls injection began memory callable below operands arguments are };
         }
 
   -- with no step there is nothing to keep
   keeps_none : (layout : Layout) (number : ℕ) (r : UnitRoutine) → slice_get u.routines number ≡ Some r
-      → RoutineKeeps layout G ps (handler_of us 0) 0 ((own u).types u.name) ((own u).around u.name number) u.name number (heading_of r)
+      → RoutineKeeps layout G ps (handler_of us 0) 0 u.types ((declared_of given u).around u.name number) u.name number (heading_of r)
   keeps_none layout number r there =
       let formals : List Formal = r.formals in
-      let its : IsRoutine u number r = valid.routines number r there in
+      let its : IsRoutine given u number r = valid.routines number r there in
       let passings = passings_of formals (λ k f e. subst (λ w. IsFormal u.types w) (get_or_from_slice_get formals k f f e) (its.formals k f (slice_get_within formals k f e))) in
       record {
         routine = moved p.routines number;
         formals = passings.0;
-        passed = subst (λ ts. ArePassed ts formals passings.0) (sym (own_types u)) passings.1;
+        passed = passings.1;
         results = (kinds_of r.result its.result).0;
-        given = subst (λ ts. AreResults ts r.result (kinds_of r.result its.result).0) (sym (own_types u)) (kinds_of r.result its.result).1;
+        given = (kinds_of r.result its.result).1;
         placed = call_placed u o is G ps p stands number;
         promise = record { by = λ place levels line calls injection began memory callable below operands arguments are. fragment_cut };
       }
 
-  -- no routine of another unit may be named
-  none_else : (unit : List ℕ) → (unit ≡ u.name → ⊥) → (number : ℕ) (r : RoutineEntry) → slice_get ((own u).routines unit) number ≡ Some r → ⊥
-  none_else unit different number r there = let one = own_routine u unit number r there in different (sym one.named)
+  -- what the routines of other units keep with so many steps
+  abbrev pub OthersKeep : Layout → ℕ → Type 0
+  OthersKeep layout n = OthersAreKept (declared_of given u) layout G ps (handler_of us n) n
 
-  -- the routines keep their promises with any number of steps
-  pub routines_kept : (layout : Layout) → AreLaidOut (own u) layout → (n : ℕ) → CallsAreKept (own u) layout G ps (handler_of us n) n
-  routines_kept layout laid zero =
+  -- Where they do with up to so many, the routines keep their promises with as many.
+  pub routines_kept : (layout : Layout) → AreLaidOut (declared_of given u) layout → (n : ℕ) → ((m : ℕ) → m ≤ n → OthersKeep layout m) → CallsAreKept (declared_of given u) layout G ps (handler_of us n) n
+  routines_kept layout laid zero others =
       record {
         routines = λ number r h.
-            let one = own_routine u u.name number r h in
-            subst (λ x. RoutineKeeps layout G ps (handler_of us 0) 0 ((own u).types u.name) ((own u).around u.name number) u.name number x) one.heading (keeps_none layout number one.routine one.there);
-        others = λ unit different number r h. absurd (none_else unit different number r h);
+            let one = own_routine given u number r h in
+            subst (λ x. RoutineKeeps layout G ps (handler_of us 0) 0 u.types ((declared_of given u).around u.name number) u.name number x) one.heading (keeps_none layout number one.routine one.there);
+        others = others 0 (omega arith);
         types = λ index t typed. types_none u o is G ps p stands us layout index t;
         swaps = λ some. swap_there u o is G ps p stands;
         of_arrays = λ some. arrays_there u o is G ps p stands;
       }
-  routines_kept layout laid (suc m) =
+  routines_kept layout laid (suc m) others =
+      let below = routines_kept layout laid m (λ k le. others k (omega (arith, le))) in
       record {
         routines = λ number r h.
-            let one = own_routine u u.name number r h in
-            subst (λ x. RoutineKeeps layout G ps (handler_of us (suc m)) (suc m) ((own u).types u.name) ((own u).around u.name number) u.name number x) one.heading (keeps_own layout laid m (routines_kept layout laid m) number one.routine one.there);
-        others = λ unit different number r h. absurd (none_else unit different number r h);
-        types = types_keep u o is G ps p stands us among layout m (routines_kept layout laid m);
+            let one = own_routine given u number r h in
+            subst (λ x. RoutineKeeps layout G ps (handler_of us (suc m)) (suc m) u.types ((declared_of given u).around u.name number) u.name number x) one.heading (keeps_own layout laid m below number one.routine one.there);
+        others = others (suc m) (omega arith);
+        types = types_keep u o is G ps p stands given us among layout m below;
         swaps = λ some. swap_there u o is G ps p stands;
         of_arrays = λ some. arrays_there u o is G ps p stands;
       }
+
+  -- Where they do with fewer steps, a routine of the unit keeps its promise with so many: a call of it spends one.
+  pub routine_kept_behind : (layout : Layout) → AreLaidOut (declared_of given u) layout → (n : ℕ) → ((m : ℕ) → m < n → OthersKeep layout m) → (number : ℕ) (r : UnitRoutine) → slice_get u.routines number ≡ Some r
+      → RoutineKeeps layout G ps (handler_of us n) n u.types ((declared_of given u).around u.name number) u.name number (heading_of r)
+  routine_kept_behind layout laid zero others number r there = keeps_none layout number r there
+  routine_kept_behind layout laid (suc m) others number r there = keeps_own layout laid m (routines_kept layout laid m (λ k le. others k (omega (arith, le)))) number r there

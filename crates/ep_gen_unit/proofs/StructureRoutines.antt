@@ -18,7 +18,7 @@ use Rattle.ep_object.specs.declared.code.Instr.{Instr}
 use Rattle.ep_object.specs.declared.code.Object.{Object}
 use Rattle.ep_object.specs.declared.code.Reference.{Reference}
 use Rattle.ep_object.specs.declared.op.TheConstants as op
-use Rattle.ep_meaning.specs.Valid.{own}
+use Rattle.ep_meaning.specs.Units.{own}
 use Rattle.ep_typed.specs.Routines.{first_private}
 use Rattle.ep_typed.specs.declared.unit.Unit.{Unit as TypedUnit}
 

@@ -1,5 +1,5 @@
 -- The routines that elaborate the types of a unit keep their promises, where with a step less all routines keep theirs.
-use Rattle.std.proofs.Common.{◌≡◌, ℕ, suc, pos, ◌+◌, ◌≤◌, ◌<◌, List, [], ◌∷◌, ◌++◌, length, length-append, Some, None, slice_get, refl, sym, ap, ◌∙◌, subst, arith}
+use Rattle.std.proofs.Common.{◌≡◌, ℕ, suc, pos, ◌+◌, ◌≤◌, ◌<◌, List, [], ◌∷◌, ◌++◌, length, length-append, Some, slice_get, refl, sym, ap, ◌∙◌, subst, arith}
 use Rattle.std.proofs.lemmas.Option.{slice_get_within}
 use Rattle.ep_gen_code.proofs.public.Placed.{instr_at}
 use Rattle.ep_gen_code.specs.Instructions.{bare}
@@ -39,7 +39,8 @@ use Rattle.ep_meaning.specs.Steps.{Computation}
 use Rattle.ep_meaning.specs.Steps as meaning
 use Rattle.ep_typed.specs.Trees.{Named}
 use Rattle.ep_values.specs.TypeValues.{TypeValue}
-use Rattle.ep_meaning.specs.Valid.{IsTyped, named, own}
+use Rattle.ep_meaning.specs.Units.{GivenUnit, declared_of}
+use Rattle.ep_meaning.specs.Valid.{IsTyped, named}
 use Rattle.ep_typed.specs.Routines.{first_private}
 use Rattle.ep_typed.specs.declared.unit.Unit.{Unit as TypedUnit}
 use Rattle.ep_typed.specs.declared.unit.UnitType.{UnitType}
@@ -95,7 +96,7 @@ module _ (u : TypedUnit) (o : Object) (is : IsUnitCode u o) (G : Image) (ps : Li
         room_for = omega (arith, object.instructions, ap length s.is, length-append s.before ((code ++ last) ++ s.after), length-append (code ++ last) s.after, length-append code last, s.from);
       }
 
-  module _ (us : List TypedUnit) (among : IsAmong us u) (layout : Layout) (m : ℕ) (kept : CallsAreKept (own u) layout G ps (handler_of us m) m) (index : ℕ) (t : UnitType) (v : TypeValue) (there : slice_get u.types index ≡ Some t) (typed : IsTyped u.types (definition_of t) v) where
+  module _ (given : List GivenUnit) (us : List TypedUnit) (among : IsAmong us u) (layout : Layout) (m : ℕ) (kept : CallsAreKept (declared_of given u) layout G ps (handler_of us m) m) (index : ℕ) (t : UnitType) (v : TypeValue) (there : slice_get u.types index ≡ Some t) (typed : IsTyped u.types (definition_of t) v) where
     x : Placed index t
     x = placed_at index t there
 
@@ -149,14 +150,14 @@ module _ (u : TypedUnit) (o : Object) (is : IsUnitCode u o) (G : Image) (ps : Li
       home = rw (place_among, stands.routines (number_of index) x.entry x.in_object, stands.unit) is.name
 
       abbrev Here : Facts
-      Here = InActivation (own u) untouched injection begun
+      Here = InActivation (declared_of given u) untouched injection begun
 
       -- the machine follows the elaboration, in any activation of the routine
       follows : Fragment layout G Here m (point injection begun image_routine.entry below) body end (λ a. TypeOnTop v below a) 63 (λ a. 1 + type_credit)
       follows =
           fragment_from entry (fragment_post (λ a longer after pushed i. i.operands_are) (fragment_credit {d = 63} {e = λ a. 63 + 4} (omega arith) (λ a. omega arith)
-          (elaborates (own u) layout G untouched Here in_activation-lasts ps p o.references call steady_call m m u.name line_of u.types (refl, refl) among_same kept
-          (types_referred (own u) u o is refl) (swap_referred (own u) u o is refl) (arrays_referred (own u) u o is refl) x.entry.entry (definition_of t) v typed x.code_stands injection begun below 63 (omega arith) home)))
+          (elaborates (declared_of given u) layout G untouched Here in_activation-lasts ps p o.references call steady_call m m u.name line_of u.types (refl, refl) among_same kept
+          (types_referred (declared_of given u) u o is refl) (swap_referred (declared_of given u) u o is refl) (arrays_referred (declared_of given u) u o is refl) x.entry.entry (definition_of t) v typed x.code_stands injection begun below 63 (omega arith) home)))
 
     -- what a call of it does
     found : type_in us u.name index ≡ Some t
@@ -168,7 +169,7 @@ module _ (u : TypedUnit) (o : Object) (is : IsUnitCode u o) (G : Image) (ps : Li
     type_follows_call place line calls injection began memory below =
         subst (λ y. Fragment layout G (Since untouched injection began memory) (suc m) (point injection memory place below) (type_does call m u.name line y) (place + 1) (λ a. Inside untouched injection memory (TypeOnTop v below a)) 0 (λ a. type_credit)) (sym found)
         (type_keeps layout G (moved p.routines (number_of index)) image_routine exists numbered [] takes_none 0 refl end (bare line_of op.RETURN) (instr_at G (omega arith) x.end_stands.0) refl refl refl
-        (own u) (omega arith) (λ k. refl) m place line calls injection began memory below [] u.name v body (steady_elaborate call steady_call m u.name line_of (definition_of t)) untouched
+        (declared_of given u) (omega arith) (λ k. refl) m place line calls injection began memory below [] u.name v body (steady_elaborate call steady_call m u.name line_of (definition_of t)) untouched
         (follows place injection memory below))
 
   -- a call of the routine is placed so
@@ -181,11 +182,11 @@ module _ (u : TypedUnit) (o : Object) (is : IsUnitCode u o) (G : Image) (ps : Li
       record { routine = moved p.routines (number_of index); placed = type_placed index; promise = λ place line calls injection begun memory below home. fragment_cut }
 
   -- and with one more step than all routines keep theirs
-  pub types_keep : (us : List TypedUnit) → IsAmong us u → (layout : Layout) (m : ℕ) → CallsAreKept (own u) layout G ps (handler_of us m) m
+  pub types_keep : (given : List GivenUnit) (us : List TypedUnit) → IsAmong us u → (layout : Layout) (m : ℕ) → CallsAreKept (declared_of given u) layout G ps (handler_of us m) m
       → (index : ℕ) (v : TypeValue) → IsTyped u.types (Named index []) v → TypeKeeps layout G ps (handler_of us (suc m)) (suc m) (first_private u) u.name index v
-  types_keep us among layout m kept index v (named k t there inner) =
+  types_keep given us among layout m kept index v (named k t there inner) =
       record {
         routine = moved p.routines (number_of index);
         placed = type_placed index;
-        promise = λ place line calls injection begun memory below home. type_follows_call us among layout m kept index t v there inner place line calls injection begun memory below;
+        promise = λ place line calls injection begun memory below home. type_follows_call given us among layout m kept index t v there inner place line calls injection begun memory below;
       }

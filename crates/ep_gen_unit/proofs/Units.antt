@@ -1,5 +1,5 @@
 -- The routines of a unit whose object stands in an image simulate the start and the stop of the unit.
-use Rattle.std.proofs.Common.{◌≡◌, ℕ, ◌+◌, ◌≤◌, ◌<◌, List, [], ◌∷◌, ◌++◌, length, length-append, append_assoc, IsTrue, false, Some, slice_get, refl, sym, ap, ◌∙◌, subst, arith}
+use Rattle.std.proofs.Common.{inl, inr, ◌≡◌, ℕ, ◌+◌, ◌≤◌, ◌<◌, List, [], ◌∷◌, ◌++◌, length, length-append, append_assoc, IsTrue, false, Some, slice_get, refl, sym, ap, ◌∙◌, subst, arith}
 use Rattle.std.proofs.lemmas.Bool.{lt-ltb}
 use Rattle.std.proofs.lemmas.Option.{slice_get_within, same_Some}
 use Rattle.ep_gen_expr.proofs.public.Following.{place_follows, expression_follows, call_then}
@@ -8,7 +8,7 @@ use Rattle.ep_gen_unit.specs.UnitCode.{IsUnitCode, plain_at}
 use Rattle.ep_gen_unit.specs.UnitLaws.{AreDeclared}
 use Rattle.ep_gen_code.specs.Referring.{AreReferred, AreArraysReferred, IsSwapReferred}
 use Rattle.ep_gen_unit.proofs.Referred.{arrays_referred, swap_referred, types_referred}
-use Rattle.ep_gen_unit.proofs.Declared.{own_is, own_declared, own_types, own_valid, made_declared}
+use Rattle.ep_gen_unit.proofs.Declared.{declared_is, declared_valid, own_declared, made_declared}
 use Rattle.ep_gen_unit.proofs.Makes.{VariablesAreFree, make_all_moves, same_frame}
 use Rattle.ep_gen_unit.proofs.Parts.{Moves, code_stands-parts}
 use Rattle.ep_gen_unit.proofs.Starts.{MakesFollow, body_follows}
@@ -34,7 +34,8 @@ use Rattle.ep_object.specs.Placing.{Placement, Span, CodeStands, IsPlacementOf, 
 use Rattle.ep_simulation.specs.Promises.{CallsAreKept}
 use Rattle.ep_object.specs.Routines.{routine_of}
 use Rattle.ep_object.specs.Runs.{unit_in}
-use Rattle.ep_simulation.specs.Scene.{AreLaidOut, VariableStands, Scene}
+use Rattle.ep_simulation.proofs.public.Joined.{slots_stand}
+use Rattle.ep_simulation.specs.Scene.{GivenStand, AreLaidOut, VariableStands, Scene}
 use Rattle.ep_simulation.specs.Simulates.{routine_credit, Enters, Simulates}
 use Rattle.ep_object.specs.State.{State, Frames}
 use Rattle.ep_object.specs.declared.code.CodeRoutine.{CodeRoutine}
@@ -49,7 +50,8 @@ use Rattle.ep_meaning.specs.Calls.{Handler}
 use Rattle.ep_meaning.specs.Meaning.{make_all, exec, start_of, stop_of}
 use Rattle.ep_meaning.specs.Steps.{Computation, bind, spend}
 use Rattle.ep_meaning.specs.Steps as meaning
-use Rattle.ep_meaning.specs.Valid.{variables_up, Declarations, IsStmt, IsValid, own}
+use Rattle.ep_meaning.specs.Units.{GivenUnit, IsValid, declared_of}
+use Rattle.ep_meaning.specs.Valid.{variables_up, Declarations, IsStmt}
 use Rattle.ep_typed.specs.Trees.{Stmt}
 use Rattle.ep_typed.specs.Viewed.{stmt_of}
 use Rattle.ep_typed.specs.declared.unit.UnitVariable.{UnitVariable}
@@ -170,7 +172,7 @@ module _ (u : TypedUnit) (o : Object) (is : IsUnitCode u o) (G : Image) (ps : Li
       ap (slice_get o.routines) (is.stop ∙ ap (λ k. k + 1) (sym blocks.count))
       ∙ (ap (λ l. slice_get l (length is.entries + 1)) is.routines ∙ one_behind is.entries (plain_at 0) (plain_at begins_stop) (is.swapping ∷ is.filling ∷ is.ranging ∷ is.spreading ∷ is.elaborating))
 
-  module _ (declared : Declarations) (layout : Layout) (types : declared.types u.name ≡ u.types) (many : declared.first_private u.name ≡ first_private u) (are_declared : AreDeclared declared u.name 0 (unit_variables u)) (distinct : HasDistinctNames G) (scene : Scene declared layout G ps p o.texts) (call : Handler) (steady_call : IsSteadyHandler call) (n : ℕ) (kept : CallsAreKept declared layout G ps call n) (no_routine : declared.levels ≡ []) (of_unit : declared.routine_unit ≡ u.name) where
+  module _ (declared : Declarations) (layout : Layout) (types : declared.types ≡ u.types) (many : declared.first_private ≡ first_private u) (are_declared : AreDeclared declared u.name 0 (unit_variables u)) (distinct : HasDistinctNames G) (scene : Scene declared layout G ps p o.texts) (call : Handler) (steady_call : IsSteadyHandler call) (n : ℕ) (kept : CallsAreKept declared layout G ps call n) (no_routine : declared.levels ≡ []) (of_unit : declared.home ≡ u.name) where
     -- the slots of the variables are not hidden
     free : VariablesAreFree declared G (kept_slots layout G) (placed_object_unit p o)
     free unit there k v is_declared hidden =
@@ -181,11 +183,10 @@ module _ (u : TypedUnit) (o : Object) (is : IsUnitCode u o) (G : Image) (ps : Li
         not_hidden h = cc
 
     -- each type has a reference of its number
-    referred : AreReferred declared (placed_object_unit p o).name (declared.types (placed_object_unit p o).name) o.references
+    referred : AreReferred declared (placed_object_unit p o).name declared.types o.references
     referred =
-        subst (λ n. AreReferred declared n (declared.types n) o.references) (sym is.name) (subst (λ ts. AreReferred declared u.name ts o.references) (sym types) (types_referred declared u o is many))
+        subst (λ n. AreReferred declared n declared.types o.references) (sym is.name) (subst (λ ts. AreReferred declared u.name ts o.references) (sym types) (types_referred declared u o is many))
 
-    -- the same by the unit's name
     -- and so are the routines that structured values call
     unit_swap : IsSwapReferred declared (placed_object_unit p o).name o.references
     unit_swap = subst (λ n. IsSwapReferred declared n o.references) (sym is.name) (swap_referred declared u o is many)
@@ -193,12 +194,12 @@ module _ (u : TypedUnit) (o : Object) (is : IsUnitCode u o) (G : Image) (ps : Li
     unit_arrays : AreArraysReferred declared (placed_object_unit p o).name o.references
     unit_arrays = subst (λ n. AreArraysReferred declared n o.references) (sym is.name) (arrays_referred declared u o is many)
 
-    own_referred : AreReferred declared u.name declared.routine_types o.references
-    own_referred = subst (λ ts. AreReferred declared u.name ts o.references) (sym types ∙ (sym (ap declared.types of_unit) ∙ scene.own_types_are)) (types_referred declared u o is many)
+    own_referred : AreReferred declared u.name declared.types o.references
+    own_referred = subst (λ ts. AreReferred declared u.name ts o.references) (sym types) (types_referred declared u o is many)
 
     -- names are declared in a block of the unit
-    at_home : IsHome declared (placed_object_unit p o).name (declared.types (placed_object_unit p o).name)
-    at_home = let same : (placed_object_unit p o).name ≡ declared.routine_unit = is.name ∙ sym of_unit in (same, sym scene.own_types_are ∙ ap declared.types (sym same))
+    at_home : IsHome declared (placed_object_unit p o).name declared.types
+    at_home = (is.name ∙ sym of_unit, refl)
 
     -- the machine makes the variables of the unit
     makes : {Here : Facts} → Lasts (kept_slots layout G) Here
@@ -269,40 +270,29 @@ module _ (u : TypedUnit) (o : Object) (is : IsUnitCode u o) (G : Image) (ps : Li
         block_moves injection s memory alone at_home (stmt_of u.stop) begins_stop is.stop_code valid is.is_stop_code stop_stands.0 (omega (arith, instructions_own))
         injection memory below routine_credit (omega arith) at_unit)
 
-  -- the variables of the unit have their slots
-  variable_stands : (unit : List ℕ) (k : ℕ) (v : UnitVariable) → (own u).variables unit k ≡ Some v
-      → VariableStands G ps unit k
-  variable_stands unit k v h =
-      let w = own_is u unit k v h in
-      let whole = of_object in
-      let named : o.name ≡ unit = is.name ∙ w.0 in
-      let among : k < length (unit_variables u) = slice_get_within (unit_variables u) k v w.1 in
-      record {
-        number = p.unit;
-        image_unit = placed_object_unit p o;
-        there = stands.unit;
-        named = named;
-        within = omega (arith, is.unit_slots, among);
-        placed = λ i. rw (sym named, stands.listed, lt-ltb k p.slots (omega (arith, whole.slots, is.unit_slots, among))) refl;
-      }
+  module _ (given : List GivenUnit) (valid : IsValid given u) (stand : GivenStand G ps given) where
+    -- the variables that may be named have their slots
+    variable_stands : (unit : List ℕ) (k : ℕ) (v : UnitVariable) → (declared_of given u).variables unit k ≡ Some v → VariableStands G ps unit k
+    variable_stands unit k v h = elim (declared_is given u unit k v h) [ inl w ↦ subst (λ n. VariableStands G ps n k) w.0 (own_stand (slice_get_within (unit_variables u) k v w.1)) | inr w ↦ stand unit k v w ]
+      where
+        own_stand : k < length (unit_variables u) → VariableStands G ps u.name k
+        own_stand less = slots_stand u o G ps p stands is.name (omega (arith, is.unit_slots)) k less
 
-  -- what the code of the unit needs of the image is there
-  pub scene_of : IsValid u → (layout : Layout) → AreLaidOut (own u) layout → Scene (own u) layout G ps p o.texts
-  scene_of valid layout laid =
-      let whole = of_object in
-      record {
-        texts_stand = λ k bytes h. let within = slice_get_within o.texts k bytes h in record { own = lt-ltb k p.texts.own (omega (arith, whole.texts, within)); there = stands.texts k bytes h };
-        variables_stand = variable_stands;
-        types_valid = own_valid u valid;
-        own_types_valid = λ up k v is. absurd (none_declared (variables_up (own u) up) refl k v is);
-        own_types_are = own_types u;
-        laid_out = laid;
-      }
+    -- what the code of the unit needs of the image is there
+    pub scene_of : (layout : Layout) → AreLaidOut (declared_of given u) layout → Scene (declared_of given u) layout G ps p o.texts
+    scene_of layout laid =
+        let whole = of_object in
+        record {
+          texts_stand = λ k bytes h. let within = slice_get_within o.texts k bytes h in record { own = lt-ltb k p.texts.own (omega (arith, whole.texts, within)); there = stands.texts k bytes h };
+          variables_stand = variable_stands;
+          types_valid = declared_valid given u valid;
+          own_types_valid = λ up k v is. absurd (none_declared (variables_up (declared_of given u) up) refl k v is);
+          laid_out = laid;
+        }
 
-  pub unit_simulates : IsValid u → HasDistinctNames G → (layout : Layout) → AreLaidOut (own u) layout → (call : Handler) → IsSteadyHandler call → (n : ℕ) → CallsAreKept (own u) layout G ps call n
-      → Simulates layout G p.unit (moved p.routines o.start) n (start_of call n u) Bare
-  unit_simulates valid distinct layout laid call steady_call n kept = start_simulates (own u) layout (own_types u) refl (own_declared u) distinct (scene_of valid layout laid) call steady_call n kept refl refl valid.start
+    module _ (distinct : HasDistinctNames G) (layout : Layout) (laid : AreLaidOut (declared_of given u) layout) (call : Handler) (steady_call : IsSteadyHandler call) (n : ℕ) (kept : CallsAreKept (declared_of given u) layout G ps call n) where
+      pub unit_simulates : Simulates layout G p.unit (moved p.routines o.start) n (start_of call n u) Bare
+      unit_simulates = start_simulates (declared_of given u) layout refl refl (own_declared given u) distinct (scene_of layout laid) call steady_call n kept refl refl valid.start
 
-  pub unit_stop_simulates : IsValid u → HasDistinctNames G → (layout : Layout) → AreLaidOut (own u) layout → (call : Handler) → IsSteadyHandler call → (n : ℕ) → CallsAreKept (own u) layout G ps call n
-      → Simulates layout G p.unit (moved p.routines o.stop) n (stop_of call n u) Bare
-  unit_stop_simulates valid distinct layout laid call steady_call n kept = stop_simulates (own u) layout (own_types u) refl (own_declared u) distinct (scene_of valid layout laid) call steady_call n kept refl refl valid.stop
+      pub unit_stop_simulates : Simulates layout G p.unit (moved p.routines o.stop) n (stop_of call n u) Bare
+      unit_stop_simulates = stop_simulates (declared_of given u) layout refl refl (own_declared given u) distinct (scene_of layout laid) call steady_call n kept refl refl valid.stop

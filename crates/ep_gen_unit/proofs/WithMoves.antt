@@ -63,13 +63,13 @@ module _ {declared : Declarations} {layout : Layout} {G : Image} {untouched kept
   own_binds_follow (OfRoutine zero k) of q h line at stands injection memory below d home c x spot described =
       let t : TypeValue = type.Record h.components in
       let w = h.variable in
-      let has : (u : UnitVariable) → slice_get (variables_up declared 0) k ≡ Some u → HasOwnType declared u t = λ u e. one_has declared.routine_types w.0 t (w.2).1 (slice_get (variables_up declared 0) k) w.1 u e in
+      let has : (u : UnitVariable) → slice_get (variables_up declared 0) k ≡ Some u → HasOwnType declared u t = λ u e. one_has declared.types w.0 t (w.2).1 (slice_get (variables_up declared 0) k) w.1 u e in
       fragment_less {n = suc n} (omega arith) (fragment_effect {weight = 0} 0 (with_own_bound k c)
       (λ s matches here. own_binds declared layout G (p.instructions.before + at) line k below w.0 t stands.0 w.1 has (none_kept k) injection memory s matches here c x spot described)
       (omega arith) (omega arith) (omega arith))
 
 module _ {declared : Declarations} {layout : Layout} {G : Image} {untouched : Slots} {Here : Facts} (lasts : Lasts untouched Here) (ps : List Placement) (p : Placement) (references : List Reference) (call : Handler) (n : ℕ) (unit : List ℕ)
-    (no_level : declared.levels ≡ []) (x : ImageUnit) (named : x.name ≡ declared.routine_unit) (free : VariablesAreFree declared G untouched x) (distinct : HasDistinctNames G) (laid_out : AreLaidOut declared layout)
+    (no_level : declared.levels ≡ []) (x : ImageUnit) (named : x.name ≡ declared.home) (free : VariablesAreFree declared G untouched x) (distinct : HasDistinctNames G) (laid_out : AreLaidOut declared layout)
     (slots : (k : ℕ) (v : UnitVariable) → declared.variables x.name k ≡ Some v → k < x.slots)
     (runs : (injection : Injection) (s : meaning.State) (memory : MachineMemory) → Here injection s memory → RunsInUnit G memory.frames x) where
   -- in the frame of a unit
@@ -82,8 +82,8 @@ module _ {declared : Declarations} {layout : Layout} {G : Image} {untouched : Sl
       let w = h.variable in
       let same : u ≡ x.name = (h.unmade).1 ∙ sym named in
       let there : declared.variables x.name k ≡ Some w.0 = subst (λ i. declared.variables i k ≡ Some w.0) same w.1 in
-      let typed : bare_type_of (declared.types x.name) (denoter_of (w.0).denoter) ≡ Some t = subst (λ i. bare_type_of (declared.types i) (denoter_of (w.0).denoter) ≡ Some t) same (w.2).1 in
-      let has : (v : UnitVariable) → layout.variables x.name k ≡ Some v → HasType layout x.name v t = λ v e. type_laid (laid_out x.name k w.0 there) t (has_bare_type (declared.types x.name) w.0 t typed) v e in
+      let typed : bare_type_of declared.types (denoter_of (w.0).denoter) ≡ Some t = (w.2).1 in
+      let has : (v : UnitVariable) → layout.variables x.name k ≡ Some v → HasType layout x.name v t = λ v e. type_laid (laid_out x.name k w.0 there) t (has_bare_type declared.types w.0 t typed) v e in
       subst (λ i. Fragment layout G Here n (point injection memory (p.instructions.before + at) (operand.Place y ∷ below)) (spend 1 (change (with_bound i k c))) (p.instructions.before + at + 1) (λ a. Inside untouched injection memory (Bare below a)) d (λ a. d)) (sym same)
       (fragment_less {n = suc n} (omega arith) (fragment_effect {weight = 0} 0 (with_bound x.name k c)
       (λ s matches here.

@@ -11,13 +11,13 @@ use Rattle.ep_object.specs.declared.code.Object.{Object}
 use Rattle.ep_meaning.specs.Meaning.{meaning}
 use Rattle.ep_values.specs.Events.{Trace}
 use Rattle.ep_meaning.specs.Steps as meant
-use Rattle.ep_meaning.specs.Valid.{IsValid}
+use Rattle.ep_meaning.specs.Units.{IsValid}
 use Rattle.ep_typed.specs.declared.unit.Unit.{Unit as TypedUnit}
 
 -- However many ticks a run of a program's image has spent, it tells the meaning of the program.
 abbrev pub ProgramsTell : Type 0
 ProgramsTell =
-    (u : TypedUnit) (o : Object) → IsUnitCode u o → IsValid u → (ticks : ℕ)
+    (u : TypedUnit) (o : Object) → IsUnitCode u o → IsValid [] u → (ticks : ℕ)
     → Tells (meaning (u ∷ [])) ticks (run_from (alone o) ticks (begin (alone o)))
 
 -- Where a run of a program's image has ended after exactly so many ticks, it tells how they and the steps bound one
@@ -25,7 +25,7 @@ ProgramsTell =
 -- room.
 abbrev pub ProgramsTellAtEnd : Type 0
 ProgramsTellAtEnd =
-    (u : TypedUnit) (o : Object) → IsUnitCode u o → IsValid u → (ticks : ℕ) (end : End) (trace : Trace)
+    (u : TypedUnit) (o : Object) → IsUnitCode u o → IsValid [] u → (ticks : ℕ) (end : End) (trace : Trace)
     → EndsAt (alone o) (begin (alone o)) 0 ticks end trace
     → TellsAtEnd (meaning (u ∷ [])) ticks end trace
 
@@ -33,7 +33,7 @@ ProgramsTellAtEnd =
 -- many steps and keeps room, each of the two numbers is at most 64 for each of the other and 64 more.
 abbrev pub ProgramsSpend : Type 0
 ProgramsSpend =
-    (u : TypedUnit) (o : Object) → IsUnitCode u o → IsValid u → (ticks : ℕ) (end : End) (trace : Trace)
+    (u : TypedUnit) (o : Object) → IsUnitCode u o → IsValid [] u → (ticks : ℕ) (end : End) (trace : Trace)
     → EndsAt (alone o) (begin (alone o)) 0 ticks end trace
     → (steps left : ℕ) (its_end : meant.End) (s : meant.State)
     → meaning (u ∷ []) (left + steps) ≡ meant.Ends left its_end s → s.resources.lost ≡ false → AreClose steps ticks

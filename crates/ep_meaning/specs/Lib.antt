@@ -6,4 +6,5 @@ pub mod Nameless
 pub mod Results
 pub mod Steady
 pub mod Steps
+pub mod Units
 pub mod Valid

@@ -1,7 +1,6 @@
 -- Which typed trees the static rules give: each form has parts of the kinds, types and numbers that it asks for.
 use Rattle.std.specs.Prelude.{◌≡◌, ℕ, ℤ, pos, zero, suc, ◌+◌, ◌<◌, ◌≤◌, Bool, true, false, All, List, [], ◌∷◌, ◌++◌}
-use Rattle.std.specs.Prelude.{map, slice_get, drop, length, Option, Some, None, IsTrue, int_le, ⊤, ◌⊎◌, if◌then◌else◌}
-use Rattle.std.specs.Str.{bytes_eq}
+use Rattle.std.specs.Prelude.{slice_get, drop, length, Option, Some, None, IsTrue, int_le, ⊤, ◌⊎◌}
 use Rattle.ep_typed.specs.Denoters.{ArrayParts, array_of, base_of, definition_of, denoter_at, denoters_count}
 use Rattle.ep_typed.specs.Denoters.{record_of, required_type, type_of, host_of, bare_type_of}
 use Rattle.ep_typed.specs.Hosts.{Host, least, greatest, is_of_host}
@@ -23,9 +22,7 @@ use Rattle.ep_typed.specs.Trees.{Tagging, AssignTag, If, While, Repeat, Control,
 use Rattle.ep_typed.specs.Trees.{Procedure, Halt, Write, none, next, Case, Arms, no_arm, next_arm, Other, no_other}
 use Rattle.ep_typed.specs.Trees.{otherwise_do, Entire, OfUnit, OfRoutine, entire, SetConstant, Element, AtIndex}
 use Rattle.ep_typed.specs.Trees.{AtField, SameField, AtRanges, AtIndexes, Elements, no_element, next_element}
-use Rattle.ep_typed.specs.Routines.{heading_of, variables_of, unit_variables}
-use Rattle.ep_typed.specs.Routines.{first_private, first_with, made_by_unit, routine_numbered}
-use Rattle.ep_typed.specs.Viewed.{constant_expr, denoter_of, stmt_of}
+use Rattle.ep_typed.specs.Viewed.{constant_expr, denoter_of}
 use Rattle.ep_values.specs.declared.operations.Unary.{Unary}
 use Rattle.ep_values.specs.declared.operations.Unary.TheVariants as unary
 use Rattle.ep_values.specs.declared.operations.Binary.{Binary}
@@ -47,10 +44,8 @@ use Rattle.ep_values.specs.TypeValues.{TypeValue, ComponentTypes, bare_of, type_
 use Rattle.ep_values.specs.TypeValues as type
 use Rattle.ep_typed.specs.declared.value.Value.{Value}
 use Rattle.ep_typed.specs.declared.value.Value.TheVariants as value
-use Rattle.ep_typed.specs.declared.unit.UnitRoutine.{UnitRoutine}
 use Rattle.ep_typed.specs.declared.unit.UnitType.{UnitType}
 use Rattle.ep_typed.specs.declared.unit.UnitVariable.{UnitVariable}
-use Rattle.ep_typed.specs.declared.unit.Unit.{Unit as TypedUnit}
 
 -- What an expression is: of an ordinal type with this host, a text, of an array or record type without initial states,
 -- or a
@@ -126,25 +121,23 @@ pub record Level : Type 0 where
   pub variables : List UnitVariable
   pub first_with : ℕ
 
--- what the units whose declarations may be named declare, by the unit's name
+-- What may be named in a block of a unit, which is at home there: what its own unit declares, and what the headings of
+-- other units give, by the unit's name. All denoters name in the one list of types of the home.
 pub record Declarations : Type 0 where
   -- the variable of this number of the unit
   pub variables : List ℕ → ℕ → Option UnitVariable
-  -- the types of the unit, in which its denoters name
-  pub types : List ℕ → List UnitType
-  pub constants : List ℕ → List ConstantEntry
   pub routines : List ℕ → List RoutineEntry
-  -- the number, among the routines of the unit's object, of the first one that no text writes
-  pub first_private : List ℕ → ℕ
   -- the routines around the routine of this number of the unit, the innermost first
   pub around : List ℕ → ℕ → List Level
-  -- The routine in whose block they may be named and the ones around it, the innermost first, and their unit and its
-  -- types,
-  -- and the first number of the variables of that unit that no code makes. Without routines they may be named in its
-  -- start.
+  -- the types of the home
+  pub types : List UnitType
+  -- the home, and the routine in whose block they may be named and the ones around it, the innermost first: without
+  -- routines they may be named in its start
+  pub home : List ℕ
   pub levels : List Level
-  pub routine_unit : List ℕ
-  pub routine_types : List UnitType
+  -- the number, among the routines of the home's object, of the first one that no text writes
+  pub first_private : ℕ
+  -- the first number of the variables of the home that no code makes
   pub first_with : ℕ
 
 -- the same declarations in the block of a routine of the unit, by its levels
@@ -162,7 +155,7 @@ variables_up declared up = variables_at (slice_get declared.levels up)
 -- the variable is one of the routine, or else of the unit, in whose block it is named, and no code makes it
 abbrev pub IsUnmade : Declarations → Entire → Type 0
 IsUnmade declared (OfUnit unit number) =
-    (declared.levels ≡ []) × (unit ≡ declared.routine_unit) × (declared.first_with ≤ number)
+    (declared.levels ≡ []) × (unit ≡ declared.home) × (declared.first_with ≤ number)
 IsUnmade declared (OfRoutine zero number) =
     (level : Level) × (slice_get declared.levels 0 ≡ Some level) × (level.first_with ≤ number)
 IsUnmade declared (OfRoutine (suc up) number) = ⊥
@@ -173,7 +166,7 @@ IsUnmade declared (OfRoutine (suc up) number) = ⊥
 abbrev pub IsDeclaredUp : Declarations → Callee → ℕ → Type 0
 IsDeclaredUp declared callee zero = declared.around callee.unit callee.number ≡ []
 IsDeclaredUp declared callee (suc up) =
-    (callee.unit ≡ declared.routine_unit) × (up < length declared.levels)
+    (callee.unit ≡ declared.home) × (up < length declared.levels)
     × (declared.around callee.unit callee.number ≡ drop up declared.levels)
 
 -- the routine has this heading, and is declared as many levels up as the call says
@@ -385,10 +378,10 @@ module _ (declared : Declarations) where
     pub IsPlaceWhere : (List UnitType → Denoter → Type 0) → Place → Type 0
     IsPlaceWhere Holds (Variable unit number) =
         (v : UnitVariable) × (declared.variables unit number ≡ Some v)
-        × Holds (declared.types unit) (denoter_of v.denoter)
+        × Holds declared.types (denoter_of v.denoter)
     IsPlaceWhere Holds (Own up number) =
         (v : UnitVariable) × (slice_get (variables_up declared up) number ≡ Some v)
-        × Holds declared.routine_types (denoter_of v.denoter)
+        × Holds declared.types (denoter_of v.denoter)
     IsPlaceWhere Holds (Standard file) = ⊥
     IsPlaceWhere Holds (Indexed p x) =
         IsPlaceWhere
@@ -419,8 +412,8 @@ module _ (declared : Declarations) where
         (h : Host) × (kind ≡ Ordinal h) × (low ≡ least h) × (high ≡ greatest h) × IsExpr (Ordinal h) x
         × IsExpr (Ordinal host.Integer) y
     IsExpr kind (Function callee given) =
-        (r : RoutineEntry) × IsCallee declared callee r × IsFunction (declared.types callee.unit) kind r
-        × AreGiven (declared.types callee.unit) r.formals given
+        (r : RoutineEntry) × IsCallee declared callee r × IsFunction declared.types kind r
+        × AreGiven declared.types r.formals given
     IsExpr kind (IndexedValue x y) =
         (low high : ℤ) × (of : TypeValue) × IsExpr (Structured (type.Array low high of)) x × IsTypeOfKind kind of
         × ((h : Host) × IsTypeOf h (type.Ordinal low high) × IsExpr (Ordinal h) y)
@@ -431,7 +424,7 @@ module _ (declared : Declarations) where
     IsExpr kind (Card x) = (h : Host) × (kind ≡ Ordinal host.Integer) × IsExpr (Set h) x
     -- a structured value of an array or record type of the unit in whose code it stands
     IsExpr kind (tree.Structured of es) =
-        (d : IsDenoter declared.routine_types (Named of [])) × (kind ≡ Structured (bare_of d.type_value))
+        (d : IsDenoter declared.types (Named of [])) × (kind ≡ Structured (bare_of d.type_value))
         × IsStructured (bare_of d.type_value) × AreElements (bare_of d.type_value) es
     -- the record has the tag where the variants are selected by it, of an ordinal type
     IsExpr kind (VariantValue x selection number) =
@@ -570,7 +563,7 @@ module _ (declared : Declarations) where
     IsStmt (With line v of p s) = IsWith v of p × IsStmt s
     IsStmt (Procedure line callee given) =
         (r : RoutineEntry) × IsCallee declared callee r × IsProcedure r
-        × AreGiven (declared.types callee.unit) r.formals given
+        × AreGiven declared.types r.formals given
     IsStmt (Case line x arms o) =
         ((h : Host) × IsExpr (Ordinal h) x × AreArms h arms) × IsOther o × AreApart (ranges_of arms)
     IsStmt (Halt line) = ⊤
@@ -670,94 +663,3 @@ pub record IsConstant (types : List UnitType) (c : ConstantEntry) : Type 0 where
 pub record IsVariable (types : List UnitType) (v : UnitVariable) : Type 0 where
   pub denoter : IsDenoter types (denoter_of v.denoter)
   pub tuple : v.tuple ≡ []
-
--- what the unit of this name has, and nothing of another one
-abbrev pub own_list : {A : Type 0} → List ℕ → List A → List ℕ → List A
-own_list name items unit = if bytes_eq name unit then items else []
-
-abbrev pub variables_in : Option UnitRoutine → List UnitVariable
-variables_in None = []
-variables_in (Some r) = variables_of r
-
-abbrev pub first_with_in : Option UnitRoutine → ℕ
-first_with_in None = 0
-first_with_in (Some r) = first_with r
-
--- the routines of these numbers
-abbrev pub levels_of : List UnitRoutine → List ℕ → List Level
-levels_of routines [] = []
-levels_of routines (n ∷ ns) =
-    record {
-      number = n;
-      variables = variables_in (slice_get routines n);
-      first_with = first_with_in (slice_get routines n);
-    }
-    ∷ levels_of routines ns
-
-abbrev pub around_in : List UnitRoutine → Option UnitRoutine → List Level
-around_in routines None = []
-around_in routines (Some r) = levels_of routines r.around
-
--- the declarations of one unit alone
-abbrev pub own : TypedUnit → Declarations
-own u =
-    record {
-      variables = λ unit number. if bytes_eq u.name unit then slice_get (unit_variables u) number else None;
-      types = own_list u.name u.types;
-      constants = own_list u.name u.constants;
-      routines = own_list u.name (map heading_of u.routines);
-      first_private = λ unit. first_private u;
-      around =
-          λ unit number. if bytes_eq u.name unit then around_in u.routines (routine_numbered u number) else [];
-      levels = [];
-      routine_unit = u.name;
-      routine_types = u.types;
-      first_with = length (made_by_unit u);
-    }
-
--- the same in the block of the routine of this number
-abbrev pub in_block : TypedUnit → ℕ → UnitRoutine → Declarations
-in_block u number r =
-    in_routine
-    (record { number = number; variables = variables_of r; first_with = first_with r } ∷ levels_of u.routines r.around)
-    (own u)
-
--- a value parameter is of a kind that values have, and a variable parameter of any type
-abbrev pub IsFormalBy : FormalMode → List UnitType → Denoter → Type 0
-IsFormalBy mode.Value types d = HasKind types d
-IsFormalBy mode.ProtectedValue types d = HasKind types d
-IsFormalBy mode.Variable types d = IsDenoter types d
-IsFormalBy mode.ProtectedVariable types d = IsDenoter types d
-
--- a formal parameter of a valid denoter
-pub record IsFormal (types : List UnitType) (f : Formal) : Type 0 where
-  pub denoter : IsFormalBy f.mode types (denoter_of f.denoter)
-
--- a result of a kind that values have, where there is one
-abbrev pub IsResult : List UnitType → Option RoutineResult → Type 0
-IsResult types None = ⊤
-IsResult types (Some r) = HasKind types (denoter_of r.denoter)
-
--- The routines around one of this number: the innermost stands before it, and the others are those around that one.
-abbrev pub IsAround : List UnitRoutine → ℕ → List ℕ → Type 0
-IsAround routines number [] = ⊤
-IsAround routines number (n ∷ ns) =
-    (n < number) × ((r : UnitRoutine) × (slice_get routines n ≡ Some r) × (r.around ≡ ns))
-
--- The routine of this number of a unit: the one in which it is declared stands before it in the text.
-pub record IsRoutine (u : TypedUnit) (number : ℕ) (r : UnitRoutine) : Type 0 where
-  pub formals : All (IsFormal u.types) r.formals
-  pub result : IsResult u.types r.result
-  pub variables : All (IsVariable u.types) r.variables
-  pub around : IsAround u.routines number r.around
-  pub block : IsStmt (in_block u number r) (stmt_of r.block)
-
--- a unit that names no other one, and so far has no interface
-pub record IsValid (u : TypedUnit) : Type 0 where
-  pub interface : u.interface ≡ None
-  pub types : All (IsType u.types) u.types
-  pub constants : All (IsConstant u.types) u.constants
-  pub variables : All (IsVariable u.types) u.variables
-  pub routines : (number : ℕ) (r : UnitRoutine) → slice_get u.routines number ≡ Some r → IsRoutine u number r
-  pub start : IsStmt (own u) (stmt_of u.start)
-  pub stop : IsStmt (own u) (stmt_of u.stop)

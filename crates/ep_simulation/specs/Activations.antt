@@ -61,7 +61,7 @@ pub record LevelMatches (types : List UnitType) (level : Level) (injection : Inj
 abbrev pub MatchesAround : Declarations → Facts
 MatchesAround declared injection s memory =
     (up : ℕ) (level : Level) → slice_get declared.levels (suc up) ≡ Some level
-    → LevelMatches declared.routine_types level injection s.calls memory (suc up)
+    → LevelMatches declared.types level injection s.calls memory (suc up)
 
 -- a call is under way on both sides
 pub record IsUnderWay (s : meaning.State) (memory : MachineMemory) : Type 0 where

@@ -300,7 +300,7 @@ HasType layout unit v t = HasTypeUnder (layout.types unit) v t
 
 -- the type value is that of a variable of the routine in whose block names are declared so
 abbrev pub HasOwnType : Declarations → UnitVariable → TypeValue → Type 0
-HasOwnType declared v t = HasTypeUnder declared.routine_types v t
+HasOwnType declared v t = HasTypeUnder declared.types v t
 
 -- The words of the hidden segments from this number on, those in which no allocation is, with one more for each.
 abbrev pub hidden_from : Injection → ℕ → Segments → ℕ

@@ -352,24 +352,29 @@ pub record ArrayRoutinesStand (G : Image) (ps : List Placement) (unit : List ℕ
   pub range : RangeStands G ps unit first
   pub spread : SpreadStands G ps unit first
 
+-- Where names are declared so, every routine of another unit that may be named keeps its promise.
+abbrev pub OthersAreKept : Declarations → Layout → Image → List Placement → Handler → ℕ → Type 0
+OthersAreKept declared layout G ps call n =
+    (unit : List ℕ) → (unit ≡ declared.home → ⊥) → (number : ℕ) (r : RoutineEntry)
+    → slice_get (declared.routines unit) number ≡ Some r
+    → RoutineKeeps layout G ps call n declared.types (declared.around unit number) unit number r
+
 -- Where names are declared so, every routine of the unit does so, and every one of another unit that may be named. So
 -- does that of every type of the unit that has a type value. Where it has types, the unit has the routine that leaves
 -- two operands in the other order, and those that give values to components of arrays.
 pub record CallsAreKept (declared : Declarations) (layout : Layout) (G : Image) (ps : List Placement)
     (call : Handler) (n : ℕ) : Type 0 where
   pub routines : (number : ℕ) (r : RoutineEntry)
-      → slice_get (declared.routines declared.routine_unit) number ≡ Some r
-      → RoutineKeeps layout G ps call n (declared.types declared.routine_unit)
-      (declared.around declared.routine_unit number) declared.routine_unit number r
-  pub others : (unit : List ℕ) → (unit ≡ declared.routine_unit → ⊥) → (number : ℕ) (r : RoutineEntry)
-      → slice_get (declared.routines unit) number ≡ Some r
-      → RoutineKeeps layout G ps call n (declared.types unit) (declared.around unit number) unit number r
-  pub types : (index : ℕ) (t : TypeValue) → IsTyped declared.routine_types (Named index []) t
-      → TypeKeeps layout G ps call n (declared.first_private declared.routine_unit) declared.routine_unit index t
-  pub swaps : 0 < length declared.routine_types
-      → SwapStands G ps declared.routine_unit (declared.first_private declared.routine_unit)
-  pub of_arrays : 0 < length declared.routine_types
-      → ArrayRoutinesStand G ps declared.routine_unit (declared.first_private declared.routine_unit)
+      → slice_get (declared.routines declared.home) number ≡ Some r
+      → RoutineKeeps layout G ps call n declared.types
+      (declared.around declared.home number) declared.home number r
+  pub others : OthersAreKept declared layout G ps call n
+  pub types : (index : ℕ) (t : TypeValue) → IsTyped declared.types (Named index []) t
+      → TypeKeeps layout G ps call n declared.first_private declared.home index t
+  pub swaps : 0 < length declared.types
+      → SwapStands G ps declared.home declared.first_private
+  pub of_arrays : 0 < length declared.types
+      → ArrayRoutinesStand G ps declared.home declared.first_private
 
 -- ---- what this says of runs from a call
 

@@ -7,7 +7,8 @@ use Rattle.ep_typed.specs.Denoters.{host_of, bare_type_of}
 use Rattle.ep_typed.specs.Trees as tree
 use Rattle.ep_values.specs.TypeValues.{TypeValue, bare_of}
 use Rattle.ep_meaning.specs.Valid as valid
-use Rattle.ep_meaning.specs.Valid.{Declarations, IsCallee, IsDeclaredUp, IsOfKind, IsPlace, around_in, in_routine, levels_of, own}
+use Rattle.ep_meaning.specs.Units.{around_in, levels_of, own}
+use Rattle.ep_meaning.specs.Valid.{Declarations, IsCallee, IsDeclaredUp, IsOfKind, IsPlace, in_routine}
 use Rattle.ep_typed.specs.Routines.{heading_of}
 use Rattle.ep_typed.specs.Auxiliaries.{block_auxiliaries, with_variables}
 use Rattle.ep_typed.specs.Routines.{made_by_unit, unit_block, unit_variables}
@@ -136,9 +137,6 @@ module _ (u : TypedUnit) where
 
   -- ---- places
 
-  pub types_own : (unit : List ℕ) → unit ≡ u.name → (own u).types unit ≡ u.types
-  types_own unit e = ap (λ b. if b then u.types else []) (name_same u.name unit (sym e))
-
   pub variables_own : (unit : List ℕ) (number : ℕ) → unit ≡ u.name → (own u).variables unit number ≡ slice_get (unit_variables u) number
   variables_own unit number e = ap (λ b. if b then slice_get (unit_variables u) number else None) (name_same u.name unit (sym e))
 
@@ -156,20 +154,19 @@ module _ (u : TypedUnit) where
     variable_stored : (i number : ℕ) (unit : List ℕ) (of : TypeName) (k : Kind) → i ≤ length u.types → unit ≡ u.name → HoldsVariable u i number of k → IsStoredIn (own u) (type_values u) structures (tree.Variable unit number) k
     variable_stored i number unit of (kind.Ordinal h) le e x = (
       lists_small u i h x.lists,
-      (x.variable, declared_own unit number x.variable e x.at, ap (λ ts. host_of ts (denoter_of x.variable.denoter)) (types_own unit e) ∙ x.denotes.1.has_host (suc (length u.types)) (omega (arith, le))),
+      (x.variable, declared_own unit number x.variable e x.at, x.denotes.1.has_host (suc (length u.types)) (omega (arith, le))),
     )
     variable_stored i number unit of (kind.Structured n) le e x = (
       x.variable,
       declared_own unit number x.variable e x.at,
-      subst (λ ts. HasKind (type_values u) ts (denoter_of x.variable.denoter) (kind.Structured n) × All (HoldsStructure (type_values u) ts) structures) (sym (types_own unit e))
-          (has_kind i (denoter_of x.variable.denoter) (kind.Structured n) x.denotes.0 le tt x.denotes.1, all),
+      (has_kind i (denoter_of x.variable.denoter) (kind.Structured n) x.denotes.0 le tt x.denotes.1, all),
     )
     variable_stored i number unit of (kind.Set h) le e x = (
       lists_small u i h x.lists,
       (
         x.variable,
         declared_own unit number x.variable e x.at,
-        subst (λ ts. IsOfKind (valid.Set (typed_host h)) ts (denoter_of x.variable.denoter)) (sym (types_own unit e)) (set_of_kind u.types i (denoter_of x.variable.denoter) (typed_host h) x.denotes.0 le x.denotes.1),
+        set_of_kind u.types i (denoter_of x.variable.denoter) (typed_host h) x.denotes.0 le x.denotes.1,
       ),
     )
     variable_stored i number unit of kind.EmptySet le e x = absurd x.denotes.1
@@ -214,7 +211,7 @@ module _ (u : TypedUnit) where
   variable_typed i number unit of k le e x = (
     x.denotes.0,
     kind_type u.types i (named_tree of) k x.denotes.0 le x.denotes.2,
-    (x.variable, declared_own unit number x.variable e x.at, ap (λ ts. bare_type_of ts (denoter_of x.variable.denoter)) (types_own unit e) ∙ kind_type u.types i (denoter_of x.variable.denoter) k x.denotes.0 le x.denotes.1),
+    (x.variable, declared_own unit number x.variable e x.at, kind_type u.types i (denoter_of x.variable.denoter) k x.denotes.0 le x.denotes.1),
   )
 
   own_typed : (es : List Enclosing) (i level number : ℕ) (of : TypeName) (k : Kind) → i ≤ length u.types → HoldsOwn u es i level number of k → IsOfType (in_routine (levels_at u.routines es) (own u)) (type_values u) (tree.Own (length es - level) number) of
@@ -262,9 +259,9 @@ module _ (u : TypedUnit) (es : List Enclosing) where
   abbrev pub within : Declarations
   within = in_routine (levels_at u.routines es) (own u)
 
-  parameters_typed : (i : ℕ) (unit : List ℕ) (ps : List FormalParameter) (formals : List Formal) → i ≤ length u.types → unit ≡ u.name → formals ≡ map formal_of ps → All (HoldsParameter u i) ps → AreParameters (type_values u) (within.types unit) ps formals
+  parameters_typed : (i : ℕ) (unit : List ℕ) (ps : List FormalParameter) (formals : List Formal) → i ≤ length u.types → unit ≡ u.name → formals ≡ map formal_of ps → All (HoldsParameter u i) ps → AreParameters (type_values u) within.types ps formals
   parameters_typed i unit ps formals le e same x =
-      subst (λ types. AreParameters (type_values u) types ps formals) (sym (types_own u unit e)) (subst (AreParameters (type_values u) u.types ps) (sym same) (parameters_hold u i ps le x))
+      subst (AreParameters (type_values u) u.types ps) (sym same) (parameters_hold u i ps le x)
 
   -- the unit lists a structured type
   structure_listed : (i : ℕ) (s : StructuredType) → i ≤ length u.types → HoldsStructuredType u i s → IsListed within (type_values u) s
@@ -288,7 +285,7 @@ module _ (u : TypedUnit) (es : List Enclosing) where
     declared_holds i d (declaration.Function ps of k) le e x = (
       x.heading,
       callee_own u es d x.heading e x.inside x.at,
-      subst (λ types. IsFunctionWith within (type_values u) structures types k x.heading) (sym (types_own u d.unit e)) (function_typed u structures all i x.heading x.name of k le x.result x.lists x.denotes),
+      function_typed u structures all i x.heading x.name of k le x.result x.lists x.denotes,
       parameters_typed i d.unit ps x.heading.formals le e x.formals x.parameters,
     )
 

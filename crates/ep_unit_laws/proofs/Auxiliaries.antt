@@ -12,8 +12,10 @@ use Rattle.ep_typed.proofs.public.Units.{start_auxiliaries, start_withs}
 use Rattle.ep_typed.specs.Routines.{made_by_unit, unit_block, unit_variables}
 use Rattle.ep_typed.specs.Trees as tree
 use Rattle.ep_typed.specs.Trees.{Denoter, Stmts, entire}
+use Rattle.ep_meaning.specs.Units as units
 use Rattle.ep_meaning.specs.Valid as given
-use Rattle.ep_meaning.specs.Valid.{Declarations, IsOfKind, IsPlaceWhere, IsUnmade, first_with_in, own, variables_up}
+use Rattle.ep_meaning.specs.Units.{first_with_in, own}
+use Rattle.ep_meaning.specs.Valid.{Declarations, IsOfKind, IsPlaceWhere, IsUnmade, variables_up}
 use Rattle.ep_typed.specs.Viewed.{denoter_of, stmt_of}
 use Rattle.ep_typed.specs.declared.unit.Unit.{Unit as TypedUnit}
 use Rattle.ep_typed.specs.declared.unit.UnitType.{UnitType}
@@ -29,7 +31,7 @@ use Rattle.ep_unit_rules.specs.Own.{own_count}
 use Rattle.ep_check_unit.specs.Blocks.{Block}
 use Rattle.ep_check_unit.specs.Routines.{first_auxiliary, has_bounds, locals_in, locals_of, members_of, withs_of}
 use Rattle.ep_unit_rules.specs.declared.own.Enclosing.{Enclosing}
-use Rattle.ep_unit_laws.proofs.Agreeing.{types_own, variables_own, within}
+use Rattle.ep_unit_laws.proofs.Agreeing.{variables_own, within}
 use Rattle.ep_unit_laws.proofs.Holds.{innermost, levels_at}
 use Rattle.ep_unit_laws.proofs.Items.{own_length}
 use Rattle.ep_unit_laws.proofs.Leading.{variables_in}
@@ -58,8 +60,8 @@ set_counted (Some line) false e = cc
 module _ (declared : Declarations) (types : List UnitType) where
   -- under these types the variable of this number is that one
   abbrev pub IsLocal : Locals → ℕ → UnitVariable → Type 0
-  IsLocal (OfUnit unit auxiliary) n v = (declared.variables unit n ≡ Some v) × (declared.types unit ≡ types)
-  IsLocal (OfRoutine routine first auxiliary) n v = (slice_get (variables_up declared 0) n ≡ Some v) × (declared.routine_types ≡ types)
+  IsLocal (OfUnit unit auxiliary) n v = (declared.variables unit n ≡ Some v) × (declared.types ≡ types)
+  IsLocal (OfRoutine routine first auxiliary) n v = (slice_get (variables_up declared 0) n ≡ Some v) × (declared.types ≡ types)
 
   -- so what holds of its denoter holds of its place
   local_placed : (Here : List UnitType → Denoter → Type 0) (locals : Locals) (n : ℕ) (v : UnitVariable) → IsLocal locals n v → Here types (denoter_of v.denoter) → IsPlaceWhere declared Here (entire (block_variable locals n))
@@ -153,7 +155,7 @@ module _ (u : TypedUnit) (e : Enclosing) (es : List Enclosing) (c : Block) (line
 
   -- where the first one that no code makes is known
   pub own_unmade : (made : ℕ) → first_with_in (slice_get u.routines e.number) ≡ own_count c.own + made → IsUnmadeFrom (within u (e ∷ es)) u.types (locals_in c (e ∷ es)) (own_count c.own + made)
-  own_unmade made first n le = (record { number = e.number; variables = given.variables_in (slice_get u.routines e.number); first_with = first_with_in (slice_get u.routines e.number) }, refl, omega (arith, le, first))
+  own_unmade made first n le = (record { number = e.number; variables = units.variables_in (slice_get u.routines e.number); first_with = first_with_in (slice_get u.routines e.number) }, refl, omega (arith, le, first))
 
 -- ---- in the block of a unit
 
@@ -173,4 +175,4 @@ unit_behind u b ss named variables start stop outermost =
     ∙ ap (λ s. (u.variables ++ block_auxiliaries s) ++ with_variables s) start
     ∙ (append_assoc u.variables (block_auxiliaries (tree.Compound ss)) (with_variables_of ss) ∙ ap (λ l. l ++ auxiliaries_of ss) variables) in
     subst (λ es. AreBehind (own u) u.types (locals_in b es) (auxiliaries_of ss)) (sym outermost)
-    (λ k v at. (variables_own u b.unit (length b.variables + k) named ∙ (ap (λ l. slice_get l (length b.variables + k)) all ∙ (get_behind b.variables (auxiliaries_of ss) k ∙ at)), types_own u b.unit named))
+    (λ k v at. (variables_own u b.unit (length b.variables + k) named ∙ (ap (λ l. slice_get l (length b.variables + k)) all ∙ (get_behind b.variables (auxiliaries_of ss) k ∙ at)), refl))

@@ -346,15 +346,15 @@ module _ (types : List UnitType) where
           ((lead-to.0, lead-to.1, second_lies c ts all from to lead-to.0 (value_of_field all from) s lead-to.1 refl both.0), all_lie c t all more s rest both.1)
 
 -- The scopes of code of a unit whose list of types has these in front: what they say of a structured type suits its type value.
-module _ (declared : Declarations) (structures : List StructuredType) (depth : ℕ) (scopes : List Region) (agrees : AgreesBy declared (Forms declared.routine_types) structures depth scopes) where
-  found_suits : (n : ℕ) (t : TypeValue) (o : Option Composition) → structure_in scopes n ≡ o → type_of declared.routine_types (Named n []) ≡ Some t → IsTyped declared.routine_types (Named n []) t → Suits declared.routine_types o t
+module _ (declared : Declarations) (structures : List StructuredType) (depth : ℕ) (scopes : List Region) (agrees : AgreesBy declared (Forms declared.types) structures depth scopes) where
+  found_suits : (n : ℕ) (t : TypeValue) (o : Option Composition) → structure_in scopes n ≡ o → type_of declared.types (Named n []) ≡ Some t → IsTyped declared.types (Named n []) t → Suits declared.types o t
   found_suits n t None is has typed = tt
   found_suits n t (Some c) is has typed =
-      let listed = structure_in-listed declared (Forms declared.routine_types) structures depth n scopes c agrees is in
-      subst (Suits declared.routine_types (Some c)) (typed_bare declared.routine_types (Named n []) t typed) (made_suits declared.routine_types n c listed.2.structure t typed listed.2.has_structure listed.2.made_of)
+      let listed = structure_in-listed declared (Forms declared.types) structures depth n scopes c agrees is in
+      subst (Suits declared.types (Some c)) (typed_bare declared.types (Named n []) t typed) (made_suits declared.types n c listed.2.structure t typed listed.2.has_structure listed.2.made_of)
 
   -- so a constant of the type lies in it
-  pub value_lies : (few : List UnitType) (n : ℕ) (es : List Given) (t : TypeValue) → IsPrefix few declared.routine_types → IsStartFor declared.routine_types t (constant_expr (value.Structured n es))
+  pub value_lies : (few : List UnitType) (n : ℕ) (es : List Given) (t : TypeValue) → IsPrefix few declared.types → IsStartFor declared.types t (constant_expr (value.Structured n es))
       → are_in few scopes (structure_in scopes n) (elements (map element_of es)) (elements (map element_of es)) ≡ true → LiesIn t (constant_expr (value.Structured n es))
   value_lies few n es t front start e =
-      constant_lies declared.routine_types few scopes front (λ m u has typed. found_suits m u (structure_in scopes m) refl has typed) None t (tree.Structured n (elements (map element_of es))) tt start e
+      constant_lies declared.types few scopes front (λ m u has typed. found_suits m u (structure_in scopes m) refl has typed) None t (tree.Structured n (elements (map element_of es))) tt start e

@@ -11,7 +11,8 @@ use Rattle.ep_tree.specs.declared.operator.QualifiedName.{QualifiedName}
 use Rattle.ep_tree.specs.declared.routine.RoutineStart.{RoutineStart}
 use Rattle.ep_tree.specs.declared.routine.RoutineStart.TheVariants as start
 use Rattle.ep_outside.specs.Known.{IsPrefix}
-use Rattle.ep_meaning.specs.Valid.{HasKind, IsResult, IsVariable}
+use Rattle.ep_meaning.specs.Units.{IsResult}
+use Rattle.ep_meaning.specs.Valid.{HasKind, IsVariable}
 use Rattle.ep_typed.specs.declared.interface.FormalMode.{FormalMode}
 use Rattle.ep_typed.specs.declared.interface.RoutineEntry.{RoutineEntry}
 use Rattle.ep_typed.specs.declared.interface.RoutineResult.{RoutineResult}

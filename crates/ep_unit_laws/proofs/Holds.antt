@@ -6,7 +6,8 @@ use Rattle.ep_typed.specs.Denoters.{ArrayParts, bare_type_of}
 use Rattle.ep_typed.specs.Hosts as typed
 use Rattle.ep_typed.specs.Hosts.{is_of_host}
 use Rattle.ep_typed.specs.Trees as tree
-use Rattle.ep_meaning.specs.Valid.{IsAround, IsConstant, IsDenoter, IsFormal, IsFormalBy, IsProcedure, IsResult, IsStmt, IsType, IsVariable, Level, first_with_in, in_routine, levels_of, own, variables_at, variables_in}
+use Rattle.ep_meaning.specs.Units.{IsAround, IsFormal, IsFormalBy, IsResult, first_with_in, levels_of, own, variables_in}
+use Rattle.ep_meaning.specs.Valid.{IsConstant, IsDenoter, IsProcedure, IsStmt, IsType, IsVariable, Level, in_routine, variables_at}
 use Rattle.ep_typed.specs.Routines.{heading_of}
 use Rattle.ep_typed.specs.Viewed.{denoter_of}
 use Rattle.ep_typed.specs.declared.denoter.Denoter.TheVariants as denoter

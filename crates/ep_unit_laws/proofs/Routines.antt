@@ -18,8 +18,9 @@ use Rattle.ep_values.specs.Operations.{maxint}
 use Rattle.ep_typed.specs.Routines.{result_name, result_variable}
 use Rattle.ep_typed.specs.Trees as tree
 use Rattle.ep_typed.specs.Trees.{Stmt, Stmts}
-use Rattle.ep_meaning.specs.Valid as given
-use Rattle.ep_meaning.specs.Valid.{AreStmts, IsStmt, IsVariable, in_routine, levels_of, own}
+use Rattle.ep_meaning.specs.Units as given
+use Rattle.ep_meaning.specs.Units.{levels_of, own}
+use Rattle.ep_meaning.specs.Valid.{AreStmts, IsStmt, IsVariable, in_routine}
 use Rattle.ep_typed.specs.Routines.{formal_variable}
 use Rattle.ep_typed.specs.declared.interface.RoutineResult.{RoutineResult}
 use Rattle.ep_typed.specs.declared.unit.Unit.{Unit as TypedUnit}
@@ -61,7 +62,7 @@ use Rattle.ep_unit_laws.proofs.Items.{LeadsOn, constants_lead, further, line_lea
 use Rattle.ep_unit_laws.proofs.Leading.{Extends, Grows, Leads, entered_leads, extends_before, head_in, leads_on, leads_refl, result_in, variables_in, waits_some}
 use Rattle.ep_unit_laws.proofs.Prefixes.{length_push, prefix_get, prefix_length, prefix_trans}
 use Rattle.ep_unit_laws.proofs.Open as around
-use Rattle.ep_unit_laws.proofs.Open.{IsNumbered, IsOpen, IsOpenBy, KeepsBodies, pushed_kept, pushed_there}
+use Rattle.ep_unit_laws.proofs.Open.{IsOpen, IsOpenBy, KeepsBodies, pushed_kept, pushed_there}
 use Rattle.ep_meaning.proofs.public.Lists.{get_within}
 
 -- ---- places of lists

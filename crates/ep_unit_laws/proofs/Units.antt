@@ -7,8 +7,9 @@ use Rattle.ep_tree.specs.declared.component.Component.TheVariants as component_i
 use Rattle.ep_tree.specs.declared.component.Program.{Program}
 use Rattle.ep_values.specs.Operations.{maxint}
 use Rattle.ep_typed.specs.Trees.{Stmts}
-use Rattle.ep_meaning.specs.Valid as given
-use Rattle.ep_meaning.specs.Valid.{IsConstant, IsRoutine, IsStmt, IsType, IsValid, IsVariable, in_routine, levels_of, own}
+use Rattle.ep_meaning.specs.Units as given
+use Rattle.ep_meaning.specs.Units.{IsGivenUnit, IsRoutine, IsValid, headed_routines, levels_of, own}
+use Rattle.ep_meaning.specs.Valid.{IsConstant, IsStmt, IsType, IsVariable, in_routine}
 use Rattle.ep_typed.specs.Viewed.{stmt_of}
 use Rattle.ep_typed.specs.declared.unit.Unit.{Unit as TypedUnit}
 use Rattle.ep_typed.specs.declared.unit.UnitRoutine.{UnitRoutine}
@@ -89,7 +90,7 @@ forms_headings (r ∷ rs) = ap (λ hs. head_of r ∷ hs) (forms_headings rs)
 form_there : (rs : List UnitRoutine) (n : ℕ) (r : UnitRoutine) → slice_get rs n ≡ Some r → slice_get (map routine_form rs) n ≡ Some (routine_form r)
 form_there rs n r at = slice_get-map routine_form rs n ∙ ap (option_map routine_form) at
 
-routine_valid : (u : TypedUnit) (number : ℕ) (r : UnitRoutine) → slice_get u.routines number ≡ Some r → HoldsRoutine u number (routine_form r) → IsRoutine u number r
+routine_valid : (u : TypedUnit) (number : ℕ) (r : UnitRoutine) → slice_get u.routines number ≡ Some r → HoldsRoutine u number (routine_form r) → IsRoutine [] u number r
 routine_valid u number r at held = record {
   formals = held.formals;
   result = held.result;
@@ -98,7 +99,7 @@ routine_valid u number r at held = record {
   block = subst (λ o. IsStmt (in_routine (record { number = number; variables = given.variables_in o; first_with = given.first_with_in o } ∷ levels_of u.routines r.around) (own u)) (stmt_of r.block)) at held.block;
 }
 
-routines_valid : (u : TypedUnit) → HoldsRoutines u (map routine_form u.routines) → (number : ℕ) (r : UnitRoutine) → slice_get u.routines number ≡ Some r → IsRoutine u number r
+routines_valid : (u : TypedUnit) → HoldsRoutines u (map routine_form u.routines) → (number : ℕ) (r : UnitRoutine) → slice_get u.routines number ≡ Some r → IsRoutine [] u number r
 routines_valid u held number r at = routine_valid u number r at (held number (routine_form r) (form_there u.routines number r at))
 
 module _ (statements : StatementsAreSound) (constants : ConstantsAreSound) (bounds : BoundsAreSound) (constant_hosts : ConstantsAreKnown) (bound_hosts : BoundsAreKnown) (initial_states : InitialStatesAreSound) where
@@ -144,7 +145,7 @@ module _ (statements : StatementsAreSound) (constants : ConstantsAreSound) (boun
         routines = λ n r at. cc;
       })
 
-  program_valid : (p : Program) (u : TypedUnit) → IsTypedProgram p u → length u.constants ≤ maxint → IsValid u
+  program_valid : (p : Program) (u : TypedUnit) → IsTypedProgram p u → length u.constants ≤ maxint → IsValid [] u
   program_valid p u t few =
       let made = program_made p t.form t.passes in
       let held = block_held p u t.form made few t.unit in
@@ -152,7 +153,8 @@ module _ (statements : StatementsAreSound) (constants : ConstantsAreSound) (boun
       let auxiliaries : AreBehind (own u) u.types (locals_of t.form.block) (auxiliaries_of t.form.statements) =
       unit_behind u t.form.block t.form.statements held.unit t.unit.variables t.unit.start t.unit.stop (none_under_way p u t.form made few) in
       record {
-        interface = t.unit.interface;
+        heading = λ k r less there. absurd (let none : headed_routines u.interface ≡ 0 = ap headed_routines t.unit.interface in omega (arith, none, less));
+        given_valid = All-nil (IsGivenUnit u.types);
         types = All-same (IsType u.types) u.types t.form.block.types t.unit.types held.types;
         constants = All-same (IsConstant u.types) u.constants t.form.block.constants t.unit.constants held.constants;
         variables = All-same (IsVariable u.types) u.variables t.form.block.variables t.unit.variables held.variables;

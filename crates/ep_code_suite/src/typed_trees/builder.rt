@@ -3,11 +3,11 @@
 //! | Word | Leaves |
 //! |---|---|
 //! | `7` `'ab'` | a constant, a text |
-//! | `variable:6` | the value of the variable of this number of `main` |
+//! | `variable:6` | the value of the variable of this number of `main`, or of another unit by its name: `variable:stock.6` |
 //! | `neg` `chr` | an operation with one operand |
 //! | `mod` `<` | an operation with two operands |
 //! | `pred` `succ` | `pred` or `succ` of a char and a count |
-//! | `function:7` | what the function of this number of `main` gives, which has no parameters |
+//! | `function:7` | what the function of this number gives, named as a variable is, which has no parameters |
 //! | `index` | the component of an array that a function gives, at an index |
 //! | `field:1` | the component of this number of a record that a function gives |
 //! | `at` | what the component of a structured value at an index is given |
@@ -18,10 +18,10 @@
 //! | `structured:2` | a structured value of the type of this number, of all that its components are given |
 //! | `integer` `char` `boolean` `text` | a value that is written so, and with `wide-` in front a value and its width |
 //! | `empty` | the empty statement |
-//! | `assign:6` | an assignment of a value to the variable of this number of `main` |
+//! | `assign:6` | an assignment of a value to the variable of this number |
 //! | `if` | `if` with a condition and two statements |
 //! | `while` | `while` with a condition and a statement |
-//! | `procedure:7` | a call of the procedure of this number of `main`, which has no parameters |
+//! | `procedure:7` | a call of the procedure of this number, which has no parameters |
 //! | `halt` | `halt` |
 //! | `write` `writeln` | `write` or `writeln` of all values that are written |
 //! | `compound` | all statements in order, as one |
@@ -65,6 +65,14 @@ impl From<NameRefusal> for Unbuilt {
 /// A number, which is 0 where none is given.
 fn number(text: &str) -> u32 {
     text.parse::<u32>().unwrap_or(0)
+}
+
+/// The unit, which is `main` where none is named, and the number behind it.
+fn unit_and_number(text: &str) -> (&str, u32) {
+    match text.split_once('.') {
+        Some((unit, number_text)) => (unit, number(number_text)),
+        None => ("main", number(text)),
+    }
 }
 
 /// The range that a text is, also of one number.
@@ -123,14 +131,14 @@ impl Builder {
     /// Takes a word, which may be one of expressions.
     fn take_expression(&mut self, name: &str, given: &str, line: Line) -> Result<(), Unbuilt> {
         match name {
-            "variable" => self.variable(number(given)),
+            "variable" => self.variable(given),
             "neg" => self.one(Unary::Negate),
             "chr" => self.one(Unary::Character),
             "mod" => self.two(Binary::Modulo),
             "<" => self.two(Binary::Less),
             "pred" => self.char_step(true),
             "succ" => self.char_step(false),
-            "function" => self.function(number(given)),
+            "function" => self.function(given),
             "index" => self.indexed(),
             "field" => self.field(number(given)),
             "at" => self.at_index(),
@@ -147,10 +155,10 @@ impl Builder {
     fn take_statement(&mut self, name: &str, given: &str, line: Line) -> Result<(), Unbuilt> {
         match name {
             "empty" => self.put(TypedStmt::Empty),
-            "assign" => self.assign(line, number(given)),
+            "assign" => self.assign(line, given),
             "if" => self.choice(line),
             "while" => self.repetition(line),
-            "procedure" => self.call(line, number(given)),
+            "procedure" => self.call(line, given),
             "halt" => self.put(TypedStmt::Halt(line)),
             "write" => self.write(line, false),
             "writeln" => self.write(line, true),
@@ -174,19 +182,19 @@ impl Builder {
         }
     }
 
-    /// The routine of this number of `main`.
-    fn callee(&self, number: u32) -> Result<Callee, Unbuilt> {
-        let unit = Name::from_bytes(self.alloc, b"main")?;
+    /// The routine that is named so.
+    fn callee(&self, given: &str) -> Result<Callee, Unbuilt> {
+        let (unit, number) = unit_and_number(given);
         Ok(Callee {
-            unit,
+            unit: Name::from_bytes(self.alloc, unit.as_bytes())?,
             number,
             levels: 0,
         })
     }
 
-    /// A call of a procedure of `main`.
-    fn call(&mut self, line: Line, number: u32) -> Result<(), Unbuilt> {
-        let callee = self.callee(number)?;
+    /// A call of a procedure.
+    fn call(&mut self, line: Line, given: &str) -> Result<(), Unbuilt> {
+        let callee = self.callee(given)?;
         let none = List::new(self.alloc);
         self.put(TypedStmt::Procedure(line, callee, none))
     }
@@ -220,14 +228,15 @@ impl Builder {
         self.push(TypedExpr::Text(text))
     }
 
-    /// The place of a variable of `main`.
-    fn place(&self, number: u32) -> Result<TypedPlace, Unbuilt> {
-        let unit = Name::from_bytes(self.alloc, b"main")?;
+    /// The place of the variable that is named so.
+    fn place(&self, given: &str) -> Result<TypedPlace, Unbuilt> {
+        let (unit, number) = unit_and_number(given);
+        let unit = Name::from_bytes(self.alloc, unit.as_bytes())?;
         Ok(TypedPlace::Variable(unit, number))
     }
 
-    fn variable(&mut self, number: u32) -> Result<(), Unbuilt> {
-        let place = self.place(number)?;
+    fn variable(&mut self, given: &str) -> Result<(), Unbuilt> {
+        let place = self.place(given)?;
         self.push(TypedExpr::Read(place))
     }
 
@@ -248,8 +257,8 @@ impl Builder {
         self.push(TypedExpr::Step(down, 0, 255, value, count))
     }
 
-    fn function(&mut self, number: u32) -> Result<(), Unbuilt> {
-        let callee = self.callee(number)?;
+    fn function(&mut self, given: &str) -> Result<(), Unbuilt> {
+        let callee = self.callee(given)?;
         let none = List::new(self.alloc);
         self.push(TypedExpr::Function(callee, none))
     }
@@ -364,9 +373,9 @@ impl Builder {
         )
     }
 
-    fn assign(&mut self, line: Line, number: u32) -> Result<(), Unbuilt> {
+    fn assign(&mut self, line: Line, given: &str) -> Result<(), Unbuilt> {
         let value = self.expression()?;
-        let place = self.place(number)?;
+        let place = self.place(given)?;
         self.put(TypedStmt::Assign(line, place, value))
     }
 

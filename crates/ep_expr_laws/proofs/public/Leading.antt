@@ -99,9 +99,9 @@ pub listed-lead : (declared : Declarations) (types : TypeValues) (n : ℕ) (fs :
     → (ts : ComponentTypes) × (bare_of listed.0.type_value ≡ type.Record ts) × All (λ f. Leads types ts f.kind (field_steps f)) fs
 listed-lead declared types n fs listed = within listed.2.structure listed.2.has_structure listed.2.made_of
   where
-    within : (m : Structure) → HasStructure declared.routine_types (Named n []) m → IsMadeOf types declared.routine_types (composition.Record fs) m
+    within : (m : Structure) → HasStructure declared.types (Named n []) m → IsMadeOf types declared.types (composition.Record fs) m
         → (ts : ComponentTypes) × (bare_of listed.0.type_value ≡ type.Record ts) × All (λ f. Leads types ts f.kind (field_steps f)) fs
     within (Arrays p) has made = absurd made
     within (Records ds) has made =
-        let c = typed_components declared.routine_types (Named n []) listed.0.type_value ds listed.0.typed has in
-        (bare_each c.types_of, c.is, all_lead types declared.routine_types fs ds c.types_of c.all made)
+        let c = typed_components declared.types (Named n []) listed.0.type_value ds listed.0.typed has in
+        (bare_each c.types_of, c.is, all_lead types declared.types fs ds c.types_of c.all made)

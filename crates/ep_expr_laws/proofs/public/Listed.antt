@@ -47,7 +47,7 @@ module _ (declared : Declarations) (types : TypeValues) where
     -- so the list of types of the unit holds them
     pub all-held : (scopes : List Region) → AgreesBy declared types structures depth scopes → AreHeld types (structures_of scopes)
     all-held scopes agrees =
-        (declared.routine_types, All-weaker (IsListed declared types) (HoldsStructure types declared.routine_types) (λ s listed. listed.2) (structures_of scopes) (all-listed scopes agrees))
+        (declared.types, All-weaker (IsListed declared types) (HoldsStructure types declared.types) (λ s listed. listed.2) (structures_of scopes) (all-listed scopes agrees))
 
     -- the one that is found by its number is listed
     pub structure_in-listed : (n : ℕ) (scopes : List Region) (c : Composition) → AgreesBy declared types structures depth scopes → structure_in scopes n ≡ Some c → IsListed declared types (made_so n c)

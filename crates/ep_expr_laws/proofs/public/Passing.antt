@@ -4,7 +4,7 @@ use Rattle.std.specs.Prelude.{⊤, if◌then◌else◌}
 use Rattle.std.proofs.lemmas.Option.{same_Some}
 use Rattle.std.specs.Option.{option_map}
 use Rattle.ep_typed.specs.Trees as tree
-use Rattle.ep_typed.specs.Trees.{Actual, Callee, Expr, actuals}
+use Rattle.ep_typed.specs.Trees.{Actual, Callee, Expr}
 use Rattle.ep_values.specs.TypeValues.{TypeValue}
 use Rattle.ep_meaning.specs.Valid as valid
 use Rattle.ep_meaning.specs.Valid.{Declarations, IsExpr, IsGiven}
@@ -264,13 +264,13 @@ module _ (declared : Declarations) (types : TypeValues) (structures : List Struc
 
   -- what is built of a call is valid
   function-form : (callee : Callee) (ps : List FormalParameter) (k : Kind) (s : IsFunctionOf declared types structures callee ps k) (xs : Option (List Actual))
-      → AreActuals declared (declared.types callee.unit) s.0.formals xs → IsFormOf declared types structures k (call_form callee k xs)
+      → AreActuals declared declared.types s.0.formals xs → IsFormOf declared types structures k (call_form callee k xs)
   function-form callee ps (kind.Ordinal h) s None x = s.2.1
   function-form callee ps (kind.Ordinal h) s (Some xs) x = (s.2.1, (s.0, s.1, s.2.0, x))
-  function-form callee ps (kind.Structured n) s None x = (declared.types callee.unit, s.2.3)
+  function-form callee ps (kind.Structured n) s None x = (declared.types, s.2.3)
   function-form callee ps (kind.Structured n) s (Some xs) x =
       let v = s.2.2.1 in
-      ((v.0, v.1, (s.0, s.1, record { result = s.2.0; has_result = s.2.1; has_kind = (v.2, v.1.1) }, x)), (declared.types callee.unit, s.2.3))
+      ((v.0, v.1, (s.0, s.1, record { result = s.2.0; has_result = s.2.1; has_kind = (v.2, v.1.1) }, x)), (declared.types, s.2.3))
   function-form callee ps (kind.Set h) s None x = s.2.1
   function-form callee ps (kind.Set h) s (Some xs) x = (s.2.1, (s.0, s.1, s.2.0, x))
   function-form callee ps kind.EmptySet s xs x = absurd s.2
@@ -280,5 +280,5 @@ module _ (declared : Declarations) (types : TypeValues) (structures : List Struc
   -- a call of a function that is accepted is valid
   pub function_called-fits : (callee : Callee) (ps : List FormalParameter) (k : Kind) (gs : List Given) → IsFunctionOf declared types structures callee ps k → AreGiven IsForm gs → Satisfies IsForm (function_called callee ps k gs)
   function_called-fits callee ps k gs s given =
-      then-satisfies (IsTaken (declared.types callee.unit) s.0.formals) IsForm (function_typed callee k) (arguments_judged ps gs) (arguments-fit (declared.types callee.unit) ps s.0.formals gs s.3 given)
+      then-satisfies (IsTaken declared.types s.0.formals) IsForm (function_typed callee k) (arguments_judged ps gs) (arguments-fit declared.types ps s.0.formals gs s.3 given)
       (λ t x. if-satisfies IsForm (nat_le (suc t.depth) limit.DEPTH) (Accepts _) (Breaks (rule.TOO_DEEP ∷ [])) (λ e. (function-form callee ps k s t.actuals x, tt)) tt)

@@ -42,8 +42,8 @@ module _ (declared : Declarations) where
 
   -- what says less of a denoter says less of a place
   pub place_wider : (P Q : List UnitType → Denoter → Type 0) (p : Place) → ((list : List UnitType) (d : Denoter) → P list d → Q list d) → IsPlaceWhere declared P p → IsPlaceWhere declared Q p
-  place_wider P Q (Variable unit number) f h = (h.0, h.1, f (declared.types unit) (denoter_of h.0.denoter) h.2)
-  place_wider P Q (Own up number) f h = (h.0, h.1, f declared.routine_types (denoter_of h.0.denoter) h.2)
+  place_wider P Q (Variable unit number) f h = (h.0, h.1, f declared.types (denoter_of h.0.denoter) h.2)
+  place_wider P Q (Own up number) f h = (h.0, h.1, f declared.types (denoter_of h.0.denoter) h.2)
   place_wider P Q (Standard file) f h = absurd h
   place_wider P Q (Indexed p x) f h = place_wider (IsComponentWhere P x) (IsComponentWhere Q x) p (λ list d c. (c.0, c.1, f list c.0.component c.2, c.3)) h
   place_wider P Q (Field p number) f h = place_wider (IsFieldWhere P number) (IsFieldWhere Q number) p (λ list d c. (c.0, c.1, c.2, c.3, f list c.2 c.4)) h
@@ -51,8 +51,8 @@ module _ (declared : Declarations) where
 
   -- some denoter is that of the place
   pub place_at : (P : List UnitType → Denoter → Type 0) (p : Place) → IsPlaceWhere declared P p → (list : List UnitType) × (d : Denoter) × P list d
-  place_at P (Variable unit number) h = (declared.types unit, denoter_of h.0.denoter, h.2)
-  place_at P (Own up number) h = (declared.routine_types, denoter_of h.0.denoter, h.2)
+  place_at P (Variable unit number) h = (declared.types, denoter_of h.0.denoter, h.2)
+  place_at P (Own up number) h = (declared.types, denoter_of h.0.denoter, h.2)
   place_at P (Standard file) h = absurd h
   place_at P (Indexed p x) h = let c = place_at (IsComponentWhere P x) p h in (c.0, c.2.0.component, c.2.2)
   place_at P (Field p number) h = let c = place_at (IsFieldWhere P number) p h in (c.0, c.2.2, c.2.4)

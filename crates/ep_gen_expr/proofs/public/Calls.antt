@@ -86,9 +86,9 @@ module _ {layout : Layout} {G : Image} {untouched : Slots} {Here : Facts} (ps : 
       fragment_less {n = suc n} (omega arith) (fragment_paid {d1 = d + 63 + weight_of r} {weight = 0} {w = weight_of r}
       (λ s matches. jump_jumps G (p.instructions.before + at) line operands (p.instructions.before + next) (omega (arith, room, inside)) (jump_has G ps p references line at next [] inside stands) memory s.trace) (omega arith) (omega arith) (omega arith) (fragment_give (omega arith) (inside_here top)))
 
-  module _ {declared : Declarations} (knows : KnowsNames declared Here) (types_are : declared.types declared.routine_unit ≡ declared.routine_types) (lasts : Lasts untouched Here) (among : AreAmong untouched (kept_slots layout G)) (call : Handler) (steady_call : IsSteadyHandler call) (g : ℕ) (unit : List ℕ) (n : ℕ) where
+  module _ {declared : Declarations} (knows : KnowsNames declared Here) (lasts : Lasts untouched Here) (among : AreAmong untouched (kept_slots layout G)) (call : Handler) (steady_call : IsSteadyHandler call) (g : ℕ) (unit : List ℕ) (n : ℕ) where
     -- the call, where the arguments are on the operands, and what comes after it
-    call_passes : {B : Type 0} {Then : B → Operands} {e : B → ℕ} {to : ℕ} {rest : List Result → Computation B} (line at : ℕ) (callee : Callee) (k : ℕ) (r : RoutineEntry) (keeps : RoutineKeeps layout G ps call n (declared.types callee.unit) (declared.around callee.unit callee.number) callee.unit callee.number r)
+    call_passes : {B : Type 0} {Then : B → Operands} {e : B → ℕ} {to : ℕ} {rest : List Result → Computation B} (line at : ℕ) (callee : Callee) (k : ℕ) (r : RoutineEntry) (keeps : RoutineKeeps layout G ps call n declared.types (declared.around callee.unit callee.number) callee.unit callee.number r)
         → IsDeclaredUp declared callee callee.levels → slice_get references k ≡ Some (reference callee.unit callee.number)
         → (is : List Instr) → CodeStands G ps p references at (instr op.CALL (pos k) callee.levels line ∷ is)
         → (injection : Injection) (memory : MachineMemory) (below operands : List Operand) (xs : List Argument) → AreArguments injection memory keeps.formals xs below operands
@@ -101,11 +101,11 @@ module _ {layout : Layout} {G : Image} {untouched : Slots} {Here : Facts} (ps : 
         record { instruction = instr op.CALL (pos keeps.routine) callee.levels line; stands = stands.0 ∙ ap (λ i. Some i) (rw named (keeps.placed (instr op.CALL (pos k) callee.levels line))); is_call = refl; names = refl; parent = refl; at_line = refl } in
         let called : Fragment layout G Here n (point injection memory place operands) (call.routine unit line callee xs) (place + 1) (λ rs. Inside untouched injection memory (ResultsOnTop keeps.results below rs)) 0 credit_of =
         subst (λ u. Fragment layout G Here n (point injection memory place operands) (call.routine u line callee xs) (place + 1) (λ rs. Inside untouched injection memory (ResultsOnTop keeps.results below rs)) 0 credit_of) home
-        (call_follows keeps.promise lasts among place callee.levels line calls injection memory (λ s held. callable (knows injection s memory held) types_are callee callee.levels is_declared) below operands xs are) in
+        (call_follows keeps.promise lasts among place callee.levels line calls injection memory (λ s held. callable (knows injection s memory held) callee callee.levels is_declared) below operands xs are) in
         inside_bind {e = λ rs. d + credit_of rs} steady (fragment_to {to2 = p.instructions.before + (at + 1)} (omega arith) (fragment_credit {d = 0} {e = credit_of} (omega arith) (λ rs. omega arith) called)) behind
 
     -- the actual parameters, the call, and what comes after it
-    pub passed_then : {B : Type 0} {Then : B → Operands} {e : B → ℕ} {to : ℕ} (line at : ℕ) (callee : Callee) (k : ℕ) (given : Actuals) (xs : List Instr) (r : RoutineEntry) (keeps : RoutineKeeps layout G ps call n (declared.types callee.unit) (declared.around callee.unit callee.number) callee.unit callee.number r)
+    pub passed_then : {B : Type 0} {Then : B → Operands} {e : B → ℕ} {to : ℕ} (line at : ℕ) (callee : Callee) (k : ℕ) (given : Actuals) (xs : List Instr) (r : RoutineEntry) (keeps : RoutineKeeps layout G ps call n declared.types (declared.around callee.unit callee.number) callee.unit callee.number r)
         → AreArgumentsFollowed layout G untouched Here p call g unit n keeps.formals given line at xs → IsDeclaredUp declared callee callee.levels → slice_get references k ≡ Some (reference callee.unit callee.number)
         → (is : List Instr) → CodeStands G ps p references at (xs ++ instr op.CALL (pos k) callee.levels line ∷ is)
         → (injection : Injection) (memory : MachineMemory) (below : List Operand) (d : ℕ) → least_credit ≤ d → unit_in G memory.frames ≡ unit
@@ -120,14 +120,14 @@ module _ {layout : Layout} {G : Image} {untouched : Slots} {Here : Facts} (ps : 
         (λ rs last final pushed grown2 routine2 top. behind rs last final pushed (grown_trans grown grown2) (same_routine-trans routine routine2) top))
 
     -- a function designator
-    pub function_follows : (kind : ValueKind) (line at : ℕ) (callee : Callee) (k : ℕ) (given : Actuals) (xs : List Instr) (r : RoutineEntry) (keeps : RoutineKeeps layout G ps call n (declared.types callee.unit) (declared.around callee.unit callee.number) callee.unit callee.number r) → IsFunction (declared.types callee.unit) kind r
+    pub function_follows : (kind : ValueKind) (line at : ℕ) (callee : Callee) (k : ℕ) (given : Actuals) (xs : List Instr) (r : RoutineEntry) (keeps : RoutineKeeps layout G ps call n declared.types (declared.around callee.unit callee.number) callee.unit callee.number r) → IsFunction declared.types kind r
         → AreArgumentsFollowed layout G untouched Here p call g unit n keeps.formals given line at xs → IsDeclaredUp declared callee callee.levels → slice_get references k ≡ Some (reference callee.unit callee.number)
         → CodeStands G ps p references at (xs ++ instr op.CALL (pos k) callee.levels line ∷ instr op.JUMP (pos (at + length xs + 2)) 0 line ∷ []) → at + length xs + 2 < p.instructions.own
         → IsFollowed layout G untouched Here p call g unit n kind (Function callee given) line at (xs ++ instr op.CALL (pos k) callee.levels line ∷ instr op.JUMP (pos (at + length xs + 2)) 0 line ∷ [])
     function_follows kind line at callee k given xs r keeps function follows is_declared named stands inside injection memory below d enough home =
         let jump : Instr = instr op.JUMP (pos (at + length xs + 2)) 0 line in
         let behind : CodeStands G ps p references (at + length xs) (instr op.CALL (pos k) callee.levels line ∷ jump ∷ []) = code_back G ps p references at xs (instr op.CALL (pos k) callee.levels line ∷ jump ∷ []) stands in
-        let kinds : keeps.results ≡ kind ∷ [] = one_kind (declared.types callee.unit) kind r.result function.result keeps.results function.has_result function.has_kind keeps.given in
+        let kinds : keeps.results ≡ kind ∷ [] = one_kind declared.types kind r.result function.result keeps.results function.has_result function.has_kind keeps.given in
         fragment_to {to = p.instructions.before + (at + length xs + 2)} (omega (arith, length-append xs (instr op.CALL (pos k) callee.levels line ∷ jump ∷ [])))
         (passed_then {Then = OnTop kind below} {e = λ a. d + 8 + weight_of a} line at callee k given xs r keeps follows is_declared named (jump ∷ []) stands injection memory below d enough home (one_result call g unit) (steady_one call g unit)
         (λ rs longer after pushed grown routine top.

@@ -46,7 +46,7 @@ use Rattle.ep_values.specs.Operations.{is_integer}
 use Rattle.ep_values.specs.Printing.{Result}
 use Rattle.ep_meaning.specs.Results.{given_by, misfit, suits, value_of, weight_of}
 use Rattle.ep_meaning.specs.Steady.{IsSteadyHandler}
-use Rattle.ep_meaning.specs.Steps.{Component, Computation, assigned, bind, component, component_number, has_ended, type_at, value_at}
+use Rattle.ep_meaning.specs.Steps.{Component, assigned, bind, component, component_number, has_ended, type_at, value_at}
 use Rattle.ep_meaning.specs.Steps as meaning
 use Rattle.ep_typed.specs.Trees.{AtRanges, Expr}
 use Rattle.ep_values.specs.TypeValues.{TypeValue}
@@ -62,7 +62,7 @@ holds_grown {injection = injection} {longer = longer} {s = s} {t = t} {memory = 
     lasts.by injection longer s t memory after (record { grown = grown_fewer among_every since.grown; routine = same_routine-fewer among_every since.routine; own = since.own; calls = since.calls }) here
 
 module _ (declared : Declarations) (layout : Layout) (G : Image) (untouched : Slots) (Here : Facts) (lasts : Lasts untouched Here) (ps : List Placement) (p : Placement) (references : List Reference) (call : Handler) (steady_call : IsSteadyHandler call) (g : ℕ) (unit : List ℕ) (line n : ℕ)
-    (fill : FillStands G ps unit (declared.first_private unit)) (fill_referred : IsFillReferred declared unit references)
+    (fill : FillStands G ps unit declared.first_private) (fill_referred : IsFillReferred declared unit references)
     (low high : ℤ) (small : IsTrue (is_integer low)) (large : IsTrue (is_integer high)) (of : TypeValue) (k : ValueKind) (of_kind : IsTypeOfKind k of) where
   -- The components with the indexes of ranges get the value of the one with an index that has it.
   ranges_follow : (from : ℤ) (f : ℕ) → component_at low high from ≡ Some f → (a : Component) (q : PlaceOf) (rest : List Operand) (r : Result) → suits (Some of) r ≡ true → given_by (Some of) (value_of r) ≡ Some r

@@ -35,7 +35,7 @@ use Rattle.ep_values.specs.Operations.{decides, is_integer}
 use Rattle.ep_values.specs.Printing.{Result, number_of}
 use Rattle.ep_values.specs.Printing as result
 use Rattle.ep_typed.specs.Denoters.{bare_type_of}
-use Rattle.ep_meaning.specs.Steps.{Component, Computation, bind, give, spend, component, component_number, type_at, own_variable, has_ended}
+use Rattle.ep_meaning.specs.Steps.{Component, Computation, bind, component, component_number, type_at, own_variable, has_ended}
 use Rattle.ep_typed.specs.Selections.{variant_number}
 use Rattle.ep_meaning.specs.Steps as meaning
 use Rattle.ep_typed.specs.Trees as tree
@@ -110,10 +110,10 @@ module _ {declared : Declarations} {layout : Layout} {G : Image} {untouched : Sl
       (unit_reads layout G place line below variable.number number variable.image_unit v t has variable.there variable.within (ap (λ u. layout.variables u number) variable.named ∙ is_declared) (subst (λ u. HasType layout u v t) (sym variable.named) has_type) injection memory s matches here))
 
   -- the place of a variable that is declared, by `Unit`
-  variable_follows : (n : ℕ) (of_unit : List ℕ) (k : ℕ) (v : UnitVariable) (t : TypeValue) → declared.variables of_unit k ≡ Some v → HasTypeUnder (declared.types of_unit) v t → (line at : ℕ) (code : List Instr) → IsPlaceCode texts references line at (Variable of_unit k) code → CodeStands G ps p references at code → IsPlaceFollowed layout G untouched Here p call g unit n t (Variable of_unit k) line at code
+  variable_follows : (n : ℕ) (of_unit : List ℕ) (k : ℕ) (v : UnitVariable) (t : TypeValue) → declared.variables of_unit k ≡ Some v → HasTypeUnder declared.types v t → (line at : ℕ) (code : List Instr) → IsPlaceCode texts references line at (Variable of_unit k) code → CodeStands G ps p references at code → IsPlaceFollowed layout G untouched Here p call g unit n t (Variable of_unit k) line at code
   variable_follows n of_unit k v t is_declared has_type line at code (r, there, is) stands injection memory below d le unit_is =
       let variable : VariableStands G ps of_unit k = scene.variables_stand of_unit k v is_declared in
-      let laid : IsLaidOut layout (declared.types of_unit) of_unit k v = scene.laid_out of_unit k v is_declared in
+      let laid : IsLaidOut layout declared.types of_unit k v = scene.laid_out of_unit k v is_declared in
       let has : CodeStands G ps p references at (instr op.UNIT (pos r) 0 line ∷ []) = subst (λ c. CodeStands G ps p references at c) is stands in
       fragment_less {n = suc n} (omega arith) (fragment_to (omega (arith, ap length is)) (fragment_fetch {n = n} (λ s. s.variables of_unit k) (λ m. m) (λ s matches here. unit_finds (p.instructions.before + at) line k of_unit laid.variable t laid.there (laid_type laid t has_type) variable (variable_at G ps p references line r (p.instructions.before + at) k of_unit variable there has.0) injection memory below unit_is s matches here) (omega (arith, le)) (λ m. omega arith)))
 
@@ -249,7 +249,7 @@ module _ {declared : Declarations} {layout : Layout} {G : Image} {untouched : Sl
         fragment_to (ap (λ m. p.instructions.before + m) (sym ends))
         (active_follows layout G untouched Here ps p references call g unit room line (at + length xs) k s ts t low high has_tag has_variant has inside n longer after below a b spot described (unit_in-same G routine ∙ unit_is) d le))
 
-    module _ (lasts : Lasts untouched Here) (among : AreAmong untouched (kept_slots layout G)) (n : ℕ) (kept : CallsAreKept declared layout G ps call n) (unit_is : unit ≡ declared.routine_unit) (referred : AreReferred declared unit declared.routine_types references) (swap_referred : IsSwapReferred declared unit references) (arrays_referred : AreArraysReferred declared unit references) where
+    module _ (lasts : Lasts untouched Here) (among : AreAmong untouched (kept_slots layout G)) (n : ℕ) (kept : CallsAreKept declared layout G ps call n) (unit_is : unit ≡ declared.home) (referred : AreReferred declared unit declared.types references) (swap_referred : IsSwapReferred declared unit references) (arrays_referred : AreArraysReferred declared unit references) where
       mutual
         -- What the machine does from the code of a place follows the meaning of the place.
         pub place_follows : (q : Place) → IsValidPlace declared q → (t : TypeValue) → HasPlaceType declared q t → (line at : ℕ) (code : List Instr) → IsPlaceCode texts references line at q code → CodeStands G ps p references at code → at + length code < p.instructions.own → IsPlaceFollowed layout G untouched Here p call g unit n t q line at code
@@ -343,10 +343,10 @@ module _ {declared : Declarations} {layout : Layout} {G : Image} {untouched : Sl
         expression_follows kind (Function callee given) (r, is_callee, is_function, are_given) line at code (xs, k, given_code, named, is) stands inside =
             let all : CodeStands G ps p references at (xs ++ instr op.CALL (pos k) callee.levels line ∷ instr op.JUMP (pos (at + length xs + 2)) 0 line ∷ []) = subst (λ c. CodeStands G ps p references at c) is stands in
             let ends : length code ≡ length xs + 2 = omega (arith, ap length is, length-append xs (instr op.CALL (pos k) callee.levels line ∷ instr op.JUMP (pos (at + length xs + 2)) 0 line ∷ [])) in
-            let keeps : RoutineKeeps layout G ps call n (declared.types callee.unit) (declared.around callee.unit callee.number) callee.unit callee.number r = routine_kept kept callee.unit callee.number r is_callee.there in
+            let keeps : RoutineKeeps layout G ps call n declared.types (declared.around callee.unit callee.number) callee.unit callee.number r = routine_kept kept callee.unit callee.number r is_callee.there in
             followed_as n kind kind (Function callee given) line at code (xs ++ instr op.CALL (pos k) callee.levels line ∷ instr op.JUMP (pos (at + length xs + 2)) 0 line ∷ []) refl is
-            (function_follows ps p references room knows scene.own_types_are lasts among call steady_call g unit n kind line at callee k given xs r keeps is_function
-            (arguments_follow (declared.types callee.unit) r.formals keeps.formals given keeps.passed are_given line at xs given_code (code_front G ps p references at xs (instr op.CALL (pos k) callee.levels line ∷ instr op.JUMP (pos (at + length xs + 2)) 0 line ∷ []) all) (omega (arith, ends, inside)))
+            (function_follows ps p references room knows lasts among call steady_call g unit n kind line at callee k given xs r keeps is_function
+            (arguments_follow declared.types r.formals keeps.formals given keeps.passed are_given line at xs given_code (code_front G ps p references at xs (instr op.CALL (pos k) callee.levels line ∷ instr op.JUMP (pos (at + length xs + 2)) 0 line ∷ []) all) (omega (arith, ends, inside)))
             is_callee.declared_up named all (omega (arith, ends, inside)))
         expression_follows kind (IndexedValue x y) (low, high, of, is_x, of_kind, (h, of_host, is_y)) line at code (xs, ys, x_code, y_code, is) stands inside =
             let index : Instr = bare line op.INDEX in
@@ -382,11 +382,11 @@ module _ {declared : Declarations} {layout : Layout} {G : Image} {untouched : Sl
         expression_follows kind (tree.Structured number es) (d, is_kind, structured, are) line at code (xs, es_code, is) stands inside =
             let all : CodeStands G ps p references at (begin_code line number ++ (xs ++ end_code line)) = subst (λ c. CodeStands G ps p references at c) is stands in
             let ends : length code ≡ 7 + length xs = omega (arith, ap length is, length-append xs (end_code line)) in
-            let some : 0 < length declared.routine_types = omega (arith, named_within declared.routine_types number d.type_value d.typed) in
+            let some : 0 < length declared.types = omega (arith, named_within declared.types number d.type_value d.typed) in
             let here : CodeStands G ps p references (at + 4) (xs ++ end_code line) = subst (λ i. CodeStands G ps p references i (xs ++ end_code line)) {x = at + 1 + 1 + 1 + 1} {y = at + 4} (omega arith) all.1.1.1.1 in
             followed_as n kind (Structured (bare_of d.type_value)) (tree.Structured number es) line at code (begin_code line number ++ (xs ++ end_code line)) is_kind is
-            (structured_follows declared layout G untouched Here lasts among ps p references call steady_call n kept g unit line declared.routine_types (unit_is, refl) referred swap_referred number d.type_value d.typed structured es at xs
-            (elements_follow (swap_kept kept unit declared.routine_types (unit_is, refl) some) (arrays_kept kept unit declared.routine_types (unit_is, refl) some) (bare_of d.type_value) es are line (at + 4) xs es_code (code_front G ps p references (at + 4) xs (end_code line) here) (omega (arith, ends, inside))) all)
+            (structured_follows declared layout G untouched Here lasts among ps p references call steady_call n kept g unit line declared.types (unit_is, refl) referred swap_referred number d.type_value d.typed structured es at xs
+            (elements_follow (swap_kept kept unit declared.types (unit_is, refl) some) (arrays_kept kept unit declared.types (unit_is, refl) some) (bare_of d.type_value) es are line (at + 4) xs es_code (code_front G ps p references (at + 4) xs (end_code line) here) (omega (arith, ends, inside))) all)
         expression_follows kind (SetOf ds) (h, is_kind, are) line at code (xs, members, is) stands inside =
             let none : Instr = bare line op.SET_NONE in
             let all : CodeStands G ps p references at (none ∷ xs) = subst (λ c. CodeStands G ps p references at c) is stands in
@@ -414,7 +414,7 @@ module _ {declared : Declarations} {layout : Layout} {G : Image} {untouched : Sl
             (expression_follows (Set h) x is_x line at xs x_code (code_front G ps p references at xs (card ∷ []) all) (omega (arith, ends, inside))) last.0)
 
         -- What a component of a structured value is given, where the unit has the routines that it calls.
-        element_follows : SwapStands G ps unit (declared.first_private unit) → ArrayRoutinesStand G ps unit (declared.first_private unit) → (t : TypeValue) (e : Element) → IsElement declared t e → (line at : ℕ) (is : List Instr) → IsElementCode texts references line at e is → CodeStands G ps p references at is → at + length is < p.instructions.own
+        element_follows : SwapStands G ps unit declared.first_private → ArrayRoutinesStand G ps unit declared.first_private → (t : TypeValue) (e : Element) → IsElement declared t e → (line at : ℕ) (is : List Instr) → IsElementCode texts references line at e is → CodeStands G ps p references at is → at + length is < p.instructions.own
             → IsElementFollowed layout G untouched Here lasts ps p references call steady_call g unit line n t e at is
         element_follows swap arrays (type.Ordinal low high) e valid line at code is stands inside = absurd valid
         element_follows swap arrays type.Text e valid line at code is stands inside = absurd valid
@@ -477,7 +477,7 @@ module _ {declared : Declarations} {layout : Layout} {G : Image} {untouched : Sl
             (same_field_follows declared layout G untouched Here lasts ps p references call steady_call g unit line n swap swap_referred ts from to k source goal at (subst (λ c. CodeStands G ps p references at c) is stands))
 
         -- The indexes of ranges, in order.
-        ranges_follow : SwapStands G ps unit (declared.first_private unit) → (arrays : ArrayRoutinesStand G ps unit (declared.first_private unit)) → (low high : ℤ) → IsTrue (is_integer low) → IsTrue (is_integer high) → (of : TypeValue) (k : ValueKind) → IsTypeOfKind k of
+        ranges_follow : SwapStands G ps unit declared.first_private → (arrays : ArrayRoutinesStand G ps unit declared.first_private) → (low high : ℤ) → IsTrue (is_integer low) → IsTrue (is_integer high) → (of : TypeValue) (k : ValueKind) → IsTypeOfKind k of
             → (h : Host) (ds : Designators) → AreDesignators declared h ds → (line at : ℕ) (is : List Instr) → AreIndexesCode texts references line at ds is → CodeStands G ps p references at is → at + length is < p.instructions.own
             → AreRangesFollowed layout G untouched Here p call g unit line n low high of ds at is
         ranges_follow swap arrays low high small large of k of_kind h no_member are line at is code stands inside = code
@@ -492,7 +492,7 @@ module _ {declared : Declarations} {layout : Layout} {G : Image} {untouched : Sl
             )
 
         -- The indexes of one.
-        span_follows : SwapStands G ps unit (declared.first_private unit) → (arrays : ArrayRoutinesStand G ps unit (declared.first_private unit)) → (low high : ℤ) → IsTrue (is_integer low) → IsTrue (is_integer high) → (of : TypeValue) (k : ValueKind) → IsTypeOfKind k of
+        span_follows : SwapStands G ps unit declared.first_private → (arrays : ArrayRoutinesStand G ps unit declared.first_private) → (low high : ℤ) → IsTrue (is_integer low) → IsTrue (is_integer high) → (of : TypeValue) (k : ValueKind) → IsTypeOfKind k of
             → (h : Host) (d : Designator) → IsDesignator declared h d → (line at : ℕ) (is : List Instr) → IsRangeCode texts references line at d is → CodeStands G ps p references at is → at + length is < p.instructions.own
             → IsRangeFollowed layout G untouched Here p call g unit line n low high of d at is
         span_follows swap arrays low high small large of k of_kind h (Single x) is_x line at code (xs, x_code, is) stands inside =
@@ -512,7 +512,7 @@ module _ {declared : Declarations} {layout : Layout} {G : Image} {untouched : Sl
             (expression_follows (Ordinal h) y is_y line (at + length xs) ys y_code (code_front G ps p references (at + length xs) ys last (code_back G ps p references at xs (ys ++ last) all)) (omega (arith, ends, inside))) all)
 
         -- What components are given, in order.
-        elements_follow : SwapStands G ps unit (declared.first_private unit) → ArrayRoutinesStand G ps unit (declared.first_private unit) → (t : TypeValue) (es : Elements) → AreElements declared t es → (line at : ℕ) (is : List Instr) → AreElementsCode texts references line at es is → CodeStands G ps p references at is → at + length is < p.instructions.own
+        elements_follow : SwapStands G ps unit declared.first_private → ArrayRoutinesStand G ps unit declared.first_private → (t : TypeValue) (es : Elements) → AreElements declared t es → (line at : ℕ) (is : List Instr) → AreElementsCode texts references line at es is → CodeStands G ps p references at is → at + length is < p.instructions.own
             → AreElementsFollowed layout G untouched Here lasts ps p references call steady_call g unit line n t es at is
         elements_follow swap arrays t no_element valid line at is code stands inside = no_element_follows layout G untouched Here lasts ps p references call steady_call g unit line n t at is code
         elements_follow swap arrays t (next_element e es) (valid, others) line at is (xs, ys, e_code, es_code, parts) stands inside =
@@ -580,14 +580,14 @@ module _ {declared : Declarations} {layout : Layout} {G : Image} {untouched : Sl
             (arguments_follow types fs formals given passed.1 valid.1 line (at + length h.0) h.1 h.3 (code_back G ps p references at h.0 h.1 all) (omega (arith, ends, inside)))
 
       -- The actual parameters, the call, and what comes after it. Where the results lie on the operands behind the call, in a memory that has grown, what comes after it is followed from there.
-      pub call_then : {B : Type 0} {Then : B → Operands} {e : B → ℕ} {to : ℕ} (line at : ℕ) (callee : Callee) (k : ℕ) (given : Actuals) (xs : List Instr) (r : RoutineEntry) (keeps : RoutineKeeps layout G ps call n (declared.types callee.unit) (declared.around callee.unit callee.number) callee.unit callee.number r)
-          → AreGiven declared (declared.types callee.unit) r.formals given → AreActualsCode texts references line at given xs → IsDeclaredUp declared callee callee.levels → slice_get references k ≡ Some (reference callee.unit callee.number)
+      pub call_then : {B : Type 0} {Then : B → Operands} {e : B → ℕ} {to : ℕ} (line at : ℕ) (callee : Callee) (k : ℕ) (given : Actuals) (xs : List Instr) (r : RoutineEntry) (keeps : RoutineKeeps layout G ps call n declared.types (declared.around callee.unit callee.number) callee.unit callee.number r)
+          → AreGiven declared declared.types r.formals given → AreActualsCode texts references line at given xs → IsDeclaredUp declared callee callee.levels → slice_get references k ≡ Some (reference callee.unit callee.number)
           → CodeStands G ps p references at (xs ++ instr op.CALL (pos k) callee.levels line ∷ instr op.JUMP (pos (at + length xs + 2)) 0 line ∷ []) → at + length xs + 2 < p.instructions.own
           → (injection : Injection) (memory : MachineMemory) (below : List Operand) (d : ℕ) → least_credit ≤ d → unit_in G memory.frames ≡ unit
           → (rest : List Result → Computation B) → ((rs : List Result) → Steady (rest rs))
           → ((rs : List Result) (longer : Injection) (after : MachineMemory) (pushed : List Operand) → Grown untouched injection memory longer after → SameRoutine untouched memory.frames after.frames → ResultsOnTop keeps.results below rs longer after pushed → Fragment layout G Here n (point longer after (p.instructions.before + (at + length xs + 1)) pushed) (rest rs) to (λ b. Inside untouched longer after (Then b)) (d + credit_of rs) e)
           → Fragment layout G Here n (point injection memory (p.instructions.before + at) below) (bind (arguments call g unit line given) (λ vs. bind (call.routine unit line callee vs) rest)) to (λ b. Inside untouched injection memory (Then b)) d e
       call_then line at callee k given xs r keeps valid is_code is_declared named stands inside injection memory below d enough home rest steady behind =
-          passed_then ps p references room knows scene.own_types_are lasts among call steady_call g unit n line at callee k given xs r keeps
-          (arguments_follow (declared.types callee.unit) r.formals keeps.formals given keeps.passed valid line at xs is_code (code_front G ps p references at xs (instr op.CALL (pos k) callee.levels line ∷ instr op.JUMP (pos (at + length xs + 2)) 0 line ∷ []) stands) (omega (arith, inside)))
+          passed_then ps p references room knows lasts among call steady_call g unit n line at callee k given xs r keeps
+          (arguments_follow declared.types r.formals keeps.formals given keeps.passed valid line at xs is_code (code_front G ps p references at xs (instr op.CALL (pos k) callee.levels line ∷ instr op.JUMP (pos (at + length xs + 2)) 0 line ∷ []) stands) (omega (arith, inside)))
           is_declared named (instr op.JUMP (pos (at + length xs + 2)) 0 line ∷ []) stands injection memory below d enough home rest steady behind

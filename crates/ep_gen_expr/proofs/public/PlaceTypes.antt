@@ -37,8 +37,8 @@ IsVariantWhere declared Holds s number types d =
 
 -- what holds of the denoter of a place may be less
 place_less : (declared : Declarations) (Holds Less : List UnitType → Denoter → Type 0) → ((types : List UnitType) (d : Denoter) → Holds types d → Less types d) → (q : Place) → IsPlaceWhere declared Holds q → IsPlaceWhere declared Less q
-place_less declared Holds Less less (Variable unit k) (v, is_declared, holds) = (v, is_declared, less (declared.types unit) (denoter_of v.denoter) holds)
-place_less declared Holds Less less (Own up k) (v, is_declared, holds) = (v, is_declared, less declared.routine_types (denoter_of v.denoter) holds)
+place_less declared Holds Less less (Variable unit k) (v, is_declared, holds) = (v, is_declared, less declared.types (denoter_of v.denoter) holds)
+place_less declared Holds Less less (Own up k) (v, is_declared, holds) = (v, is_declared, less declared.types (denoter_of v.denoter) holds)
 place_less declared Holds Less less (Standard file) is = absurd is
 place_less declared Holds Less less (Indexed q x) is =
     place_less declared (IsArrayWhere declared Holds x) (IsArrayWhere declared Less x) (λ types d holds. (holds.0, holds.1, less types (holds.0).component holds.2, holds.3)) q is
@@ -137,8 +137,8 @@ module _ (declared : Declarations) (types_valid : HaveValidTypes declared) (own_
       record {
         valid = (v, is_declared, tt);
         type_value = valid.type_value;
-        has_type = (v, is_declared, (valid.type_value, typed_instance (declared.types unit) (denoter_of v.denoter) valid.type_value valid.typed, refl));
-        types = declared.types unit;
+        has_type = (v, is_declared, (valid.type_value, typed_instance declared.types (denoter_of v.denoter) valid.type_value valid.typed, refl));
+        types = declared.types;
         denoter = denoter_of v.denoter;
         holds = holds;
         typed = valid.typed;
@@ -148,8 +148,8 @@ module _ (declared : Declarations) (types_valid : HaveValidTypes declared) (own_
       record {
         valid = (v, is_declared, tt);
         type_value = valid.type_value;
-        has_type = (v, is_declared, (valid.type_value, typed_instance declared.routine_types (denoter_of v.denoter) valid.type_value valid.typed, refl));
-        types = declared.routine_types;
+        has_type = (v, is_declared, (valid.type_value, typed_instance declared.types (denoter_of v.denoter) valid.type_value valid.typed, refl));
+        types = declared.types;
         denoter = denoter_of v.denoter;
         holds = holds;
         typed = valid.typed;

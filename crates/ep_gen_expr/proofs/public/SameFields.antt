@@ -42,7 +42,7 @@ use Rattle.ep_values.specs.TypeValues as type
 use Rattle.ep_meaning.specs.Valid.{Declarations, IsTypeOfKind, ValueKind, LeadToKind}
 
 module _ (declared : Declarations) (layout : Layout) (G : Image) (untouched : Slots) (Here : Facts) (lasts : Lasts untouched Here) (ps : List Placement) (p : Placement) (references : List Reference) (call : Handler) (steady_call : IsSteadyHandler call) (g : ℕ) (unit : List ℕ) (line n : ℕ)
-    (swap : SwapStands G ps unit (declared.first_private unit)) (swap_referred : IsSwapReferred declared unit references) where
+    (swap : SwapStands G ps unit declared.first_private) (swap_referred : IsSwapReferred declared unit references) where
   -- Two operands change places, for which the depth counts.
   pub swapped_follows : {A : Type 0} {c : Computation A} {to : ℕ} {P : A → After} {e : A → ℕ} (place : ℕ) → CallsAt G place swap.routine 0 line → (injection : Injection) (memory : MachineMemory) (x y : Operand) (below : List Operand) (d : ℕ) → Steady c
       → Fragment layout G Here n (point injection memory (place + 1) (x ∷ y ∷ below)) c to P d e

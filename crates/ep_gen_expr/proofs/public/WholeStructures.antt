@@ -66,10 +66,10 @@ module _ (declared : Declarations) (layout : Layout) (G : Image) (untouched : Sl
     within : number < length types
     within = named_within types number t typed
 
-    keeps : TypeKeeps layout G ps call n (declared.first_private unit) unit number t
+    keeps : TypeKeeps layout G ps call n declared.first_private unit number t
     keeps = type_kept kept unit types at_home number t typed
 
-    swap : SwapStands G ps unit (declared.first_private unit)
+    swap : SwapStands G ps unit declared.first_private
     swap = swap_kept kept unit types at_home (omega (arith, within))
 
     abbrev place : ℕ

@@ -112,7 +112,7 @@ module _ (declared : Declarations) (layout : Layout) (G : Image) (untouched : Sl
     -- a name, by a call of the routine that elaborates its type
     named_elaborates : (at index : ℕ) (t : TypeValue) → IsTyped types (Named index []) t → index < length types → IsElaborated at (instr op.CALL (pos (type_reference index)) 0 line ∷ []) t (call.named_type unit line index)
     named_elaborates at index t typed within stands injection memory below d enough home =
-        let keeps : TypeKeeps layout G ps call n (declared.first_private unit) unit index t = type_kept kept unit types at_home index t typed in
+        let keeps : TypeKeeps layout G ps call n declared.first_private unit index t = type_kept kept unit types at_home index t typed in
         let place : ℕ = p.instructions.before + at in
         let calls : CallsAt G place keeps.routine 0 line =
         record { instruction = instr op.CALL (pos keeps.routine) 0 line; stands = stands.0 ∙ ap (λ i. Some i) (rw (referred index within) (keeps.placed (instr op.CALL (pos (type_reference index)) 0 line))); is_call = refl; names = refl; parent = refl; at_line = refl } in

@@ -1,13 +1,17 @@
 -- The machine follows a whole program.
-use Rattle.std.proofs.Common.{◌≡◌, ℕ, ◌+◌, ◌<◌, false, [], ◌∷◌, ◌++◌, length, length-append, Some, refl, sym, ap, ◌∙◌, subst, arith}
+use Rattle.std.proofs.Common.{◌≡◌, ℕ, zero, suc, ◌+◌, ◌<◌, Bool, true, false, if◌then◌else◌, bytes_eq, map, slice_get, [], ◌∷◌, ◌++◌, length, length-append, Some, refl, sym, ap, ◌∙◌, subst, arith}
 use Rattle.std.proofs.lemmas.Bool.{lt-ltb}
 use Rattle.ep_gen_unit.specs.StmtCode.{make_all_code, return_code}
 use Rattle.ep_gen_unit.specs.UnitCode.{IsUnitCode, plain_at}
+use Rattle.ep_gen_unit.proofs.Declared.{same_name}
 use Rattle.ep_gen_unit.proofs.Routines.{routines_kept}
 use Rattle.ep_gen_unit.proofs.Units.{start_is, unit_simulates, routine_there as routine_of_object}
 use Rattle.ep_simulation.specs.Layouts.{layout_of}
-use Rattle.ep_simulation.specs.Scene.{AreLaidOut}
+use Rattle.ep_simulation.specs.Joined.{HaveOwnNames, IsFound}
+use Rattle.ep_simulation.specs.Promises.{OthersAreKept, RoutineKeeps}
+use Rattle.ep_simulation.specs.Scene.{AreLaidOut, GivenStand}
 use Rattle.ep_simulation.proofs.public.Joined.{among_alone}
+use Rattle.ep_simulation.proofs.public.matching.LaidOut.{laid_among}
 use Rattle.ep_simulation.proofs.public.Alone.{placements_alone, stands-alone, distinct-alone}
 use Rattle.ep_simulation.proofs.public.matching.Beginning.{first_memory, first_injection, first_matches}
 use Rattle.ep_simulation.proofs.public.following.Bind.{follows_bind, follows_stop}
@@ -25,12 +29,12 @@ use Rattle.ep_object.specs.State.{State, Frames, End, Running, Stopped, Normal, 
 use Rattle.ep_simulation.specs.Tells.{Tells, TellsAtEnd, AreClose, spare_ticks}
 use Rattle.ep_object.specs.declared.code.Object.{Object}
 use Rattle.ep_meaning.proofs.public.Steady.{steady_stop, steady_handler_of}
-use Rattle.ep_typed.specs.Routines.{made_by_unit}
+use Rattle.ep_typed.specs.Routines.{heading_of, made_by_unit}
 use Rattle.ep_values.specs.Events.{Trace}
 use Rattle.ep_meaning.specs.Meaning.{handler_of, starts_of, meaning as meaning_of}
 use Rattle.ep_meaning.specs.Steps as meaning
 use Rattle.ep_meaning.specs.Steps.{stop}
-use Rattle.ep_meaning.specs.Valid.{IsValid, own}
+use Rattle.ep_meaning.specs.Units.{GivenUnit, IsValid, own}
 use Rattle.ep_typed.specs.declared.unit.Unit.{Unit as TypedUnit}
 
 module _ (u : TypedUnit) (o : Object) (is : IsUnitCode u o) where
@@ -75,16 +79,36 @@ module _ (u : TypedUnit) (o : Object) (is : IsUnitCode u o) where
       let turn : k.frames.turn ≡ 0 = ap (λ (l : State). l.frames.turn) lands.is ∙ routine.turn in
       leaves_enters leaves ∙ (ap (λ n. record { weight = 0; to = enter (alone o) (n + 1) k }) turn ∙ ap (λ (l : State). record { weight = 0; to = Stopped Normal l.trace }) lands.is)
 
+  -- nothing is given to it
+  none_given : (i : ℕ) (g : GivenUnit) → slice_get {X = GivenUnit} [] i ≡ Some g → IsFound (u ∷ []) u.types g
+  none_given i g at = cc
+
+  none_stand : GivenStand (alone o) (placements_alone o) []
+  none_stand unit k v h = cc
+
+  own_names : HaveOwnNames (u ∷ [])
+  own_names zero zero a b p q same = refl
+  own_names zero (suc j) a b p q same = cc
+  own_names (suc i) j a b p q same = cc
+
+  none_else : (m : ℕ) → OthersAreKept (own u) (layout_of (u ∷ [])) (alone o) (placements_alone o) (handler_of (u ∷ []) m) m
+  none_else m unit different number r h = go (bytes_eq u.name unit) refl h
+    where
+      go : (b : Bool) → bytes_eq u.name unit ≡ b → slice_get (if b then map heading_of u.routines else []) number ≡ Some r
+          → RoutineKeeps (layout_of (u ∷ [])) (alone o) (placements_alone o) (handler_of (u ∷ []) m) m u.types ((own u).around unit number) unit number r
+      go true e h = absurd (different (sym (same_name u.name unit e)))
+      go false e h = cc
+
   -- the only unit is laid out as it declares
   laid : AreLaidOut (own u) (layout_of (u ∷ []))
-  laid unit number v is_declared = record { variable = v; there = is_declared; into = λ t i. i; back = λ t i. i }
+  laid = laid_among (u ∷ []) own_names u 0 refl [] none_given
 
-  module _ (valid : IsValid u) where
+  module _ (valid : IsValid [] u) where
     -- the machine follows the meaning of the program
     pub program_follows : (n : ℕ) → Follows (λ k. IsNotLeft start_frames k.frames) (alone o) n start_state meaning.first_state (starts_of (handler_of (u ∷ []) n) n (u ∷ []) (stop meaning.Normal)) Never spare_ticks (λ a. 41)
     program_follows n =
         follows_bind {e = λ a. 41} (λ a. steady_stop meaning.Normal)
-        (simulation_follows (unit_simulates u o is (alone o) (placements_alone o) (first_placement o) (stands-alone o) valid (distinct-alone o) (layout_of (u ∷ [])) laid (handler_of (u ∷ []) n) (steady_handler_of (u ∷ []) n) n (routines_kept u o is valid (alone o) (placements_alone o) (first_placement o) (stands-alone o) (distinct-alone o) (u ∷ []) (among_alone u) (layout_of (u ∷ [])) laid n)) first_injection (first_memory start_frames) [] meaning.first_state start_state enters)
+        (simulation_follows (unit_simulates u o is (alone o) (placements_alone o) (first_placement o) (stands-alone o) [] valid none_stand (distinct-alone o) (layout_of (u ∷ [])) laid (handler_of (u ∷ []) n) (steady_handler_of (u ∷ []) n) n (routines_kept [] u o is valid (alone o) (placements_alone o) (first_placement o) (stands-alone o) (distinct-alone o) (u ∷ []) (among_alone u) none_stand (layout_of (u ∷ [])) laid n (λ m le. none_else m))) first_injection (first_memory start_frames) [] meaning.first_state start_state enters)
         (λ a s k leaves. let lands = leaves.lands in let inside = lands.post in follows_stop {v = 0} (subst (λ (l : State). IsNotLeft start_frames l.frames) (sym lands.is) (not_left-same inside.routine)) (ends s k leaves) (omega arith))
 
     -- What a run of the program's image tells of the meaning of the program.

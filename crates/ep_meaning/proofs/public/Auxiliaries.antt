@@ -95,7 +95,7 @@ withs_of_routine r k =
 pub withs_of_unit : (u : TypedUnit) (k : ℕ) → slice_get (unit_variables u) (length (made_by_unit u) + k) ≡ slice_get (with_variables (unit_block u)) k
 withs_of_unit u k = get_behind (made_by_unit u) (with_variables (unit_block u)) k
 
-module _ (declared : Declarations) (types : List UnitType) (own_types : declared.routine_types ≡ types) (unit_types : declared.types declared.routine_unit ≡ types) (valid : All (IsType types) types) where
+module _ (declared : Declarations) (types : List UnitType) (of_types : declared.types ≡ types) (valid : All (IsType types) types) where
   -- the variables have valid denoters
   abbrev pub AreDenoted : List UnitVariable → Type 0
   AreDenoted vs = (k : ℕ) (v : UnitVariable) → slice_get vs k ≡ Some v → IsDenoter types (denoter_of v.denoter)
@@ -124,8 +124,8 @@ module _ (declared : Declarations) (types : List UnitType) (own_types : declared
 
   -- the type value of the variable that stands for a place
   its_type : (v : Entire) (of : ℕ) (t : TypeValue) → IsUnmade declared v → IsPlaceWhere declared (λ ts d. (d ≡ Named of []) × (bare_type_of ts d ≡ Some t)) (entire v) → bare_type_of types (Named of []) ≡ Some t
-  its_type (OfUnit unit k) of t (no_level, unit_is, unmade) (w, there, is) = ap (λ ts. bare_type_of ts (Named of [])) (sym (ap declared.types unit_is ∙ unit_types)) ∙ (ap (bare_type_of (declared.types unit)) (sym is.0) ∙ is.1)
-  its_type (OfRoutine zero k) of t unmade (w, there, is) = ap (λ ts. bare_type_of ts (Named of [])) (sym own_types) ∙ (ap (bare_type_of declared.routine_types) (sym is.0) ∙ is.1)
+  its_type (OfUnit unit k) of t (no_level, unit_is, unmade) (w, there, is) = ap (λ ts. bare_type_of ts (Named of [])) (sym of_types) ∙ (ap (bare_type_of declared.types) (sym is.0) ∙ is.1)
+  its_type (OfRoutine zero k) of t unmade (w, there, is) = ap (λ ts. bare_type_of ts (Named of [])) (sym of_types) ∙ (ap (bare_type_of declared.types) (sym is.0) ∙ is.1)
   its_type (OfRoutine (suc up) k) of t unmade is = absurd unmade
 
   one_denoted : (line of : ℕ) (v : Entire) (p : Place) → IsWith declared v of p → IsDenoter types (denoter_of (with_variable line of).denoter)

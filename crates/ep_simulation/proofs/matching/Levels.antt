@@ -15,7 +15,7 @@ use Rattle.ep_object.specs.declared.state.Place.{Place}
 use Rattle.ep_simulation.proofs.matching.Changes.{slot-grown}
 use Rattle.ep_object.proofs.public.Elements.{slice_get-pushed}
 use Rattle.ep_simulation.proofs.public.matching.MoreMemory.{slice_get-prefix, describes-grown}
-use Rattle.ep_meaning.specs.Steps.{Call, Variables, named_in, around_by}
+use Rattle.ep_meaning.specs.Steps.{Call, named_in}
 use Rattle.ep_meaning.specs.Steps as meaning
 use Rattle.ep_meaning.specs.Valid.{Declarations, Level}
 use Rattle.ep_typed.specs.declared.unit.UnitType.{UnitType}
@@ -183,11 +183,11 @@ pub around-lasts : {untouched : Slots} (declared : Declarations) → Lasts untou
 around-lasts {untouched = untouched} declared = record { by = λ injection longer s t memory after g h up level is. go injection longer s t memory after g up level (h up level is) }
   where
     go : (injection longer : Injection) (s t : meaning.State) (memory after : MachineMemory) → HasGrown untouched injection s memory longer t after
-        → (up : ℕ) (level : Level) → LevelMatches declared.routine_types level injection s.calls memory (suc up) → LevelMatches declared.routine_types level longer t.calls after (suc up)
+        → (up : ℕ) (level : Level) → LevelMatches declared.types level injection s.calls memory (suc up) → LevelMatches declared.types level longer t.calls after (suc up)
     go injection longer s t memory after g up level h = let r = g.routine in by_calls memory.frames.calls after.frames.calls refl refl r.calls h.are
       where
         by_calls : (before later : List Frame) → memory.frames.calls ≡ before → after.frames.calls ≡ later → IsSameCall before later → level_slots memory.frames.calls (suc up) ≡ Some h.slots
-            → LevelMatches declared.routine_types level longer t.calls after (suc up)
+            → LevelMatches declared.types level longer t.calls after (suc up)
         by_calls [] later e l same are = absurd (let none : level_slots memory.frames.calls (suc up) ≡ None = ap (λ cs. level_slots cs (suc up)) e in cc)
         by_calls (c ∷ below) [] e l same are = absurd same
         by_calls (c ∷ below) (d ∷ more) e l same are =

@@ -14,7 +14,7 @@ use Rattle.ep_simulation.proofs.matching.Described.{bare_form, bare_one, one_bar
 use Rattle.ep_simulation.proofs.public.matching.MoreMemory.{entry_as}
 use Rattle.ep_meaning.proofs.public.Bares.{bare_size, bare_twice}
 use Rattle.ep_values.specs.TypeValues as type
-use Rattle.ep_values.specs.TypeValues.{ComponentTypes, Start, TypeValue, bare_each, bare_of, is_started, size_of}
+use Rattle.ep_values.specs.TypeValues.{ComponentTypes, Start, TypeValue, bare_each, bare_of, size_of}
 
 -- ---- what is known of a type by what it describes but for initial states
 

@@ -22,7 +22,7 @@ use Rattle.ep_object.proofs.public.Grows.{prefix_then}
 use Rattle.ep_simulation.proofs.matching.Described.{IsEntryOf, bare_entry, one_bare_number, one_entry, one_size, has_size-longer}
 use Rattle.ep_simulation.proofs.public.matching.MoreMemory.{slice_get-prefix, described-longer, entry_as, grown_refl, like-longer}
 use Rattle.ep_object.proofs.public.Elements.{slice_get-push}
-use Rattle.ep_meaning.specs.Steps.{Resources, held, words_of_type, met, watched, sized}
+use Rattle.ep_meaning.specs.Steps.{Resources, words_of_type, met, watched, sized}
 use Rattle.ep_values.specs.TypeValues.{same_type}
 use Rattle.ep_meaning.specs.Steps as meaning
 use Rattle.ep_meaning.specs.Steps.{Component, Allocation}

@@ -9,7 +9,7 @@ use Rattle.ep_typed.specs.Auxiliaries.{first_for, first_for_arms, first_for_in, 
 use Rattle.ep_typed.specs.Hosts.{is_of_host}
 use Rattle.ep_typed.specs.CaseRanges.{is_apart}
 use Rattle.ep_typed.specs.Trees as tree
-use Rattle.ep_typed.specs.Trees.{Entire, Expr, Stmt, Arms, Other, no_arm, next_arm}
+use Rattle.ep_typed.specs.Trees.{Entire, Expr, Stmt, Arms, Other, next_arm}
 use Rattle.ep_meaning.specs.Valid as valid
 use Rattle.ep_meaning.specs.Valid.{AreApart, Declarations, HasRange, IsExpr, IsRange, ranges_of}
 use Rattle.ep_typed.specs.declared.tree.CaseRange.{CaseRange}
@@ -135,7 +135,7 @@ module _ (declared : Declarations) (labels : LabelsAreSound) (scopes : List Regi
   end_by g z false true e p = tt
   end_by g z built false e p = tt
 
-  fitting_fits : (k : Kind) (v : Value) (built : Bool) → IsConstantIf built agrees.0 declared.routine_types k v → Fits (IfForm IsEnd) (fitting h k v built)
+  fitting_fits : (k : Kind) (v : Value) (built : Bool) → IsConstantIf built agrees.0 declared.types k v → Fits (IfForm IsEnd) (fitting h k v built)
   fitting_fits (kind.Ordinal g) (value.Word z) built p = end_by g z built (same_host h g) refl p.1
   fitting_fits (kind.Ordinal g) (value.Text bytes) built p = absurd p
   fitting_fits (kind.Ordinal g) (value.Set members) built p = absurd p

@@ -17,9 +17,9 @@ use Rattle.ep_tree.specs.declared.statement.Statement.TheOpen.{Statement-F, Arm-
 use Rattle.ep_typed.specs.Auxiliaries.{first_for, first_for_in, first_for_in_of, first_for_of, with_variables, with_variables_in, with_variables_of}
 use Rattle.ep_typed.specs.Hosts as typed
 use Rattle.ep_typed.specs.Trees as tree
-use Rattle.ep_typed.specs.Trees.{Entire, Actual, Callee, Place, Expr, Item, Other, Stmt, Stmts, WithRecord, with_form}
+use Rattle.ep_typed.specs.Trees.{Entire, Actual, Callee, Expr, Item, Other, Stmt, Stmts, WithRecord, with_form}
 use Rattle.ep_meaning.specs.Valid as valid
-use Rattle.ep_meaning.specs.Valid.{AreItems, Declarations, IsExpr, IsItem, IsOfKind, IsPlace, IsPlaceWhere, IsStmt, WritesSomething, printed_kind}
+use Rattle.ep_meaning.specs.Valid.{AreItems, Declarations, IsExpr, IsItem, IsStmt, WritesSomething, printed_kind}
 use Rattle.ep_values.specs.declared.operations.Print.{Print}
 use Rattle.ep_typed.specs.declared.tree.StandardFile.{StandardFile}
 use Rattle.ep_typed.specs.declared.tree.StandardFile.TheVariants as file
@@ -272,7 +272,7 @@ module _ (declared : Declarations) (expressions : ExpressionsAreSound) (passed :
 
   -- a call of a procedure with arguments that are valid for its formal parameters
   call_form : (line : ℕ) (callee : Callee) (parameters : List FormalParameter) (x : IsProcedureOf declared agrees.0 callee parameters) (given : Option (List Actual))
-      → AreActuals declared (declared.types callee.unit) x.0.formals given → IfForm (IsStmt declared) (option_map (λ xs. tree.Procedure line callee (tree.actuals xs)) given)
+      → AreActuals declared declared.types x.0.formals given → IfForm (IsStmt declared) (option_map (λ xs. tree.Procedure line callee (tree.actuals xs)) given)
   call_form line callee parameters x None h = tt
   call_form line callee parameters x (Some given) h = (x.0, x.1, x.2, h)
 
@@ -287,12 +287,12 @@ module _ (declared : Declarations) (expressions : ExpressionsAreSound) (passed :
 
       -- what is given is valid for the formal parameters of the procedure
       IsTaken : Taken → Type 0
-      IsTaken t = AreActuals declared (declared.types d.unit) x.0.formals t.actuals
+      IsTaken t = AreActuals declared declared.types x.0.formals t.actuals
 
       taken : Fits IsTaken (arguments_judged parameters (map (given scopes) arguments))
       taken =
           fits_weaker (λ t. arguments_judged parameters (map (given scopes) arguments) ≡ Accepts t) IsTaken (arguments_judged parameters (map (given scopes) arguments))
-          (λ t e. passed scopes parameters arguments t e declared agrees.0 agrees.1 (declared.types d.unit) x.0.formals x.3) (fits_is (arguments_judged parameters (map (given scopes) arguments)))
+          (λ t e. passed scopes parameters arguments t e declared agrees.0 agrees.1 declared.types x.0.formals x.3) (fits_is (arguments_judged parameters (map (given scopes) arguments)))
 
   declared_call_fits : (c : Context) → c.scopes ≡ scopes → (line : ℕ) (d : Declared) (what : Declaration) (arguments : List Argument) → IsDeclaration declared agrees.0 structures depth d what → Fits (IfForm (IsStmt declared)) (declared_called c line d what arguments)
   declared_call_fits c is line d (declaration.Procedure parameters) arguments x = own_fits c is line d parameters arguments x

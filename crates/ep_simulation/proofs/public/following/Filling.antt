@@ -43,10 +43,10 @@ use Rattle.ep_values.specs.Operations.{Fault, Number, is_integer, ordinal_of}
 use Rattle.ep_values.specs.Printing.{Result, Structure}
 use Rattle.ep_meaning.specs.Results.{given_by, result_of, suits, value_of, weight_of}
 use Rattle.ep_meaning.specs.Steady.{Steady}
-use Rattle.ep_meaning.specs.Steps.{Component, Computation, Cut, assigned, change, component, component_number, has_ended, spend, type_at, value_at}
+use Rattle.ep_meaning.specs.Steps.{Component, Computation, assigned, change, component, component_number, has_ended, spend, type_at, value_at}
 use Rattle.ep_values.specs.Values.{Value}
 use Rattle.ep_meaning.specs.Steps as meaning
-use Rattle.ep_values.specs.TypeValues.{TypeValue, bare_of}
+use Rattle.ep_values.specs.TypeValues.{TypeValue}
 use Rattle.ep_values.specs.TypeValues as type
 use Rattle.ep_meaning.specs.Valid.{IsTypeOfKind, ValueKind}
 use Rattle.ep_meaning.specs.Valid as kind

@@ -13,10 +13,9 @@ use Rattle.ep_simulation.proofs.public.matching.MoreMemory.{inside_later, not_le
 use Rattle.ep_values.specs.Printing.{Result}
 use Rattle.ep_values.specs.Printing as result
 use Rattle.ep_meaning.specs.Steady.{Steady}
-use Rattle.ep_meaning.specs.Steps.{Component, Gives, Ends, Cut, Computation, state_of, give, cut, stop, go_on, bind, spend, change, found, fetch}
+use Rattle.ep_meaning.specs.Steps.{Component, Computation, give, cut, stop, bind, spend, change}
 use Rattle.ep_meaning.specs.Steps as meaning
 use Rattle.ep_meaning.specs.Valid as kind
-use Rattle.ep_meaning.specs.Valid.{ValueKind}
 use Rattle.ep_typed.specs.Hosts.{Host, is_of_host}
 use Rattle.ep_values.specs.TypeValues.{TypeValue}
 

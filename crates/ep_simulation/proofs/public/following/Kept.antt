@@ -14,29 +14,29 @@ use Rattle.ep_values.specs.TypeValues.{TypeValue}
 
 -- the unit is the one in whose block names are declared so, and these are its types
 abbrev pub IsHome : Declarations → List ℕ → List UnitType → Type 0
-IsHome declared unit types = (unit ≡ declared.routine_unit) × (declared.routine_types ≡ types)
+IsHome declared unit types = (unit ≡ declared.home) × (declared.types ≡ types)
 
 module _ {declared : Declarations} {layout : Layout} {G : Image} {ps : List Placement} {call : Handler} {n : ℕ} (kept : CallsAreKept declared layout G ps call n) (unit : List ℕ) where
   -- a routine that may be named, of whichever unit
   pub routine_kept : (number : ℕ) (r : RoutineEntry) → slice_get (declared.routines unit) number ≡ Some r
-      → RoutineKeeps layout G ps call n (declared.types unit) (declared.around unit number) unit number r
-  routine_kept number r there = elim (same_name unit declared.routine_unit) [ inl e ↦ own e | inr e ↦ kept.others unit e number r there ]
+      → RoutineKeeps layout G ps call n declared.types (declared.around unit number) unit number r
+  routine_kept number r there = elim (same_name unit declared.home) [ inl e ↦ own e | inr e ↦ kept.others unit e number r there ]
     where
-      own : unit ≡ declared.routine_unit → RoutineKeeps layout G ps call n (declared.types unit) (declared.around unit number) unit number r
+      own : unit ≡ declared.home → RoutineKeeps layout G ps call n declared.types (declared.around unit number) unit number r
       own e =
-          subst (λ u. RoutineKeeps layout G ps call n (declared.types u) (declared.around u number) u number r) (sym e)
+          subst (λ u. RoutineKeeps layout G ps call n declared.types (declared.around u number) u number r) (sym e)
           (kept.routines number r (subst (λ u. slice_get (declared.routines u) number ≡ Some r) e there))
 
   module _ (types : List UnitType) (at_home : IsHome declared unit types) where
     -- a type of the unit
-    pub type_kept : (index : ℕ) (t : TypeValue) → IsTyped types (Named index []) t → TypeKeeps layout G ps call n (declared.first_private unit) unit index t
+    pub type_kept : (index : ℕ) (t : TypeValue) → IsTyped types (Named index []) t → TypeKeeps layout G ps call n declared.first_private unit index t
     type_kept index t typed =
-        subst (λ u. TypeKeeps layout G ps call n (declared.first_private u) u index t) (sym at_home.0)
+        subst (λ u. TypeKeeps layout G ps call n declared.first_private u index t) (sym at_home.0)
         (kept.types index t (subst (λ l. IsTyped l (Named index []) t) (sym at_home.1) typed))
 
     -- and the routines that values of structured types call
-    pub swap_kept : 0 < length types → SwapStands G ps unit (declared.first_private unit)
-    swap_kept some = subst (λ u. SwapStands G ps u (declared.first_private u)) (sym at_home.0) (kept.swaps (subst (λ l. 0 < length l) (sym at_home.1) some))
+    pub swap_kept : 0 < length types → SwapStands G ps unit declared.first_private
+    swap_kept some = subst (λ u. SwapStands G ps u declared.first_private) (sym at_home.0) (kept.swaps (subst (λ l. 0 < length l) (sym at_home.1) some))
 
-    pub arrays_kept : 0 < length types → ArrayRoutinesStand G ps unit (declared.first_private unit)
-    arrays_kept some = subst (λ u. ArrayRoutinesStand G ps u (declared.first_private u)) (sym at_home.0) (kept.of_arrays (subst (λ l. 0 < length l) (sym at_home.1) some))
+    pub arrays_kept : 0 < length types → ArrayRoutinesStand G ps unit declared.first_private
+    arrays_kept some = subst (λ u. ArrayRoutinesStand G ps u declared.first_private) (sym at_home.0) (kept.of_arrays (subst (λ l. 0 < length l) (sym at_home.1) some))

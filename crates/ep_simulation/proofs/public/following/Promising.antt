@@ -20,7 +20,7 @@ use Rattle.ep_simulation.proofs.public.Tells.{events_between, ends_after}
 use Rattle.ep_outside.specs.Known.{IsPrefix}
 use Rattle.ep_meaning.specs.Calls.{Argument}
 use Rattle.ep_values.specs.Printing.{Result}
-use Rattle.ep_meaning.specs.Steps.{Call, Outcome, Gives, Ends, Cut, Computation, state_of}
+use Rattle.ep_meaning.specs.Steps.{Outcome, Gives, Ends, Cut, Computation, state_of}
 use Rattle.ep_meaning.specs.Steps as meaning
 use Rattle.ep_values.specs.TypeValues.{TypeValue}
 use Rattle.ep_meaning.specs.Valid.{ValueKind, Level}

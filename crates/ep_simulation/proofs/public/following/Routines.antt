@@ -17,7 +17,7 @@ use Rattle.ep_object.specs.Routines.{routine_of}
 use Rattle.ep_object.specs.Runs.{outcome, outcome_of, after, unit_in}
 use Rattle.ep_object.specs.State.{State, Frame, Frames, Running, Stopped, Error}
 use Rattle.ep_object.specs.Table as table
-use Rattle.ep_object.specs.Table.{obey, obey_op, op_of}
+use Rattle.ep_object.specs.Table.{op_of}
 use Rattle.ep_object.specs.declared.code.Image.{Image}
 use Rattle.ep_object.specs.declared.code.ImageRoutine.{ImageRoutine}
 use Rattle.ep_object.specs.declared.code.Instr.{Instr}
@@ -258,7 +258,7 @@ module _ (layout : Layout) (G : Image) (routine : ℕ) (r : ImageRoutine) (there
         → (around : List Level) → ((n : ℕ) → slice_get within.levels (suc n) ≡ slice_get around n)
         → (n : ℕ) (place levels line : ℕ) → CallsAt G place routine levels line
         → (parent : FrameNumber) (injection : Injection) (began : meaning.State) (memory : MachineMemory) (below : List Operand)
-        → parent_by memory.frames r levels ≡ Some parent → IsCallable within.routine_types levels around injection began.calls memory
+        → parent_by memory.frames r levels ≡ Some parent → IsCallable within.types levels around injection began.calls memory
         → (name from : List ℕ) (body : Computation A) → Steady body → (untouched : Slots) (Then : A → Operands) (credit : A → ℕ)
         → ((a : A) (longer : Injection) (after later : MachineMemory) (operands : List Operand) → later.types ≡ after.types → Then a longer after operands → Then a longer later operands)
         → Fragment layout G (InActivation within untouched injection (begun_memory parent place memory)) n (point injection (begun_memory parent place memory) r.entry below) body ret Then 63 (λ a. 1 + credit a)
@@ -266,8 +266,8 @@ module _ (layout : Layout) (G : Image) (routine : ℕ) (r : ImageRoutine) (there
     routine_gives {A = A} words within enough around levels_are n place levels line calls parent injection began memory below parent_is callable name from body steady untouched Then credit anywhere inner =
         record {
           by = λ s matches since.
-              let here : IsCallable within.routine_types levels around injection s.calls memory = subst (λ cs. IsCallable within.routine_types levels around injection cs memory) (sym since.calls) callable in
-              let known : MatchesAround within injection (entered words levels x s) (begun_memory parent place memory) = (λ n level at. around_begun words within.routine_types levels around injection s memory x place parent parent_is here n level (sym (levels_are n) ∙ at)) in
+              let here : IsCallable within.types levels around injection s.calls memory = subst (λ cs. IsCallable within.types levels around injection cs memory) (sym since.calls) callable in
+              let known : MatchesAround within injection (entered words levels x s) (begun_memory parent place memory) = (λ n level at. around_begun words within.types levels around injection s memory x place parent parent_is here n level (sym (levels_are n) ∙ at)) in
               let ran = inner.by (entered words levels x s) (matches_begun parent place words levels x matches) (begins words within enough place levels parent injection s memory name from line known) in
               follows_called words levels x {P = P} {Q = Q} {e = credit} (not_left-here memory.frames) refl steady (go s matches (enters words place levels line parent below memory injection s x calls parent_is matches) (follows_wider (λ k. not_left-called memory.frames k.frames (its_frame parent place)) ran))
               (λ a s1 k1 post. back s matches since a s1 k1 post);
@@ -322,7 +322,7 @@ module _ (layout : Layout) (G : Image) (routine : ℕ) (r : ImageRoutine) (there
         → (around : List Level) → ((n : ℕ) → slice_get within.levels (suc n) ≡ slice_get around n)
         → (n : ℕ) (place levels line : ℕ) → CallsAt G place routine levels line
         → (parent : FrameNumber) (injection : Injection) (began : meaning.State) (memory : MachineMemory) (below : List Operand)
-        → parent_by memory.frames r levels ≡ Some parent → IsCallable within.routine_types levels around injection began.calls memory
+        → parent_by memory.frames r levels ≡ Some parent → IsCallable within.types levels around injection began.calls memory
         → (name from : List ℕ) (results : List ValueKind) (body : Computation (List Result)) → Steady body → (untouched : Slots)
         → Fragment layout G (InActivation within untouched injection (begun_memory parent place memory)) n (point injection (begun_memory parent place memory) r.entry below) body ret (λ rs. ResultsOnTop results below rs) 63 (λ rs. 1 + credit_of rs)
         → Fragment layout G (Since untouched injection began memory) (suc n) (point injection memory place (top ++ below)) (in_call activation_words levels (activation name from line) (spend (suc weight) body)) (place + 1) (λ rs. Inside untouched injection memory (ResultsOnTop results below rs)) 0 credit_of

@@ -12,7 +12,7 @@ use Rattle.ep_object.specs.declared.state.TypeKind.{TypeKind}
 use Rattle.ep_object.specs.declared.state.TypeKind.TheVariants.{Ord, Pointer, Text, Array, Record, Set}
 use Rattle.ep_object.specs.declared.state.TypeEntry.{TypeEntry}
 use Rattle.ep_object.proofs.public.Grows.{is_prefix}
-use Rattle.ep_meaning.specs.Steps.{Component, Allocation, Resources}
+use Rattle.ep_meaning.specs.Steps.{Component, Allocation}
 use Rattle.ep_meaning.specs.Steps as meaning
 use Rattle.ep_values.specs.TypeValues.{TypeValue, bare_of}
 use Rattle.ep_values.specs.TypeValues as type

@@ -63,7 +63,7 @@ none_named declared none injection s memory =
 
 module _ {declared : Declarations} {injection : Injection} {s : meaning.State} {memory : MachineMemory} (names : MatchesNames declared injection s memory) where
   -- the activation that runs is one that a routine in it has around it
-  level_here : (level : Level) → slice_get declared.levels 0 ≡ Some level → LevelMatches declared.routine_types level injection s.calls memory 0
+  level_here : (level : Level) → slice_get declared.levels 0 ≡ Some level → LevelMatches declared.types level injection s.calls memory 0
   level_here level is =
       let w = names.under_way level is in
       record {
@@ -74,7 +74,7 @@ module _ {declared : Declarations} {injection : Injection} {s : meaning.State} {
         holds = λ k v at. slot w k v (names.own k v (ap (λ o. slice_get (variables_at o) k) is ∙ at));
       }
     where
-      slot : (w : IsUnderWay s memory) (k : ℕ) (v : UnitVariable) → OwnSlot declared injection s memory k v → LevelSlot declared.routine_types injection (w.call).variables (w.frame).slots memory k v
+      slot : (w : IsUnderWay s memory) (k : ℕ) (v : UnitVariable) → OwnSlot declared injection s memory k v → LevelSlot declared.types injection (w.call).variables (w.frame).slots memory k v
       slot w k v x =
           record {
             slot = x.slot;
@@ -84,17 +84,15 @@ module _ {declared : Declarations} {injection : Injection} {s : meaning.State} {
           }
 
   -- and so is each one around it
-  level_there : (n : ℕ) (level : Level) → slice_get declared.levels n ≡ Some level → LevelMatches declared.routine_types level injection s.calls memory n
+  level_there : (n : ℕ) (level : Level) → slice_get declared.levels n ≡ Some level → LevelMatches declared.types level injection s.calls memory n
   level_there zero level is = level_here level is
   level_there (suc n) level is = names.around n level is
 
   -- A call of a routine that is declared so many levels up finds the routines around that one.
-  pub callable : declared.types declared.routine_unit ≡ declared.routine_types → (callee : Callee) (levels : ℕ) → IsDeclaredUp declared callee levels
-      → IsCallable (declared.types callee.unit) levels (declared.around callee.unit callee.number) injection s.calls memory
-  callable types_are callee zero is = is
-  callable types_are callee (suc up) (unit_is, within, around_is) =
-      let types : declared.types callee.unit ≡ declared.routine_types = ap declared.types unit_is ∙ types_are in
+  pub callable : (callee : Callee) (levels : ℕ) → IsDeclaredUp declared callee levels
+      → IsCallable declared.types levels (declared.around callee.unit callee.number) injection s.calls memory
+  callable callee zero is = is
+  callable callee (suc up) (unit_is, within, around_is) =
       let some : 0 < length (drop up declared.levels) = omega (arith, within, length-drop up declared.levels) in
-      subst (λ ts. IsCallable ts (suc up) (declared.around callee.unit callee.number) injection s.calls memory) (sym types)
-      (subst (λ ls. IsCallable declared.routine_types (suc up) ls injection s.calls memory) (sym around_is)
-      (some, (λ n level at. level_there (up + n) level (sym (slice_get-drop declared.levels up n) ∙ at))))
+      subst (λ ls. IsCallable declared.types (suc up) ls injection s.calls memory) (sym around_is)
+      (some, (λ n level at. level_there (up + n) level (sym (slice_get-drop declared.levels up n) ∙ at)))

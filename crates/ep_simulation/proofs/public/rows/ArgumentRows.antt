@@ -35,7 +35,7 @@ use Rattle.ep_simulation.specs.Promises.{IsValueOf}
 use Rattle.ep_meaning.specs.Meaning.{initialized}
 use Rattle.ep_values.specs.Printing.{Result}
 use Rattle.ep_meaning.specs.Results.{misfit, suits, value_of, weight_of}
-use Rattle.ep_meaning.specs.Steps.{Component, whole, Call, named_in, Allocation, Computation, spend, change, stop, own_in, own_variable, bound_own, own_bound_in, with_own_bound, newest_assigned, type_at, has_ended, ended_in, allocation_at}
+use Rattle.ep_meaning.specs.Steps.{Component, whole, named_in, Allocation, Computation, spend, change, stop, own_in, own_variable, bound_own, own_bound_in, with_own_bound, newest_assigned, type_at, has_ended, ended_in}
 use Rattle.ep_meaning.specs.Steps as meaning
 use Rattle.ep_meaning.specs.Valid.{Declarations, IsTypeOfKind, ValueKind, variables_up}
 use Rattle.ep_typed.specs.declared.unit.UnitVariable.{UnitVariable}

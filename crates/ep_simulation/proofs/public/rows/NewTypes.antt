@@ -26,8 +26,7 @@ use Rattle.ep_object.specs.declared.state.TypeEntry.{TypeEntry}
 use Rattle.ep_object.proofs.public.Grows.{is_prefix}
 use Rattle.ep_simulation.proofs.public.following.Bind.{gives_up}
 use Rattle.ep_simulation.proofs.public.matching.MoreMemory.{entry_as, same_routine-refl}
-use Rattle.ep_meaning.specs.Steps.{Resources, held, words_of_type, met, watched, Allocation, with_type}
-use Rattle.ep_values.specs.TypeValues.{same_type}
+use Rattle.ep_meaning.specs.Steps.{Resources, held, met, with_type}
 use Rattle.ep_meaning.specs.Steps as meaning
 use Rattle.ep_object.specs.declared.code.Image.{Image}
 use Rattle.ep_values.specs.TypeValues.{ComponentTypes, TypeValue, bare_of, size_of, sizes_of, is_started, Start, are_started}

@@ -89,7 +89,7 @@ own_reads {untouched = untouched} {Here = Here} declared layout G place line bel
 pub level_reads : {untouched : Slots} {Here : Facts} (declared : Declarations) (layout : Layout) (G : Image) (place line : ℕ) (below : List Operand) (up k : ℕ) (level : Level) (v : UnitVariable) (t : TypeValue)
     → slice_get G.instructions place ≡ Some (instr op.SLOT (pos k) up line) → HasOwnType declared v t → slice_get level.variables k ≡ Some v
     → (injection : Injection) (memory : MachineMemory) (s : meaning.State) → Matches layout G injection s memory
-    → LevelMatches declared.routine_types level injection s.calls memory up → Here injection s memory
+    → LevelMatches declared.types level injection s.calls memory up → Here injection s memory
     → Reads layout G Here (at place below memory s.trace) 1 (unit_in G memory.frames) line (place + 1) (λ n. Inside untouched injection memory (PlaceOnTop t below n)) s (own_variable up k s)
 level_reads {untouched = untouched} {Here = Here} declared layout G place line below up k level v t has has_type its injection memory s matches l known =
     let y = l.holds k v its in

@@ -5,7 +5,7 @@ use Rattle.std.specs.Prelude.{int_lt, is_some}
 use Rattle.ep_simulation.specs.Follows.{IsStructure, Facts, OnTop, PlaceOnTop, Inside}
 use Rattle.ep_simulation.specs.Layouts.{Layout}
 use Rattle.ep_simulation.specs.Matching.{MachineMemory, at, Injection, MatchesSlot, MatchesFrame, IsBare, IsLike, IsSpot, HasAt, OrdinalAt, SetAt, part_along, all_of, Represents, HasType, Matches, Slots}
-use Rattle.ep_object.specs.Operands.{Operand, Word, Text}
+use Rattle.ep_object.specs.Operands.{Operand, Word}
 use Rattle.ep_object.specs.Operands as operand
 use Rattle.ep_object.specs.Places.{loaded, set_loaded}
 use Rattle.ep_simulation.specs.Promises.{IsValueOf}

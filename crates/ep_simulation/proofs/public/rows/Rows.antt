@@ -10,7 +10,7 @@ use Rattle.ep_object.specs.Runs.{TurnOutcome, outcome, outcome_of, after, enter,
 use Rattle.ep_object.specs.State.{Going, Running, Stopped, Halt, Error}
 use Rattle.ep_object.specs.Table.{on_operands}
 use Rattle.ep_object.specs.WordRows as rows
-use Rattle.ep_object.specs.WordRows.{integer_row, div_of}
+use Rattle.ep_object.specs.WordRows.{integer_row}
 pub use Rattle.ep_object.specs.Table.{instr}
 use Rattle.ep_object.specs.declared.code.Image.{Image}
 use Rattle.ep_object.specs.declared.code.Instr.{Instr}
