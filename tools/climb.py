@@ -86,8 +86,9 @@ class House:
             else:
                 words += ["--lib", f"{other}=../{other}/src/lib.rt"]
                 sources = True
-        if sources and "indexmap" not in self.below[crate]:
-            words += ["--extern", f"indexmap={kit}/rlibs/indexmap.rlib"]
+        for other in ("indexmap", "itoa") if sources else ():
+            if other not in self.below[crate]:
+                words += ["--extern", f"{other}={kit}/rlibs/{other}.rlib"]
         return words + ["--antt-project", logic, "--logic-built", os.path.join(kit, "logic_built")]
 
     def start(self, crate):
