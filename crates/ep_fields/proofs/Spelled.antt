@@ -1,30 +1,19 @@
 -- A field that is read is the one that was written, and what was written is read again.
-use Rattle.std.proofs.Common.{◌≡◌, ℕ, ℤ, ◌+◌, ◌^◌, ◌<◌, ◌≤◌, Bool, true, false, ◌&&◌, cond, ltb, bytes_eq, List, [], ◌∷◌, ◌++◌, FitsSigned, length, take, drop, Option, Some, None, Result, Ok, Err, refl, sym, ap, subst, ◌∙◌, append_assoc, arith, inl, inr}
+use Rattle.std.proofs.Common.{◌≡◌, ℕ, ℤ, ◌+◌, ◌^◌, ◌<◌, ◌≤◌, Bool, true, false, cond, ltb, List, [], ◌∷◌, ◌++◌, FitsSigned, length, take, drop, Option, Some, None, Ok, Err, refl, sym, ap, subst, ◌∙◌, append_assoc, arith, inl, inr}
 use Rattle.std.specs.Int.{w8, w32, w64, from_be_bytes, to_be_bytes, cast_signed, cast_unsigned}
-use Rattle.std.proofs.lemmas.Bool.{and_parts, cases_lt, leb-true, ltb-false, le-ltb}
+use Rattle.std.proofs.lemmas.Bool.{cases_lt, ltb-false, le-ltb}
 use Rattle.std.proofs.Math.Facts.{Fits-lt-pow, Fits-of_lt, Fits-of_z, sfits_to_z}
 use Rattle.std.proofs.lemmas.Int.{to_z-of_z, of_z-to_z}
 use Rattle.std.proofs.lemmas.List.{take_at, drop_at, drop-drop, take-append-drop, length-append, length-take, get_or-drop, get_or-take, get_or_past}
 use Rattle.std.proofs.lemmas.Nat.{be_bytes_4, be_bytes_8, from_be_bytes-to_be_bytes_4, from_be_bytes-to_be_bytes_8}
-use Rattle.ep_base.specs.Identifiers.{is_identifier, is_name, lower_case}
-use Rattle.ep_base.specs.declared.name.TheConstants as limit
+use Rattle.ep_base.specs.Identifiers.{is_name}
 use Rattle.ep_fields.specs.declared.refusal.FieldRefusal.{FieldRefusal}
 use Rattle.ep_fields.specs.declared.refusal.FieldRefusal.TheVariants.{Short, Bad}
 use Rattle.ep_fields.specs.Fields.{Position, ◌>>=◌, behind, byte_at, byte_field, byte_field_at, bytes_at, field_of, field_or_short, integer, integer_at, name_at, name_or_bad, number, number_at}
 use Rattle.ep_fields.specs.Laws.{AreBytes, FieldLaws, IsReadAgain, IsSpelled, Stood}
+use Rattle.ep_fields.proofs.public.Readings.{bind_ok, done, ok_is, short_name}
 
 -- ---- steps of a reading
-
--- the value of a step that did not fail
-bind_ok : {A B : Type 0} (r : Result A FieldRefusal) (f : A → Result B FieldRefusal) (y : B) → (r >>= f) ≡ Ok y → (x : A) × (r ≡ Ok x) × (f x ≡ Ok y)
-bind_ok (Ok x) f y e = (x, refl, e)
-bind_ok (Err d) f y e = absurd cc
-
-abbrev done : {A : Type 0} → A → Result A FieldRefusal
-done x = Ok x
-
-ok_is : {A : Type 0} (x y : A) → done x ≡ done y → x ≡ y
-ok_is x y e = cc
 
 -- a test that did not fail
 guard_ok : {A : Type 0} (b : Bool) (d : FieldRefusal) (x y : A) → cond b (Err d) (done x) ≡ Ok y → (b ≡ false) × (x ≡ y)
@@ -178,11 +167,6 @@ byte_field_again : (text : List ℕ) → length text < 2 ^ 32 → IsReadAgain by
 byte_field_again text short place rest =
     ap (field_or_short (record { place = place; rest = byte_field text ++ rest })) (field_again text rest short)
     ∙ ap (λ p. done (text, p)) (behind_field place text rest)
-
-short_name : (name : List ℕ) → is_name name ≡ true → length name < 2 ^ 32
-short_name name is =
-    let fits : length name ≤ limit.MAX_NAME = leb-true _ _ (and_parts (is_identifier name && bytes_eq (lower_case name) name) _ is).1 in
-    omega (arith, fits)
 
 name_again : (name : List ℕ) → is_name name ≡ true → IsReadAgain name_at (byte_field name) name
 name_again name is place rest =

@@ -10,7 +10,8 @@ use Rattle.ep_object.specs.declared.code.ConstantType.{ConstantType}
 use Rattle.ep_object.specs.declared.code.ConstantType.TheVariants.{Ord, Set, Str, Arr, Rec, Init}
 use Rattle.ep_iface.specs.Formats.{AreListed, flag, flag_at, flag_or_bad, list_at, listed}
 use Rattle.ep_iface.specs.ConstantTypes.{IsConstantType, arr_at, constant_type_at, constant_type_bytes, init_at, kind_at, ord_at, rec_at, set_at, str_at}
-use Rattle.ep_iface.proofs.Fields.{IsOf, if_takes, Takes, before, before_again, before_takes, bind_ok, ok_is, row1_again, row1_takes, row2_again, row2_takes, row4_again, row4_takes, spelled}
+use Rattle.ep_fields.proofs.public.Readings.{bind_ok, ok_is}
+use Rattle.ep_iface.proofs.Fields.{IsOf, if_takes, Takes, before, before_again, before_takes, row1_again, row1_takes, row2_again, row2_takes, row4_again, row4_takes, spelled}
 use Rattle.ep_iface.proofs.Lists.{list_again, list_spelled}
 
 -- ---- flags

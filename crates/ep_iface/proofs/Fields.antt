@@ -1,9 +1,9 @@
 -- Rows of fields: what is written is read again, and what is read is spelled so, where that holds of each field.
-use Rattle.std.proofs.Common.{◌≡◌, ℕ, ◌+◌, ◌<◌, Bool, true, false, cond, List, ◌++◌, length, get_or, Result, Ok, Err, refl, sym, ap, subst, ◌∙◌, append_assoc, arith}
+use Rattle.std.proofs.Common.{◌≡◌, ℕ, ◌+◌, ◌<◌, Bool, true, false, cond, List, ◌++◌, length, get_or, Ok, refl, sym, ap, subst, ◌∙◌, append_assoc, arith}
 use Rattle.std.proofs.lemmas.List.{get_or-append-add, length-append}
 use Rattle.ep_fields.specs.Fields.{Position, Reading, ◌>>=◌}
 use Rattle.ep_fields.specs.Laws.{AreBytes, IsReadAgain, IsSpelled, Stood}
-use Rattle.ep_fields.specs.declared.refusal.FieldRefusal.{FieldRefusal}
+use Rattle.ep_fields.proofs.public.Readings.{bind_ok, ok_is}
 
 -- ---- readings in a row
 
@@ -71,18 +71,6 @@ row4_again ra rb rc rd whole s t u v a b c d first second third fourth =
     (row3_again rb rc rd (whole a) t u v b c d second third fourth)
 
 -- ---- what is read is spelled so
-
--- the value of a step that did not fail
-pub bind_ok : {A B : Type 0} (r : Result A FieldRefusal) (f : A → Result B FieldRefusal) (y : B) → (r >>= f) ≡ Ok y
-    → (x : A) × (r ≡ Ok x) × (f x ≡ Ok y)
-bind_ok (Ok x) f y e = (x, refl, e)
-bind_ok (Err d) f y e = absurd cc
-
-abbrev done : {A : Type 0} → A → Result A FieldRefusal
-done x = Ok x
-
-pub ok_is : {A : Type 0} (x y : A) → done x ≡ done y → x ≡ y
-ok_is x y e = cc
 
 -- What is read took bytes of which this holds with it.
 pub record Took {B : Type 0} (p : Position) (y : B) (q : Position) (Of : B → List ℕ → Type 0) : Type 0 where

@@ -19,7 +19,8 @@ use Rattle.ep_iface.specs.ConstantTypes.{IsConstantType, constant_type_at, const
 use Rattle.ep_iface.specs.Formats.{AreListed, Tells, ended, letters_at, letters_or_bad, list_at, listed, whole}
 use Rattle.ep_iface.specs.Images.{IsImage, IsInstr, IsRoutine, IsText, IsUnit, image_at, image_bytes, image_letters, instr_at, instr_bytes, routine_at, routine_bytes, unit_at, unit_bytes}
 use Rattle.ep_iface.proofs.ConstantTypeLaws.{constant_type_again, constant_type_spelled}
-use Rattle.ep_iface.proofs.Fields.{IsOf, before, before_again, before_takes, bind_ok, ok_is, row4, row4_again, row4_takes, spelled}
+use Rattle.ep_fields.proofs.public.Readings.{bind_ok, done, ok_is}
+use Rattle.ep_iface.proofs.Fields.{IsOf, before, before_again, before_takes, row4, row4_again, row4_takes, spelled}
 use Rattle.ep_iface.proofs.Lists.{list_again, list_spelled}
 
 -- ---- the parts
@@ -76,9 +77,6 @@ instr_spelled laws =
     (λ op a b line fo fa fb fl. (refl, record { op = fo; a = fa; b = fb; line = fl })))
 
 -- ---- the letters
-
-abbrev done : {A : Type 0} → A → Result A FieldRefusal
-done x = Ok x
 
 abbrev done_at : Position → Reading (Unit {0})
 done_at p = Ok (tt, p)

@@ -5,7 +5,8 @@ use Rattle.std.proofs.lemmas.List.Concat.{flat_map-cons}
 use Rattle.ep_fields.specs.Fields.{Position, Reading, number, number_at}
 use Rattle.ep_fields.specs.Laws.{FieldLaws, IsReadAgain, IsSpelled}
 use Rattle.ep_iface.specs.Formats.{AreListed, items_at, list_at, listed}
-use Rattle.ep_iface.proofs.Fields.{Takes, Took, before_again, before_takes, bind_ok, ok_is, row1, row1_again, spelled, IsOf}
+use Rattle.ep_fields.proofs.public.Readings.{bind_ok, ok_is}
+use Rattle.ep_iface.proofs.Fields.{Takes, Took, before_again, before_takes, row1, row1_again, spelled, IsOf}
 
 items_again : {A : Type 0} (item : Position → Reading A) (spelling : A → List ℕ) (Fits : A → Type 0)
     → ((x : A) → Fits x → IsReadAgain item (spelling x) x) → (xs : List A) → AllByRecursion Fits xs

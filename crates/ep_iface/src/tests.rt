@@ -31,35 +31,39 @@ fn images_are_read_and_written(rt: HostRuntime) -> Result<(), Fail> {
     Ok(())
 }
 
-#[test]
-fn images_that_are_cut_are_refused_at_the_field(rt: HostRuntime) {
-    let alloc = rt.alloc();
-    assert!(rt;
-        is_bad(alloc, &SPELLED[..3], 0)
-            && is_bad(alloc, &SPELLED[..4], 4)
-            && is_bad(alloc, &SPELLED[..12], 8)
-            && is_bad(alloc, &SPELLED[..24], 21)
-            && is_bad(alloc, &SPELLED[..54], 49)
-            && is_bad(alloc, &SPELLED[..59], 59)
-            && is_bad(alloc, &SPELLED[..96], 93)
-    );
+/// Whether the image's first so many bytes, with one byte changed, are refused at this place.
+fn is_refused(alloc: Global, length: usize, at: usize, byte: u8, place: u64) -> bool {
+    let mut bytes = SPELLED;
+    if length > bytes.len() || at >= bytes.len() {
+        return false;
+    }
+    bytes[at] = byte;
+    is_bad(alloc, &bytes[..length], place)
 }
+
+/// What is left of the image, the byte that is changed, what it is, and the place of the refusal.
+const REFUSED: [(usize, usize, u8, u64); 11] = [
+    // cut
+    (3, 0, 69, 0),
+    (4, 0, 69, 4),
+    (12, 0, 69, 8),
+    (24, 0, 69, 21),
+    (54, 0, 69, 49),
+    (59, 0, 69, 59),
+    (96, 0, 69, 93),
+    // other letters, a capital in a name, a tag that is none, a count that is too great
+    (97, 3, 50, 0),
+    (97, 12, 80, 8),
+    (97, 59, 6, 59),
+    (97, 4, 255, 25),
+];
 
 #[test]
 fn other_bytes_are_refused(rt: HostRuntime) {
     let alloc = rt.alloc();
-    let mut letters = SPELLED;
-    letters[3] = 50;
-    let mut name = SPELLED;
-    name[12] = 80;
-    let mut tag = SPELLED;
-    tag[59] = 6;
-    let mut count = SPELLED;
-    count[4] = 255;
-    assert!(rt;
-        is_bad(alloc, &letters, 0)
-            && is_bad(alloc, &name, 8)
-            && is_bad(alloc, &tag, 59)
-            && is_bad(alloc, &count, 25)
-    );
+    let mut all = true;
+    for (length, at, byte, place) in REFUSED {
+        all = all && is_refused(alloc, length, at, byte, place);
+    }
+    assert!(rt; all);
 }

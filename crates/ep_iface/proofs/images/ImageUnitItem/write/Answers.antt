@@ -1,6 +1,7 @@
 use Rattle.std.proofs.Common.{◌++◌, List, ℕ, ap, ◌∙◌}
 use Rattle.ep_fields.specs.Fields.{byte_field, number}
-use Rattle.ep_iface.proofs.Rows.{four, on_ok, short_name}
+use Rattle.ep_fields.proofs.public.Readings.{short_name}
+use Rattle.ep_iface.proofs.Rows.{four, on_ok}
 use Rattle.ep_iface.proofs.images.ImageUnitItem.write.Goals as goal
 
 pub bytes-requires-2 : goal.bytes-requires-2
