@@ -1,0 +1,4 @@
+mod Finding
+mod Listing
+mod Offering
+mod Sequencing
