@@ -1,0 +1,6 @@
+mod Cores
+mod Forms
+mod Rows
+mod RowWalks
+mod Texts
+mod Walks
