@@ -1,0 +1,9 @@
+mod Lists
+mod Counts
+mod Leasts
+mod Entries
+mod Cases
+mod OneProgram
+mod Faults
+mod Supplies
+mod Alike

@@ -1,0 +1,7 @@
+use Rattle.std.proofs.Common.{◌≡◌, ◌++◌, drop}
+use Rattle.ep_linkable.specs.Exporters.{export_entries}
+use Rattle.ep_linkable.specs.Registers.{seen}
+use Rattle.ep_linkable.proofs.names.export_entries.Given as goal
+
+abbrev pub invariant-loop-place : goal.invariant-loop-place
+invariant-loop-place l = seen l.entries ++ export_entries l.place (drop l.place l.units) ≡ export_entries 0 l.units
