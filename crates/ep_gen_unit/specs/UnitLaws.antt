@@ -28,8 +28,8 @@ abbrev pub AreDeclared : Declarations → List ℕ → ℕ → List UnitVariable
 AreDeclared declared unit number vs = (i : ℕ) (v : UnitVariable) → slice_get vs i ≡ Some v
     → declared.variables unit (number + i) ≡ Some v
 
--- Wherever the object of a valid unit stands in an image whose units have names of their own, which has what is given to
--- the unit and is laid out so that what it declares is there, this routine of it simulates this with so many steps,
+-- Wherever the object of a valid unit stands in an image whose units have names of their own, which has what is given
+-- to the unit and is laid out so that what it declares is there, this routine of it simulates this with so many steps,
 -- whatever calls do for which the routines that it may name keep their promises.
 abbrev pub AreSimulated : (Object → ℕ) → (Handler → ℕ → TypedUnit → Computation (Unit {0})) → Type 0
 AreSimulated routine does =
@@ -67,8 +67,8 @@ StartsAreSimulatedUnder = AreSimulatedUnder (λ u. stmt_of u.start) (λ o. o.sta
 abbrev pub StopsAreSimulatedUnder : Type 0
 StopsAreSimulatedUnder = AreSimulatedUnder (λ u. stmt_of u.stop) (λ o. o.stop) stop_of
 
--- The routines of a valid unit keep their promises for what calls mean among any units of which it is one, with so many
--- steps, however they are laid out, where those of other units that it may name keep theirs with up to so many.
+-- The routines of a valid unit keep their promises for what calls mean among any units of which it is one, with so
+-- many steps, however they are laid out, where those of other units that it may name keep theirs with up to so many.
 abbrev pub RoutinesAreKept : Type 0
 RoutinesAreKept =
     (given : List GivenUnit) (u : TypedUnit) (o : Object) → IsUnitCode u o → IsValid given u

@@ -31,8 +31,8 @@ HaveOwnNames units =
 
 -- ---- what is given of a unit, and what it has
 
--- Two denoters, each under its own list of types, are of the same types (ISO 10206, 6.4.1): of the same type values, and
--- so of the same kinds and of one type but for initial states.
+-- Two denoters, each under its own list of types, are of the same types (ISO 10206, 6.4.1): of the same type values,
+-- and so of the same kinds and of one type but for initial states.
 pub record HaveSameTypes (types : List UnitType) (d : Denoter) (others : List UnitType) (e : Denoter) : Type 0 where
   pub into : (t : TypeValue) → IsInstance types d t → IsInstance others e t
   pub back : (t : TypeValue) → IsInstance others e t → IsInstance types d t
